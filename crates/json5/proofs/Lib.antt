@@ -1,19 +1,19 @@
 -- Lemmas.
-pub mod AnyTexts
-pub mod Names
+pub mod WholeValues
+pub mod NamesBack
 pub mod ReadsBack
 pub mod ValuesBack
 pub mod MapsBack
-pub mod ReadAgain
+pub mod WrittenThenRead
 -- What proofs of users' types cite.
 pub use Rattle.json5_format.proofs.Formats
 pub use Rattle.json5_grammar.proofs.ObjectsRead
 pub use Rattle.json5_de.proofs.Refinement
-pub use Rattle.json5_de.proofs.Loops
+pub use Rattle.json5_de.proofs.ElementLoops
 pub use Rattle.json5_de.proofs.ListLengths
 pub use Rattle.json5_de.proofs.ListFaults
 pub use Rattle.json5_de.proofs.Structs
 pub use Rattle.json5_de.proofs.StructFaults
 pub use Rattle.json5_de.proofs.OwnEnums
-pub use Rattle.json5_ser.proofs.Remains
-pub use Rattle.json5_ser.proofs.Members
+pub use Rattle.json5_ser.proofs.RemainingOutput
+pub use Rattle.json5_ser.proofs.CollectionsWritten

@@ -1,4 +1,4 @@
-pub mod AnyText
+pub mod WholeValues
 pub mod ReadsBack
 -- What else contracts cite, and what a user's type cites: trees, and what an input holds.
 pub use Rattle.json5_grammar.specs.Language.Trees
@@ -9,7 +9,7 @@ pub use Rattle.json5_grammar.specs.Language.Numbers
 pub use Rattle.json5_grammar.specs.Language.Characters
 pub use Rattle.json5_grammar.specs.Faults.Positions
 pub use Rattle.json5_grammar.specs.declared.position.Position
-pub use Rattle.json5_grammar.specs.declared.code.ErrorCode
+pub use Rattle.json5_grammar.specs.declared.error_code.ErrorCode
 pub use Rattle.json5_text.specs.Cows
 pub use Rattle.json5_text.specs.ValueMeanings
 pub use Rattle.json5_text.specs.ValueEquality
@@ -21,7 +21,7 @@ pub use Rattle.json5_text.specs.declared.value.Value
 pub use Rattle.json5_format.specs.Formatted
 -- Reading.
 pub use Rattle.json5_de.specs.State
-pub use Rattle.json5_de.specs.Law
+pub use Rattle.json5_de.specs.DeserializeLaw
 pub use Rattle.json5_de.specs.Convert
 pub use Rattle.json5_de.specs.ConvertLists
 pub use Rattle.json5_de.specs.Refinement
@@ -30,10 +30,10 @@ pub use Rattle.json5_de.specs.ReaderSteps
 pub use Rattle.json5_de.specs.Faults
 pub use Rattle.json5_de.specs.TokenKinds
 pub use Rattle.json5_de.specs.AnyTree
-pub use Rattle.json5_de.specs.Options
-pub use Rattle.json5_de.specs.Access
-pub use Rattle.json5_de.specs.Seq
-pub use Rattle.json5_de.specs.Lists
+pub use Rattle.json5_de.specs.OptionFaults
+pub use Rattle.json5_de.specs.Arrays
+pub use Rattle.json5_de.specs.AccessCalls
+pub use Rattle.json5_de.specs.ListFaults
 pub use Rattle.json5_de.specs.Keys
 pub use Rattle.json5_de.specs.KeyKinds
 pub use Rattle.json5_de.specs.Objects
@@ -55,6 +55,6 @@ pub use Rattle.json5_ser.specs.Marks
 pub use Rattle.json5_ser.specs.Writes
 pub use Rattle.json5_ser.specs.Pieces
 pub use Rattle.json5_ser.specs.WholeOutputs
-pub use Rattle.json5_ser.specs.Lending as WrittenCollections
-pub use Rattle.json5_ser.specs.Keys as WrittenKeys
+pub use Rattle.json5_ser.specs.WrittenCollections
+pub use Rattle.json5_ser.specs.WrittenKeys
 pub use Rattle.json5_ser.specs.KeyLending

@@ -15,7 +15,7 @@ ghost use Rattle.json5_de.specs.ConvertLists.{option_of};
 ghost use Rattle.json5_ser.specs.WrittenTrees.{null, boolean, number, text, natural, integer, natural_key, integer_key};
 ghost use Rattle.json5_ser.specs.Marks.{marks, is_escape_free_text};
 ghost use Rattle.json5_ser.specs.ValueTrees.{datum_tree};
-ghost use Rattle.json5.specs.AnyText.{FaultyDocument, IsOneFault, IsNoDocument, ReadsEachText};
+ghost use Rattle.json5.specs.WholeValues.{FaultyDocument, IsOneFault, IsNoDocument, ReadsEachText};
 ghost use Rattle.json5_format.specs.Formatted.{IsFormattedWithin};
 ghost use Rattle.json5.specs.ReadsBack.{ReadsBack, KeyReadsBack, MembersReadBack, OrderStays, TurnStays, list_tree, list_of};
 

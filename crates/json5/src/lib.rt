@@ -26,7 +26,7 @@ pub use json5_de::{
     Spanned, from_str, from_str_within, read,
 };
 pub use json5_format::{format, format_within};
-pub use json5_grammar::code::ErrorCode;
+pub use json5_grammar::error_code::ErrorCode;
 pub use json5_grammar::position::Position;
 pub use json5_ser::{
     Serialize, SerializeCollection, SerializeKey, Serializer, to_string, to_string_within,

@@ -1,8 +1,8 @@
 -- What a call of an access means, from what it gives or refuses.
 use Rattle.std.proofs.Common.{◌≡◌, ◌≢◌, Bool, true, false, ap, sym, ◌∙◌, subst, Option, Some, None}
 use Rattle.std.specs.Prelude.{◌==◌, ◌||◌, is_some, Ok, Err, ℕ, List}
-use Rattle.json5_grammar.specs.declared.code.ErrorCode.{ErrorCode}
-use Rattle.json5_grammar.specs.declared.code.ErrorCode.TheVariants as codes
+use Rattle.json5_grammar.specs.declared.error_code.ErrorCode.{ErrorCode}
+use Rattle.json5_grammar.specs.declared.error_code.ErrorCode.TheVariants as codes
 use Rattle.json5_grammar.specs.declared.position.Position.{Position}
 use Rattle.json5_grammar.specs.Model.Collections.{IsElement}
 use Rattle.json5_grammar.specs.Language.Trees.{Tree}
@@ -11,15 +11,15 @@ use Rattle.json5_text.specs.declared.error.Error.{Error}
 use Rattle.json5_text.specs.Errors.{code, kind_of, error_position, or_position}
 use Rattle.json5_de.specs.State.{State, OnlyRead}
 use Rattle.json5_de.specs.Faults.{AtEnd, AtOther, IsPositionless, IsAfter}
-use Rattle.json5_de.specs.Access.{AccessState, bare, Opened, TookElement, AtClose, GivesElement, PositionedAtBracket, IsAtBracket, is_comma_or_closing}
+use Rattle.json5_de.specs.Arrays.{AccessState, bare, Opened, TookElement, AtClose, GivesElement, PositionedAtBracket, IsAtBracket, is_comma_or_closing}
 use Rattle.json5_value.specs.declared.brackets.Brackets.{Brackets}
 use Rattle.json5_value.specs.Brackets.{square}
-use Rattle.json5_de.specs.Seq.{Cause, RefusesCall, RefusesElement, not_reached, in_element, RefusesNext}
-use Rattle.json5_de.proofs.Expected.{end_fault, other_fault}
-use Rattle.json5_de.proofs.Arrays.{square_signs}
+use Rattle.json5_de.specs.AccessCalls.{Cause, RefusesCall, RefusesElement, not_reached, in_element, RefusesNext}
+use Rattle.json5_de.proofs.ExpectedKinds.{end_fault, other_fault}
+use Rattle.json5_de.proofs.BracketSteps.{square_signs}
 use Rattle.json5_de.proofs.EntryCodes.{expects_more, end_no_sign, other_no_sign, end_goes_nowhere, other_goes_nowhere}
 use Rattle.std.proofs.lemmas.Bool.{or_parts}
-use Rattle.json5_grammar.proofs.FirstCharacters.{true_false}
+use Rattle.json5_grammar.proofs.CommonLemmas.{true_false}
 
 -- ---- the flag that blocks the reader
 

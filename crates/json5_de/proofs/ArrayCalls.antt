@@ -4,18 +4,18 @@ use Rattle.json5_value.specs.Brackets.{square}
 use Rattle.json5_value.specs.Offsets.{StartsAfter, PositionedAt}
 use Rattle.std.specs.Prelude.{◌||◌, is_some, IfSome}
 use Rattle.json5_grammar.specs.Language.Trees.{Tree}
-use Rattle.json5_grammar.proofs.ArraysPassed.{element_shorter}
+use Rattle.json5_grammar.proofs.ArraysPartlyRead.{element_shorter}
 use Rattle.json5_text.specs.declared.error.Error.{Error}
 use Rattle.json5_de.specs.State.{State, SameText}
-use Rattle.json5_de.specs.Law.{Steady}
-use Rattle.json5_de.specs.Access.{AccessState, bare, GivesElement, CompletesElement, CompletesClose, PositionedAtBracket}
-use Rattle.json5_de.specs.Seq.{RefusesElement}
+use Rattle.json5_de.specs.DeserializeLaw.{Steady}
+use Rattle.json5_de.specs.Arrays.{AccessState, bare, GivesElement, CompletesElement, CompletesClose, PositionedAtBracket}
+use Rattle.json5_de.specs.AccessCalls.{RefusesElement}
 use Rattle.json5_de.specs.Lending.{state_of, blocking, KeepsAccess, ReadsNext}
 use Rattle.json5_de.specs.Stages.{is_comma_due, with_element}
 use Rattle.json5_de.specs.declared.seq.SeqAccess.{SeqAccess}
 use Rattle.json5_de.specs.declared.stage.Stage.{Stage}
 use Rattle.json5_de.proofs.StagesPassed.{comma_after_member}
-use Rattle.json5_de.proofs.Elements.{reads_element, reads_more, leaves_fewer}
+use Rattle.json5_de.proofs.ArrayElements.{reads_element, reads_more, leaves_fewer}
 use Rattle.json5_de.proofs.AccessCalls.{gives_seen, gives_next, refuses_next}
 
 -- the access with its reader in this state

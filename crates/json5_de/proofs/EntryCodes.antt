@@ -3,8 +3,8 @@ use Rattle.std.proofs.Common.{◌≡◌, ℕ, Bool, true, false, not, List, [], 
 use Rattle.std.specs.Prelude.{◌==◌, ◌&&◌}
 use Rattle.std.proofs.Math.Bool.{or-true}
 use Rattle.std.proofs.lemmas.List.{append-nil}
-use Rattle.json5_grammar.specs.declared.code.ErrorCode.{ErrorCode}
-use Rattle.json5_grammar.specs.declared.code.ErrorCode.TheVariants as codes
+use Rattle.json5_grammar.specs.declared.error_code.ErrorCode.{ErrorCode}
+use Rattle.json5_grammar.specs.declared.error_code.ErrorCode.TheVariants as codes
 use Rattle.json5_grammar.specs.Language.Blanks.{Gap, is_solid}
 use Rattle.json5_grammar.specs.Model.Collections.{IsSign, IsEnd}
 use Rattle.json5_grammar.proofs.BlanksRead.{begins_solid}
@@ -13,13 +13,13 @@ use Rattle.json5_grammar.proofs.EntriesAfterGaps.{no_sign}
 use Rattle.json5_text.specs.declared.error.Error.{Error}
 use Rattle.json5_de.specs.State.{State}
 use Rattle.json5_value.specs.declared.brackets.Brackets.{Brackets}
-use Rattle.json5_de.specs.Brackets.{AreSigns}
-use Rattle.json5_de.specs.Access.{Closed, NotOpened, no_bracket, text_ends, too_deep, other_sign, bracket_missing, NotClosed, not_here, after_comma, AtFull, is_opening, is_comma_or_closing, begins_close}
-use Rattle.json5_de.specs.Seq.{AdvancesToEntry, NoNext, no_comma, comma_missing, in_blanks_after}
+use Rattle.json5_de.specs.BracketSigns.{AreSigns}
+use Rattle.json5_de.specs.Arrays.{Closed, NotOpened, no_bracket, text_ends, too_deep, other_sign, bracket_missing, NotClosed, not_here, after_comma, AtFull, is_opening, is_comma_or_closing, begins_close}
+use Rattle.json5_de.specs.AccessCalls.{AdvancesToEntry, NoNext, no_comma, comma_missing, in_blanks_after}
 use Rattle.json5_de.specs.Faults.{AtEnd, AtOther, IsAfter, RefusedBy}
-use Rattle.json5_de.proofs.Expected.{Expected, other_fault}
+use Rattle.json5_de.proofs.ExpectedKinds.{Expected, other_fault}
 use Rattle.std.proofs.lemmas.Bool.{or_parts}
-use Rattle.json5_grammar.proofs.FirstCharacters.{same_char, first_same, true_false}
+use Rattle.json5_grammar.proofs.CommonLemmas.{same_char, first_same, true_false}
 
 -- ---- what is expected
 

@@ -2,8 +2,8 @@
 use Rattle.std.proofs.Common.{◌≡◌, ℕ, true, false, List, [], ◌∷◌, ◌++◌, refl, ap, sym, ◌∙◌, subst, Option, Some, None}
 use Rattle.std.specs.Prelude.{◌||◌}
 use Rattle.std.proofs.lemmas.List.{append_cancel_right}
-use Rattle.json5_grammar.specs.declared.code.ErrorCode.{ErrorCode}
-use Rattle.json5_grammar.specs.declared.code.ErrorCode.TheVariants.{EofParsingNumber, ExpectedNumber}
+use Rattle.json5_grammar.specs.declared.error_code.ErrorCode.{ErrorCode}
+use Rattle.json5_grammar.specs.declared.error_code.ErrorCode.TheVariants.{EofParsingNumber, ExpectedNumber}
 use Rattle.json5_grammar.specs.Model.Reading.{here, inner, bad}
 use Rattle.json5_grammar.specs.Model.ReadNumbers as reading
 use Rattle.json5_grammar.specs.Faults.Tokens.{is_sign, begins_number}
@@ -12,14 +12,14 @@ use Rattle.json5_grammar.specs.Language.Trees.{Tree}
 use Rattle.json5_grammar.specs.Language.Values.{Val, Stops, is_null, is_true, is_false, is_number, is_text, is_empty_array, is_array, is_empty_object, is_object}
 use Rattle.json5_grammar.proofs.NumbersRead.{number_unsigned}
 use Rattle.json5_grammar.proofs.NumbersSound.{PlaceIs, unsigned_bad}
-use Rattle.json5_grammar.proofs.NumbersUnique.{refused, no_fault, one_number}
+use Rattle.json5_grammar.proofs.NumberFaultsRefused.{refused, no_fault, one_number}
 use Rattle.json5_grammar.proofs.ValueHeads.{number_head}
-use Rattle.json5_text.specs.Tokens.{FaultyNumber, faulty, no_number, number_missing}
+use Rattle.json5_text.specs.TokenFaults.{FaultyNumber, faulty, no_number, number_missing}
 use Rattle.json5_de.specs.Convert.{as_number}
 use Rattle.json5_de.specs.Faults.{NotNumber, faulty_number, other_number}
-use Rattle.json5_de.proofs.Expected.{Expected}
+use Rattle.json5_de.proofs.ExpectedKinds.{Expected}
 use Rattle.std.proofs.lemmas.Bool.{or_parts}
-use Rattle.json5_grammar.proofs.FirstCharacters.{first_same, true_false, none_some}
+use Rattle.json5_grammar.proofs.CommonLemmas.{first_same, true_false, none_some}
 use Rattle.json5_grammar.proofs.Refusals.{same_bad}
 
 number_none : reading.number [] ≡ bad (Some EofParsingNumber) inner

@@ -1,8 +1,8 @@
 -- What a type of strings expects.
 use Rattle.std.proofs.Common.{◌≡◌, ℕ, Bool, true, false, List, [], ◌∷◌, ◌++◌, refl, ap, sym, ◌∙◌, subst, ◌⊎◌, inl, inr, Option, Some, None}
 use Rattle.std.specs.Prelude.{◌||◌, ◌==◌}
-use Rattle.json5_grammar.specs.declared.code.ErrorCode.{ErrorCode}
-use Rattle.json5_grammar.specs.declared.code.ErrorCode.TheVariants.{EofParsingString, ExpectedString}
+use Rattle.json5_grammar.specs.declared.error_code.ErrorCode.{ErrorCode}
+use Rattle.json5_grammar.specs.declared.error_code.ErrorCode.TheVariants.{EofParsingString, ExpectedString}
 use Rattle.json5_grammar.specs.Faults.Codes.{Shown}
 use Rattle.json5_grammar.specs.Language.Strings.{Str, quoted, is_quote}
 use Rattle.json5_grammar.specs.Faults.Tokens.{StringFault, raw_terminator, string_ends, in_string_escape}
@@ -10,12 +10,12 @@ use Rattle.json5_grammar.specs.Language.Numbers.{lengthens}
 use Rattle.json5_grammar.specs.Language.Characters.{NotBegun}
 use Rattle.json5_grammar.specs.Language.Trees.{Tree}
 use Rattle.json5_grammar.specs.Language.Values.{Val, Stops, is_null, is_true, is_false, is_number, is_text, is_empty_array, is_array, is_empty_object, is_object}
-use Rattle.json5_grammar.proofs.FirstCharacters.{eq_from, first_same, true_false, none_some}
+use Rattle.json5_grammar.proofs.CommonLemmas.{eq_from, first_same, true_false, none_some}
 use Rattle.json5_grammar.proofs.StringsRead.{no_string_fault, one_string}
-use Rattle.json5_text.specs.Tokens.{FaultyString, faulty, no_quote, string_missing}
+use Rattle.json5_text.specs.TokenFaults.{FaultyString, faulty, no_quote, string_missing}
 use Rattle.json5_de.specs.Convert.{as_text}
 use Rattle.json5_de.specs.Faults.{NotText, faulty_text, other_text}
-use Rattle.json5_de.proofs.Expected.{Expected}
+use Rattle.json5_de.proofs.ExpectedKinds.{Expected}
 
 -- x begins with a quote
 abbrev Quoted : List ℕ → Type 0

@@ -6,8 +6,8 @@ use Rattle.std.proofs.lemmas.Bool.{false≢true}
 use Rattle.std.proofs.lemmas.List.{append-nil}
 use Rattle.std.proofs.lemmas.Option.{same_Some}
 use Rattle.std.proofs.lemmas.Str.{chars-encodes}
-use Rattle.json5_grammar.specs.declared.code.ErrorCode.{ErrorCode}
-use Rattle.json5_grammar.specs.declared.code.ErrorCode.TheVariants as codes
+use Rattle.json5_grammar.specs.declared.error_code.ErrorCode.{ErrorCode}
+use Rattle.json5_grammar.specs.declared.error_code.ErrorCode.TheVariants as codes
 use Rattle.json5_grammar.specs.Language.Blanks.{Blanks, Gap}
 use Rattle.json5_grammar.specs.Faults.Tokens.{BlankFault}
 use Rattle.json5_grammar.specs.Language.Documents.{Doc, max_depth}
@@ -15,17 +15,17 @@ use Rattle.json5_grammar.specs.Model.Collections.{ReadsKey}
 use Rattle.json5_grammar.specs.Language.Names.{Key}
 use Rattle.json5_grammar.specs.Faults.Positions.{position_after}
 use Rattle.json5_grammar.specs.Language.Trees.{Tree}
-use Rattle.json5_grammar.proofs.FirstCharacters.{none_some, true_false}
+use Rattle.json5_grammar.proofs.CommonLemmas.{none_some, true_false}
 use Rattle.json5_grammar.proofs.BlanksSound.{gap_blanks, no_blank_fault, one_gap}
 use Rattle.json5_grammar.proofs.ObjectsRead.{one_reads_key}
 use Rattle.json5_grammar.proofs.ValueHeads.{key_head, key_solid}
 use Rattle.json5_text.specs.declared.error.Error.{Error}
 use Rattle.json5_text.specs.Errors.{LacksMemory, code, custom, kind_of, error_position}
 use Rattle.json5_text.specs.Cursor.{Refused, Says, IsOutOfMemory}
-use Rattle.json5_text.specs.Tokens.{FaultyBlanks, FaultyKey}
+use Rattle.json5_text.specs.TokenFaults.{FaultyBlanks, FaultyKey}
 use Rattle.json5_de.specs.declared.found_text.FoundText.{FoundText}
 use Rattle.json5_de.specs.State.{State, GivesUp, cursor_of}
-use Rattle.json5_de.specs.Law.{StaysFailed, IsUnprompted}
+use Rattle.json5_de.specs.DeserializeLaw.{StaysFailed, IsUnprompted}
 use Rattle.json5_de.specs.Convert.{index_of}
 use Rattle.json5_de.specs.ConvertLists.{if_some}
 use Rattle.json5_de.specs.Faults.{AfterBlanks, in_blanks, after_gap, RefusedBy, RefusedByOrMemory}
@@ -36,7 +36,7 @@ use Rattle.json5_de.specs.KeySteps.{IsTextFault, no_memory, at_key, is_out_of_me
 use Rattle.json5_de.specs.TokenKinds.{Kind, RefusedAs}
 use Rattle.json5_de.specs.ReaderSteps.{PassedGap, IsMismatch, IsMismatchOf}
 use Rattle.json5_de.specs.WholeInputs.{ReadsDocument, RefusesReading}
-use Rattle.json5_value.proofs.OtherCodes.{key_lacks, memory_other}
+use Rattle.json5_value.proofs.NoFailedCode.{key_lacks, memory_other}
 use Rattle.json5_de.proofs.TokenKinds.{refused_other, given_up_after}
 use Rattle.json5_de.proofs.ReadSteps.{input_of, refused_token}
 use Rattle.json5_de.proofs.KeyDocuments.{converts, is_document, IsRefusedText, refused_text}

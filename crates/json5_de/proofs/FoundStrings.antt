@@ -3,19 +3,19 @@ use Rattle.std.proofs.Common.{◌≡◌, ◌≢◌, Bool, true, false, List, ℕ
 use Rattle.std.specs.Prelude.{Result, Ok, Err}
 use Rattle.std.specs.Str.{chars}
 use Rattle.std.proofs.lemmas.Str.{chars-encodes}
-use Rattle.json5_grammar.specs.declared.code.ErrorCode.{ErrorCode}
-use Rattle.json5_grammar.specs.declared.code.ErrorCode.TheVariants as codes
+use Rattle.json5_grammar.specs.declared.error_code.ErrorCode.{ErrorCode}
+use Rattle.json5_grammar.specs.declared.error_code.ErrorCode.TheVariants as codes
 use Rattle.json5_grammar.specs.Language.Trees.{Tree, null, boolean, number, text, array, object}
 use Rattle.json5_grammar.specs.Language.Values.{is_text}
 use Rattle.json5_text.specs.declared.error.Error.{Error}
 use Rattle.json5_text.specs.Errors.{LacksMemory}
-use Rattle.json5_text.specs.Tokens.{FaultyString}
+use Rattle.json5_text.specs.TokenFaults.{FaultyString}
 use Rattle.json5_de.specs.declared.found_text.FoundText.{FoundText}
 use Rattle.json5_de.specs.State.{State, GivesUp}
 use Rattle.json5_de.specs.Convert.{as_text, every_text, one_character}
 use Rattle.json5_de.specs.Faults.{AfterBlanks, in_blanks, after_gap, RefusedByOrMemory, NotText, faulty_text}
 use Rattle.json5_de.specs.FoundTexts.{TookStringAt, SpellsText, OfFound, JudgesText}
-use Rattle.json5_de.specs.Law.{CompletesFree, StaysFailed}
+use Rattle.json5_de.specs.DeserializeLaw.{CompletesFree, StaysFailed}
 use Rattle.json5_de.specs.TokenKinds.{ReadsAs, coded_text_kind, escape_free_text}
 use Rattle.json5_de.specs.ReaderSteps.{PassedGap}
 use Rattle.json5_de.specs.TokenCalls.{CompletesEscapeFree}

@@ -2,17 +2,17 @@
 use Rattle.std.proofs.Common.{◌≡◌, ℕ, Bool, true, false, List, [], ◌∷◌, ◌++◌, refl, ap, sym, ◌∙◌, subst, Option, Some, is_some}
 use Rattle.std.specs.Prelude.{slice_get}
 use Rattle.std.proofs.lemmas.List.{append-nil}
-use Rattle.json5_grammar.specs.declared.code.ErrorCode.TheVariants.{TrailingCharacters}
+use Rattle.json5_grammar.specs.declared.error_code.ErrorCode.TheVariants.{TrailingCharacters}
 use Rattle.json5_grammar.specs.Language.Blanks.{LastBlanks, Gap}
 use Rattle.json5_grammar.proofs.BlanksSound.{gap_last, gap_end}
 use Rattle.json5_text.specs.declared.error.Error.{Error}
 use Rattle.json5_text.specs.Errors.{code, kind_of}
 use Rattle.json5_text.specs.Cursor.{IsPositioned, Refused}
-use Rattle.json5_text.specs.Tokens.{FaultyBlanks}
+use Rattle.json5_text.specs.TokenFaults.{FaultyBlanks}
 use Rattle.json5_de.specs.State.{State, cursor_of}
 use Rattle.json5_de.specs.Faults.{AtEnd, Trailing, trailing, RefusedBy}
 use Rattle.json5_de.specs.ReaderSteps.{PassedGap}
-use Rattle.json5_de.proofs.Expected.{no_end_fault}
+use Rattle.json5_de.proofs.ExpectedKinds.{no_end_fault}
 use Rattle.json5_de.proofs.ReadSteps.{refused_token}
 
 pub some_left : (x : List ℕ) → is_some (slice_get x 0) ≡ true → (c : ℕ) × (r : List ℕ) × (x ≡ c ∷ r)

@@ -1,7 +1,7 @@
 -- A key's text that is read as a document.
 use Rattle.std.proofs.Common.{◌≡◌, ℕ, ◌≤◌, Bool, List, [], ◌∷◌, ◌++◌, refl, ap, ◌∙◌, subst, arith, ◌⊎◌, inl, inr, Option, Some}
 use Rattle.std.proofs.lemmas.List.{append-nil}
-use Rattle.json5_grammar.specs.declared.code.ErrorCode.{ErrorCode}
+use Rattle.json5_grammar.specs.declared.error_code.ErrorCode.{ErrorCode}
 use Rattle.json5_grammar.specs.Language.Blanks.{Gap}
 use Rattle.json5_grammar.specs.Language.Documents.{Doc, max_depth}
 use Rattle.json5_grammar.specs.Model.Reading.{Read, got, bad, and_then}
@@ -11,7 +11,7 @@ use Rattle.json5_grammar.specs.Language.Trees.{Tree, depth}
 use Rattle.json5_grammar.specs.Language.Values.{Val}
 use Rattle.json5_grammar.proofs.BlanksRead.{skip_blanks, skip_last}
 use Rattle.json5_grammar.proofs.BlanksSound.{gap_end}
-use Rattle.json5_grammar.proofs.FoundInFront.{found}
+use Rattle.json5_grammar.proofs.FoundPlaces.{found}
 use Rattle.json5_grammar.proofs.ValueHeads.{val_head, skip_value, stops_last}
 use Rattle.json5_grammar.proofs.ValuesRead.{read_complete}
 use Rattle.json5_grammar.proofs.ValuesSound.{gap_found, IsGap, read_sound}
@@ -23,7 +23,7 @@ use Rattle.json5_de.specs.KeyKinds.{converted, document_of, NotDocument, no_valu
 use Rattle.json5_de.specs.TokenKinds.{Kind, RefusedAs}
 use Rattle.json5_de.specs.State.{at_start}
 use Rattle.json5_de.specs.WholeInputs.{RefusesReading, in_value, after_value}
-use Rattle.json5_de.proofs.Arrays.{failed_of}
+use Rattle.json5_de.proofs.BracketSteps.{failed_of}
 use Rattle.json5_de.proofs.TokenKinds.{or_memory_as}
 use Rattle.json5_de.proofs.ReadSteps.{value_gap}
 

@@ -4,13 +4,13 @@ use Rattle.std.specs.Prelude.{is_some}
 use Rattle.json5_grammar.specs.Language.Trees.{Tree, Trees, no_more, more}
 use Rattle.json5_grammar.specs.Model.Collections.{snoc, contents, IsClose}
 use Rattle.json5_grammar.proofs.ElementsConverted.{both_parts}
-use Rattle.json5_grammar.proofs.ArraysPassed.{bracket_closes}
+use Rattle.json5_grammar.proofs.ArraysPartlyRead.{bracket_closes}
 use Rattle.json5_text.specs.declared.error.Error.{Error}
 use Rattle.json5_de.specs.State.{State}
 use Rattle.json5_value.specs.Brackets.{square}
-use Rattle.json5_de.specs.Access.{AccessState, OpensArray, ClosesArray, AtClose, ElementsRead, ReadsMore}
-use Rattle.json5_de.specs.Lists.{Element, Elements, element, every, count, Accepted, ReadWithin, Shape, HasElement, ListFault, at_element, too_few, RefusesRequired, at_fault, missing, RefusesList}
-use Rattle.json5_grammar.proofs.FirstCharacters.{true_false}
+use Rattle.json5_de.specs.Arrays.{AccessState, OpensArray, ClosesArray, AtClose, ElementsRead, ReadsMore}
+use Rattle.json5_de.specs.ListFaults.{Element, Elements, element, every, count, Accepted, ReadWithin, Shape, HasElement, ListFault, at_element, too_few, RefusesRequired, at_fault, missing, RefusesList}
+use Rattle.json5_grammar.proofs.CommonLemmas.{true_false}
 
 -- ---- elements that convert
 

@@ -4,8 +4,8 @@ use Rattle.std.specs.Prelude.{◌==◌, if◌then◌else◌}
 use Rattle.json5_grammar.specs.Language.Trees.{Tree, Trees}
 use Rattle.json5_grammar.specs.Model.Collections.{contents}
 use Rattle.json5_de.specs.ConvertLists.{exactly, if_length}
-use Rattle.json5_de.proofs.Loops.{HasSoMany}
-use Rattle.json5_grammar.proofs.FirstCharacters.{eq_from}
+use Rattle.json5_de.proofs.ElementLoops.{HasSoMany}
+use Rattle.json5_grammar.proofs.CommonLemmas.{eq_from}
 
 equal_to : (a b : ℕ) → a ≡ b → (a == b) ≡ true
 equal_to a b h = grind arith

@@ -6,7 +6,7 @@ use Rattle.std.specs.Map.{lookup_entry}
 use Rattle.json5_grammar.specs.Language.Trees.{Tree}
 use Rattle.json5_text.specs.declared.error.Error.{Error}
 use Rattle.json5_de.specs.State.{State}
-use Rattle.json5_de.specs.Law.{TookValue, Gives, Completes}
+use Rattle.json5_de.specs.DeserializeLaw.{TookValue, Gives, Completes}
 use Rattle.json5_de.specs.Keys.{KeyConversion}
 use Rattle.json5_de.specs.ConvertLists.{if_some}
 use Rattle.json5_de.specs.Maps.{TellsKeys, Told, pair_content, found_in, in_turn, in_order, pairs_of, map_of, GivesMembers}

@@ -4,43 +4,43 @@ use Rattle.std.specs.Prelude.{◌==◌, is_some, Result}
 use Rattle.std.specs.Str.{encode_utf8_all}
 use Rattle.std.proofs.lemmas.Bool.{or_parts}
 use Rattle.std.proofs.lemmas.Result.{err_from_is_err_and}
-use Rattle.json5_grammar.specs.declared.code.ErrorCode.{ErrorCode}
-use Rattle.json5_grammar.specs.declared.code.ErrorCode.TheVariants as codes
+use Rattle.json5_grammar.specs.declared.error_code.ErrorCode.{ErrorCode}
+use Rattle.json5_grammar.specs.declared.error_code.ErrorCode.TheVariants as codes
 use Rattle.json5_grammar.specs.Faults.Codes.{after_text}
 use Rattle.json5_grammar.specs.Language.Characters.{NotBegun}
 use Rattle.json5_grammar.specs.Language.Blanks.{Blanks, Gap, Solid}
 use Rattle.json5_grammar.specs.Language.Trees.{Tree}
 use Rattle.json5_grammar.specs.Language.Values.{Reads}
 use Rattle.json5_grammar.specs.Model.Collections.{ReadsKey, IsKey, IsKeyValue, NoMemberGoes}
-use Rattle.json5_grammar.proofs.FirstCharacters.{first_same, true_false}
+use Rattle.json5_grammar.proofs.CommonLemmas.{first_same, true_false}
 use Rattle.json5_grammar.proofs.BlanksRead.{begins_solid}
 use Rattle.json5_grammar.proofs.BlanksSound.{one_gap, gap_last, gap_before, gap_blanks}
 use Rattle.json5_grammar.proofs.ValueHeads.{key_head, key_solid}
 use Rattle.json5_grammar.proofs.ArraysRead.{comma_solid}
-use Rattle.json5_grammar.proofs.ArraysPassed.{after_same_comma, same_sign}
+use Rattle.json5_grammar.proofs.ArraysPartlyRead.{after_same_comma, same_sign}
 use Rattle.json5_grammar.proofs.ObjectsRead.{colon_solid}
 use Rattle.json5_text.specs.declared.error.Error.{Error}
 use Rattle.json5_text.specs.Errors.{code, kind_of}
 use Rattle.json5_text.specs.Cursor.{Refused}
-use Rattle.json5_text.specs.Tokens.{FaultyBlanks}
+use Rattle.json5_text.specs.TokenFaults.{FaultyBlanks}
 use Rattle.json5_de.specs.State.{State, OnlyRead, SameText, cursor_of}
-use Rattle.json5_de.specs.Law.{TookValue, Steady, IsUnprompted}
+use Rattle.json5_de.specs.DeserializeLaw.{TookValue, Steady, IsUnprompted}
 use Rattle.json5_de.specs.ReaderSteps.{PassedGap, TookText, IsCount}
 use Rattle.json5_de.specs.Keys.{KeyConversion, TookKey, GivesKey, CompletesKey, ReadsKeyOf}
 use Rattle.json5_value.specs.Brackets.{curly}
 use Rattle.json5_de.specs.Faults.{AfterBlanks, in_blanks, after_gap, RefusedBy, AtEnd, AtOther, IsPositionless, IsAfter}
-use Rattle.json5_de.specs.Access.{AtClose, PositionedAtBracket}
-use Rattle.json5_value.specs.Steps.{Unexpected, at_end, at_char}
+use Rattle.json5_de.specs.Arrays.{AtClose, PositionedAtBracket}
+use Rattle.json5_value.specs.ModelSteps.{Unexpected, at_end, at_char}
 use Rattle.json5_value.specs.Offsets.{StartsAfter}
-use Rattle.json5_de.specs.Seq.{IsAfterGap, IsEntryStart, AtEntry, NothingNext, NoNext, no_comma, comma_missing, in_blanks_after}
+use Rattle.json5_de.specs.AccessCalls.{IsAfterGap, IsEntryStart, AtEntry, NothingNext, NoNext, no_comma, comma_missing, in_blanks_after}
 use Rattle.json5_de.specs.Objects.{MapAccessState, bare_map, TookMemberKey, AfterColon, TookMemberValue, GivesMemberKey, GivesMemberValue, CompletesMemberKey}
 use Rattle.json5_de.proofs.Offsets.{placed_where}
 use Rattle.json5_de.specs.ObjectFaults.{begins_key, AtKey, NoKeyHere, no_key, key_missing, NoKey, no_next, not_here, not_after_comma, PositionedAtKey, at_key, as_it_is, PositionsKey, RefusesMemberKey, not_reached, in_key, ReadsKeyOfMember, begins_next_key, no_key_code, RefusesNextKey, NoColon, no_colon, colon_missing, is_colon, RefusesMemberValue, no_value, in_value, RefusesNextValue}
-use Rattle.json5_de.proofs.Expected.{Expected, end_fault, other_fault}
+use Rattle.json5_de.proofs.ExpectedKinds.{Expected, end_fault, other_fault}
 use Rattle.json5_de.proofs.ReadSteps.{input_of, placed_after, refused_token}
 use Rattle.json5_de.proofs.RefusalPositions.{refused_as, refused_after}
 use Rattle.json5_de.proofs.Options.{not_nil}
-use Rattle.json5_de.proofs.Arrays.{only_read, level_of, failed_of, sign_next, no_sign_next, after_gap_of, no_close_found, no_sign_faulty}
+use Rattle.json5_de.proofs.BracketSteps.{only_read, level_of, failed_of, sign_next, no_sign_next, after_gap_of, no_close_found, no_sign_faulty}
 use Rattle.json5_de.proofs.EntryCodes.{expects_more, end_no_sign, other_no_sign, end_no_close, other_no_close}
 use Rattle.json5_de.proofs.AccessCalls.{lent_back, answers_call, refuses_call}
 use Rattle.json5_de.proofs.ObjectMembers.{curly_signs}

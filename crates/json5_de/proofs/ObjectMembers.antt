@@ -8,18 +8,18 @@ use Rattle.json5_grammar.specs.Model.Collections.{OpensObject, IsKey, IsKeyValue
 use Rattle.json5_grammar.proofs.ObjectsRead.{brace_solid, opening_brace_solid, one_opening_brace, one_brace, one_key, one_key_value, key_or_brace, brace_closes, found_brace, brace_found, pairs_more, object_front, object_closed, shallow_snoc_pair}
 use Rattle.json5_text.specs.declared.error.Error.{Error}
 use Rattle.json5_de.specs.State.{State, GivesUp}
-use Rattle.json5_de.specs.Law.{TookValue}
+use Rattle.json5_de.specs.DeserializeLaw.{TookValue}
 use Rattle.json5_de.specs.Keys.{KeyConversion}
 use Rattle.json5_value.specs.declared.brackets.BracketKind.{BracketKind}
 use Rattle.json5_value.specs.declared.brackets.BracketKind.TheVariants as kind
-use Rattle.json5_de.specs.Brackets.{AreSigns}
+use Rattle.json5_de.specs.BracketSigns.{AreSigns}
 use Rattle.json5_value.specs.Brackets.{curly, brackets_of}
-use Rattle.json5_de.proofs.Arrays.{square_signs}
-use Rattle.json5_de.specs.Access.{AccessState, Opened, Closed, AtClose, OpensAs, ClosesAs, CompletesClose}
+use Rattle.json5_de.proofs.BracketSteps.{square_signs}
+use Rattle.json5_de.specs.Arrays.{AccessState, Opened, Closed, AtClose, OpensAs, ClosesAs, CompletesClose}
 use Rattle.json5_de.specs.Objects.{MapAccessState, TookMemberKey, TookMemberValue, GivesMemberKey, GivesMemberValue, CompletesMemberKey, CompletesMemberValue, ReadsMemberKey, ReadsMemberValue, MembersRead, MembersLeft, LeftAfter, ReadsAKey, ReadsAMember, LeavesAValue, LeavesObjectMembers, OpensMap, ClosesMap}
 use Rattle.json5_de.proofs.ReadSteps.{input_of}
 use Rattle.json5_de.proofs.OpenClose.{opens_same, opens_too, closes}
-use Rattle.json5_de.proofs.Elements.{still_live, same_level, only_after, more_and_less}
+use Rattle.json5_de.proofs.ArrayElements.{still_live, same_level, only_after, more_and_less}
 
 -- an object's brackets
 pub curly_signs : AreSigns curly

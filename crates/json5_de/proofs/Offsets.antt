@@ -6,7 +6,7 @@ use Rattle.json5_de.specs.State.{State}
 use Rattle.json5_value.specs.Offsets.{PositionedAt}
 use Rattle.json5_text.specs.declared.error.Error.{Error}
 use Rattle.json5_de.specs.ReaderSteps.{IsCount}
-use Rattle.json5_value.proofs.Steps.{counted_before}
+use Rattle.json5_value.proofs.ModelSteps.{counted_before}
 
 offset_before : (s : State) (cursor : Cursor) (offset : ℕ) → cursor.input ≡ s.input → cursor.unread ≡ s.unread → offset ≡ offset_of cursor → (before : List ℕ) × (cursor.input ≡ before ++ cursor.unread)
     → IsOffset s.input offset × ((before : List ℕ) → s.input ≡ before ++ s.unread → offset ≡ length (encode_utf8_all before))

@@ -2,24 +2,24 @@
 use Rattle.std.proofs.Common.{◌≡◌, ◌<◌, ◌+◌, ℕ, ◌++◌, ◌∷◌, [], Bool, true, false, List, length, refl, subst, ap, sym, ◌∙◌, inl, inr, arith, ◌-◌, Result, Ok, Err}
 use Rattle.std.specs.Prelude.{OnOk, IsOk}
 use Rattle.std.specs.Str.{encode_utf8_all}
-use Rattle.json5_grammar.specs.declared.code.ErrorCode.TheVariants as codes
+use Rattle.json5_grammar.specs.declared.error_code.ErrorCode.TheVariants as codes
 use Rattle.json5_grammar.specs.Model.Collections.{IsEnd}
 use Rattle.json5_text.specs.declared.error.Error.{Error}
 use Rattle.json5_de.specs.State.{State}
 use Rattle.json5_de.specs.Faults.{RefusedBy, IsPositionless}
 use Rattle.json5_value.specs.declared.brackets.Brackets.{Brackets}
-use Rattle.json5_de.specs.Brackets.{AreSigns}
+use Rattle.json5_de.specs.BracketSigns.{AreSigns}
 use Rattle.json5_de.specs.Enums.{ClosesLast}
-use Rattle.json5_de.specs.Access.{AccessState, Opened, Closed, NotOpened, NotClosed, OpensAs, ClosesAs}
-use Rattle.json5_de.proofs.Expected.{end_fault, other_fault}
+use Rattle.json5_de.specs.Arrays.{AccessState, Opened, Closed, NotOpened, NotClosed, OpensAs, ClosesAs}
+use Rattle.json5_de.proofs.ExpectedKinds.{end_fault, other_fault}
 use Rattle.json5_grammar.specs.Language.Documents.{max_depth}
 use Rattle.json5_de.specs.ReaderSteps.{PassedGap, TookText}
 use Rattle.json5_de.proofs.ReadSteps.{input_of}
-use Rattle.json5_de.proofs.OtherCodes.{opening_lacks, closing_lacks}
+use Rattle.json5_de.proofs.NoFailedCode.{opening_lacks, closing_lacks}
 use Rattle.json5_de.proofs.TokenKinds.{refused_other}
-use Rattle.json5_de.proofs.Arrays.{opening_refused, only_read, level_of, unread_of, sign_next, after_gap_of}
+use Rattle.json5_de.proofs.BracketSteps.{opening_refused, only_read, level_of, unread_of, sign_next, after_gap_of}
 use Rattle.json5_de.proofs.EntryCodes.{expects_opening, expects_closing, full_fault, end_no_sign, other_no_sign, end_not_closed, other_not_closed}
-use Rattle.json5_grammar.proofs.FirstCharacters.{true_false}
+use Rattle.json5_grammar.proofs.CommonLemmas.{true_false}
 
 pub opens : {A : Type 0} (b : Brackets) → AreSigns b → (state_of : A → AccessState) (old : State) (a : A) → Opened b old (state_of a).reader → (state_of a).comma_due ≡ false
     → ((before : List ℕ) → old.input ≡ before ++ b.opening ∷ (state_of a).reader.unread → (state_of a).start ≡ length (encode_utf8_all before)) → OpensAs b state_of old (Ok a)

@@ -2,37 +2,37 @@
 use Rattle.std.proofs.Common.{◌≡◌, ℕ, ◌+◌, ◌≤◌, Bool, true, false, List, [], ◌∷◌, ◌++◌, refl, ap, sym, ◌∙◌, subst, inl, inr, Option, Some, None, arith}
 use Rattle.std.specs.Prelude.{◌==◌, Result, Ok, Err}
 use Rattle.std.proofs.lemmas.Bool.{false≢true}
-use Rattle.json5_grammar.specs.declared.code.ErrorCode.TheVariants as codes
+use Rattle.json5_grammar.specs.declared.error_code.ErrorCode.TheVariants as codes
 use Rattle.json5_grammar.specs.Language.Documents.{max_depth}
-use Rattle.json5_grammar.specs.declared.code.ErrorCode.{ErrorCode}
+use Rattle.json5_grammar.specs.declared.error_code.ErrorCode.{ErrorCode}
 use Rattle.json5_grammar.specs.Language.Blanks.{Blanks, Gap, Solid}
 use Rattle.json5_grammar.specs.Language.Strings.{quoted}
 use Rattle.json5_grammar.specs.Language.Trees.{Tree, null, boolean, number, text, array, object, depth}
 use Rattle.json5_grammar.specs.Language.Values.{Val, Reads, is_null, is_true, is_false, is_number, is_text, is_empty_array, is_array, is_empty_object, is_object}
 use Rattle.json5_grammar.proofs.BlanksSound.{gap_last}
-use Rattle.json5_grammar.proofs.Classes.{number_others, quote_others}
+use Rattle.json5_grammar.proofs.CharacterClasses.{number_others, quote_others}
 use Rattle.json5_grammar.proofs.ValueHeads.{val_head, number_head}
 use Rattle.json5_grammar.proofs.ArraysRead.{phrase_found, reads_found}
 use Rattle.json5_grammar.proofs.EntriesAfterGaps.{reads_here, no_reads_in_blanks}
 use Rattle.json5_text.specs.declared.error.Error.{Error}
 use Rattle.json5_text.specs.Errors.{code, kind_of, error_position}
 use Rattle.json5_text.specs.Cursor.{Refused}
-use Rattle.json5_text.specs.Tokens.{FaultyBlanks}
+use Rattle.json5_text.specs.TokenFaults.{FaultyBlanks}
 use Rattle.json5_de.specs.State.{State, SameText, GivesUp, cursor_of}
-use Rattle.json5_de.specs.Law.{TookValue, Gives, Completes, CompletesFree, Unprompted, ReadsValue}
-use Rattle.json5_de.specs.Options.{NoOption, option_missing, faulty_null, RefusesOption, option_free}
+use Rattle.json5_de.specs.DeserializeLaw.{TookValue, Gives, Completes, CompletesFree, Unprompted, ReadsValue}
+use Rattle.json5_de.specs.OptionFaults.{NoOption, option_missing, faulty_null, RefusesOption, option_free}
 use Rattle.json5_value.specs.Offsets.{PositionedAt}
 use Rattle.json5_de.specs.Convert.{unit_of}
 use Rattle.json5_de.specs.ConvertLists.{option_of, if_some}
 use Rattle.json5_de.specs.Faults.{AtEnd, RefusedBy, IsPositionless, FaultyNull}
 use Rattle.json5_de.specs.ReaderSteps.{PassedGap}
-use Rattle.json5_value.specs.Steps.{Unexpected, at_end, at_char}
-use Rattle.json5_de.proofs.Expected.{Expected}
-use Rattle.json5_de.proofs.Arrays.{only_read, level_of}
+use Rattle.json5_value.specs.ModelSteps.{Unexpected, at_end, at_char}
+use Rattle.json5_de.proofs.ExpectedKinds.{Expected}
+use Rattle.json5_de.proofs.BracketSteps.{only_read, level_of}
 use Rattle.json5_de.proofs.ReadSteps.{input_of, refused_token}
-use Rattle.json5_de.proofs.OtherCodes.{option_lacks}
+use Rattle.json5_de.proofs.NoFailedCode.{option_lacks}
 use Rattle.json5_de.proofs.TokenKinds.{refused_other}
-use Rattle.json5_grammar.proofs.FirstCharacters.{first_same, true_false}
+use Rattle.json5_grammar.proofs.CommonLemmas.{first_same, true_false}
 
 pub not_nil : (c : ℕ) (x y : List ℕ) → y ≡ c ∷ x → y ≡ [] → ⊥
 not_nil c x y e k = let none : c ∷ x ≡ [] = sym e ∙ k in absurd (cc)

@@ -10,15 +10,15 @@ use Rattle.json5_grammar.proofs.MembersConverted.{object_only}
 use Rattle.json5_text.specs.declared.error.Error.{Error}
 use Rattle.json5_text.specs.Cursor.{IsOutOfMemory}
 use Rattle.json5_de.specs.State.{State, SameText}
-use Rattle.json5_de.specs.Law.{Unprompted, Gives, Completes, TookValue, IsUnprompted}
+use Rattle.json5_de.specs.DeserializeLaw.{Unprompted, Gives, Completes, TookValue, IsUnprompted}
 use Rattle.json5_de.specs.ConvertLists.{if_some, first_of, last_of}
 use Rattle.json5_de.specs.Refinement.{if_more}
-use Rattle.json5_de.specs.Access.{AccessState, ElementsRead, ElementsLeft, ReadsMore, LeavesFewer}
+use Rattle.json5_de.specs.Arrays.{AccessState, ElementsRead, ElementsLeft, ReadsMore, LeavesFewer}
 use Rattle.json5_de.specs.Objects.{MapAccessState, MembersLeft}
 use Rattle.json5_de.specs.Plans.{Plan, run, ReadsMembers}
 use Rattle.json5_de.specs.Enums.{EnumAccessState, NameRead, NamesVariant, ReadsVariant, GivesContent, AfterName, ContentLeft, OpensTuple, OpensStruct, ClosesTuple, ClosesStruct, enum_of, named_variant, content_of}
 use Rattle.json5_de.specs.Variants.{Variant, from_index, FinishesVariant}
-use Rattle.json5_de.proofs.Loops.{handed_on}
+use Rattle.json5_de.proofs.ElementLoops.{handed_on}
 use Rattle.json5_de.proofs.Refinement.{parts}
 
 some_parts : {A B : Type 0} (g : A → B) (o : Option A) (b : B) → if_some g o ≡ Some b → (a : A) × (o ≡ Some a) × (g a ≡ b)

@@ -1,6 +1,6 @@
 -- What the steps of a read amount to.
 use Rattle.std.proofs.Common.{◌≡◌, ℕ, Bool, false, List, [], ◌∷◌, ◌++◌, refl, ap, sym, ◌∙◌, subst, append_assoc, ◌⊎◌, inl, inr, Option, Some, None, arith}
-use Rattle.json5_grammar.specs.declared.code.ErrorCode.{ErrorCode}
+use Rattle.json5_grammar.specs.declared.error_code.ErrorCode.{ErrorCode}
 use Rattle.json5_grammar.specs.Faults.Codes.{after_text}
 use Rattle.json5_grammar.specs.Language.Blanks.{Blanks, Gap}
 use Rattle.json5_grammar.specs.Faults.Positions.{position_after}
@@ -8,16 +8,16 @@ use Rattle.json5_grammar.specs.Language.Trees.{Tree, depth}
 use Rattle.json5_grammar.specs.Language.Values.{Val, Stops, null_text, true_text, false_text}
 use Rattle.std.specs.Prelude.{◌==◌, slice_get, if◌then◌else◌}
 use Rattle.std.specs.Option.{option_eq}
-use Rattle.json5_grammar.specs.declared.code.ErrorCode.TheVariants as codes_of
+use Rattle.json5_grammar.specs.declared.error_code.ErrorCode.TheVariants as codes_of
 use Rattle.json5_grammar.proofs.BlanksSound.{gap_blanks}
 use Rattle.json5_grammar.proofs.ValueHeads.{val_head}
 use Rattle.json5_text.specs.declared.error.Error.{Error}
 use Rattle.json5_text.specs.Errors.{error_position}
 use Rattle.json5_text.specs.Cursor.{IsPositioned, Refused}
 use Rattle.json5_text.specs.Errors.{LacksMemory}
-use Rattle.json5_text.specs.Tokens.{FaultyBlanks, FaultyWord}
+use Rattle.json5_text.specs.TokenFaults.{FaultyBlanks, FaultyWord}
 use Rattle.json5_de.specs.State.{State, cursor_of}
-use Rattle.json5_de.specs.Law.{TookValue}
+use Rattle.json5_de.specs.DeserializeLaw.{TookValue}
 use Rattle.json5_de.specs.Faults.{AfterBlanks, in_blanks, after_gap, RefusedBy, RefusedByOrMemory, FaultyBool, begins_with}
 use Rattle.json5_de.specs.ReaderSteps.{PassedGap, TookText}
 

@@ -12,7 +12,7 @@ use Rattle.json5_text.specs.Cursor.{IsPositionOf}
 use Rattle.json5_text.specs.Errors.{IsCustomAt}
 use Rattle.json5_de.specs.State.{State}
 use Rattle.json5_de.specs.Faults.{RefusedBy}
-use Rattle.json5_de.specs.Law.{Gives, Completes, TookValue}
+use Rattle.json5_de.specs.DeserializeLaw.{Gives, Completes, TookValue}
 use Rattle.json5_de.specs.Refinement.{ReadsContent, if_more, refined, NotAccepted, not_accepted}
 use Rattle.json5_de.specs.Spans.{SpansValue}
 use Rattle.json5_de.proofs.ReadSteps.{refused_token, input_of}

@@ -2,10 +2,10 @@
 use Rattle.std.proofs.Common.{◌≡◌, ◌∙◌, Option, None, List, ℕ, Ok, Err}
 use Rattle.json5_text.specs.declared.error.Error.{Error}
 use Rattle.json5_de.specs.State.{SameText}
-use Rattle.json5_de.specs.Access.{AccessState, IsAtBracket}
+use Rattle.json5_de.specs.Arrays.{AccessState, IsAtBracket}
 use Rattle.json5_grammar.specs.Language.Trees.{Tree, Trees, no_more, more}
-use Rattle.json5_de.specs.Access.{LeavesFewer}
-use Rattle.json5_de.specs.Lists.{IsTooShort, LeavesRequired}
+use Rattle.json5_de.specs.Arrays.{LeavesFewer}
+use Rattle.json5_de.specs.ListFaults.{IsTooShort, LeavesRequired}
 
 -- the bracket stays where it was
 pub bracket_before : (old new : AccessState) (e : Error) → new.start ≡ old.start → SameText old.reader new.reader → IsAtBracket new e → IsAtBracket old e

@@ -8,7 +8,7 @@ use Rattle.json5_text.specs.ShortWays.{TakesShortSign}
 use Rattle.json5_value.specs.Brackets.{brackets_of}
 use Rattle.json5_value.specs.declared.brackets.BracketKind.{BracketKind}
 use Rattle.json5_value.specs.declared.brackets.BracketKind.TheVariants as kind
-use Rattle.json5_value.proofs.Steps.{counted_before}
+use Rattle.json5_value.proofs.ModelSteps.{counted_before}
 use Rattle.json5_de.specs.ShortWays.{OpensShort, ClosesShort}
 use Rattle.json5_de.specs.State.{State}
 use Rattle.json5_de.proofs.ShortReads.{reader_at}

@@ -21,16 +21,16 @@ use Rattle.json5_value.specs.declared.brackets.Brackets.{Brackets}
 use Rattle.json5_de.specs.Convert.{natural_below, integer_below, every_text}
 use Rattle.json5_de.specs.KeyKinds.{ReadsKeyAs, string_key}
 use Rattle.json5_de.specs.Keys.{TookKey}
-use Rattle.json5_de.specs.Law.{TookValue}
+use Rattle.json5_de.specs.DeserializeLaw.{TookValue}
 use Rattle.json5_de.specs.TokenKinds.{ReadsAs, whole_kind, natural_kind, integer_kind, decimal_kind, string_kind}
-use Rattle.json5_de.specs.Seq.{IsEntryStart}
+use Rattle.json5_de.specs.AccessCalls.{IsEntryStart}
 use Rattle.json5_de.specs.ShortWays.{ReadsShort, StepsShort, ReadsShortText, ReadsShortKey, PassesShortColon, OwnsTextAt}
 use Rattle.json5_de.specs.State.{State}
 use Rattle.json5_de.proofs.TokenKinds.{reads_ok}
 use Rattle.json5_de.proofs.ReadSteps.{value_gap, input_of}
 use Rattle.json5_de.proofs.FoundKeys.{key_ok}
-use Rattle.json5_grammar.proofs.FirstCharacters.{true_false}
-use Rattle.json5_value.proofs.OtherCodes.{memory_other}
+use Rattle.json5_grammar.proofs.CommonLemmas.{true_false}
+use Rattle.json5_value.proofs.NoFailedCode.{memory_other}
 use Rattle.json5_text.specs.declared.error.Error.{Error}
 
 -- a reader whose scanner is there

@@ -1,17 +1,17 @@
 -- Why a struct is refused, from what its calls say.
 use Rattle.std.proofs.Common.{◌≡◌, ℕ, Bool, true, false, List, refl, sym, ap, ◌∙◌, subst, Option, Some, None, Ok, Err}
 use Rattle.std.specs.Prelude.{Result, IfErr, IsErrAnd, is_some}
-use Rattle.json5_grammar.specs.declared.code.ErrorCode.TheVariants as codes
+use Rattle.json5_grammar.specs.declared.error_code.ErrorCode.TheVariants as codes
 use Rattle.json5_grammar.specs.Model.Collections.{IsBrace}
 use Rattle.json5_grammar.specs.Language.Trees.{Tree}
-use Rattle.json5_grammar.proofs.FirstCharacters.{true_false}
+use Rattle.json5_grammar.proofs.CommonLemmas.{true_false}
 use Rattle.json5_grammar.proofs.ObjectsRead.{brace_closes}
 use Rattle.json5_text.specs.declared.error.Error.{Error}
 use Rattle.json5_text.specs.Errors.{code, kind_of}
 use Rattle.json5_de.specs.State.{State, SameText}
 use Rattle.json5_de.specs.ConvertLists.{if_some}
 use Rattle.json5_de.specs.Faults.{RefusedBy}
-use Rattle.json5_de.specs.Access.{NotOpened, IsAtBracket}
+use Rattle.json5_de.specs.Arrays.{NotOpened, IsAtBracket}
 use Rattle.json5_de.specs.AnyTree.{RefusesTree}
 use Rattle.json5_value.specs.Brackets.{curly}
 use Rattle.json5_de.specs.KeyKinds.{RefusedAsKey, string_key}
@@ -23,7 +23,7 @@ use Rattle.json5_de.specs.Lending.{map_state_of, KeepsMap}
 use Rattle.json5_de.specs.declared.map.MapAccess.{MapAccess}
 use Rattle.json5_de.specs.Plans.{Step, Plan, ReadsMembers}
 use Rattle.json5_de.specs.StructFaults.{ValueFaults, may_stand, of_field, first, second, of_any, RefusesMember, ReadSince, MembersFault, at_key, at_value, RefusesMembers, OpenedObject, StructFault, not_opened, in_pairs, missing}
-use Rattle.json5_de.proofs.Loops.{handed_on}
+use Rattle.json5_de.proofs.ElementLoops.{handed_on}
 use Rattle.json5_de.proofs.Structs.{ReadingStruct, StandsFor, Part, Passes}
 
 -- ---- the value of a key

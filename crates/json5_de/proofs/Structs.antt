@@ -14,7 +14,7 @@ use Rattle.json5_text.specs.declared.error.Error.{Error}
 use Rattle.json5_text.specs.Cursor.{IsOutOfMemory}
 use Rattle.json5_de.specs.State.{State}
 use Rattle.json5_de.specs.ConvertLists.{if_some}
-use Rattle.json5_de.specs.Law.{TookValue, Completes, IsUnprompted, Unprompted}
+use Rattle.json5_de.specs.DeserializeLaw.{TookValue, Completes, IsUnprompted, Unprompted}
 use Rattle.json5_de.specs.Refinement.{if_more}
 use Rattle.json5_de.specs.Keys.{KeyConversion}
 use Rattle.json5_de.specs.Objects.{MapAccessState, GivesMemberKey, MembersRead, MembersLeft, ReadsAKey, LeavesAValue, OpensMap}
@@ -23,7 +23,7 @@ use Rattle.json5_de.specs.Convert.{every_text}
 use Rattle.json5_de.specs.Lending.{map_state_of}
 use Rattle.json5_de.specs.declared.map.MapAccess.{MapAccess}
 use Rattle.json5_de.specs.Plans.{LeavesTaken, PassesMember, Plan, Step, run, at_name, both_steps, TakesMember, ReadsMembers}
-use Rattle.json5_de.proofs.Loops.{handed_on}
+use Rattle.json5_de.proofs.ElementLoops.{handed_on}
 use Rattle.json5_de.proofs.Refinement.{parts}
 
 -- ---- where the value of a name goes

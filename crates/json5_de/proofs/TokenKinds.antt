@@ -1,8 +1,8 @@
 -- The kinds of values that one token makes are lawful, and a read of one keeps the law, from its steps.
 use Rattle.std.proofs.Common.{◌≡◌, ◌≢◌, ℕ, ℤ, Bool, false, List, refl, ap, sym, ◌∙◌, subst, ◌⊎◌, ◌++◌, inl, inr, Option, Some, None}
 use Rattle.std.specs.Prelude.{true, Result, Ok, Err, IsOk, IfOk, IfErr, OnErr, IsErrAnd, if◌then◌else◌}
-use Rattle.json5_grammar.specs.declared.code.ErrorCode.{ErrorCode}
-use Rattle.json5_grammar.specs.declared.code.ErrorCode.TheVariants as codes
+use Rattle.json5_grammar.specs.declared.error_code.ErrorCode.{ErrorCode}
+use Rattle.json5_grammar.specs.declared.error_code.ErrorCode.TheVariants as codes
 use Rattle.json5_text.specs.declared.error.Error.{Error}
 use Rattle.json5_text.specs.Errors.{code, kind_of}
 use Rattle.json5_text.specs.Cursor.{Cursor}
@@ -10,30 +10,30 @@ use Rattle.json5_text.specs.Errors.{LacksMemory}
 use Rattle.json5_grammar.specs.Language.Values.{null_text, true_text, false_text, Stops, is_null, is_number}
 use Rattle.json5_de.specs.State.{State, GivesUp}
 use Rattle.json5_text.specs.Cursor.{Refused}
-use Rattle.json5_text.specs.Tokens.{FaultyBlanks, FaultyNumber, FaultyString}
+use Rattle.json5_text.specs.TokenFaults.{FaultyBlanks, FaultyNumber, FaultyString}
 use Rattle.json5_grammar.specs.Language.Strings.{Str}
 use Rattle.json5_de.specs.State.{cursor_of}
 use Rattle.json5_de.specs.ReaderSteps.{PassedGap, TookText, IsMismatch, IsMismatchOf, WholeAt}
 use Rattle.json5_de.specs.TokenCalls.{PassesWord}
-use Rattle.json5_de.specs.Law.{Gives, CompletesFree, StaysFailed, Unprompted}
+use Rattle.json5_de.specs.DeserializeLaw.{Gives, CompletesFree, StaysFailed, Unprompted}
 use Rattle.json5_grammar.specs.Language.Numbers.{Number, whole, decimal, Num, lengthens}
 use Rattle.json5_grammar.specs.Language.Trees.{Tree, null, boolean, number, text, array, object}
 use Rattle.json5_de.specs.Convert.{as_whole, as_number, every_decimal, as_text, if_escape_free, digits_bytes}
 use Rattle.json5_de.specs.Faults.{FaultRelation, AfterBlanks, in_blanks, after_gap, RefusedBy, RefusedByOrMemory, NotNumber, faulty_number, other_number, faulty_text, begins_with}
 use Rattle.json5_de.specs.TokenKinds.{Kind, RefusedWith, ReadsAs, ReadsNull, EndsWhere, DiffersWhere, TellsApart, every_tree, no_tree, escape_free_text, null_kind, bool_kind, whole_kind, decimal_kind, coded_text_kind, text_kind, escape_free_kind, bytes_kind}
-use Rattle.json5_de.proofs.Expected.{Expected, wrongly_refused, completes_or_memory, ends_from, ends_or_memory, differs_from, differs_or_memory}
-use Rattle.json5_de.proofs.Expects.{expects_null, expects_bool}
+use Rattle.json5_de.proofs.ExpectedKinds.{Expected, wrongly_refused, completes_or_memory, ends_from, ends_or_memory, differs_from, differs_or_memory}
+use Rattle.json5_de.proofs.ExpectsWords.{expects_null, expects_bool}
 use Rattle.json5_de.proofs.ExpectsNumbers.{expects_number}
 use Rattle.json5_de.proofs.ExpectsStrings.{expects_text}
 use Rattle.json5_de.proofs.ReadSteps.{input_of, refused_blanks, refused_token, took_leaf, refused_or_memory, null_stops}
 use Rattle.json5_de.proofs.Mismatches.{StartsAt, refused_number, refused_text}
-use Rattle.json5_de.proofs.WithoutMemory.{whole_there, no_other_number, escape_free_there, no_other_text}
+use Rattle.json5_de.proofs.AllocationFreeFronts.{whole_there, no_other_number, escape_free_there, no_other_text}
 use Rattle.json5_grammar.specs.Language.Characters.{NotBegun}
-use Rattle.json5_text.specs.NumberViews.{keeps_digits}
+use Rattle.json5_text.specs.NumberMeanings.{keeps_digits}
 use Rattle.std.proofs.lemmas.Bool.{false≢true}
-use Rattle.json5_de.proofs.OtherCodes.{after_lacks, number_lacks, text_lacks}
-use Rattle.json5_value.proofs.OtherCodes.{Lacks, in_blanks_other, word_lacks, other_says, memory_other}
-use Rattle.json5_grammar.proofs.FirstCharacters.{true_false}
+use Rattle.json5_de.proofs.NoFailedCode.{after_lacks, number_lacks, text_lacks}
+use Rattle.json5_value.proofs.NoFailedCode.{Lacks, in_blanks_other, word_lacks, other_says, memory_other}
+use Rattle.json5_grammar.proofs.CommonLemmas.{true_false}
 
 -- a kind of value is told apart from all others, and none of its faults is that the reader had failed
 pub record IsLawful {C : Type 0} (kind : Kind C) : Type 0 where

@@ -2,8 +2,8 @@
 use Rattle.std.proofs.Common.{◌≡◌, ℕ, ◌-◌, ◌≤◌, Bool, true, false, List, [], ◌∷◌, ◌++◌, length, refl, ap, sym, ◌∙◌, arith, length-append, Option, Some, None}
 use Rattle.std.specs.Prelude.{nat_le, if◌then◌else◌, Result, Ok, Err, IfOk, IfErr}
 use Rattle.std.proofs.lemmas.Bool.Decides.{nat_tests}
-use Rattle.json5_grammar.specs.declared.code.ErrorCode.{ErrorCode}
-use Rattle.json5_grammar.specs.declared.code.ErrorCode.TheVariants as codes
+use Rattle.json5_grammar.specs.declared.error_code.ErrorCode.{ErrorCode}
+use Rattle.json5_grammar.specs.declared.error_code.ErrorCode.TheVariants as codes
 use Rattle.json5_grammar.specs.Language.Documents.{max_depth}
 use Rattle.json5_grammar.specs.Faults.{begins_value}
 use Rattle.json5_grammar.specs.Model.Reading.{Read, Place, here, inner, got, bad, IsAt}
@@ -17,9 +17,9 @@ use Rattle.json5_text.specs.declared.error.Error.{Error}
 use Rattle.json5_de.proofs.TreeFaults.{as_reading}
 use Rattle.json5_text.specs.Cursor.{IsOutOfMemory}
 use Rattle.json5_de.specs.AnyTree.{ReadingRefuses, RefusedInReading, ReadsTree, TellsTreesApart}
-use Rattle.json5_de.specs.Law.{Gives}
+use Rattle.json5_de.specs.DeserializeLaw.{Gives}
 use Rattle.json5_de.specs.State.{State}
-use Rattle.json5_de.proofs.Expected.{Expected, ends_or_memory, differs_or_memory}
+use Rattle.json5_de.proofs.ExpectedKinds.{Expected, ends_or_memory, differs_or_memory}
 use Rattle.json5_de.proofs.TreesRead.{forget_bad}
 
 -- the trees that fit within so many brackets

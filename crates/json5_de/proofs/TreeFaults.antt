@@ -1,16 +1,16 @@
 -- What reading on lists refuses a value with is its fault, and the other way round.
 use Rattle.std.proofs.Common.{◌≡◌, ℕ, ◌-◌, List, ◌++◌, refl, ap, sym, ◌∙◌, subst, inl, inr, Option, Some, None}
 use Rattle.json5_grammar.specs.Language.Blanks.{Gap, Solid}
-use Rattle.json5_grammar.specs.declared.code.ErrorCode.{ErrorCode}
+use Rattle.json5_grammar.specs.declared.error_code.ErrorCode.{ErrorCode}
 use Rattle.json5_grammar.specs.Language.Documents.{max_depth}
 use Rattle.json5_grammar.specs.Model.Reading.{Read, Place, here, inner, got, bad, and_then, IsAt}
 use Rattle.json5_grammar.specs.Model.ReadBlanks.{skip, between}
 use Rattle.json5_grammar.specs.Model.ReadValues.{read}
-use Rattle.json5_grammar.proofs.FirstCharacters.{at_after}
+use Rattle.json5_grammar.proofs.CommonLemmas.{at_after}
 use Rattle.json5_grammar.proofs.BlanksSound.{BlanksSound, skip_sound, blank_refused, gap_read}
-use Rattle.json5_grammar.proofs.FoundInFront.{IsIn}
+use Rattle.json5_grammar.proofs.FoundPlaces.{IsIn}
 use Rattle.json5_grammar.proofs.Refusals.{Refuses, refuses_after, same_place}
-use Rattle.json5_grammar.proofs.TextsBlamed.{blames_value, value_refuses}
+use Rattle.json5_grammar.proofs.OneFault.{blames_value, value_refuses}
 use Rattle.json5_grammar.proofs.OneTree.{phrase_reader}
 use Rattle.json5_grammar.proofs.ValuesSound.{read_place}
 use Rattle.json5_text.specs.declared.error.Error.{Error}

@@ -3,7 +3,7 @@ use Rattle.std.proofs.Common.{◌≡◌, ℕ, ◌+◌, ◌-◌, ◌≤◌, Bool,
 use Rattle.std.specs.Prelude.{Result, Ok, Err}
 use Rattle.std.proofs.lemmas.Bool.{false≢true}
 use Rattle.std.proofs.lemmas.List.{append_cancel_right}
-use Rattle.json5_grammar.specs.declared.code.ErrorCode.{ErrorCode}
+use Rattle.json5_grammar.specs.declared.error_code.ErrorCode.{ErrorCode}
 use Rattle.json5_grammar.specs.Language.Documents.{max_depth}
 use Rattle.json5_grammar.specs.Faults.Positions.{position_after}
 use Rattle.json5_grammar.specs.Model.Reading.{Read, Place, here, inner, got, bad}
@@ -11,26 +11,26 @@ use Rattle.json5_grammar.specs.Model.ReadSteps.{forget}
 use Rattle.json5_grammar.specs.Model.ReadValues.{read}
 use Rattle.json5_grammar.specs.Language.Trees.{Tree, depth}
 use Rattle.json5_grammar.specs.Language.Values.{Reads}
-use Rattle.json5_grammar.proofs.FirstCharacters.{true_false}
-use Rattle.json5_grammar.proofs.FoundInFront.{IsIn}
+use Rattle.json5_grammar.proofs.CommonLemmas.{true_false}
+use Rattle.json5_grammar.proofs.FoundPlaces.{IsIn}
 use Rattle.json5_grammar.proofs.ArraysRead.{phrase_found}
 use Rattle.json5_grammar.proofs.ValuesRead.{read_complete}
 use Rattle.json5_grammar.proofs.ValuesSound.{read_sound, read_place}
 use Rattle.json5_text.specs.declared.error.Error.{Error}
 use Rattle.json5_text.specs.Cursor.{Refused, Says, IsOutOfMemory}
-use Rattle.json5_text.specs.Tokens.{FaultyBlanks}
+use Rattle.json5_text.specs.TokenFaults.{FaultyBlanks}
 use Rattle.json5_de.proofs.TreeFaults.{as_fault}
 use Rattle.json5_text.specs.declared.value.Value.{Value}
 use Rattle.json5_text.specs.ValueMeanings.{value_of}
-use Rattle.json5_value.specs.Keeping.{ReadsDatum, BlamesOrMemory, as_datum, datum_at}
+use Rattle.json5_value.specs.KeepSteps.{ReadsDatum, BlamesOrMemory, as_datum, datum_at}
 use Rattle.json5_value.specs.SkipSteps.{SkipsValue}
-use Rattle.json5_value.specs.Steps.{HasPositionAt, RefusesRead, value_at}
+use Rattle.json5_value.specs.ModelSteps.{HasPositionAt, RefusesRead, value_at}
 use Rattle.json5_value.proofs.BuildScalars.{datum_got}
-use Rattle.json5_value.proofs.OtherCodes.{memory_other}
-use Rattle.json5_value.proofs.Steps.{blames_as, forget_got}
+use Rattle.json5_value.proofs.NoFailedCode.{memory_other}
+use Rattle.json5_value.proofs.ModelSteps.{blames_as, forget_got}
 use Rattle.json5_de.specs.Convert.{every_datum}
 use Rattle.json5_de.specs.AnyTree.{ReadingRefuses, RefusedInReading, ReadsTree, nothing, every_value}
-use Rattle.json5_de.specs.Law.{TookValue, StaysFailed, Unprompted}
+use Rattle.json5_de.specs.DeserializeLaw.{TookValue, StaysFailed, Unprompted}
 use Rattle.json5_de.specs.TokenKinds.{every_tree, no_tree}
 use Rattle.json5_de.specs.State.{State, Calls, cursor_of, OnlyRead, GivesUp}
 use Rattle.json5_de.specs.ReaderSteps.{PassedGap}

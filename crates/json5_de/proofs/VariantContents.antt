@@ -4,18 +4,18 @@ use Rattle.json5_grammar.specs.Language.Documents.{max_depth}
 use Rattle.json5_grammar.specs.Language.Trees.{Tree, object, member, no_member, depth}
 use Rattle.json5_grammar.specs.Language.Values.{Reads}
 use Rattle.json5_grammar.specs.Model.Collections.{IsBrace}
-use Rattle.json5_grammar.proofs.FirstCharacters.{true_false}
+use Rattle.json5_grammar.proofs.CommonLemmas.{true_false}
 use Rattle.json5_grammar.proofs.OneTree.{one_phrase}
 use Rattle.json5_text.specs.declared.error.Error.{Error}
 use Rattle.json5_de.specs.State.{State, SameText, GivesUp}
-use Rattle.json5_de.specs.Law.{Gives, Completes, CompletesFree, Unprompted}
+use Rattle.json5_de.specs.DeserializeLaw.{Gives, Completes, CompletesFree, Unprompted}
 use Rattle.json5_de.specs.ReaderSteps.{IsMismatch}
 use Rattle.json5_de.specs.ConvertLists.{if_some}
 use Rattle.json5_value.specs.Offsets.{PositionedAt, StartsAfter}
 use Rattle.json5_value.specs.Brackets.{curly}
-use Rattle.json5_de.specs.Access.{ClosesAs}
+use Rattle.json5_de.specs.Arrays.{ClosesAs}
 use Rattle.json5_de.specs.Enums.{EnumAccessState, AfterName, ContentLeft, RefusesContent, no_content, in_content, not_closed, ReadsInBrace, ReadsVariant, content_of, content_free}
-use Rattle.json5_de.proofs.Elements.{still_live}
+use Rattle.json5_de.proofs.ArrayElements.{still_live}
 use Rattle.json5_de.proofs.FoundKeys.{mismatch_other}
 use Rattle.json5_de.proofs.ReadSteps.{input_of}
 use Rattle.json5_de.proofs.VariantNames.{whole_variant}

@@ -3,8 +3,8 @@ use Rattle.std.proofs.Common.{◌≡◌, ℕ, ◌≤◌, ◌+◌, Bool, true, fa
 use Rattle.std.specs.Prelude.{◌==◌, is_some, IsOk}
 use Rattle.std.specs.Str.{encode_utf8_all}
 use Rattle.std.proofs.lemmas.Bool.{or_left, or_right}
-use Rattle.json5_grammar.specs.declared.code.ErrorCode.{ErrorCode}
-use Rattle.json5_grammar.specs.declared.code.ErrorCode.TheVariants as codes
+use Rattle.json5_grammar.specs.declared.error_code.ErrorCode.{ErrorCode}
+use Rattle.json5_grammar.specs.declared.error_code.ErrorCode.TheVariants as codes
 use Rattle.json5_grammar.specs.Language.Characters.{NotBegun}
 use Rattle.json5_grammar.specs.Language.Blanks.{Blanks, Gap, Solid}
 use Rattle.json5_grammar.specs.Language.Documents.{max_depth}
@@ -12,38 +12,38 @@ use Rattle.json5_grammar.specs.Language.Strings.{is_quote, quoted}
 use Rattle.json5_grammar.specs.Language.Trees.{Tree, Members, null, boolean, number, text, array, object, member, no_member, depth}
 use Rattle.json5_grammar.specs.Language.Values.{Val, Reads, is_null, is_true, is_false, is_number, is_text, is_empty_array, is_array, is_empty_object, is_object}
 use Rattle.json5_grammar.specs.Model.Collections.{IsSign, IsKey, IsKeyValue, IsBrace}
-use Rattle.json5_grammar.proofs.FirstCharacters.{first_same, true_false}
+use Rattle.json5_grammar.proofs.CommonLemmas.{first_same, true_false}
 use Rattle.json5_grammar.proofs.BlanksSound.{gap_before}
 use Rattle.json5_grammar.proofs.ValueHeads.{val_head, value_solid}
 use Rattle.json5_grammar.proofs.ArraysRead.{sign_found, phrase_found}
 use Rattle.json5_grammar.proofs.EntriesAfterGaps.{reads_here}
-use Rattle.json5_grammar.proofs.ArraysPassed.{same_sign}
+use Rattle.json5_grammar.proofs.ArraysPartlyRead.{same_sign}
 use Rattle.json5_grammar.proofs.ObjectsRead.{opening_brace_solid, colon_solid, one_opening_brace, one_key, one_reads_key, object_front}
 use Rattle.json5_grammar.proofs.OneTree.{one_phrase}
 use Rattle.json5_text.specs.declared.error.Error.{Error}
 use Rattle.json5_text.specs.Cursor.{Refused, IsOutOfMemory}
 use Rattle.json5_value.specs.Offsets.{StartsAfter, PositionedAt}
-use Rattle.json5_text.specs.Tokens.{FaultyBlanks}
+use Rattle.json5_text.specs.TokenFaults.{FaultyBlanks}
 use Rattle.json5_de.specs.State.{State, SameText, GivesUp, cursor_of}
-use Rattle.json5_de.specs.Law.{TookValue, IsUnprompted, Unprompted}
+use Rattle.json5_de.specs.DeserializeLaw.{TookValue, IsUnprompted, Unprompted}
 use Rattle.json5_de.specs.ReaderSteps.{PassedGap}
 use Rattle.json5_de.specs.Convert.{as_text, index_of}
 use Rattle.json5_de.specs.ConvertLists.{if_some}
 use Rattle.json5_de.specs.Faults.{RefusedBy, AtEnd, AtOther, IsPositionless}
 use Rattle.json5_value.specs.Brackets.{curly}
-use Rattle.json5_de.specs.Access.{AccessState, OpensAs, NotOpened, Closed}
-use Rattle.json5_value.specs.Steps.{Unexpected, at_end, at_char}
+use Rattle.json5_de.specs.Arrays.{AccessState, OpensAs, NotOpened, Closed}
+use Rattle.json5_value.specs.ModelSteps.{Unexpected, at_end, at_char}
 use Rattle.json5_de.specs.TokenKinds.{ReadsAs, variant_kind}
 use Rattle.json5_de.specs.Keys.{TookKey, GivesKey}
 use Rattle.json5_de.specs.KeyKinds.{ReadsKeyAs, variant_key}
 use Rattle.json5_de.specs.Objects.{MapAccessState, MembersRead, AfterColon, bare_map}
 use Rattle.json5_de.specs.ObjectFaults.{begins_key, BeginsKey, NoColon}
 use Rattle.json5_de.specs.Enums.{named_variant, EnumAccessState, AtContent, AfterName, NameRead, ContentTail, content_depth, ContentLeft, begins_variant, NoVariant, no_variant, variant_missing, NotKeyed, not_keyed, key_missing, is_left_brace, FirstCharIs, IsNext, no_only_key, other_key, not_followed, RefusesKeyed, RefusesName, nothing_named, other_text, not_opened, in_object, NamesVariant, ReadsOnlyKey, ReadsKeyed}
-use Rattle.json5_de.proofs.Arrays.{only_read, level_of, failed_of, sign_next, after_gap_of}
-use Rattle.json5_de.proofs.Elements.{still_live, same_level}
-use Rattle.json5_de.proofs.Expected.{Expected, end_fault, other_fault}
+use Rattle.json5_de.proofs.BracketSteps.{only_read, level_of, failed_of, sign_next, after_gap_of}
+use Rattle.json5_de.proofs.ArrayElements.{still_live, same_level}
+use Rattle.json5_de.proofs.ExpectedKinds.{Expected, end_fault, other_fault}
 use Rattle.json5_de.proofs.Options.{end_next, value_next, value_no_end, took_after}
-use Rattle.json5_value.proofs.OtherCodes.{Lacks}
+use Rattle.json5_value.proofs.NoFailedCode.{Lacks}
 use Rattle.json5_de.proofs.MemberRefusals.{value_read, key_there, no_key_begun, pair_key_found}
 use Rattle.json5_de.proofs.ObjectMembers.{pair_read, all_read, opens_map, refuses_map}
 use Rattle.json5_de.proofs.RefusalPositions.{refused_as}

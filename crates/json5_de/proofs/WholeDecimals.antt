@@ -6,8 +6,8 @@ use Rattle.std.proofs.lemmas.Fmt.{decimal_by_steps_wide, length-decimal-le_wide}
 use Rattle.std.proofs.lemmas.Int.{ints}
 use Rattle.json5_grammar.specs.Language.Characters.{is_digit, Each, no_char, char}
 use Rattle.json5_grammar.specs.Language.Numbers.{without_front_zeros, without_zeros, is_empty, normal_exponent, InExponents, InWhole}
-use Rattle.json5_grammar.proofs.FirstCharacters.{by_test}
-use Rattle.json5_grammar.proofs.NumberTests.{Each-append}
+use Rattle.json5_grammar.proofs.CommonLemmas.{by_test}
+use Rattle.json5_grammar.proofs.CharacterTests.{Each-append}
 use Rattle.json5_grammar.proofs.WholesWritten.{glyph_digit}
 
 all_digits : (n : ℕ) → n < 10 ^ 64 → Each is_digit (decimal n)

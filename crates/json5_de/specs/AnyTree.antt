@@ -1,6 +1,6 @@
 -- How a value of any kind is read, and how it is refused.
 use Rattle.std.specs.Prelude.{◌≡◌, ◌⊎◌, ◌-◌, ℕ, Bool, false, Option, Some, Result}
-use Rattle.json5_grammar.specs.declared.code.ErrorCode.TheVariants as codes
+use Rattle.json5_grammar.specs.declared.error_code.ErrorCode.TheVariants as codes
 use Rattle.json5_grammar.specs.Language.Documents.{max_depth}
 use Rattle.json5_grammar.specs.Faults.{begins_value}
 use Rattle.json5_grammar.specs.Model.Reading.{Place, bad, IsAt}
@@ -10,7 +10,7 @@ use Rattle.json5_grammar.specs.Language.Trees.{Tree}
 use Rattle.json5_text.specs.declared.error.Error.{Error}
 use Rattle.json5_text.specs.Cursor.{Refused, IsOutOfMemory}
 use Rattle.json5_de.specs.State.{State, cursor_of}
-use Rattle.json5_de.specs.Law.{ReadsValue}
+use Rattle.json5_de.specs.DeserializeLaw.{ReadsValue}
 use Rattle.json5_de.specs.Faults.{FaultRelation, RefusedByOr, EndsWithOr, DiffersWithOr}
 
 -- the fault of the value in front, with so many brackets open before it: if the input ends, the position is that of the innermost

@@ -8,9 +8,9 @@ use Rattle.json5_text.specs.Errors.{custom, kind_of}
 use Rattle.json5_text.specs.Cursor.{IsOutOfMemory}
 use Rattle.json5_de.specs.State.{State, FailsIfErr}
 use Rattle.json5_de.specs.ConvertLists.{if_some}
-use Rattle.json5_de.specs.Law.{Unprompted}
+use Rattle.json5_de.specs.DeserializeLaw.{Unprompted}
 use Rattle.json5_de.specs.Refinement.{if_more}
-use Rattle.json5_de.specs.Access.{AccessState, IsAtBracket, AnswersFailedAtBracket}
+use Rattle.json5_de.specs.Arrays.{AccessState, IsAtBracket, AnswersFailedAtBracket}
 use Rattle.json5_de.specs.Objects.{MapAccessState, KeepsPending, MembersLeft, ReadsAMember, LeavesObjectMembers}
 use Rattle.json5_de.specs.ObjectFaults.{ValueRefusedAtBrace}
 

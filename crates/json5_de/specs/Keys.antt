@@ -4,7 +4,7 @@ use Rattle.std.specs.Prelude.{◌≡◌, ℕ, Bool, false, List, Option, Some, R
 use Rattle.json5_grammar.specs.Model.Collections.{ReadsKey}
 use Rattle.json5_text.specs.declared.error.Error.{Error}
 use Rattle.json5_de.specs.State.{State, OnlyRead, SameText, FailsIfErr}
-use Rattle.json5_de.specs.Law.{IsOkOrMemory, StaysFailed, Unprompted}
+use Rattle.json5_de.specs.DeserializeLaw.{IsOkOrMemory, StaysFailed, Unprompted}
 
 -- a key that spells u was read, with the blanks before it, and nothing else; escape_free says that no escape is used
 pub record TookKey (old : State) (u : List ℕ) (escape_free : Bool) (new : State) : Type 0 where

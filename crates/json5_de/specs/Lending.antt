@@ -10,8 +10,8 @@ use Rattle.json5_text.specs.ByteBufs.{bytes_of}
 use Rattle.json5_text.specs.Cows.{cow_bytes, is_borrowed}
 use Rattle.json5_de.specs.State.{State, SameText, GivesUp}
 use Rattle.json5_grammar.specs.Language.Trees.{Tree, Trees, Members}
-use Rattle.json5_de.specs.Access.{AccessState, OpensArray, PositionedAtBracket, GivesElement, ReadsElement, CompletesClose, ReadsMore, ElementsLeft, LeavesFewer}
-use Rattle.json5_de.specs.Seq.{RefusesNext}
+use Rattle.json5_de.specs.Arrays.{AccessState, OpensArray, PositionedAtBracket, GivesElement, ReadsElement, CompletesClose, ReadsMore, ElementsLeft, LeavesFewer}
+use Rattle.json5_de.specs.AccessCalls.{RefusesNext}
 use Rattle.json5_de.specs.Keys.{KeyConversion, ReadsOneKey}
 use Rattle.json5_de.specs.TokenKinds.{null_kind}
 use Rattle.json5_de.specs.KeyKinds.{KeyKind, RefusedAsKey, bytes_key, cow_key, document_key}

@@ -1,7 +1,7 @@
 -- Why a map is refused.
 use Rattle.std.specs.Prelude.{◌≡◌, ℕ, Bool, true, false, List, ◌∷◌, ◌++◌, length, Option, Some, None}
 use Rattle.std.specs.Str.{encode_utf8_all}
-use Rattle.json5_grammar.specs.declared.code.ErrorCode.TheVariants as codes
+use Rattle.json5_grammar.specs.declared.error_code.ErrorCode.TheVariants as codes
 use Rattle.json5_grammar.specs.Language.Characters.{left_brace}
 use Rattle.json5_grammar.specs.Language.Trees.{Tree, Members}
 use Rattle.json5_grammar.specs.Model.Collections.{pair_contents}
@@ -10,7 +10,7 @@ use Rattle.json5_text.specs.Errors.{LacksMemory}
 use Rattle.json5_de.specs.State.{State}
 use Rattle.json5_value.specs.Brackets.{curly}
 use Rattle.json5_de.specs.Faults.{RefusedBy, IsPositionless}
-use Rattle.json5_de.specs.Access.{Opened, NotOpened}
+use Rattle.json5_de.specs.Arrays.{Opened, NotOpened}
 use Rattle.json5_de.specs.Keys.{KeyConversion}
 use Rattle.json5_de.specs.Objects.{MapAccessState, MembersRead}
 use Rattle.json5_de.specs.ObjectFaults.{KeyRefusedAtBrace, ValueRefusedAtBrace}

@@ -9,7 +9,7 @@ use Rattle.json5_grammar.specs.Language.Trees.{Tree}
 use Rattle.json5_grammar.specs.Model.Collections.{pair_contents, object_of}
 use Rattle.json5_de.specs.ConvertLists.{if_some}
 use Rattle.json5_de.specs.State.{State}
-use Rattle.json5_de.specs.Law.{TookValue, Gives}
+use Rattle.json5_de.specs.DeserializeLaw.{TookValue, Gives}
 use Rattle.json5_de.specs.Keys.{KeyConversion}
 
 -- ---- equal keys, by their contents

@@ -1,7 +1,7 @@
 -- How the calls of an access to an object refuse.
 use Rattle.std.specs.Prelude.{◌≡◌, ℕ, Bool, true, false, ◌==◌, ◌||◌, List, [], ◌∷◌, ◌++◌, Option, Some, None, is_some, Result, Ok, IfOk, IfErr, OnOk, OnErr, IsOk, IsErrAnd, MatchResult}
-use Rattle.json5_grammar.specs.declared.code.ErrorCode.{ErrorCode}
-use Rattle.json5_grammar.specs.declared.code.ErrorCode.TheVariants as codes
+use Rattle.json5_grammar.specs.declared.error_code.ErrorCode.{ErrorCode}
+use Rattle.json5_grammar.specs.declared.error_code.ErrorCode.TheVariants as codes
 use Rattle.json5_grammar.specs.Faults.Codes.{after_text}
 use Rattle.json5_grammar.specs.Language.Characters.{comma_sign, colon_sign, right_brace, backslash, is_identifier_start}
 use Rattle.json5_grammar.specs.Language.Strings.{is_quote}
@@ -10,13 +10,13 @@ use Rattle.json5_text.specs.Errors.{FaultKind, code, custom, failed_write, kind_
 use Rattle.json5_grammar.specs.Model.Collections.{IsKeyValue}
 use Rattle.json5_grammar.specs.Language.Trees.{Tree}
 use Rattle.json5_de.specs.State.{State, GivesUp}
-use Rattle.json5_de.specs.Law.{Steady}
+use Rattle.json5_de.specs.DeserializeLaw.{Steady}
 use Rattle.json5_de.specs.ReaderSteps.{IsCount}
 use Rattle.json5_value.specs.Offsets.{PositionedAt}
 use Rattle.json5_value.specs.Brackets.{curly}
 use Rattle.json5_de.specs.Faults.{AfterBlanks, RefusedBy}
-use Rattle.json5_de.specs.Access.{AtClose, CompletesClose, bare, is_comma_or_closing}
-use Rattle.json5_de.specs.Seq.{AtEntry, NoNext, PositionedFault, RefusesCall}
+use Rattle.json5_de.specs.Arrays.{AtClose, CompletesClose, bare, is_comma_or_closing}
+use Rattle.json5_de.specs.AccessCalls.{AtEntry, NoNext, PositionedFault, RefusesCall}
 use Rattle.json5_de.specs.Keys.{KeyConversion}
 use Rattle.json5_de.specs.Objects.{MapAccessState, AfterColon, GivesMemberKey, CompletesMemberKey, GivesMemberValue, CompletesMemberValue, bare_map}
 

@@ -8,11 +8,11 @@ use Rattle.json5_grammar.specs.Model.Collections.{IsSign, OpensObject, IsKey, Is
 use Rattle.json5_text.specs.declared.error.Error.{Error}
 use Rattle.json5_text.specs.Cursor.{IsOutOfMemory}
 use Rattle.json5_de.specs.State.{State, OnlyRead, SameText, FailsIfErr}
-use Rattle.json5_de.specs.Law.{IsOkOrMemory, TookValue}
+use Rattle.json5_de.specs.DeserializeLaw.{IsOkOrMemory, TookValue}
 use Rattle.json5_de.specs.Keys.{KeyConversion}
 use Rattle.json5_de.specs.ConvertLists.{if_some}
 use Rattle.json5_value.specs.Brackets.{curly}
-use Rattle.json5_de.specs.Access.{AccessState, bare, AtClose, OpensAs, ClosesAs}
+use Rattle.json5_de.specs.Arrays.{AccessState, bare, AtClose, OpensAs, ClosesAs}
 
 -- as of an array, and whether a key was read and its value wasn't yet
 pub record MapAccessState : Type 0 where

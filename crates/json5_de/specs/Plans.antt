@@ -9,7 +9,7 @@ use Rattle.json5_text.specs.declared.error.Error.{Error}
 use Rattle.json5_text.specs.Cursor.{IsOutOfMemory}
 use Rattle.json5_de.specs.State.{State, FailsIfErr}
 use Rattle.json5_de.specs.ConvertLists.{if_some}
-use Rattle.json5_de.specs.Law.{Unprompted}
+use Rattle.json5_de.specs.DeserializeLaw.{Unprompted}
 use Rattle.json5_de.specs.Refinement.{if_more}
 use Rattle.json5_de.specs.Objects.{MapAccessState, MembersRead, MembersLeft}
 use Rattle.json5_de.specs.Fields.{values_named, at_most_one, or_value}

@@ -4,14 +4,14 @@ use Rattle.std.specs.Str.{all_scalars, chars, encode_utf8_all}
 use Rattle.hex.specs.declared.error.FromHexError.{FromHexError}
 use Rattle.hex.specs.declared.error.FromHexError.TheVariants as hex
 use Rattle.json5_grammar.specs.Language.Characters.{NotBegun}
-use Rattle.json5_grammar.specs.declared.code.ErrorCode.{ErrorCode}
-use Rattle.json5_grammar.specs.declared.code.ErrorCode.TheVariants.{InvalidBytes}
+use Rattle.json5_grammar.specs.declared.error_code.ErrorCode.{ErrorCode}
+use Rattle.json5_grammar.specs.declared.error_code.ErrorCode.TheVariants.{InvalidBytes}
 use Rattle.json5_grammar.specs.Language.Numbers.{lengthens, Num, whole}
 use Rattle.json5_grammar.specs.Language.Strings.{Str}
 use Rattle.json5_text.specs.declared.cow_str.CowStr.{CowStr}
 use Rattle.json5_text.specs.declared.number.Number as token
 use Rattle.json5_text.specs.Cows.{cow_bytes, is_borrowed}
-use Rattle.json5_text.specs.NumberViews.{number_of}
+use Rattle.json5_text.specs.NumberMeanings.{number_of}
 use Rattle.json5_grammar.specs.Faults.Positions.{position_after}
 use Rattle.json5_text.specs.declared.error.Error.{Error}
 use Rattle.json5_text.specs.Errors.{LacksMemory, error_position}

@@ -1,13 +1,13 @@
 -- A user's own types: a value is read, and then accepted or refused.
 use Rattle.std.specs.Prelude.{◌≡◌, ◌⊎◌, ℕ, ◌+◌, ◌≤◌, Bool, false, List, [], ◌++◌, Option, Some, None, Result, MatchResult, IfOk, IfErr}
-use Rattle.json5_grammar.specs.declared.code.ErrorCode.{ErrorCode}
+use Rattle.json5_grammar.specs.declared.error_code.ErrorCode.{ErrorCode}
 use Rattle.json5_grammar.specs.Language.Trees.{Tree, depth}
 use Rattle.json5_grammar.specs.Language.Values.{Val, Reads, Stops}
 use Rattle.json5_grammar.specs.Language.Documents.{max_depth}
 use Rattle.json5_text.specs.declared.error.Error.{Error}
 use Rattle.json5_text.specs.Cursor.{IsOutOfMemory}
 use Rattle.json5_de.specs.State.{State, SameText}
-use Rattle.json5_de.specs.Law.{Gives, CompletesFree, Unprompted}
+use Rattle.json5_de.specs.DeserializeLaw.{Gives, CompletesFree, Unprompted}
 use Rattle.json5_de.specs.Faults.{RefusedByOrMemory}
 
 -- if a tree that converts to c is in front, the call returns Ok of a value whose content is c, unless memory runs out

@@ -11,12 +11,12 @@ use Rattle.json5_text.specs.declared.short_texts.Span.{Span}
 use Rattle.json5_text.specs.declared.short_ways.ShortStep.{ShortStep}
 use Rattle.json5_text.specs.declared.short_ways.ShortStep.TheVariants as short
 use Rattle.json5_value.specs.declared.brackets.Brackets.{Brackets}
-use Rattle.json5_de.specs.Access.{Opened, Closed, IsStart}
+use Rattle.json5_de.specs.Arrays.{Opened, Closed, IsStart}
 use Rattle.json5_de.specs.Keys.{TookKey}
-use Rattle.json5_de.specs.Law.{TookValue}
+use Rattle.json5_de.specs.DeserializeLaw.{TookValue}
 use Rattle.json5_de.specs.Objects.{AfterColon}
 use Rattle.json5_de.specs.TokenKinds.{Kind, ReadsAs}
-use Rattle.json5_de.specs.Seq.{AdvancesToEntry}
+use Rattle.json5_de.specs.AccessCalls.{AdvancesToEntry}
 use Rattle.json5_de.specs.State.{State, GivesUp}
 
 -- a value of the kind is read, or nothing

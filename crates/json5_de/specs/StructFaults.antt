@@ -7,7 +7,7 @@ use Rattle.json5_text.specs.declared.error.Error.{Error}
 use Rattle.json5_de.specs.State.{State, SameText}
 use Rattle.json5_value.specs.Brackets.{curly}
 use Rattle.json5_de.specs.Faults.{RefusedBy}
-use Rattle.json5_de.specs.Access.{Opened, NotOpened, AnswersFailedAtBracket}
+use Rattle.json5_de.specs.Arrays.{Opened, NotOpened, AnswersFailedAtBracket}
 use Rattle.json5_de.specs.AnyTree.{RefusesTree}
 use Rattle.json5_de.specs.KeyKinds.{RefusedAsKey, string_key}
 use Rattle.json5_de.specs.Objects.{MapAccessState, MembersRead}

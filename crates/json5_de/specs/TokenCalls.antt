@@ -1,6 +1,6 @@
 -- What the reader's calls for one token mean: it is taken, or refused with one of its faults, and then the reader has failed.
 use Rattle.std.specs.Prelude.{◌≡◌, ℕ, Bool, true, false, List, ◌++◌, String, Result, IfOk, IfErr, OnOk, OnErr, IsOk}
-use Rattle.json5_grammar.specs.declared.code.ErrorCode.{ErrorCode}
+use Rattle.json5_grammar.specs.declared.error_code.ErrorCode.{ErrorCode}
 use Rattle.json5_grammar.specs.Language.Characters.{NotBegun}
 use Rattle.json5_grammar.specs.Language.Names.{Key}
 use Rattle.json5_grammar.specs.Language.Numbers.{Number, Num, lengthens}
@@ -11,11 +11,11 @@ use Rattle.json5_text.specs.declared.text_token.TextToken.{TextToken}
 use Rattle.json5_text.specs.declared.number.Number as token
 use Rattle.json5_text.specs.Cursor.{Refused}
 use Rattle.json5_text.specs.Errors.{LacksMemory}
-use Rattle.json5_text.specs.NumberViews.{keeps_digits}
-use Rattle.json5_text.specs.Tokens.{FaultyBlanks, FaultyWord, FaultyNumber, FaultyString, FaultyKey}
+use Rattle.json5_text.specs.NumberMeanings.{keeps_digits}
+use Rattle.json5_text.specs.TokenFaults.{FaultyBlanks, FaultyWord, FaultyNumber, FaultyString, FaultyKey}
 use Rattle.json5_de.specs.State.{State, GivesUp, cursor_of}
 use Rattle.json5_de.specs.Faults.{FaultRelation}
-use Rattle.json5_de.specs.Law.{StaysFailed, Unprompted}
+use Rattle.json5_de.specs.DeserializeLaw.{StaysFailed, Unprompted}
 use Rattle.json5_de.specs.ReaderSteps.{PassedGap, TookText, TookNumber, TookOwned, TookCharacters, TookCow, RefusesToken}
 use Rattle.json5_de.specs.FoundTexts.{TookToken, IsString}
 

@@ -5,8 +5,8 @@ use Rattle.std.specs.Borrow.{Bor}
 use Rattle.std.specs.declared.string.String.{String}
 use Rattle.std.specs.declared.alloc.Global.{Global}
 use Rattle.json5_grammar.specs.Language.Characters.{letter_f, letter_n, letter_t}
-use Rattle.json5_grammar.specs.declared.code.ErrorCode.{ErrorCode}
-use Rattle.json5_grammar.specs.declared.code.ErrorCode.TheVariants as codes
+use Rattle.json5_grammar.specs.declared.error_code.ErrorCode.{ErrorCode}
+use Rattle.json5_grammar.specs.declared.error_code.ErrorCode.TheVariants as codes
 use Rattle.json5_grammar.specs.Faults.Tokens.{is_sign, begins_number}
 use Rattle.json5_grammar.specs.Language.Numbers.{Decimal}
 use Rattle.json5_grammar.specs.Language.Strings.{is_quote}
@@ -15,7 +15,7 @@ use Rattle.json5_text.specs.declared.byte_buf.ByteBuf.{ByteBuf}
 use Rattle.json5_text.specs.declared.error.Error.{Error}
 use Rattle.json5_text.specs.ByteBufs.{bytes_of}
 use Rattle.json5_de.specs.State.{State}
-use Rattle.json5_de.specs.Law.{ReadsValue}
+use Rattle.json5_de.specs.DeserializeLaw.{ReadsValue}
 use Rattle.json5_de.specs.Convert.{unit_of, bool_of, as_number, as_whole, natural_below, integer_below, every_decimal, as_text, every_text, if_escape_free, every_cow, one_character, index_of, digits_bytes}
 use Rattle.json5_de.specs.Faults.{FaultRelation, RefusedBy, RefusedByOrMemory, FaultyNull, FaultyBool, NotNumber, NotText, EndsWith, EndsWithOrMemory, DiffersWith, DiffersWithOrMemory}
 

@@ -3,7 +3,7 @@ use Rattle.std.specs.Prelude.{◌≡◌, ◌==◌, ◌+◌, if◌then◌else◌,
 use Rattle.json5_grammar.specs.Language.Trees.{Tree}
 use Rattle.json5_text.specs.declared.error.Error.{Error}
 use Rattle.json5_de.specs.State.{State, SameText}
-use Rattle.json5_de.specs.Law.{IsOkOrMemory, Unprompted}
+use Rattle.json5_de.specs.DeserializeLaw.{IsOkOrMemory, Unprompted}
 use Rattle.json5_de.specs.ConvertLists.{if_some}
 use Rattle.json5_de.specs.Enums.{EnumAccessState, NameRead, GivesContent, ContentLeft, enum_of, unit_content, content_of}
 

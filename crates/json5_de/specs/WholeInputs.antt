@@ -6,7 +6,7 @@ use Rattle.json5_grammar.specs.Language.Values.{Reads}
 use Rattle.json5_text.specs.declared.error.Error.{Error}
 use Rattle.json5_text.specs.Cursor.{Refused, IsOutOfMemory}
 use Rattle.json5_de.specs.State.{State, GivesUp, at_start}
-use Rattle.json5_de.specs.Law.{TookValue, StaysFailed, IsUnprompted}
+use Rattle.json5_de.specs.DeserializeLaw.{TookValue, StaysFailed, IsUnprompted}
 use Rattle.json5_de.specs.Faults.{AfterBlanks, RefusedBy, AtEnd, Trailing}
 
 -- a document within the limit whose tree converts is read as what it converts to, unless memory runs out

@@ -1,12 +1,12 @@
 //! What arrays and objects share: their brackets, and the commas between their elements or members (JSON5 sections 3 and 4).
 
 ghost use Rattle.std.specs.Prelude.{◌≡◌, ◌==◌, false, true, ℕ, List, Some, slice_get, IfErr, OnOk, IsOk};
-ghost use Rattle.json5_grammar.specs.declared.code.ErrorCode.TheVariants as codes;
+ghost use Rattle.json5_grammar.specs.declared.error_code.ErrorCode.TheVariants as codes;
 ghost use Rattle.json5_grammar.specs.Language.Characters.{NotBegun};
 ghost use Rattle.json5_grammar.specs.Model.Collections.{IsEnd};
 ghost use Rattle.json5_de.specs.State.{SameText};
 ghost use Rattle.json5_de.specs.Faults.{RefusedBy};
-ghost use Rattle.json5_de.specs.Law.{AnswersFailed};
+ghost use Rattle.json5_de.specs.DeserializeLaw.{AnswersFailed};
 ghost use Rattle.json5_value.specs.Brackets.{brackets_of};
 
 use crate::de::Deserializer;
@@ -17,8 +17,8 @@ use json5_text::short_ways::ShortStep;
 use json5_value::brackets::BracketKind;
 
 impl<I: Input> Deserializer<I> {
-    ghost use Rattle.json5_de.specs.Access.{Closed, TakesOpening, NotClosed};
-    ghost use Rattle.json5_de.specs.Seq.{TakesClosing, Advances};
+    ghost use Rattle.json5_de.specs.Arrays.{Closed, TakesOpening, NotClosed};
+    ghost use Rattle.json5_de.specs.AccessCalls.{TakesClosing, Advances};
 
     /// Takes an opening bracket, and returns the count of bytes before it.
     #[inline(always)]

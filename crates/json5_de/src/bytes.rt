@@ -1,7 +1,7 @@
 //! Reading of bytes, which are strings of hexadecimal digits.
 
 ghost use Rattle.std.specs.Prelude.{true, Some};
-ghost use Rattle.json5_grammar.specs.declared.code.ErrorCode.TheVariants as codes;
+ghost use Rattle.json5_grammar.specs.declared.error_code.ErrorCode.TheVariants as codes;
 ghost use Rattle.json5_text.specs.ByteBufs.{bytes_of};
 ghost use Rattle.json5_de.specs.Convert.{digits_bytes};
 ghost use Rattle.json5_de.specs.FoundTexts.{JudgesText};

@@ -4,15 +4,15 @@ ghost use Rattle.std.specs.Prelude.{◌≡◌, ◌≤◌, ◌<◌, ◌+◌, ◌-
 ghost use Rattle.std.specs.Str.{chars};
 ghost use Rattle.json5_text.specs.Cursor.{Locates};
 ghost use Rattle.json5_grammar.specs.Language.Documents.{max_depth};
-ghost use Rattle.json5_grammar.specs.declared.code.ErrorCode.TheVariants as codes;
-ghost use Rattle.json5_value.specs.Keeping.{OwnsKey, ReadsDatum};
+ghost use Rattle.json5_grammar.specs.declared.error_code.ErrorCode.TheVariants as codes;
+ghost use Rattle.json5_value.specs.KeepSteps.{OwnsKey, ReadsDatum};
 ghost use Rattle.json5_value.specs.Kinds.{word_of, ends_of, differs_of};
 ghost use Rattle.json5_value.specs.Offsets.{PositionedAt, StartsAfter};
 ghost use Rattle.json5_value.specs.SkipSteps.{SkipsValue};
 ghost use Rattle.json5_de.specs.State.{State, SameText, Calls, GivesUpWith, next, at_start};
 ghost use Rattle.json5_de.specs.Faults.{IsPositionless};
-ghost use Rattle.json5_de.specs.Law.{Gives, Completes, CompletesFree, Unprompted};
-ghost use Rattle.json5_de.specs.Seq.{IsUnexpected};
+ghost use Rattle.json5_de.specs.DeserializeLaw.{Gives, Completes, CompletesFree, Unprompted};
+ghost use Rattle.json5_de.specs.AccessCalls.{IsUnexpected};
 ghost use Rattle.json5_de.specs.ReaderSteps.{Eats, IsCount, IsMismatch};
 ghost use Rattle.json5_de.specs.FoundTexts.{SpellsText, SpellsCow};
 ghost use Rattle.json5_de.specs.TokenCalls as tokens;
@@ -33,7 +33,7 @@ use json5_value::faults::{fault_here, unexpected_here, with_position_at};
 use json5_value::kinds::{Literal, skip_literal};
 use json5_value::read::read_value;
 use json5_value::skip::skip_value;
-use json5_value::tokens::key_owned;
+use json5_value::owned_tokens::key_owned;
 use std::alloc::Global;
 use std::marker::Model;
 

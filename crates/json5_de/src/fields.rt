@@ -1,13 +1,13 @@
 //! Fields of a struct, which are read as the members of an object come.
 
 ghost use Rattle.std.specs.Prelude.{◌≡◌, true, false, Some, IfOk, OnOk, string_bytes};
-ghost use Rattle.json5_grammar.specs.declared.code.ErrorCode.TheVariants as codes;
+ghost use Rattle.json5_grammar.specs.declared.error_code.ErrorCode.TheVariants as codes;
 ghost use Rattle.json5_text.specs.Errors.{code};
-ghost use Rattle.json5_de.specs.Access.{IsFailedAtBracket};
+ghost use Rattle.json5_de.specs.Arrays.{IsFailedAtBracket};
 ghost use Rattle.json5_de.specs.Convert.{every_text};
 ghost use Rattle.json5_de.specs.KeyKinds.{ReadsKeyAs, RefusedAsKey, string_key};
 ghost use Rattle.json5_de.specs.ObjectFaults.{ReadsKeyOfMember};
-ghost use Rattle.json5_de.specs.Law.{IsUnprompted};
+ghost use Rattle.json5_de.specs.DeserializeLaw.{IsUnprompted};
 ghost use Rattle.json5_de.specs.Objects.{KeepsPending};
 ghost use Rattle.json5_de.specs.Fields.{FieldRead, FieldRequired, IsOwnAtBracket, RefusesHere};
 ghost use Rattle.json5_de.specs.Plans.{PassesMember, ReadsMembers};

@@ -3,7 +3,7 @@
 ghost use Rattle.std.specs.Prelude.{◌≡◌, List, [], ◌∷◌, ◌++◌, OnOk, IfOk, IfErr};
 ghost use Rattle.json5_text.specs.Errors.{LacksMemory};
 ghost use Rattle.json5_de.specs.State.{SameText};
-ghost use Rattle.json5_de.specs.Law.{Completes, Unprompted};
+ghost use Rattle.json5_de.specs.DeserializeLaw.{Completes, Unprompted};
 ghost use Rattle.json5_de.specs.Maps.{pairs_of, GivesMembers};
 ghost use Rattle.json5_de.specs.MapFaults.{sides, RefusesMap};
 

@@ -3,8 +3,8 @@
 ghost use Rattle.std.specs.Prelude.{◌≡◌, IfOk, IfErr};
 ghost use Rattle.json5_de.specs.State.{State, SameText};
 ghost use Rattle.json5_de.specs.ConvertLists.{if_some};
-ghost use Rattle.json5_de.specs.Law.{Unprompted};
-ghost use Rattle.json5_de.specs.Options.{RefusesLive};
+ghost use Rattle.json5_de.specs.DeserializeLaw.{Unprompted};
+ghost use Rattle.json5_de.specs.OptionFaults.{RefusesLive};
 ghost use Rattle.json5_de.specs.Keys.{GivesKey, CompletesKey, ReadsKeyOf};
 ghost use Rattle.json5_de.specs.KeyKinds.{some_of};
 

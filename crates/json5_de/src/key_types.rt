@@ -3,7 +3,7 @@
 ghost use Rattle.std.specs.Prelude.{string_bytes};
 ghost use Rattle.json5_text.specs.Cows.{cow_bytes, is_borrowed};
 ghost use Rattle.json5_de.specs.ConvertLists.{if_some};
-ghost use Rattle.json5_de.specs.Options.{RefusesLive};
+ghost use Rattle.json5_de.specs.OptionFaults.{RefusesLive};
 ghost use Rattle.json5_de.specs.KeyKinds.{string_key, char_key, escape_free_key, cow_key, some_of};
 
 use crate::any::IgnoredAny;
@@ -133,7 +133,7 @@ impl<I: Input, K: DeserializeKey<I>> DeserializeKey<I> for Option<K> {
     ghost use Rattle.std.specs.Prelude.{Option};
     ghost use Rattle.json5_de.specs.ConvertLists.{if_some};
     ghost use Rattle.json5_de.specs.KeyKinds.{some_of};
-    ghost use Rattle.json5_de.specs.Options.{RefusesLive};
+    ghost use Rattle.json5_de.specs.OptionFaults.{RefusesLive};
 
     ghost Content = { Option K.Content };
 

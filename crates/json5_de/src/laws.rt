@@ -6,7 +6,7 @@ ghost use Rattle.json5_text.specs.Cows.{cow_bytes, is_borrowed};
 ghost use Rattle.json5_text.specs.ValueMeanings.{value_of};
 ghost use Rattle.json5_de.specs.AnyTree.{TellsTreesApart};
 ghost use Rattle.json5_de.specs.Convert.{every_datum, unit_of, bool_of, unsigned_below, signed_below, decimal_of};
-ghost use Rattle.json5_de.specs.Law.{OneAnswer};
+ghost use Rattle.json5_de.specs.DeserializeLaw.{OneAnswer};
 ghost use Rattle.json5_de.specs.Keys.{OneKeyAnswer};
 ghost use Rattle.json5_de.specs.KeyKinds.{ConvertsDocuments};
 ghost use Rattle.json5_de.specs.Maps.{HoldsInOrder, HoldsInTurn, HoldsAtKeys};

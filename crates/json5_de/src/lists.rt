@@ -9,7 +9,7 @@ use json5_text::input::Input;
 impl<I: Input, T: Deserialize<I>> Deserialize<I> for Vec<T> {
     ghost use Rattle.std.specs.Prelude.{List, map};
     ghost use Rattle.json5_grammar.specs.Model.Collections.{array_of, contents};
-    ghost use Rattle.json5_de.specs.Lists.{element, every, any_number, RefusesList};
+    ghost use Rattle.json5_de.specs.ListFaults.{element, every, any_number, RefusesList};
 
     ghost Content = { List T.Content };
 
@@ -35,7 +35,7 @@ impl<I: Input, T: Deserialize<I>> Deserialize<I> for Vec<T> {
 /// faults are those of a `Vec`.
 impl<I: Input, T: Deserialize<I>, const N: usize> Deserialize<I> for [T; N] {
     ghost use Rattle.std.specs.Prelude.{List, map};
-    ghost use Rattle.json5_de.specs.Lists.{element, every, array_of_size, RefusesList};
+    ghost use Rattle.json5_de.specs.ListFaults.{element, every, array_of_size, RefusesList};
     ghost use Rattle.json5_de.specs.ConvertLists.{exactly};
     ghost use Rattle.json5_grammar.specs.Model.Collections.{array_of};
 

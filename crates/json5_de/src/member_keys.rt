@@ -5,7 +5,7 @@ ghost use Rattle.json5_grammar.specs.Language.Characters.{NotBegun};
 ghost use Rattle.json5_grammar.specs.Model.Collections.{NoMemberGoes};
 ghost use Rattle.json5_text.specs.Errors.{kind_of};
 ghost use Rattle.json5_value.specs.Offsets.{StartsAfter};
-ghost use Rattle.json5_de.specs.Law.{Steady};
+ghost use Rattle.json5_de.specs.DeserializeLaw.{Steady};
 ghost use Rattle.json5_de.specs.Faults.{RefusedBy};
 ghost use Rattle.json5_de.specs.ObjectFaults as faults;
 ghost use Rattle.json5_de.specs.ObjectFaults.{BeginsKey, GoesToKey, NoKey, PositionsKey, ReadsKeyOfMember, is_positionless};

@@ -1,10 +1,10 @@
 //! Reading of options, and of structs that hold one value or none.
 
-ghost use Rattle.json5_grammar.specs.declared.code.ErrorCode.TheVariants as codes;
-ghost use Rattle.json5_de.specs.Law.{ReadsValue};
+ghost use Rattle.json5_grammar.specs.declared.error_code.ErrorCode.TheVariants as codes;
+ghost use Rattle.json5_de.specs.DeserializeLaw.{ReadsValue};
 ghost use Rattle.json5_de.specs.TokenKinds.{ReadsNull};
 ghost use Rattle.json5_de.specs.ConvertLists.{option_of, if_some};
-ghost use Rattle.json5_de.specs.Options.{option_free, RefusesOption, RefusesLive};
+ghost use Rattle.json5_de.specs.OptionFaults.{option_free, RefusesOption, RefusesLive};
 ghost use Rattle.json5_de.specs.Faults.{EndsWith};
 
 use crate::de::{Deserialize, Deserializer};
@@ -91,7 +91,7 @@ impl<I: Input> Deserializer<I> {
 impl<I: Input, T: Deserialize<I>> Deserialize<I> for Option<T> {
     ghost use Rattle.std.specs.Prelude.{Option};
     ghost use Rattle.json5_de.specs.ConvertLists.{option_of, if_some};
-    ghost use Rattle.json5_de.specs.Options.{option_free, RefusesOption};
+    ghost use Rattle.json5_de.specs.OptionFaults.{option_free, RefusesOption};
 
     ghost Content = { Option T.Content };
 

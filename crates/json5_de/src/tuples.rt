@@ -7,7 +7,7 @@ use json5_text::input::Input;
 /// Reads an array of one element. The faults are those of a tuple of two.
 impl<I: Input, A: Deserialize<I>> Deserialize<I> for (A,) {
     ghost use Rattle.json5_grammar.specs.Model.Collections.{array_of};
-    ghost use Rattle.json5_de.specs.Lists.{element, every, tuple_of_size, RefusesList};
+    ghost use Rattle.json5_de.specs.ListFaults.{element, every, tuple_of_size, RefusesList};
     ghost use Rattle.json5_de.specs.ConvertLists.{last_of};
 
     ghost Content = { A.Content };
@@ -35,7 +35,7 @@ impl<I: Input, A: Deserialize<I>> Deserialize<I> for (A,) {
 /// let (name, port): (String, u16) = read(de)?;    // ['http', 80]
 /// ```
 impl<I: Input, A: Deserialize<I>, B: Deserialize<I>> Deserialize<I> for (A, B) {
-    ghost use Rattle.json5_de.specs.Lists.{element, every, first_then, tuple_of_size, RefusesList};
+    ghost use Rattle.json5_de.specs.ListFaults.{element, every, first_then, tuple_of_size, RefusesList};
     ghost use Rattle.json5_de.specs.ConvertLists.{first_of, last_of};
     ghost use Rattle.json5_grammar.specs.Model.Collections.{array_of};
 
@@ -60,7 +60,7 @@ impl<I: Input, A: Deserialize<I>, B: Deserialize<I>> Deserialize<I> for (A, B) {
 /// Reads an array of three elements. The faults are those of a tuple of two.
 impl<I: Input, A: Deserialize<I>, B: Deserialize<I>, C: Deserialize<I>> Deserialize<I>
     for (A, B, C) {
-    ghost use Rattle.json5_de.specs.Lists.{element, every, first_then, tuple_of_size, RefusesList};
+    ghost use Rattle.json5_de.specs.ListFaults.{element, every, first_then, tuple_of_size, RefusesList};
     ghost use Rattle.json5_de.specs.ConvertLists.{first_of, last_of};
     ghost use Rattle.json5_grammar.specs.Model.Collections.{array_of};
 
@@ -91,7 +91,7 @@ impl<
     C: Deserialize<I>,
     D: Deserialize<I>,
 > Deserialize<I> for (A, B, C, D) {
-    ghost use Rattle.json5_de.specs.Lists.{element, every, first_then, tuple_of_size, RefusesList};
+    ghost use Rattle.json5_de.specs.ListFaults.{element, every, first_then, tuple_of_size, RefusesList};
     ghost use Rattle.json5_de.specs.ConvertLists.{first_of, last_of};
     ghost use Rattle.json5_grammar.specs.Model.Collections.{array_of};
 

@@ -4,7 +4,7 @@ ghost use Rattle.std.specs.Prelude.{◌≡◌, Some, true, IfOk, IfErr, IsOk};
 ghost use Rattle.std.specs.Str.{chars};
 ghost use Rattle.json5_grammar.specs.Language.Documents.{Doc, max_depth};
 ghost use Rattle.json5_grammar.specs.Language.Trees.{Tree};
-ghost use Rattle.json5_de.specs.Law.{IsUnprompted};
+ghost use Rattle.json5_de.specs.DeserializeLaw.{IsUnprompted};
 ghost use Rattle.json5_de.specs.WholeInputs.{ReadsDocument, RefusesReading, BlamesRest};
 
 use crate::de::{Deserialize, Deserializer};

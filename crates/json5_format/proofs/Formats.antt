@@ -2,7 +2,7 @@
 use Rattle.std.proofs.Common.{◌≡◌, ℕ, true, false, List, Option, refl, sym, ap, ◌∙◌, subst}
 use Rattle.std.specs.Prelude.{Result, Ok, Err, IfOk, IfErr, MatchResult}
 use Rattle.std.specs.Str.{chars, encode_utf8_all}
-use Rattle.json5_grammar.specs.declared.code.ErrorCode.TheVariants as codes_of
+use Rattle.json5_grammar.specs.declared.error_code.ErrorCode.TheVariants as codes_of
 use Rattle.json5_grammar.specs.Language.Documents.{Doc, max_depth}
 use Rattle.json5_grammar.specs.Language.Trees.{Tree, Trees, Members, null, boolean, number, text, array, object, no_more, more, no_member, member}
 use Rattle.json5_grammar.proofs.OneTree.{one_tree}
@@ -10,7 +10,7 @@ use Rattle.json5_text.specs.declared.error.Error.{Error}
 use Rattle.json5_text.specs.Cursor.{IsOutOfMemory}
 use Rattle.json5_text.specs.Errors.{FaultKind, code, custom, failed_write, kind_of}
 use Rattle.json5_text.specs.ValueMeanings.{Datum}
-use Rattle.json5_value.specs.Data.{datum_of, items_of, fields_of}
+use Rattle.json5_value.specs.TreeMeanings.{datum_of, items_of, fields_of}
 use Rattle.json5_ser.specs.Marks.{marks, unmarked, unmarked_elements, unmarked_fields}
 use Rattle.json5_ser.specs.Out.{Out, whole, invalid_key, too_deep, written_text, text_within}
 use Rattle.json5_ser.specs.Pieces.{AppendsFront, Pushes}
@@ -18,7 +18,7 @@ use Rattle.json5_ser.specs.WholeOutputs.{IsText, RefusesToString, StopsAs}
 use Rattle.json5_ser.specs.ValueTrees.{datum_tree, items_tree, fields_tree}
 use Rattle.json5_ser.specs.Writes.{SerializerState, Writes, Refusal, by_key, by_depth, by_writer, by_refusal, by_none, refusal_of, RefusesBy, fresh, ended}
 use Rattle.json5_ser.proofs.WrittenDepths.{text_document}
-use Rattle.json5_ser.proofs.ReadIsWritten.{read_written}
+use Rattle.json5_ser.proofs.ReadTreesWritable.{read_written}
 use Rattle.json5_ser.proofs.Unmarked.{tree_again}
 use Rattle.json5_format.specs.Formatted.{IsFormatted, IsFormattedWithin}
 

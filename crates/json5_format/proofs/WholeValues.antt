@@ -2,8 +2,8 @@
 use Rattle.std.proofs.Common.{◌≡◌, ℕ, List, [], ◌∷◌, ◌++◌, refl, ap, sym, ◌∙◌, append_assoc, append-nil, ◌⊎◌, inl, inr, Option, Some, None}
 use Rattle.std.specs.Prelude.{Ok, Err, slice_get}
 use Rattle.std.proofs.lemmas.List.{append_cancel_right}
-use Rattle.json5_grammar.specs.declared.code.ErrorCode.{ErrorCode}
-use Rattle.json5_grammar.specs.declared.code.ErrorCode.TheVariants.{TrailingCharacters}
+use Rattle.json5_grammar.specs.declared.error_code.ErrorCode.{ErrorCode}
+use Rattle.json5_grammar.specs.declared.error_code.ErrorCode.TheVariants.{TrailingCharacters}
 use Rattle.json5_grammar.specs.Faults.Positions.{position_after}
 use Rattle.json5_grammar.specs.Language.Blanks.{Gap, Solid}
 use Rattle.json5_grammar.specs.Language.Documents.{Doc}
@@ -15,20 +15,20 @@ use Rattle.json5_grammar.proofs.BlanksSound.{blank_refused, gap_read}
 use Rattle.json5_grammar.proofs.DocumentOrFault.{document_sound}
 use Rattle.json5_grammar.proofs.DocumentsRead.{to_end, document_complete, blanks_refused, comment_refused}
 use Rattle.json5_grammar.proofs.Refusals.{got_same}
-use Rattle.json5_grammar.proofs.TextsBlamed.{blames_text}
+use Rattle.json5_grammar.proofs.OneFault.{blames_text}
 use Rattle.json5_text.specs.declared.error.Error.{Error}
 use Rattle.json5_text.specs.declared.value.Value.{Value}
 use Rattle.json5_text.specs.Cursor.{Cursor, Took, Says, IsPositioned, Refused, IsOutOfMemory}
 use Rattle.json5_text.specs.Errors.{code, kind_of}
-use Rattle.json5_text.specs.Tokens.{FaultyBlanks}
+use Rattle.json5_text.specs.TokenFaults.{FaultyBlanks}
 use Rattle.json5_text.specs.ValueMeanings.{value_of}
-use Rattle.json5_value.specs.Data.{datum_of}
-use Rattle.json5_value.specs.Keeping.{BlamesOrMemory, as_datum, datum_at}
-use Rattle.json5_value.specs.Steps.{IsInside, HasPositionAt, RefusesRead, Gave}
+use Rattle.json5_value.specs.TreeMeanings.{datum_of}
+use Rattle.json5_value.specs.KeepSteps.{BlamesOrMemory, as_datum, datum_at}
+use Rattle.json5_value.specs.ModelSteps.{IsInside, HasPositionAt, RefusesRead, Gave}
 use Rattle.json5_value.proofs.BuildScalars.{datum_got}
-use Rattle.json5_value.proofs.OtherCodes.{Lacks, in_blanks_other, memory_other}
-use Rattle.json5_value.proofs.Steps.{blames_refused, blames_made, blames_as, ready_after, none_next, some_next}
-use Rattle.json5_format.specs.AnyText.{FaultyDocument, unread_text, IsRefusedWithin, ReadsText}
+use Rattle.json5_value.proofs.NoFailedCode.{Lacks, in_blanks_other, memory_other}
+use Rattle.json5_value.proofs.ModelSteps.{blames_refused, blames_made, blames_as, ready_after, none_next, some_next}
+use Rattle.json5_format.specs.WholeValues.{FaultyDocument, unread_text, IsRefusedWithin, ReadsText}
 
 -- ---- the answer, from what reading on lists gives
 

@@ -1,4 +1,4 @@
-pub mod AnyText
+pub mod WholeValues
 pub mod Formatted
 -- What a tree means, which contracts cite too.
-pub use Rattle.json5_value.specs.Data
+pub use Rattle.json5_value.specs.TreeMeanings

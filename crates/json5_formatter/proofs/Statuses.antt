@@ -5,7 +5,7 @@ use Rattle.std.specs.Prelude.{String}
 use Rattle.json5_formatter.specs.declared.failure.Failure.{Failure}
 use Rattle.json5_formatter.specs.declared.failure.Failure.TheVariants as failure
 use Rattle.json5_formatter.specs.declared.work.Work.{Work}
-use Rattle.json5_formatter.specs.Answers.{AnswersStream, formats, fails, Answers, of_stream, of_files, says_usage}
+use Rattle.json5_formatter.specs.ProgramRuns.{AnswersStream, formats, fails, Answers, of_stream, of_files, says_usage}
 use Rattle.json5_formatter.specs.Files.{GoesThrough, none, good, bad, WorksThrough, through, stopped}
 use Rattle.json5_formatter.specs.Reports.{status_of}
 

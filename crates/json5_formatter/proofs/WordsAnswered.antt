@@ -3,9 +3,9 @@ use Rattle.std.proofs.Common.{◌≡◌, ◌≢◌, ℕ, suc, ◌∙◌, true, f
 use Rattle.std.specs.declared.alloc.Global.{Global}
 use Rattle.std.specs.Prelude.{String, string_bytes, ◌==◌}
 use Rattle.json5_formatter.specs.declared.work.Work.{Work}
-use Rattle.json5_formatter.specs.Answers.{AnswersStream, Answers, of_stream, of_files}
+use Rattle.json5_formatter.specs.ProgramRuns.{AnswersStream, Answers, of_stream, of_files}
 use Rattle.json5_formatter.specs.Files.{WorksThrough}
-use Rattle.json5_formatter.specs.Words.{work_word, IsRequest}
+use Rattle.json5_formatter.specs.CommandWords.{work_word, IsRequest}
 
 pub without_words : (input output errors written said : Option (List ℕ)) (list : List (String Global)) (n : ℕ) → length list ≡ 0
     → AnswersStream input output written errors said n → Answers input output errors list written said n

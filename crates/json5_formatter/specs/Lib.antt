@@ -1,9 +1,9 @@
-pub mod Answers
+pub mod ProgramRuns
 pub mod Formats
-pub mod Pieces
+pub mod JoinedTexts
 pub mod Reports
 pub mod Runs
 pub mod Failures
-pub mod Words
+pub mod CommandWords
 pub mod Files
 pub mod Inputs

@@ -5,24 +5,24 @@
 //! refused, 2 for anything else.
 #![tactic(auto)]
 
-mod answers;
+mod program_runs;
 mod failure;
 #[cfg(test)]
 mod file_tests;
 mod files;
 mod input;
-mod output;
-mod programs;
+mod write_texts;
+mod host_program;
 mod reports;
 mod streams;
 #[cfg(test)]
 mod tests;
 mod work;
 
-pub use answers::answer;
+pub use program_runs::answer;
 pub use failure::Failure;
 pub use files::work_through;
-pub use programs::{program, words};
+pub use host_program::{program, words};
 pub use reports::{report, usage};
 pub use streams::{check, run};
 pub use work::Work;

@@ -2,11 +2,11 @@
 
 ghost use Rattle.std.specs.Prelude.{◌≡◌};
 ghost use Rattle.json5_ser.specs.Pieces.{AppendsFront};
-ghost use Rattle.json5_formatter.specs.Pieces.{joined_texts};
+ghost use Rattle.json5_formatter.specs.JoinedTexts.{joined_texts};
 ghost use Rattle.json5_formatter.specs.Reports.{fault_line, report_line, status_of, usage_line};
 
 use crate::failure::Failure;
-use crate::output::write_texts;
+use crate::write_texts::write_texts;
 use itoa::Buffer;
 use json5_text::error::Error;
 use std::io::Write;

@@ -8,7 +8,7 @@ ghost use Rattle.json5_formatter.specs.Failures.{NamesMemory};
 use crate::failure::Failure;
 use crate::input::read_whole;
 use json5_format::read_document;
-use json5_ser::output::write_whole;
+use json5_ser::write_whole::write_whole;
 use json5_ser::to_writer;
 use json5_text::value::Value;
 use std::alloc::Global;

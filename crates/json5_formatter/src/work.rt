@@ -1,7 +1,7 @@
 //! What the first word asks for.
 
 ghost use Rattle.std.specs.Prelude.{◌≡◌, ◌≢◌, MatchOption};
-ghost use Rattle.json5_formatter.specs.Words.{work_word};
+ghost use Rattle.json5_formatter.specs.CommandWords.{work_word};
 
 /// What is done with each file.
 #[derive(Clone, Copy, Debug, Drop)]

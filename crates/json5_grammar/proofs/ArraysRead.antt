@@ -6,10 +6,10 @@ use Rattle.json5_grammar.specs.Language.Trees.{Tree, Trees, array, no_more, more
 use Rattle.json5_grammar.specs.Faults.{begins_value}
 use Rattle.json5_grammar.specs.Language.Values.{no_last_comma, last_comma, Val, is_empty_array, is_array, ElementList, last, next, Stops, Reads}
 use Rattle.json5_grammar.specs.Model.Collections.{IsSign, Opens, Tail}
-use Rattle.json5_grammar.proofs.FirstCharacters.{first_same, rest_same}
+use Rattle.json5_grammar.proofs.CommonLemmas.{first_same, rest_same}
 use Rattle.json5_grammar.proofs.BlanksRead.{begins_solid, printable_solid}
 use Rattle.json5_grammar.proofs.BlanksSound.{Blanks-append, one_gap, gap_blanks}
-use Rattle.json5_grammar.proofs.Classes.{comma_ends_values, bracket_ends_values}
+use Rattle.json5_grammar.proofs.CharacterClasses.{comma_ends_values, bracket_ends_values}
 use Rattle.json5_grammar.proofs.ValueHeads.{val_head, value_solid, stops_blanks}
 use Rattle.json5_grammar.proofs.ValuesRead.{regroup}
 

@@ -10,11 +10,11 @@ use Rattle.json5_grammar.specs.Language.Strings.{Str, IsOpenString}
 use Rattle.json5_grammar.specs.Language.Values.{is_text}
 use Rattle.json5_grammar.specs.Faults.Fronts.{Bracket, Expects, takes_value, Front, start, after_value, after_bracket, after_comma, after_key, after_colon, key}
 use Rattle.json5_grammar.specs.Faults.{FaultAt, in_comment, no_value, value_missing, nested_too_deep, no_comma, comma_missing, no_key, key_missing, no_colon, colon_missing, trailing, in_word, in_number, in_a_string, in_a_name, FaultWhere, fault}
-use Rattle.json5_grammar.proofs.Classes.{colon_no_name}
+use Rattle.json5_grammar.proofs.CharacterClasses.{colon_no_name}
 use Rattle.json5_grammar.proofs.TextContinues.{string_before, name_before}
 use Rattle.json5_grammar.proofs.ValuesSound.{text_stops}
 use Rattle.json5_grammar.proofs.FrontsAt.{no_gap}
-use Rattle.json5_grammar.proofs.FaultsParts.{string_in, name_in}
+use Rattle.json5_grammar.proofs.FaultParts.{string_in, name_in}
 use Rattle.json5_grammar.proofs.FrontsContinue.{front_same, front_begins}
 
 -- as many brackets are open as the limit allows, at most

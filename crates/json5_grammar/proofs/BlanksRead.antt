@@ -11,7 +11,7 @@ use Rattle.json5_grammar.specs.Language.Characters.{is_in, is_terminator, is_spa
 use Rattle.json5_grammar.specs.Language.Blanks.{Inside, ends, star, other, Blanks, empty, blank, line, block, LastBlanks, open_line, Gap, at_end, is_solid, Solid}
 use Rattle.json5_grammar.specs.Model.Reading.{got}
 use Rattle.json5_grammar.specs.Model.ReadBlanks.{Mode, between, slash, skip}
-use Rattle.json5_grammar.proofs.FirstCharacters.{eq_from, neq_from, not_eq}
+use Rattle.json5_grammar.proofs.CommonLemmas.{eq_from, neq_from, not_eq}
 
 -- ---- printable characters are no blanks
 

@@ -9,7 +9,7 @@ use Rattle.json5_grammar.specs.Faults.Tokens.{CommentFault, no_comment, slash_en
 use Rattle.json5_grammar.specs.Faults.Blames.{BlankBlame, HasGap, IsBlamed}
 use Rattle.json5_grammar.specs.Model.Reading.{Place, here, inner, Read, got, bad, IsAt}
 use Rattle.json5_grammar.specs.Model.ReadBlanks.{Mode, between, slash, skip}
-use Rattle.json5_grammar.proofs.FirstCharacters.{by_test, eq_from, neq_from, not_eq, at_after}
+use Rattle.json5_grammar.proofs.CommonLemmas.{by_test, eq_from, neq_from, not_eq, at_after}
 use Rattle.json5_grammar.proofs.Refusals.{Refuses, one_refusal, not_both, refuses_after, one_answer}
 use Rattle.json5_grammar.proofs.BlanksRead.{skip_slash, skip_blanks, skip_gap, skip_rest, solid_from, begins_solid}
 

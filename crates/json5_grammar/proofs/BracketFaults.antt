@@ -12,11 +12,11 @@ use Rattle.json5_grammar.specs.Model.Reading.{here, Read, got, bad, and_then}
 use Rattle.json5_grammar.specs.Model.ReadBlanks.{skip, between}
 use Rattle.json5_grammar.specs.Model.ReadTexts as texts
 use Rattle.json5_grammar.specs.Model.ReadValues.{read_elements, read_members, after_element, close_or, element_at, after_member, colon_at, value_after, member_at, key_or, read}
-use Rattle.json5_grammar.proofs.FirstCharacters.{by_test, eq_from, neq_from}
+use Rattle.json5_grammar.proofs.CommonLemmas.{by_test, eq_from, neq_from}
 use Rattle.json5_grammar.proofs.ValueTurns.{gap_no_longer}
 use Rattle.json5_grammar.proofs.ValuesSound.{IsGap, IsValue, IsKeyAt, IsValueAfter, gap_found, key_found, read_found, value_found, before_rest}
 use Rattle.json5_grammar.proofs.FrontsAt.{At, at_gap, at_value, at_comma, at_key, at_colon, at_key_value}
-use Rattle.json5_grammar.proofs.RefusalsAreFaults.{Scope, Judged, judged_then, judged_last, one_char, the_end, gap_judged, key_judged}
+use Rattle.json5_grammar.proofs.TokenFaults.{Scope, Judged, judged_then, judged_last, one_char, the_end, gap_judged, key_judged}
 
 -- what is left of a text is no longer than it
 rest_no_longer : (y w r : List ℕ) → y ≡ w ++ r → length r ≤ length y

@@ -9,7 +9,7 @@ use lib.Chars.{codes}
 use Rattle.json5_grammar.specs.Language.Characters.{is_digit, Each, no_char, char}
 use Rattle.json5_grammar.specs.Language.Numbers.{Sign, no_sign, minus, Decimal, infinite, nan, finite, decimal, Integer, lone_zero, nonzero, with_point, Literal, Num, is_infinite, is_nan, is_decimal, InExponents, without_front_zeros, without_zeros, normal_exponent, all_digits, exponent_of}
 use Rattle.json5_grammar.specs.Written.NumberText.{zeros, pointed, digits_text, decimal_text, IsNormal, Normal}
-use Rattle.json5_grammar.proofs.NumberTests.{Each-append, each_weaken, digit_nonzero}
+use Rattle.json5_grammar.proofs.CharacterTests.{Each-append, each_weaken, digit_nonzero}
 use Rattle.json5_grammar.proofs.WholesWritten.{literal_alone}
 
 -- ---- zeros

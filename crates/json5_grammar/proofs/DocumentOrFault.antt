@@ -13,14 +13,14 @@ use Rattle.json5_grammar.specs.Model.ReadValues.{read, at_end, document}
 use Rattle.json5_grammar.specs.Language.Trees.{Tree}
 use Rattle.json5_grammar.specs.Language.Values.{Reads}
 use Rattle.json5_grammar.proofs.BlanksSound.{gap_blanks, gap_end}
-use Rattle.json5_grammar.proofs.FoundInFront.{Found}
+use Rattle.json5_grammar.proofs.FoundPlaces.{Found}
 use Rattle.json5_grammar.proofs.Refusals.{Refuses, same_place, one_refusal, not_both}
 use Rattle.json5_grammar.proofs.OneTree.{phrase_reader, phrase_complete}
 use Rattle.json5_grammar.proofs.ValueHeads.{val_head}
 use Rattle.json5_grammar.proofs.ValuesSound.{IsGap, IsValue, gap_found, read_found}
 use Rattle.json5_grammar.proofs.DocumentsRead.{to_end, document_complete}
-use Rattle.json5_grammar.proofs.RefusalsAreFaults.{Scope, Stands, Judged}
-use Rattle.json5_grammar.proofs.FaultsRead.{of_text, of_value, document_judged, phrase_judged}
+use Rattle.json5_grammar.proofs.TokenFaults.{Scope, Stands, Judged}
+use Rattle.json5_grammar.proofs.ValueFaults.{of_text, of_value, document_judged, phrase_judged}
 use Rattle.json5_grammar.proofs.FaultsRefused.{fault_refused, value_fault_refused}
 
 -- ---- what is read is a document

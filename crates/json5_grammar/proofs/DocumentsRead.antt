@@ -2,8 +2,8 @@
 use Rattle.std.proofs.Common.{◌≡◌, ℕ, ◌≤◌, List, [], ◌∷◌, ◌++◌, refl, ap, sym, ◌∙◌, append_assoc, subst, Option, Some}
 use Rattle.json5_grammar.specs.Language.Blanks.{Gap, Solid}
 use Rattle.json5_grammar.specs.Faults.Codes.{after_text}
-use Rattle.json5_grammar.specs.declared.code.ErrorCode.{ErrorCode}
-use Rattle.json5_grammar.specs.declared.code.ErrorCode.TheVariants.{TrailingCharacters}
+use Rattle.json5_grammar.specs.declared.error_code.ErrorCode.{ErrorCode}
+use Rattle.json5_grammar.specs.declared.error_code.ErrorCode.TheVariants.{TrailingCharacters}
 use Rattle.json5_grammar.specs.Language.Documents.{Doc}
 use Rattle.json5_grammar.specs.Model.Reading.{Read, here, got, and_then}
 use Rattle.json5_grammar.specs.Model.ReadBlanks.{skip, between}
@@ -12,7 +12,7 @@ use Rattle.json5_grammar.specs.Language.Trees.{Tree, depth}
 use Rattle.json5_grammar.specs.Language.Values.{Reads}
 use Rattle.json5_grammar.proofs.BlanksRead.{skip_last}
 use Rattle.json5_grammar.proofs.BlanksSound.{gap_read}
-use Rattle.json5_grammar.proofs.FoundInFront.{then_then}
+use Rattle.json5_grammar.proofs.FoundPlaces.{then_then}
 use Rattle.json5_grammar.proofs.Refusals.{Refuses, refuses_after}
 use Rattle.json5_grammar.proofs.OneTree.{document_phrase, phrase_reader, phrase_complete}
 

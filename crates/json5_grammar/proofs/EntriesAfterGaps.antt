@@ -9,7 +9,7 @@ use Rattle.json5_grammar.specs.Faults.Tokens.{BlankFault}
 use Rattle.json5_grammar.specs.Language.Trees.{Tree}
 use Rattle.json5_grammar.specs.Language.Values.{Reads}
 use Rattle.json5_grammar.specs.Model.Collections.{IsSign}
-use Rattle.json5_grammar.proofs.FirstCharacters.{same_char}
+use Rattle.json5_grammar.proofs.CommonLemmas.{same_char}
 use Rattle.json5_grammar.proofs.BlanksRead.{begins_solid}
 use Rattle.json5_grammar.proofs.BlanksSound.{gap_blanks, no_blank_fault}
 use Rattle.json5_grammar.proofs.ValueHeads.{val_head, value_solid}

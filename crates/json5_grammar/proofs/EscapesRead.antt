@@ -9,9 +9,9 @@ use Rattle.json5_grammar.specs.Faults.Codes.{ErrorCode, EofParsingEscapeSequence
 use Rattle.json5_grammar.specs.Faults.Tokens.{is_surrogate, in_byte, in_first, in_second, no_backslash, no_u, lone_backslash, digits_missing, second_missing, EscapeFault, digit_after_nul, escaped_digit, no_escape_digit, no_second_escape, unpaired, escape_ends}
 use Rattle.json5_grammar.specs.Model.Reading.{Place, here, inner, Read, got, bad, and_then}
 use Rattle.json5_grammar.specs.Model.ReadTexts.{hex, paired, second, first, unicode_at, one_char, after_nul, after_cr, escape_at, name_escape, not_short}
-use Rattle.json5_grammar.proofs.FirstCharacters.{not_eq}
+use Rattle.json5_grammar.proofs.CommonLemmas.{not_eq}
 use Rattle.json5_grammar.proofs.Refusals.{Refuses}
-use Rattle.json5_grammar.proofs.HexadecimalRead.{hex4_read, hex2_read, hex_refused, hex_cut}
+use Rattle.json5_grammar.proofs.HexadecimalEscapes.{hex4_read, hex2_read, hex_refused, hex_cut}
 
 -- ---- `\u`
 

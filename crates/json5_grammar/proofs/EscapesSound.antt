@@ -9,8 +9,8 @@ use Rattle.json5_grammar.specs.Faults.Codes.{ErrorCode, InvalidEscapeSequence, S
 use Rattle.json5_grammar.specs.Faults.Tokens.{is_surrogate, in_byte, in_first, in_second, no_backslash, no_u, lone_backslash, digits_missing, second_missing, EscapeFault, digit_after_nul, escaped_digit, no_escape_digit, no_second_escape, unpaired, escape_ends}
 use Rattle.json5_grammar.specs.Model.Reading.{Place, here, Read, got, bad, and_then, IsAt}
 use Rattle.json5_grammar.specs.Model.ReadTexts.{hex, paired, second, second_u, first, unicode_at, one_char, after_nul, after_cr, escape_at, not_short}
-use Rattle.json5_grammar.proofs.FirstCharacters.{by_test, eq_from, neq_from}
-use Rattle.json5_grammar.proofs.HexadecimalRead.{wrong, cut, Hex4Sound, hex4_sound, Hex2Sound, hex2_sound}
+use Rattle.json5_grammar.proofs.CommonLemmas.{by_test, eq_from, neq_from}
+use Rattle.json5_grammar.proofs.HexadecimalEscapes.{wrong, cut, Hex4Sound, hex4_sound, Hex2Sound, hex2_sound}
 
 -- x begins with a faulty escape of this code at this position
 pub record Blamed (m : Bool) (x : List ℕ) (code : Option ErrorCode) (p : Place) : Type 0 where

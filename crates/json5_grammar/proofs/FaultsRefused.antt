@@ -14,7 +14,7 @@ use Rattle.json5_grammar.specs.Model.Reading.{Place, here, inner, Read, got, bad
 use Rattle.json5_grammar.specs.Model.ReadBlanks.{skip, between}
 use Rattle.json5_grammar.specs.Model.ReadValues.{read, at_end, document}
 use Rattle.json5_grammar.specs.Model.ReadSteps.{forget, entry_at, comma_at, separator, rest_of_bracket}
-use Rattle.json5_grammar.proofs.FirstCharacters.{not_eq}
+use Rattle.json5_grammar.proofs.CommonLemmas.{not_eq}
 use Rattle.json5_grammar.proofs.BlanksRead.{skip_rest, begins_solid, skip_end}
 use Rattle.json5_grammar.proofs.BlanksSound.{comment_refused}
 use Rattle.json5_grammar.proofs.KeysRead.{key_string_refused, key_name_refused}

@@ -6,13 +6,13 @@ use Rattle.json5_grammar.specs.Faults.Tokens.{CommentFault, no_comment, WordFaul
 use Rattle.json5_grammar.specs.Language.Documents.{Begins}
 use Rattle.json5_grammar.specs.Faults.Fronts.{Bracket, Expects}
 use Rattle.json5_grammar.specs.Faults.{lifted, FaultAt, in_comment, no_value, nested_too_deep, no_comma, no_key, no_colon, trailing, in_word, in_number, in_a_string, in_a_name, FaultWhere, Fault, fault}
-use Rattle.json5_grammar.proofs.FirstCharacters.{SameHead}
+use Rattle.json5_grammar.proofs.CommonLemmas.{SameHead}
 use Rattle.json5_grammar.proofs.NumberFaultsRemain.{whatever_follows}
 use Rattle.json5_grammar.proofs.TextFaultsRemain.{string_follows, name_follows}
 use Rattle.json5_grammar.proofs.FrontsContinue.{front_same}
 use Rattle.json5_grammar.proofs.DocumentOrFault.{no_fault}
 use Rattle.json5_grammar.proofs.FaultsShown.{row_shows}
-use Rattle.json5_grammar.proofs.FaultsParts.{in_front_of, row_in}
+use Rattle.json5_grammar.proofs.FaultParts.{in_front_of, row_in}
 
 -- ---- whatever follows
 

@@ -6,7 +6,7 @@ use Rattle.json5_grammar.specs.Language.Names.{Key}
 use Rattle.json5_grammar.specs.Language.Trees.{Tree}
 use Rattle.json5_grammar.specs.Language.Values.{Stops}
 use Rattle.json5_grammar.specs.Faults.Fronts.{BracketKind, Bracket, Expects, takes_value, after, member_of, opening, Front, start, after_value, after_bracket, after_comma, after_key, after_colon, value, key, colon, comma}
-use Rattle.json5_grammar.proofs.FirstCharacters.{append_after_two}
+use Rattle.json5_grammar.proofs.CommonLemmas.{append_after_two}
 use Rattle.json5_grammar.proofs.BlanksSound.{Gap-append}
 use Rattle.json5_grammar.proofs.ValuesSound.{IsGap, IsValue, IsKeyAt, IsValueAfter}
 

@@ -14,8 +14,8 @@ use Rattle.json5_grammar.specs.Model.ReadValues.{colon_at, read_elements, read_m
 use Rattle.json5_grammar.specs.Language.Trees.{Tree, Trees, Members, no_more, more, no_member, member}
 use Rattle.json5_grammar.specs.Language.Values.{Reads}
 use Rattle.json5_grammar.proofs.BlanksSound.{gap_end}
-use Rattle.json5_grammar.proofs.FoundInFront.{Found, found_then, found_after}
-use Rattle.json5_grammar.proofs.ArraysPassed.{tail_goes}
+use Rattle.json5_grammar.proofs.FoundPlaces.{Found, found_then, found_after}
+use Rattle.json5_grammar.proofs.ArraysPartlyRead.{tail_goes}
 use Rattle.json5_grammar.proofs.ValuesSound.{IsGap, IsValue, AreElements, AreMembers, gap_found, read_found, items_found, entries_found, after_found, after_member_found, colon_found, tail_gap, pairs_gap, sign_gap, phrase_of}
 use Rattle.json5_grammar.proofs.DocumentsRead.{document_complete}
 use Rattle.json5_grammar.proofs.FrontsContinue.{front_same}

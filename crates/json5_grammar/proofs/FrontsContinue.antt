@@ -11,10 +11,10 @@ use Rattle.json5_grammar.specs.Model.Reading.{Read, got, bad, and_then}
 use Rattle.json5_grammar.specs.Model.ReadBlanks.{skip, between}
 use Rattle.json5_grammar.specs.Model.ReadValues.{at_end, document}
 use Rattle.json5_grammar.specs.Model.ReadSteps.{forget, entry_head, entry_at, comma_at, separator, rest_of_bracket}
-use Rattle.json5_grammar.proofs.FirstCharacters.{append_after_two, SameHead, same_append, same_not}
+use Rattle.json5_grammar.proofs.CommonLemmas.{append_after_two, SameHead, same_append, same_not}
 use Rattle.json5_grammar.proofs.BlanksRead.{skip_rest, skip_end, begins_solid, printable_solid}
 use Rattle.json5_grammar.proofs.BlanksSound.{Blanks-append}
-use Rattle.json5_grammar.proofs.Classes.{blank_ends_values, blank_no_name}
+use Rattle.json5_grammar.proofs.CharacterClasses.{blank_ends_values, blank_no_name}
 use Rattle.json5_grammar.proofs.ValueHeads.{val_head, key_head, key_before, key_spelling}
 use Rattle.json5_grammar.proofs.ValuesRead.{read_null}
 use Rattle.json5_grammar.proofs.ValueSteps.{turn, rest_step}

@@ -12,9 +12,9 @@ use Rattle.json5_grammar.specs.Model.Reading.{Read, got, bad, and_then, placed}
 use Rattle.json5_grammar.specs.Model.ReadBlanks.{skip, between}
 use Rattle.json5_grammar.specs.Model.ReadValues.{colon_at, read}
 use Rattle.json5_grammar.specs.Model.ReadSteps.{forget, colon_after, member_head, entry_head, entry_at, separator, rest_of_bracket, value_and_rest}
-use Rattle.json5_grammar.proofs.FirstCharacters.{append_after_two}
+use Rattle.json5_grammar.proofs.CommonLemmas.{append_after_two}
 use Rattle.json5_grammar.proofs.BlanksRead.{skip_gap, skip_rest, printable_solid, begins_solid}
-use Rattle.json5_grammar.proofs.Classes.{begins_others}
+use Rattle.json5_grammar.proofs.CharacterClasses.{begins_others}
 use Rattle.json5_grammar.proofs.KeysRead.{key_complete}
 use Rattle.json5_grammar.proofs.ValueHeads.{val_head, key_head, key_begins, begins_value_solid, skip_key}
 use Rattle.json5_grammar.proofs.ValuesRead.{read_complete}

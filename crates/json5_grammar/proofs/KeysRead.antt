@@ -12,7 +12,7 @@ use Rattle.json5_grammar.specs.Faults.Codes.{ErrorCode, Shown}
 use Rattle.json5_grammar.specs.Faults.Tokens.{StringFault, raw_terminator, string_ends, NameFault, no_unicode_escape, escaped_no_start, escaped_no_part, name_ends, backslash_ends, Named, no_item_yet, some_items}
 use Rattle.json5_grammar.specs.Model.Reading.{Read, got, bad}
 use Rattle.json5_grammar.specs.Model.ReadTexts.{string, identifier, key}
-use Rattle.json5_grammar.proofs.FirstCharacters.{by_test, or_right}
+use Rattle.json5_grammar.proofs.CommonLemmas.{by_test, or_right}
 use Rattle.json5_grammar.proofs.Refusals.{Refuses, one_answer}
 use Rattle.json5_grammar.proofs.StringsRead.{string_complete, string_refused, fault_head}
 use Rattle.json5_grammar.proofs.StringsSound.{StringBlamed, StringSound, string_sound}

@@ -9,7 +9,7 @@ use Rattle.json5_grammar.specs.Faults.Codes.{ErrorCode, EofParsingIdentifier, Ex
 use Rattle.json5_grammar.specs.Faults.Tokens.{NameFault, no_unicode_escape, escaped_no_start, escaped_no_part, name_ends, backslash_ends, Named, no_item_yet, some_items}
 use Rattle.json5_grammar.specs.Model.Reading.{Place, here, inner, Read, got, bad, and_then}
 use Rattle.json5_grammar.specs.Model.ReadTexts.{one_char, name_escape, fit, escaped_item, put, parts, identifier}
-use Rattle.json5_grammar.proofs.FirstCharacters.{not_eq}
+use Rattle.json5_grammar.proofs.CommonLemmas.{not_eq}
 use Rattle.json5_grammar.proofs.Refusals.{Refuses, one_refusal, not_both, one_answer, refuses_after}
 use Rattle.json5_grammar.proofs.EscapesRead.{escape_from, unicode_read, escape_refused}
 use Rattle.json5_grammar.proofs.StringsRead.{escape_head, fault_head, put_none, put_raw, put_escape, put_end}

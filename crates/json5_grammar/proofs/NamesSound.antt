@@ -9,7 +9,7 @@ use Rattle.json5_grammar.specs.Faults.Codes.{ErrorCode, EofParsingIdentifier, Ex
 use Rattle.json5_grammar.specs.Faults.Tokens.{NameFault, no_unicode_escape, escaped_no_start, escaped_no_part, name_ends, backslash_ends, no_item_yet, some_items}
 use Rattle.json5_grammar.specs.Model.Reading.{Place, here, inner, Read, got, bad, and_then, IsAt}
 use Rattle.json5_grammar.specs.Model.ReadTexts.{name_escape, unicode_at, fit, escaped_item, put, parts, identifier}
-use Rattle.json5_grammar.proofs.FirstCharacters.{by_test, eq_from, neq_from, at_after}
+use Rattle.json5_grammar.proofs.CommonLemmas.{by_test, eq_from, neq_from, at_after}
 use Rattle.json5_grammar.proofs.EscapesSound.{Blamed, UnicodeSound, unicode_sound}
 use Rattle.json5_grammar.proofs.NamesRead.{unicode_head}
 use Rattle.json5_grammar.proofs.StringsSound.{shorter}

@@ -5,9 +5,9 @@ use Rattle.std.proofs.lemmas.List.{append-nil, reverse-append, reverse-reverse}
 use Rattle.json5_grammar.specs.Language.Characters.{is_digit, Each, no_char, char}
 use Rattle.json5_grammar.specs.Language.Numbers.{Number, whole, decimal, integer, with_point, point_first, Literal, literal, Num, is_infinite, is_nan, is_hexadecimal, is_integer, is_decimal, InWhole, without_front_zeros, without_zeros, normal_exponent, all_digits}
 use Rattle.json5_grammar.specs.Written.NumberText.{Normal}
-use Rattle.json5_grammar.proofs.FirstCharacters.{by_test}
-use Rattle.json5_grammar.proofs.NumberTests.{Each-append}
-use Rattle.json5_grammar.proofs.Literals.{integer_digits}
+use Rattle.json5_grammar.proofs.CommonLemmas.{by_test}
+use Rattle.json5_grammar.proofs.CharacterTests.{Each-append}
+use Rattle.json5_grammar.proofs.DecimalLiterals.{integer_digits}
 use Rattle.json5_grammar.proofs.DecimalsWritten.{Each-reverse, front_kept}
 
 Each-front : {p : ℕ → Bool} {s : List ℕ} → Each p s → Each p (without_front_zeros s)

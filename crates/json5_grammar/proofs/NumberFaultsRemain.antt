@@ -3,7 +3,7 @@ use Rattle.std.proofs.Common.{◌≡◌, ℕ, Bool, List, [], ◌∷◌, ◌++�
 use Rattle.std.proofs.lemmas.List.{append-nil}
 use Rattle.json5_grammar.specs.Faults.Codes.{ErrorCode, Shown, by_char}
 use Rattle.json5_grammar.specs.Faults.Tokens.{RunEnd, run_at_end, run_at_char, NumberFault, number_word_differs, number_word_ends, sign_without_number, sign_ends, no_hexadecimal_digit, hexadecimal_ends, hexadecimal_overflows, negative_too_large, not_a_literal, literal_overflows, leading_zero}
-use Rattle.json5_grammar.proofs.FirstCharacters.{append_after_two}
+use Rattle.json5_grammar.proofs.CommonLemmas.{append_after_two}
 
 after_rest : {p : ℕ → Bool} {r c : List ℕ} {shown : Shown} → RunEnd p r c shown → (q : List ℕ) × (r ≡ c ++ q)
 after_rest run_at_end = ([], refl)

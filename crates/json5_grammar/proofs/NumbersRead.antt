@@ -8,9 +8,9 @@ use Rattle.json5_grammar.specs.Language.Numbers.{Sign, no_sign, plus, minus, sig
 use Rattle.json5_grammar.specs.Faults.Tokens.{is_sign}
 use Rattle.json5_grammar.specs.Model.Reading.{got, word_at}
 use Rattle.json5_grammar.specs.Model.ReadNumbers.{Parts, front_of, rest_of, literal_at, in_whole, is_whole, judged, if_literal, hex_judged, hexadecimal, hex_digits, unsigned, number}
-use Rattle.json5_grammar.proofs.NumberTests.{in_whole_yes, in_whole_true, in_exponents_true, begins_run_others, dot_or_e_others, hex_start_no_digit, front_all, rest_all}
-use Rattle.json5_grammar.proofs.Hexadecimal.{hex_over, hex_stop}
-use Rattle.json5_grammar.proofs.Literals.{literal_found, literal_run, literal_head, Head, alone, longer, Longer, zero_more, begun}
+use Rattle.json5_grammar.proofs.CharacterTests.{in_whole_yes, in_whole_true, in_exponents_true, begins_run_others, dot_or_e_others, hex_start_no_digit, front_all, rest_all}
+use Rattle.json5_grammar.proofs.HexadecimalNumbers.{hex_over, hex_stop}
+use Rattle.json5_grammar.proofs.DecimalLiterals.{literal_found, literal_run, literal_head, Head, alone, longer, Longer, zero_more, begun}
 
 -- ---- the sign
 

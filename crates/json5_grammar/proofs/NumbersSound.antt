@@ -11,9 +11,9 @@ use Rattle.json5_grammar.specs.Faults.Codes.{ErrorCode, Shown, by_char, by_end, 
 use Rattle.json5_grammar.specs.Faults.Tokens.{is_sign, begins_number, NumberWord, DecimalRun, run, zero_run, RunEnd, run_at_end, run_at_char, NumberFault, number_word_differs, number_word_ends, sign_without_number, sign_ends, no_hexadecimal_digit, hexadecimal_ends, hexadecimal_overflows, negative_too_large, not_a_literal, literal_overflows, leading_zero}
 use Rattle.json5_grammar.specs.Model.Reading.{Place, Read, got, bad, here, inner, word_at}
 use Rattle.json5_grammar.specs.Model.ReadNumbers.{Parts, front_of, rest_of, literal_at, in_exponents, is_whole, judged, if_literal, decimal_run, at_zero, hex_judged, hexadecimal, hex_digits, unsigned, number}
-use Rattle.json5_grammar.proofs.FirstCharacters.{by_test, eq_from, neq_from, rest_same, cons_not_nil, lt_from, le_from}
-use Rattle.json5_grammar.proofs.NumberTests.{in_whole_yes, in_whole_true, in_exponents_yes, begins_run_in_run, dot_or_e_in_run, front_each, rest_stops, front_rest}
-use Rattle.json5_grammar.proofs.Literals.{literal_found, literal_is, LiteralIs, literal_head, Longer, zero_more, begun}
+use Rattle.json5_grammar.proofs.CommonLemmas.{by_test, eq_from, neq_from, rest_same, cons_not_nil, lt_from, le_from}
+use Rattle.json5_grammar.proofs.CharacterTests.{in_whole_yes, in_whole_true, in_exponents_yes, begins_run_in_run, dot_or_e_in_run, front_each, rest_stops, front_rest}
+use Rattle.json5_grammar.proofs.DecimalLiterals.{literal_found, literal_is, LiteralIs, literal_head, Longer, zero_more, begun}
 use Rattle.json5_grammar.proofs.WordsRead.{WordIs, word_is}
 use Rattle.json5_grammar.proofs.NumbersRead.{number_bare, lengthens_bare, lengthens_longer, lengthens_hex, stops_same, signed_zero, run_read, Bare, bare, longer_bare, head_bare, complete}
 

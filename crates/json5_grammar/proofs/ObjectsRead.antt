@@ -6,14 +6,14 @@ use Rattle.json5_grammar.specs.Language.Blanks.{Blanks, Gap, is_solid}
 use Rattle.json5_grammar.specs.Language.Trees.{Tree, Members, object, no_member, member, depth, member_depths}
 use Rattle.json5_grammar.specs.Language.Values.{no_last_comma, last_comma, Val, is_empty_object, is_object, MemberList, last_member, next_member, Member, entry, Stops, Reads}
 use Rattle.json5_grammar.specs.Model.Collections.{IsSign, OpensObject, ReadsKey, IsKey, IsKeyValue, IsBrace, IsAtBrace, MembersTail, MembersPassed, joined_members, snoc_member}
-use Rattle.json5_grammar.proofs.FirstCharacters.{first_same}
+use Rattle.json5_grammar.proofs.CommonLemmas.{first_same}
 use Rattle.json5_grammar.proofs.BlanksRead.{begins_solid, printable_solid}
 use Rattle.json5_grammar.proofs.BlanksSound.{one_gap}
-use Rattle.json5_grammar.proofs.Classes.{EndsValues, comma_ends_values, brace_ends_values, colon_no_name}
+use Rattle.json5_grammar.proofs.CharacterClasses.{EndsValues, comma_ends_values, brace_ends_values, colon_no_name}
 use Rattle.json5_grammar.proofs.KeysRead
 use Rattle.json5_grammar.proofs.ValueHeads.{key_head, key_begins, key_solid, key_before_blanks, key_spelling, stops_blanks}
 use Rattle.json5_grammar.proofs.OneTree.{one_phrase}
-use Rattle.json5_grammar.proofs.ArraysPassed.{same_sign, after_same_comma, no_comma_end, one_end, sign_ends, sign_shorter, reads_shorter}
+use Rattle.json5_grammar.proofs.ArraysPartlyRead.{same_sign, after_same_comma, no_comma_end, one_end, sign_ends, sign_shorter, reads_shorter}
 use Rattle.json5_grammar.proofs.ValuesRead.{regroup_pair}
 
 -- ---- signs and keys

@@ -3,7 +3,7 @@ use Rattle.std.proofs.Common.{◌≡◌, ℕ, List, ◌++◌, refl, ap, sym, ◌
 use Rattle.std.proofs.lemmas.List.{append_cancel_right}
 use Rattle.json5_grammar.specs.Faults.Codes.{ErrorCode, after_text}
 use Rattle.json5_grammar.specs.Model.Reading.{Place, here, inner, Read, got, bad, IsAt}
-use Rattle.json5_grammar.proofs.FirstCharacters.{at_after}
+use Rattle.json5_grammar.proofs.CommonLemmas.{at_after}
 
 -- the reader's answer res on x is this code at this position
 abbrev pub Refuses : {A : Type 0} → Read A → List ℕ → Option ErrorCode → Option (List ℕ) → Type 0

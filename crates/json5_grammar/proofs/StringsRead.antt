@@ -8,7 +8,7 @@ use Rattle.json5_grammar.specs.Faults.Codes.{ErrorCode, EofParsingString, LineTe
 use Rattle.json5_grammar.specs.Faults.Tokens.{InDigits, in_byte, in_first, in_second, AfterSurrogate, no_backslash, no_u, lone_backslash, digits_missing, second_missing, EscapeFault, digit_after_nul, escaped_digit, no_escape_digit, no_second_escape, unpaired, escape_ends, StringFault, raw_terminator, string_ends}
 use Rattle.json5_grammar.specs.Model.Reading.{Place, here, inner, Read, got, bad, and_then}
 use Rattle.json5_grammar.specs.Model.ReadTexts.{put, items, string}
-use Rattle.json5_grammar.proofs.FirstCharacters.{same_char, same_items}
+use Rattle.json5_grammar.proofs.CommonLemmas.{same_char, same_items}
 use Rattle.json5_grammar.proofs.Refusals.{Refuses, one_refusal, not_both, one_answer, refuses_after}
 use Rattle.json5_grammar.proofs.EscapesRead.{escape_from, escape_read, escape_refused}
 

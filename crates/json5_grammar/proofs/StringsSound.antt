@@ -8,7 +8,7 @@ use Rattle.json5_grammar.specs.Faults.Codes.{ErrorCode, EofParsingString, LineTe
 use Rattle.json5_grammar.specs.Faults.Tokens.{StringFault, raw_terminator, string_ends}
 use Rattle.json5_grammar.specs.Model.Reading.{Place, here, inner, Read, got, bad, and_then, IsAt}
 use Rattle.json5_grammar.specs.Model.ReadTexts.{escape_at, put, items, string}
-use Rattle.json5_grammar.proofs.FirstCharacters.{by_test, eq_from, at_after, same_items}
+use Rattle.json5_grammar.proofs.CommonLemmas.{by_test, eq_from, at_after, same_items}
 use Rattle.json5_grammar.proofs.EscapesSound.{Blamed, EscapeSound, escape_sound}
 use Rattle.json5_grammar.proofs.StringsRead.{escape_head}
 

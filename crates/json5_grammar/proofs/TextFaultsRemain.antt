@@ -2,7 +2,7 @@
 use Rattle.std.proofs.Common.{◌≡◌, ℕ, Bool, List, [], ◌∷◌, ◌++◌, refl, sym, append_assoc, subst, Option}
 use Rattle.json5_grammar.specs.Faults.Codes.{ErrorCode, Shown, by_char}
 use Rattle.json5_grammar.specs.Faults.Tokens.{EscapeFault, digit_after_nul, escaped_digit, no_escape_digit, no_second_escape, unpaired, StringFault, raw_terminator, NameFault, no_unicode_escape, escaped_no_start, escaped_no_part}
-use Rattle.json5_grammar.proofs.FirstCharacters.{SameHead, same_items}
+use Rattle.json5_grammar.proofs.CommonLemmas.{SameHead, same_items}
 use Rattle.json5_grammar.proofs.StringsRead.{fault_head}
 
 by_backslash : (x y : List ℕ) → (t : List ℕ) × (x ≡ 92 ∷ t) → (t : List ℕ) × (y ≡ 92 ∷ t) → SameHead x y

@@ -10,7 +10,7 @@ use Rattle.json5_grammar.specs.Language.Characters.{is_identifier_start, is_iden
 use Rattle.json5_grammar.specs.Language.Strings.{Items, no_item, raw, escape, is_raw, is_quote, stands_for_itself, Str, quoted, Escape, short, unicode, itself, single, hex4, holds_backslash}
 use Rattle.json5_grammar.specs.Language.Names.{raw_name, escaped_name, NameParts, no_part, part, Ident, name, Key, string_key, name_key, goes_on_name}
 use Rattle.json5_grammar.specs.Written.Quoting.{escaped, escaped_all, quote_for, is_name, key_text, quoted_text}
-use Rattle.json5_grammar.proofs.FirstCharacters.{by_test, eq_from, not_eq, and_left, and_right, same_char}
+use Rattle.json5_grammar.proofs.CommonLemmas.{by_test, eq_from, not_eq, and_left, and_right, same_char}
 use Rattle.json5_grammar.proofs.StringsRead.{escape_head}
 use Rattle.json5_grammar.proofs.NamesRead.{unicode_head}
 

@@ -17,16 +17,16 @@ use Rattle.json5_grammar.specs.Model.ReadTexts as texts
 use Rattle.json5_grammar.specs.Model.ReadValues.{read}
 use Rattle.json5_grammar.specs.Model.ReadSteps.{forget, colon_after, member_head, entry_at, rest_of_bracket}
 use Rattle.json5_grammar.proofs.BlanksRead.{skip_rest, solid_from, begins_solid}
-use Rattle.json5_grammar.proofs.Classes.{number_begins, quote_begins, begins_others}
+use Rattle.json5_grammar.proofs.CharacterClasses.{number_begins, quote_begins, begins_others}
 use Rattle.json5_grammar.proofs.KeysRead.{string_fault_head}
-use Rattle.json5_grammar.proofs.NumbersUnique as numbers_unique
+use Rattle.json5_grammar.proofs.NumberFaultsRefused as numbers_unique
 use Rattle.json5_grammar.proofs.Refusals.{Refuses}
 use Rattle.json5_grammar.proofs.StringsRead.{string_refused, fault_head}
 use Rattle.json5_grammar.proofs.NamesRead.{unicode_head}
 use Rattle.json5_grammar.proofs.ValueHeads.{KeyHead, key_text_head, key_begins, begins_value_solid}
 use Rattle.json5_grammar.proofs.ValueSteps.{turn, rest_step, read_word_null, read_word_true, read_word_false, read_quote, read_numeral}
 use Rattle.json5_grammar.proofs.WordsRead.{SameFirst, word_refused}
-use Rattle.json5_grammar.proofs.RefusalsAreFaults.{number_at}
+use Rattle.json5_grammar.proofs.TokenFaults.{number_at}
 use Rattle.json5_grammar.proofs.FrontsLeft.{rest_then, entry_turn, Finish, room, left_at, Fits}
 use Rattle.json5_grammar.proofs.FrontsReached.{no_close, value_next}
 

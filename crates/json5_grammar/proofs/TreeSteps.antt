@@ -9,7 +9,7 @@ use Rattle.json5_grammar.specs.Model.ReadBlanks.{skip, between}
 use Rattle.json5_grammar.specs.Model.ReadTexts.{key}
 use Rattle.json5_grammar.specs.Model.ReadValues.{read, read_elements, read_members, close_or, element_at, after_element, value_after, member_at, key_or, after_member}
 use Rattle.json5_grammar.specs.Model.ReadSteps.{colon_after, entry_head, entry_at, comma_at, separator, trees_of, trees_after, read_pairs, pairs_after, key_head, key_at, first_of_trees, goes_on_with, member_or_end}
-use Rattle.json5_grammar.proofs.FoundInFront.{Found, then_then}
+use Rattle.json5_grammar.proofs.FoundPlaces.{Found, then_then}
 use Rattle.json5_grammar.proofs.ValueHeads.{read_step}
 use Rattle.json5_grammar.proofs.ValuesSound.{IsGap, gap_found}
 use Rattle.json5_grammar.proofs.ValueTurns.{gap_no_longer, member_same, pair_same, same_items, same_entries}

@@ -20,7 +20,7 @@ use Rattle.json5_grammar.specs.Model.ReadNumbers as numbers
 use Rattle.json5_grammar.specs.Model.ReadTexts.{string}
 use Rattle.json5_grammar.specs.Model.ReadValues.{read_elements, read_members, as_leaf, value_with, too_deep, read}
 use Rattle.json5_grammar.proofs.BlanksRead.{printable_no_blank, printable_solid, skip_rest, solid_from, begins_solid}
-use Rattle.json5_grammar.proofs.Classes.{EndsValues, blank_ends_values, slash_ends_values, blank_no_name, slash_no_name, start_no_blank, start_no_slash, start_no_brace, begins_printable, begins_others, number_begins, quote_begins, number_others, quote_others}
+use Rattle.json5_grammar.proofs.CharacterClasses.{EndsValues, blank_ends_values, slash_ends_values, blank_no_name, slash_no_name, start_no_blank, start_no_slash, start_no_brace, begins_printable, begins_others, number_begins, quote_begins, number_others, quote_others}
 use Rattle.json5_grammar.proofs.NamesRead.{unicode_head}
 use Rattle.json5_grammar.proofs.NumbersRead.{complete, number_unsigned}
 use Rattle.json5_grammar.proofs.NumbersSound.{unsigned_bad, got_not_bad}

@@ -15,7 +15,7 @@ use Rattle.json5_grammar.specs.Model.ReadValues.{read_elements, read_members, cl
 use Rattle.json5_grammar.specs.Model.ReadSteps.{forget, colon_after, member_head, entry_head, entry_at, comma_at, separator, next_value, rest_of_bracket, value_and_rest}
 use Rattle.json5_grammar.proofs.ValueHeads.{array_reader, object_reader, read_step, value_text, value_number}
 use Rattle.json5_grammar.proofs.ValuesSound.{IsGap, gap_found}
-use Rattle.json5_grammar.proofs.FoundInFront.{Found}
+use Rattle.json5_grammar.proofs.FoundPlaces.{Found}
 use Rattle.json5_grammar.proofs.ValueTurns.{gap_no_longer, member_same, pair_same, same_items, same_entries}
 
 abbrev all_items : ℕ → List ℕ → Read Trees

@@ -5,7 +5,7 @@ use Rattle.json5_grammar.specs.Model.Reading.{Read, got, bad, and_then}
 use Rattle.json5_grammar.specs.Model.ReadBlanks.{skip, between}
 use Rattle.json5_grammar.specs.Model.ReadTexts.{key}
 use Rattle.json5_grammar.specs.Model.ReadValues.{read, read_elements, read_members, element_at, close_or, after_element, value_after, member_at, key_or, after_member}
-use Rattle.json5_grammar.proofs.FoundInFront.{Found}
+use Rattle.json5_grammar.proofs.FoundPlaces.{Found}
 use Rattle.json5_grammar.proofs.ValuesSound.{IsGap, IsValue, IsKeyAt, IsValueAfter, gap_found, key_found, value_found, before_rest, read_found}
 
 -- two ways to go on that are the same where the first step leads

@@ -11,7 +11,7 @@ use Rattle.json5_grammar.specs.Model.ReadBlanks.{skip, between}
 use Rattle.json5_grammar.specs.Model.ReadNumbers as numbers
 use Rattle.json5_grammar.specs.Model.ReadValues.{read_elements, read_members, close_or, after_element, after_member, key_or, value_after, as_leaf, value_with, read}
 use Rattle.json5_grammar.proofs.BlanksRead.{skip_blanks, skip_solid, printable_no_blank}
-use Rattle.json5_grammar.proofs.Classes.{EndsValues, comma_ends_values, bracket_ends_values, brace_ends_values, begins_others, colon_no_name}
+use Rattle.json5_grammar.proofs.CharacterClasses.{EndsValues, comma_ends_values, bracket_ends_values, brace_ends_values, begins_others, colon_no_name}
 use Rattle.json5_grammar.proofs.WordsRead.{word_complete}
 use Rattle.json5_grammar.proofs.NumbersRead.{complete}
 use Rattle.json5_grammar.proofs.StringsRead.{string_complete}

@@ -17,10 +17,10 @@ use Rattle.json5_grammar.specs.Model.ReadBlanks.{skip, between}
 use Rattle.json5_grammar.specs.Model.ReadNumbers as numbers
 use Rattle.json5_grammar.specs.Model.ReadTexts.{key, string, identifier}
 use Rattle.json5_grammar.specs.Model.ReadValues.{read_elements, read_members, after_element, close_or, element_at, after_member, colon_at, value_after, member_at, key_or, as_leaf, value_with, too_deep, read}
-use Rattle.json5_grammar.proofs.FirstCharacters.{by_test, eq_from}
+use Rattle.json5_grammar.proofs.CommonLemmas.{by_test, eq_from}
 use Rattle.json5_grammar.proofs.BlanksRead.{begins_solid}
 use Rattle.json5_grammar.proofs.BlanksSound.{BlanksSound, skip_sound, Blanks-append}
-use Rattle.json5_grammar.proofs.FoundInFront.{IsIn, Found, in_whole, in_at, found_then, found_after, found_placed, found, refused_in}
+use Rattle.json5_grammar.proofs.FoundPlaces.{IsIn, Found, in_whole, in_at, found_then, found_after, found_placed, found, refused_in}
 use Rattle.json5_grammar.proofs.WordsRead.{WordSound, word_sound}
 use Rattle.json5_grammar.proofs.NumbersSound.{PlaceIs, SoundNumber, sound}
 use Rattle.json5_grammar.proofs.StringsSound.{StringSound, string_sound}

@@ -10,8 +10,8 @@ use Rattle.std.proofs.lemmas.Int.{ints}
 use Rattle.std.proofs.lemmas.List.{append-nil}
 use Rattle.json5_grammar.specs.Language.Characters.{is_digit, is_in, no_char, char}
 use Rattle.json5_grammar.specs.Language.Numbers.{whole, no_sign, minus, spelled, Integer, lone_zero, nonzero, Mantissa, integer, no_exponent, Literal, literal, Num, is_integer, InWhole}
-use Rattle.json5_grammar.proofs.NumberTests.{Each-append}
-use Rattle.json5_grammar.proofs.Hexadecimal.{spelled-append}
+use Rattle.json5_grammar.proofs.CharacterTests.{Each-append}
+use Rattle.json5_grammar.proofs.HexadecimalNumbers.{spelled-append}
 
 pub literal_alone : {m i : List ℕ} {f : Option (List ℕ)} → Mantissa m i f → Literal m i f None
 literal_alone {m = m} {i = i} {f = f} h = subst (λ z. Literal z i f None) (append-nil m) (literal h no_exponent)

@@ -8,7 +8,7 @@ use Rattle.json5_grammar.specs.Faults.Blames.{WordBlame, IsBlamed}
 use Rattle.json5_grammar.specs.Faults.Parts.{IsPrefix}
 use Rattle.json5_grammar.specs.Model.Reading.{Place, here, inner, Read, got, bad, IsAt, word_at}
 use Rattle.json5_grammar.specs.Language.Values.{null_text, true_text, false_text}
-use Rattle.json5_grammar.proofs.FirstCharacters.{by_test, eq_from, neq_from, not_eq, same_char, cons_not_nil}
+use Rattle.json5_grammar.proofs.CommonLemmas.{by_test, eq_from, neq_from, not_eq, same_char, cons_not_nil}
 use Rattle.json5_grammar.proofs.Refusals.{Refuses, one_refusal, not_both}
 
 -- a word in front is read

@@ -5,6 +5,6 @@ pub mod ReadTexts
 pub mod ReadNumbers
 pub mod ReadValues
 pub mod ReadSteps
-pub mod NumberSteps
+pub mod FixedWidthNumbers
 pub mod PositionSteps
 pub mod Collections

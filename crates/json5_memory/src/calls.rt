@@ -2,7 +2,7 @@
 
 use crate::print;
 use crate::reads::taken;
-use crate::texts::{README, SETTINGS};
+use crate::inputs::{README, SETTINGS};
 use json5::{Decimal, Deserializer, Error, Position, Result, Value, format, from_str, to_string};
 use std::alloc::Global;
 use std::io::{self, Write};

@@ -5,11 +5,11 @@
 #![tactic(auto)]
 
 mod calls;
-mod faults;
+mod faulty_inputs;
 mod own_types;
 mod reads;
 mod sample;
-mod texts;
+mod inputs;
 
 use json5::Result;
 use std::alloc::Global;

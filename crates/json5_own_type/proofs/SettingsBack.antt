@@ -9,7 +9,7 @@ use Rattle.json5.specs.Marks.{marks}
 use Rattle.json5.specs.Collections.{object_of}
 use Rattle.json5.specs.ReadsBack.{ReadsBack}
 use Rattle.json5.specs.WrittenTrees.{field, named, text, natural, object}
-use Rattle.json5.proofs.Names.{name_back}
+use Rattle.json5.proofs.NamesBack.{name_back}
 use Rattle.json5.proofs.ReadsBack.{string_back, natural_back}
 use Rattle.json5_own_type.specs.Accepted.{above_zero}
 use Rattle.json5_own_type.specs.Settings.{settings}

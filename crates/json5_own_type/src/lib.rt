@@ -14,7 +14,7 @@ mod settings_written;
 
 ghost use Rattle.std.specs.Prelude.{◌≡◌, true};
 ghost use Rattle.json5.specs.ErrorCode.TheVariants as codes;
-ghost use Rattle.json5.specs.Law.{IsUnprompted};
+ghost use Rattle.json5.specs.DeserializeLaw.{IsUnprompted};
 ghost use Rattle.json5.specs.Faults.{EndsWithOrMemory};
 
 pub use articles::Article;

@@ -1,9 +1,9 @@
 //! Calls within a limit: `within 2 Value` reads, `written 1 Value` writes what is read at the full limit.
 
-use crate::answers::{Answer, Any, push_answer, shown, unknown};
+use crate::call_results::{Answer, Any, push_answer, shown, unknown};
 use crate::own_enums::E;
 use crate::own_structs::Config;
-use crate::writings::held;
+use crate::writer_calls::held;
 use json5::{
     Deserialize, IgnoredAny, Limit, Serialize, Value, format_within, from_str, from_str_within,
     to_string_within, to_writer_within,

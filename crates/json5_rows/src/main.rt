@@ -1,7 +1,7 @@
 //! Answers rows of calls of the library, which are its tests: stdin has the rows, and stdout what each must answer.
 #![tactic(auto)]
 
-mod answers;
+mod call_results;
 mod limits;
 mod objects;
 mod own_enums;
@@ -10,13 +10,13 @@ mod own_structs;
 mod reads;
 mod rows;
 mod scans;
-mod sequences;
+mod reader_calls;
 mod spelling;
-mod steps;
-mod texts;
+mod call_spelling;
+mod other_calls;
 mod token_lengths;
 mod writes;
-mod writings;
+mod writer_calls;
 
 use std::io::{self, BufRead, BufReader, BufWriter, Write};
 

@@ -1,6 +1,6 @@
 //! Enums whose impls are written by hand.
 
-ghost use Rattle.json5.specs.Law.{IsUnprompted};
+ghost use Rattle.json5.specs.DeserializeLaw.{IsUnprompted};
 ghost use Rattle.json5.specs.Lending.{enum_state_of};
 ghost use Rattle.json5.specs.Variants.{FinishesVariant};
 ghost use Rattle.json5.specs.Writes.{WritesTree};

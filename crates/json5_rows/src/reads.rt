@@ -1,6 +1,6 @@
 //! Reading a text as a type.
 
-use crate::answers::{Answer, Any, Digits, shown, unknown};
+use crate::call_results::{Answer, Any, Digits, shown, unknown};
 use crate::own_enums::{E, F};
 use crate::own_structs::{Config, Letters, Person};
 use indexmap::IndexMap;

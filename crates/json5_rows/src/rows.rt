@@ -1,6 +1,6 @@
 //! Rows, and the call that each names.
 
-use crate::answers::{Answer, by_code, by_message};
+use crate::call_results::{Answer, by_code, by_message};
 use crate::spelling::{shortened, unescaped};
 use crate::{limits, reads, scans, sequences, texts, token_lengths, writes, writings};
 use std::alloc::{AllocError, Global};

@@ -1,6 +1,6 @@
 //! Calls of one scanner, one after another: `scan blank eat[ number skip_string peek|TEXT`.
 
-use crate::answers::{Answer, Any, place, push_answer, shown, unknown};
+use crate::call_results::{Answer, Any, place, push_answer, shown, unknown};
 use json5::{ErrorCode, Result, Value};
 use json5_text::number::Number;
 use json5_text::scanner::Scanner;

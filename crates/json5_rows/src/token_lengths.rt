@@ -3,7 +3,7 @@
 //! Each character of the row stands at each of forty places before and after what may end the token, alone among `a`s and many
 //! times over. What each text is was known before it was made, so that nothing here reads it.
 
-use crate::answers::{Answer, unknown};
+use crate::call_results::{Answer, unknown};
 use json5::{Deserialize, Error, ErrorCode, IgnoredAny, Position, Result, from_str};
 use std::alloc::{AllocError, Global};
 use std::collections::BTreeMap;

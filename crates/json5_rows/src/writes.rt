@@ -1,6 +1,6 @@
 //! Writing what was read.
 
-use crate::answers::{Answer, unknown};
+use crate::call_results::{Answer, unknown};
 use crate::own_enums::{E, F};
 use crate::own_structs::Config;
 use indexmap::IndexMap;

@@ -6,12 +6,12 @@ use Rattle.json5_grammar.specs.Language.Characters.{comma_sign, colon_sign, spac
 use Rattle.json5_ser.specs.WrittenTrees.{WrittenKey, Written, Elements, element, Fields, field}
 use Rattle.json5_ser.specs.Out.{Out, piece, ◌then◌, line, opened_by, closed_by, out, elements_out, fields_out, key_part, key_out}
 use Rattle.json5_ser.specs.Writes.{SerializerState, Wrote, RefusesBy, RefusesWrite, Writes, at_depth, after_closing}
-use Rattle.json5_ser.specs.Puts.{refusal_by, MakesError}
+use Rattle.json5_ser.specs.ShortWrites.{refusal_by, MakesError}
 use Rattle.json5_ser.specs.declared.refusal.Refused.{Refused}
 use Rattle.json5_ser.specs.Commas.{comma_before, element_line, member_line}
 use Rattle.json5_ser.proofs.OutputsJoined.{Writes-exit, Reaches, Reaches-first, Reaches-next, Reaches-exit, Reaches-last}
-use Rattle.json5_ser.proofs.PutsJoined.{refused_as}
-use Rattle.json5_ser.proofs.Remains.{Wrote-at, Refuses-at, then_assoc}
+use Rattle.json5_ser.proofs.ShortWritesJoined.{refused_as}
+use Rattle.json5_ser.proofs.RemainingOutput.{Wrote-at, Refuses-at, then_assoc}
 
 pub comma_before_then : (due : Bool) (a b : Out) → comma_before due (a then b) ≡ comma_before due a then b
 comma_before_then true a b = sym (then_assoc (piece (comma_sign ∷ [])) a b)

@@ -11,9 +11,9 @@ use lib.Lanes.{top}
 use Rattle.std.proofs.lemmas.Bool.{and_parts}
 use Rattle.std.proofs.lemmas.Bool.Decides.{nat_tests}
 use Rattle.json5_grammar.specs.Language.Characters.{Each, no_char, char}
-use Rattle.json5_grammar.proofs.FirstCharacters.{eq_from}
+use Rattle.json5_grammar.proofs.CommonLemmas.{eq_from}
 use Rattle.json5_text.specs.ByteRuns.{is_in_line, is_line_part}
-use Rattle.json5_text.proofs.StopRuns.{FailsAscii, OfChars, of_ascii, line_chars}
+use Rattle.json5_text.proofs.RunBoundaries.{FailsAscii, OfChars, of_ascii, line_chars}
 use Rattle.json5_text.proofs.ByteSearch.{hit}
 use Rattle.json5_ser.specs.EscapeFree.{ends_escape_free, is_escape_free_byte, is_unmarked, is_escape_free}
 

@@ -16,7 +16,7 @@ use Rattle.json5_ser.specs.Escaping.{StartsWithScalar, SplitsAtEscape, WritesAsI
 use Rattle.json5_ser.proofs.OutputsJoined.{scalars-append}
 use Rattle.json5_grammar.specs.Language.Characters.{Each, no_char, char}
 use Rattle.json5_text.specs.Scan.{SkipsAll}
-use Rattle.json5_text.proofs.ScanBytes.{Halves, one_scalar, parts_scalar}
+use Rattle.json5_text.proofs.TextCuts.{Halves, one_scalar, parts_scalar}
 use Rattle.json5_ser.specs.EscapeFree.{is_unmarked, is_escape_free}
 use Rattle.json5_ser.proofs.QuotesFound.{double_quotes}
 

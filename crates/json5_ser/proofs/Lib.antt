@@ -1,6 +1,6 @@
 pub mod OutputsJoined
 pub mod PiecesWritten
-pub mod PutsJoined
+pub mod ShortWritesJoined
 pub mod TextsWhole
 pub mod QuotesFound
 pub mod EscapesSplit
@@ -9,14 +9,14 @@ pub mod DecimalPieces
 pub mod Unmarked
 pub mod ReadBack
 pub mod WrittenDepths
-pub mod ReadIsWritten
+pub mod ReadTreesWritable
 pub mod ValueTexts
 pub mod WritableNumbers
 pub mod LineStarts
-pub mod Remains
+pub mod RemainingOutput
 pub mod NamesFound
 pub mod VariantOpened
-pub mod Members
+pub mod CollectionsWritten
 pub mod Commas
 pub mod CopiesJoined
 pub mod ValuesInside

@@ -7,7 +7,7 @@ use Rattle.std.specs.Str.Pattern.{HasMatch, FindsChar}
 use Rattle.std.proofs.lemmas.Str.{chars_from_encodes, chars-append, chars_past_char, IsUtf8-take, IsUtf8-drop, len_utf8_bounds, IsCharBoundary-before_ascii}
 use Rattle.std.proofs.lemmas.List.Folds.{list_any-append}
 use Rattle.json5_grammar.specs.Written.Quoting.{quote_for}
-use Rattle.json5_grammar.proofs.FirstCharacters.{same_char}
+use Rattle.json5_grammar.proofs.CommonLemmas.{same_char}
 
 none_passes : (p : ℕ → Bool) (cs : List ℕ) → NonePass p cs → list_any p cs ≡ false
 none_passes p [] h = refl

@@ -5,7 +5,7 @@ use Rattle.json5_text.specs.ValueMeanings as datum
 use Rattle.json5_text.specs.ValueMeanings.{Datum, Items, no_item, item, value_of}
 use Rattle.json5_ser.specs.WrittenTrees.{Written, null, boolean, number, text, array, object, Elements, no_element, element, Fields, no_field, field, named, bad}
 use Rattle.json5_ser.specs.Out.{Out, Stop, whole, invalid_key, too_deep, no_number, piece, stopped, followed_by, ◌then◌, out, elements_out, fields_out, opened_by, closed_by, element_out, value_part, text_within}
-use Rattle.json5_ser.specs.Writable.{is_writable}
+use Rattle.json5_ser.specs.WritableNumbers.{is_writable}
 use Rattle.json5_grammar.specs.Written.NumberText.{number_text}
 use Rattle.json5_ser.specs.ValueTrees.{datum_tree, items_tree, fields_tree, value_tree}
 use Rattle.json5_ser.proofs.ReadBack.{one_tree_written}

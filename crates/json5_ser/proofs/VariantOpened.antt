@@ -7,7 +7,7 @@ use Rattle.json5_ser.specs.WrittenTrees.{named}
 use Rattle.json5_ser.specs.Out.{piece, ◌then◌, opened_by, key_part, variant_opening}
 use Rattle.json5_ser.specs.Writes.{SerializerState, Wrote, RefusesWrite, Writes, at_depth}
 use Rattle.json5_ser.proofs.OutputsJoined.{Reaches, Reaches-first, Reaches-next, Reaches-exit, Reaches-last}
-use Rattle.json5_ser.proofs.Remains.{Wrote-at, Refuses-at, Writes-at}
+use Rattle.json5_ser.proofs.RemainingOutput.{Wrote-at, Refuses-at, Writes-at}
 
 pub before_key : (u : List ℕ) (sign : ℕ) (o m : SerializerState) → Wrote (opened_by o.limit o.depth left_brace) o (at_depth o.depth m)
     → Reaches (variant_opening o.limit u sign o.depth) o (at_depth o.depth m) (key_part (o.depth + 1) (named u) then (piece (colon_sign ∷ space ∷ []) then opened_by o.limit (o.depth + 1) sign))

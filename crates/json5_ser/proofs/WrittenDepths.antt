@@ -3,7 +3,7 @@ use Rattle.std.proofs.Common.{◌≡◌, ◌≤◌, ◌<◌, ◌⊎◌, ◌↔�
 use Rattle.std.proofs.lemmas.Bool.Decides.{nat_tests}
 use Rattle.std.specs.Str.{chars}
 use Rattle.json5_grammar.specs.Language.Characters.{left_bracket, left_brace}
-use Rattle.json5_grammar.proofs.FirstCharacters.{lt_from}
+use Rattle.json5_grammar.proofs.CommonLemmas.{lt_from}
 use Rattle.json5_grammar.specs.Language.Trees.{depth, depths, member_depths}
 use Rattle.json5_grammar.specs.Language.Documents.{Doc}
 use Rattle.json5_grammar.proofs.ScalarsWritten.{alone}

@@ -4,7 +4,7 @@ use Rattle.json5_grammar.specs.Language.Values.{null_text}
 use Rattle.json5_text.specs.declared.error.Error.{Error}
 use Rattle.json5_ser.specs.WrittenTrees.{named, bad}
 use Rattle.json5_ser.specs.Writes.{SerializerState}
-use Rattle.json5_ser.specs.Keys.{WritesKey}
+use Rattle.json5_ser.specs.WrittenKeys.{WritesKey}
 use Rattle.json5_ser.specs.declared.key.MapKey.{MapKey}
 
 module _ {W : Type 0} where

@@ -7,7 +7,7 @@ use Rattle.json5_grammar.specs.Written.NumberText.{number_text}
 use Rattle.json5_grammar.specs.Written.Quoting.{quoted_text, key_text}
 use Rattle.json5_grammar.specs.Language.Documents.{max_depth}
 use Rattle.json5_grammar.specs.Language.Values.{null_text, true_text, false_text}
-use Rattle.json5_ser.specs.Writable.{is_writable}
+use Rattle.json5_ser.specs.WritableNumbers.{is_writable}
 use Rattle.json5_ser.specs.WrittenTrees as written
 use Rattle.json5_ser.specs.WrittenTrees.{WrittenKey, named, bad, Written, Elements, no_element, element, Fields, no_field, field}
 

@@ -5,7 +5,7 @@ ghost use Rattle.hex.specs.Hex.{encode_lower};
 ghost use Rattle.json5_grammar.specs.Written.Quoting.{is_name};
 ghost use Rattle.json5_ser.specs.WrittenTrees.{text, named};
 ghost use Rattle.json5_ser.specs.Writes.{Writes, WritesTree};
-ghost use Rattle.json5_ser.specs.Keys.{WritesKey};
+ghost use Rattle.json5_ser.specs.WrittenKeys.{WritesKey};
 ghost use Rattle.json5_ser.specs.Out.{piece};
 
 use crate::Serializer;

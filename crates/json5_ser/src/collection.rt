@@ -42,7 +42,7 @@ pub struct SerializeCollection<'a, W: Write + Drop> {
 
 /// Dropped before its end, it leaves the serializer blocked.
 impl<W: Write + Drop> Drop for SerializeCollection<'_, W> {
-    ghost use Rattle.json5_ser.specs.Lending.{serializer_of};
+    ghost use Rattle.json5_ser.specs.WrittenCollections.{serializer_of};
 
     fn drop(self)
         ensures { self.exit.0.now ≡ serializer_of self.entry }
@@ -72,7 +72,7 @@ impl<W: Write + Drop> Serializer<W> {
 }
 
 impl<W: Write + Drop> SerializeCollection<'_, W> {
-    ghost use Rattle.json5_ser.specs.Lending.{state_of, is_list, key_pending, ExpectsKey, Steps, Settles, ending, outside};
+    ghost use Rattle.json5_ser.specs.WrittenCollections.{state_of, is_list, key_pending, ExpectsKey, Steps, Settles, ending, outside};
 
     /// Says whether it is an array, for code that gets a collection of either kind. It also works after a refusal.
     ///

@@ -6,7 +6,7 @@ ghost use Rattle.json5_grammar.specs.Written.NumberText.{decimal_text, Normal};
 ghost use Rattle.json5_grammar.specs.Written.Quoting.{is_name};
 ghost use Rattle.json5_ser.specs.WrittenTrees.{number, named};
 ghost use Rattle.json5_ser.specs.Writes.{WritesTree};
-ghost use Rattle.json5_ser.specs.Keys.{WritesKey};
+ghost use Rattle.json5_ser.specs.WrittenKeys.{WritesKey};
 
 use crate::Serializer;
 use json5_text::decimal::Decimal;

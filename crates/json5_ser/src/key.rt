@@ -5,7 +5,7 @@ ghost use Rattle.std.specs.Str.{chars};
 ghost use Rattle.hex.specs.Hex.{encode_lower};
 ghost use Rattle.json5_ser.specs.WrittenTrees.{WrittenKey, named, option_key};
 ghost use Rattle.json5_ser.specs.Out.{bool_text};
-ghost use Rattle.json5_ser.specs.Keys.{WritesKey};
+ghost use Rattle.json5_ser.specs.WrittenKeys.{WritesKey};
 
 mod members;
 mod numbers;

@@ -1,7 +1,7 @@
 //! Why a piece wasn't written, or a bracket not opened, as a small value.
 
 ghost use Rattle.std.specs.Prelude.{IsErrAnd};
-ghost use Rattle.json5_ser.specs.Puts.{MakesError};
+ghost use Rattle.json5_ser.specs.ShortWrites.{MakesError};
 
 use json5_text::ErrorCode;
 use json5_text::error::{Error, Result};

@@ -4,12 +4,12 @@ ghost use Rattle.std.specs.Prelude.{◌≡◌, ◌≤◌, ◌+◌, ◌-◌, true
 ghost use Rattle.std.specs.Str.{chars};
 ghost use Rattle.json5_grammar.specs.Language.Documents.{max_depth};
 ghost use Rattle.json5_ser.specs.Out.{piece, stopped, line, opened_by, closed_by, invalid_key, too_deep};
-ghost use Rattle.json5_grammar.specs.declared.code.ErrorCode.TheVariants as codes;
+ghost use Rattle.json5_grammar.specs.declared.error_code.ErrorCode.TheVariants as codes;
 ghost use Rattle.json5_text.specs.Errors.{code, kind_of, error_position};
 ghost use Rattle.json5_grammar.specs.Faults.Fronts.{opening, closing};
 ghost use Rattle.json5_ser.specs.Brackets.{bracket_of};
 ghost use Rattle.json5_ser.specs.Commas.{comma_before, closed_after};
-ghost use Rattle.json5_ser.specs.Puts.{Puts};
+ghost use Rattle.json5_ser.specs.ShortWrites.{Puts};
 ghost use Rattle.json5_ser.specs.Stages.{is_started};
 ghost use Rattle.json5_ser.specs.Writes.{SerializerState, Writes, fresh, fresh_within, at_depth, after_closing};
 
@@ -19,8 +19,8 @@ mod strings;
 
 use crate::brackets::Brackets;
 use crate::escape_free::is_escape_free;
-use crate::lines::line;
-use crate::output::write_whole;
+use crate::line_starts::line;
+use crate::write_whole::write_whole;
 use crate::refusal::{Put, Refused, refusal};
 use crate::stage::Stage;
 use json5_text::ErrorCode;

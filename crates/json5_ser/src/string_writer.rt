@@ -2,7 +2,7 @@
 
 ghost use Rattle.std.specs.Prelude.{◌≡◌, ◌+◌, ◌≤◌, [], Some, take, vec_len, OnOk};
 
-use crate::copies::copy_to;
+use crate::byte_copies::copy_to;
 use std::alloc::{AllocError, Global};
 use std::io::{self, ErrorKind, Write};
 use std::marker::Model;

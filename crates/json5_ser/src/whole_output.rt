@@ -7,7 +7,7 @@ ghost use Rattle.json5_ser.specs.Marks.{marks};
 ghost use Rattle.json5_ser.specs.Out.{written_text, text_within};
 ghost use Rattle.json5_ser.specs.Writes.{WritesTree, fresh, fresh_within, ended, ended_within};
 ghost use Rattle.json5_ser.specs.WholeOutputs.{IsText, RefusesToString};
-ghost use Rattle.json5_ser.specs.Named.{named};
+ghost use Rattle.json5_ser.specs.ReferencedWriters.{named};
 
 use crate::string_writer::StringWriter;
 use crate::{Serialize, Serializer};

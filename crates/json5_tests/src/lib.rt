@@ -2,7 +2,7 @@
 #![tactic(auto)]
 
 #[cfg(test)]
-mod brackets;
+mod depth_limit;
 #[cfg(test)]
 mod errors;
 #[cfg(test)]
@@ -10,7 +10,7 @@ mod failing_writers;
 #[cfg(test)]
 mod keys;
 #[cfg(test)]
-mod long;
+mod long_inputs;
 #[cfg(test)]
 mod maps;
 #[cfg(test)]
@@ -20,7 +20,7 @@ mod readers;
 #[cfg(test)]
 mod readme;
 #[cfg(test)]
-mod stops;
+mod refused_writes;
 #[cfg(test)]
 mod values;
 #[cfg(test)]

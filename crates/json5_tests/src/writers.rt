@@ -4,7 +4,7 @@ use json5::{
     Decimal, Error, ErrorCode, Result, Serialize, Serializer, from_str, to_string, to_writer,
 };
 use json5_own_type::OpenPort;
-use json5_ser::output::write_whole;
+use json5_ser::write_whole::write_whole;
 use std::alloc::Global;
 use std::io::{self, ErrorKind, Write};
 use std::test::Fail;

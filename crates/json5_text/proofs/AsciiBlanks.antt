@@ -12,11 +12,11 @@ use Rattle.std.proofs.lemmas.Bool.Decides.{nat_tests}
 use Rattle.json5_grammar.specs.Language.Characters.{is_in, is_blank, is_terminator, NotBegun, Each, no_char, char}
 use Rattle.json5_grammar.specs.Model.ReadBlanks.{skip, between, Mode}
 use Rattle.json5_grammar.specs.Model.ReadNumbers.{front_of, rest_of}
-use Rattle.json5_grammar.proofs.NumberTests.{front_each}
+use Rattle.json5_grammar.proofs.CharacterTests.{front_each}
 use Rattle.json5_text.specs.ByteRuns.{is_ascii_blank, is_in_line, is_line_part, is_no_star, BeginsSolid}
-use Rattle.json5_text.proofs.NumberRuns.{PassesAscii, chars_split, rest_cut, rest_shorter}
-use Rattle.json5_text.proofs.ScanSteps.{blank_more, line_more, block_more}
-use Rattle.json5_text.proofs.StopRuns.{stop_skips, line_chars, star_chars}
+use Rattle.json5_text.proofs.AsciiRuns.{PassesAscii, chars_split, rest_cut, rest_shorter}
+use Rattle.json5_text.proofs.BlankSteps.{blank_more, line_more, block_more}
+use Rattle.json5_text.proofs.RunBoundaries.{stop_skips, line_chars, star_chars}
 
 pub blank_is_ascii : PassesAscii is_ascii_blank
 blank_is_ascii c h = grind (arith, nat_tests)

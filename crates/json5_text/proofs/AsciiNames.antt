@@ -11,12 +11,12 @@ use Rattle.ucd_table.specs.Rows.{value_in}
 use Rattle.ucd_category.specs.GeneralCategoryRows.{general_category_rows}
 use Rattle.json5_grammar.specs.Language.Characters.{is_in, is_start_category, is_part_category, is_identifier_start, is_identifier_part, Each, no_char, char}
 use Rattle.json5_grammar.specs.Model.ReadNumbers.{front_of, rest_of}
-use Rattle.json5_grammar.proofs.FirstCharacters.{eq_from, neq_from}
-use Rattle.json5_grammar.proofs.NumberTests.{front_each}
+use Rattle.json5_grammar.proofs.CommonLemmas.{eq_from, neq_from}
+use Rattle.json5_grammar.proofs.CharacterTests.{front_each}
 use Rattle.json5_text.specs.ByteRuns.{is_ascii_start, is_ascii_part}
 use Rattle.json5_text.specs.Scan.{SkipsSome}
 use Rattle.json5_text.specs.ScanTexts.{is_raw_part}
-use Rattle.json5_text.proofs.NumberRuns.{PassesAscii, chars_split, rest_cut, rest_shorter}
+use Rattle.json5_text.proofs.AsciiRuns.{PassesAscii, chars_split, rest_cut, rest_shorter}
 
 -- ---- the classes of the first 128 characters, computed
 

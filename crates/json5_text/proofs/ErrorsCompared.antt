@@ -6,10 +6,10 @@ use Rattle.std.specs.Option.{option_eq}
 use Rattle.std.specs.Cmp.Lexicographic.{bytes_decides}
 use Rattle.std.proofs.lemmas.Bool.Decides.{Decides-and, Decides-like, Decides-eqb}
 use denote.Enum.Bare.{same_true, true_same}
-use Rattle.json5_grammar.specs.declared.code.ErrorCode.{ErrorCode}
+use Rattle.json5_grammar.specs.declared.error_code.ErrorCode.{ErrorCode}
 use Rattle.json5_grammar.specs.declared.position.Position.{Position}
-use Rattle.json5_grammar.specs.contracts.code.ErrorCode.{the_type}
-use Rattle.json5_grammar.specs.contracts.code.ErrorCodePartialEq.TheImpl as codes
+use Rattle.json5_grammar.specs.contracts.error_code.ErrorCode.{the_type}
+use Rattle.json5_grammar.specs.contracts.error_code.ErrorCodePartialEq.TheImpl as codes
 use Rattle.json5_grammar.specs.contracts.position.PositionPartialEq.TheImpl as position
 use Rattle.json5_text.specs.contracts.error.ContentPartialEq.TheImpl as content
 use Rattle.json5_text.specs.declared.error.Error.{Error}

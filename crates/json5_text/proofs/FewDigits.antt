@@ -7,7 +7,7 @@ use Rattle.std.proofs.lemmas.Bool.Decides.{nat_tests}
 use Rattle.json5_grammar.specs.Language.Characters.{is_digit, NotBegun}
 use Rattle.json5_grammar.specs.Language.Numbers.{spelled, is_empty}
 use Rattle.json5_grammar.specs.Model.ReadNumbers.{front_of, is_integer}
-use Rattle.json5_grammar.proofs.NumberTests.{by_test}
+use Rattle.json5_grammar.proofs.CharacterTests.{by_test}
 use Rattle.json5_text.specs.declared.byte_runs.FewDigits.{FewDigits}
 use Rattle.json5_text.specs.ByteRuns.{lengthens_digits, SpellsFront, IsUnpadded, IsFewDigits}
 

@@ -3,12 +3,12 @@ use Rattle.std.proofs.Common.{◌≡◌, ℕ, Bool, true, false, cond, List, [],
 use Rattle.std.proofs.lemmas.Bool.Decides.{nat_tests}
 use Rattle.std.specs.Prelude.{◌==◌, ◌||◌}
 use lib.Chars.{codes}
-use Rattle.json5_grammar.specs.declared.code.ErrorCode.TheVariants.{EofParsingNumber, ExpectedNumber, LeadingZero}
+use Rattle.json5_grammar.specs.declared.error_code.ErrorCode.TheVariants.{EofParsingNumber, ExpectedNumber, LeadingZero}
 use Rattle.json5_grammar.specs.Language.Characters.{is_digit}
 use Rattle.json5_grammar.specs.Language.Numbers.{decimal, infinite, nan, hex_start, in_run, begins_run}
 use Rattle.json5_grammar.specs.Model.Reading.{bad, here, inner, word_at}
 use Rattle.std.specs.Str.{chars}
-use Rattle.json5_grammar.proofs.FirstCharacters.{not_eq}
+use Rattle.json5_grammar.proofs.CommonLemmas.{not_eq}
 use Rattle.json5_text.proofs.NumberSteps.{infinity_rest, nan_rest}
 use Rattle.json5_text.specs.NumberParts.{after_sign}
 use Rattle.json5_grammar.specs.Model.ReadNumbers.{front_of, rest_of, literal_at, if_literal, decimal_run, at_zero, unsigned, number}

@@ -6,19 +6,19 @@ use Rattle.std.specs.Str.{IsUtf8, chars}
 use Rattle.std.proofs.lemmas.Bool.Decides.{nat_tests}
 use Rattle.std.proofs.lemmas.Int.{ints}
 use Rattle.std.proofs.lemmas.Str.{encodes-chars}
-use Rattle.json5_grammar.specs.declared.code.ErrorCode.{ErrorCode}
-use Rattle.json5_grammar.specs.declared.code.ErrorCode.TheVariants.{EofParsingNumber, ExpectedNumber, OverflowParsingNumber}
+use Rattle.json5_grammar.specs.declared.error_code.ErrorCode.{ErrorCode}
+use Rattle.json5_grammar.specs.declared.error_code.ErrorCode.TheVariants.{EofParsingNumber, ExpectedNumber, OverflowParsingNumber}
 use Rattle.json5_grammar.specs.Language.Numbers.{Number, signed, whole, InWhole}
 use Rattle.json5_grammar.specs.Model.Reading.{Read, Place, got, bad, here, word_at}
 use Rattle.json5_grammar.specs.Model.ReadNumbers.{hex_digits, hex_judged, hexadecimal}
-use Rattle.json5_grammar.proofs.FirstCharacters.{hex_value, no_hex}
+use Rattle.json5_grammar.proofs.CommonLemmas.{hex_value, no_hex}
 use Rattle.json5_text.specs.declared.refusal.Refusal.{Refusal}
 use Rattle.json5_text.specs.declared.refusal.Refusal.TheVariants as refusal
-use Rattle.json5_text.specs.Refused.{Refuses, WantsForDigits}
+use Rattle.json5_text.specs.RefusalOutcomes.{Refuses, WantsForDigits}
 use Rattle.json5_text.specs.Scan.{HasFault}
 use lib.Chars.{codes}
 use Rattle.json5_text.specs.Outcome.{Outcome, bytes_in, outcome, gave, failed}
-use Rattle.json5_grammar.proofs.NumbersUnique.{hex_judged_bad}
+use Rattle.json5_grammar.proofs.NumberFaultsRefused.{hex_judged_bad}
 
 -- the characters have as many bytes as the string
 pub left_is : (s : List ℕ) → IsUtf8 s → bytes_in (chars s) ≡ length s

@@ -9,8 +9,8 @@ use mir.Val.{to_z, of_z, SFits}
 use Rattle.json5_grammar.specs.Language.Characters.{is_digit, Each, no_char, char}
 use Rattle.json5_grammar.specs.Language.Numbers.{finite, without_front_zeros, without_zeros, normal_exponent, is_empty, InExponents}
 use Rattle.json5_grammar.specs.Written.NumberText.{IsNormal}
-use Rattle.json5_text.specs.NumberSteps.{raised}
-use Rattle.json5_grammar.proofs.NumberTests.{by_test}
+use Rattle.json5_text.specs.Exponents.{raised}
+use Rattle.json5_grammar.proofs.CharacterTests.{by_test}
 use Rattle.json5_grammar.proofs.DecimalsWritten.{Each-reverse, length-front}
 use Rattle.json5_grammar.proofs.NormalForms.{bare_twice}
 

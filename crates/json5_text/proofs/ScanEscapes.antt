@@ -7,19 +7,19 @@ use Rattle.std.specs.Str.{IsUtf8, IsCharBoundary, chars, encode_utf8_all}
 use Rattle.std.proofs.lemmas.Str.{encode_ascii, encodes-chars, chars-encodes}
 use Rattle.std.proofs.lemmas.Bool.Decides.{nat_tests}
 use Rattle.json5_grammar.specs.Language.Characters.{is_terminator, is_digit}
-use Rattle.json5_grammar.specs.declared.code.ErrorCode.{ErrorCode}
-use Rattle.json5_grammar.specs.declared.code.ErrorCode.TheVariants.{EofParsingEscapeSequence, InvalidEscapeSequence}
+use Rattle.json5_grammar.specs.declared.error_code.ErrorCode.{ErrorCode}
+use Rattle.json5_grammar.specs.declared.error_code.ErrorCode.TheVariants.{EofParsingEscapeSequence, InvalidEscapeSequence}
 use Rattle.json5_grammar.specs.Model.Reading.{Read, Place, got, bad, here, inner, and_then, word_at}
 use Rattle.json5_grammar.specs.Language.Strings.{short_escape, is_high, is_low, pair_value}
 use Rattle.json5_grammar.specs.Faults.Tokens.{is_surrogate}
 use Rattle.json5_grammar.specs.Model.ReadTexts.{hex, paired, second_u, second, first, unicode_at, after_nul, not_short, escape_at}
-use Rattle.json5_grammar.proofs.FirstCharacters.{hex_value, no_hex}
+use Rattle.json5_grammar.proofs.CommonLemmas.{hex_value, no_hex}
 use Rattle.json5_text.specs.declared.refusal.Refusal.{Refusal}
 use Rattle.json5_text.specs.declared.refusal.Refusal.TheVariants as refusal
 use Rattle.json5_text.specs.Outcome.{failed, outcome, left_at}
-use Rattle.json5_text.specs.Refused.{Refuses}
+use Rattle.json5_text.specs.RefusalOutcomes.{Refuses}
 use Rattle.json5_text.specs.Scan.{StartsWith}
-use Rattle.json5_text.proofs.ScanBytes.{first_cut, begins_ascii, no_chars}
+use Rattle.json5_text.proofs.TextCuts.{first_cut, begins_ascii, no_chars}
 use Rattle.json5_text.proofs.ScanFaults.{same_failed, gave_failed}
 
 -- ---- refusals

@@ -1,7 +1,7 @@
 -- From the refusals of the functions below the scanner to the faults of the input.
 use Rattle.std.proofs.Common.{◌≡◌, ℕ, List, ◌++◌, refl, ap, sym, ◌∙◌, append_assoc, Option, Some, None, ◌⊎◌, inl, inr, subst}
 use Rattle.std.specs.Prelude.{⊤}
-use Rattle.json5_grammar.specs.declared.code.ErrorCode.{ErrorCode}
+use Rattle.json5_grammar.specs.declared.error_code.ErrorCode.{ErrorCode}
 use Rattle.json5_grammar.specs.Model.Reading.{Read, got, bad, Place, here, inner, IsAt}
 use Rattle.json5_text.specs.declared.error.Error.{Error}
 use Rattle.json5_text.specs.declared.refusal.Refusal.{Refusal}
@@ -9,7 +9,7 @@ use Rattle.json5_text.specs.declared.refusal.Refusal.TheVariants as refusal
 use Rattle.json5_text.specs.Errors.{LacksMemory, error_position}
 use Rattle.json5_text.specs.Outcome.{Outcome, gave, failed, outcome, bytes_in, left_at}
 use Rattle.json5_text.specs.Cursor.{Cursor, Says, IsPositioned, Refused}
-use Rattle.json5_text.specs.Refused.{Refuses}
+use Rattle.json5_text.specs.RefusalOutcomes.{Refuses}
 use Rattle.json5_text.specs.Scan.{HasCode, HasFault, Leaves, InUnread, IsThere, MadeOf}
 
 -- reading x is refused with a fault of x

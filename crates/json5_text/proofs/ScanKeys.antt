@@ -1,7 +1,7 @@
 -- Keys, in the words of the scanner's contracts.
 use Rattle.std.proofs.Common.{◌≡◌, ℕ, Bool, true, false, List, [], ◌∷◌, ◌++◌, refl, ap, sym, ◌∙◌, subst, Some}
 use Rattle.json5_grammar.specs.Language.Characters.{NotBegun}
-use Rattle.json5_grammar.specs.declared.code.ErrorCode.TheVariants.{EofParsingIdentifier}
+use Rattle.json5_grammar.specs.declared.error_code.ErrorCode.TheVariants.{EofParsingIdentifier}
 use Rattle.json5_grammar.specs.Language.Names.{Key, string_key, name_key}
 use Rattle.json5_grammar.specs.Model.Reading.{Read, inner, got, bad}
 use Rattle.json5_grammar.specs.Model.ReadTexts.{identifier, key}
@@ -14,11 +14,11 @@ use Rattle.json5_text.specs.TokenResults.{SparesEscapeFree}
 use Rattle.json5_text.specs.Cursor.{Cursor}
 use Rattle.json5_text.specs.Errors.{LacksMemory}
 use Rattle.json5_text.specs.Outcome.{outcome}
-use Rattle.json5_text.specs.Refused.{Refuses}
+use Rattle.json5_text.specs.RefusalOutcomes.{Refuses}
 use Rattle.json5_text.specs.Scan.{MadeOf}
 use Rattle.json5_text.specs.ScanKeys.{key_ahead}
 use Rattle.json5_text.specs.ScanTexts.{string_at}
-use Rattle.json5_text.specs.Tokens.{FaultyKey, at_quote, at_name}
+use Rattle.json5_text.specs.TokenFaults.{FaultyKey, at_quote, at_name}
 use Rattle.json5_text.proofs.ScanFaults.{FaultAt, FaultyIn}
 use Rattle.json5_text.proofs.ScanTokens.{AtSound, at_sound, NameAtSound, name_at_sound, of_memory}
 

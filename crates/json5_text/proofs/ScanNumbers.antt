@@ -4,18 +4,18 @@ use Rattle.std.proofs.Common.{◌≡◌, ℕ, Bool, true, false, List, [], ◌�
 use Rattle.std.specs.Prelude.{◌==◌, ◌||◌}
 use Rattle.std.proofs.lemmas.Bool.Decides.{nat_tests}
 use Rattle.json5_grammar.specs.Language.Characters.{NotBegun}
-use Rattle.json5_grammar.specs.declared.code.ErrorCode.TheVariants.{EofParsingNumber, ExpectedNumber}
+use Rattle.json5_grammar.specs.declared.error_code.ErrorCode.TheVariants.{EofParsingNumber, ExpectedNumber}
 use Rattle.json5_grammar.specs.Language.Numbers.{Number, Num, lengthens, begins_run}
 use Rattle.json5_grammar.specs.Faults.Tokens.{is_sign, begins_number}
 use Rattle.json5_grammar.specs.Model.Reading.{Read, Place, here, inner, got, bad, IsAt}
 use Rattle.json5_grammar.specs.Model.ReadNumbers.{number, unsigned}
 use Rattle.json5_grammar.proofs.NumbersRead.{complete}
 use Rattle.json5_grammar.proofs.NumbersSound.{PlaceIs, SoundNumber, sound}
-use Rattle.json5_text.specs.Tokens.{FaultyNumber, no_number, number_missing}
+use Rattle.json5_text.specs.TokenFaults.{FaultyNumber, no_number, number_missing}
 use Rattle.json5_text.specs.declared.refusal.Refusal.{Refusal}
-use Rattle.json5_text.specs.NumberViews.{keeps_digits}
+use Rattle.json5_text.specs.NumberMeanings.{keeps_digits}
 use Rattle.json5_text.specs.Outcome.{outcome}
-use Rattle.json5_text.specs.Refused.{Refuses, WantsForDigits}
+use Rattle.json5_text.specs.RefusalOutcomes.{Refuses, WantsForDigits}
 use Rattle.json5_text.specs.Scan.{HasFault}
 use Rattle.json5_text.proofs.ScanFaults.{FaultAt, FaultyIn}
 use Rattle.json5_text.proofs.ScanTokens.{of_memory, never_refused}

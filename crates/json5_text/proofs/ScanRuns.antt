@@ -5,19 +5,19 @@ use Rattle.std.specs.Str.{IsUtf8, chars, encode_utf8_all}
 use Rattle.std.proofs.lemmas.Bool.Decides.{nat_tests}
 use Rattle.std.proofs.lemmas.Str.{encodes-chars}
 use Rattle.json5_grammar.specs.Language.Characters.{NotBegun, Each, char, is_identifier_start, is_identifier_part}
-use Rattle.json5_grammar.specs.declared.code.ErrorCode.TheVariants.{EofParsingString, ExpectedIdentifier, ExpectedString, LineTerminatorInString}
+use Rattle.json5_grammar.specs.declared.error_code.ErrorCode.TheVariants.{EofParsingString, ExpectedIdentifier, ExpectedString, LineTerminatorInString}
 use Rattle.json5_grammar.specs.Language.Strings.{is_raw, is_quote}
 use Rattle.json5_grammar.specs.Model.Reading.{Read, got, bad, here, inner}
 use Rattle.json5_grammar.specs.Model.ReadTexts.{put, identifier}
 use Rattle.json5_grammar.proofs.StringsRead.{put_none, raw_fails}
-use Rattle.json5_grammar.proofs.ReadingTurns.{string_is, rest_end, rest_quote, rest_line, rest_raw, name_rest, name_end, name_stops, name_raw, start_raw}
-use Rattle.json5_text.specs.declared.texts.Kind.{Kind}
-use Rattle.json5_text.specs.declared.texts.Kind.TheVariants as kind
-use Rattle.json5_text.specs.declared.texts.Quote.{Quote}
-use Rattle.json5_text.specs.declared.texts.Quote.TheVariants as quotes
+use Rattle.json5_grammar.proofs.TextTurns.{string_is, rest_end, rest_quote, rest_line, rest_raw, name_rest, name_end, name_stops, name_raw, start_raw}
+use Rattle.json5_text.specs.declared.strings_and_names.Kind.{Kind}
+use Rattle.json5_text.specs.declared.strings_and_names.Kind.TheVariants as kind
+use Rattle.json5_text.specs.declared.strings_and_names.Quote.{Quote}
+use Rattle.json5_text.specs.declared.strings_and_names.Quote.TheVariants as quotes
 use Rattle.json5_text.specs.Scan.{SkipsAll}
 use Rattle.json5_text.specs.ScanTexts.{quote_of, after_first_char, past, ends_early, text_at, string_at, is_raw_in, Run, SkipsRaw}
-use Rattle.json5_text.proofs.ScanBytes.{no_chars}
+use Rattle.json5_text.proofs.TextCuts.{no_chars}
 
 -- ---- characters that spell themselves
 

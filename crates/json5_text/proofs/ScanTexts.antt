@@ -5,8 +5,8 @@ use Rattle.std.specs.Prelude.{◌==◌, ◌&&◌, String, Result, Ok, Err}
 use Rattle.std.specs.Str.{IsUtf8, chars, encode_utf8_all}
 use Rattle.std.proofs.lemmas.List.{length-append, append-nil}
 use Rattle.std.proofs.lemmas.Str.{encodes-append, encodes-chars}
-use Rattle.json5_grammar.specs.declared.code.ErrorCode.{ErrorCode}
-use Rattle.json5_grammar.specs.declared.code.ErrorCode.TheVariants.{EofParsingIdentifier, ExpectedIdentifier, InvalidEscapeSequence}
+use Rattle.json5_grammar.specs.declared.error_code.ErrorCode.{ErrorCode}
+use Rattle.json5_grammar.specs.declared.error_code.ErrorCode.TheVariants.{EofParsingIdentifier, ExpectedIdentifier, InvalidEscapeSequence}
 use Rattle.json5_grammar.specs.Model.Reading.{Read, Place, got, bad, here, inner, and_then}
 use Rattle.json5_grammar.specs.Model.ReadTexts.{name_escape, unicode_at, fit, one_char, put}
 use Rattle.json5_grammar.proofs.EscapesSound.{EscapeSound, escape_sound}
@@ -14,14 +14,14 @@ use Rattle.json5_grammar.proofs.NamesRead.{unicode_head}
 use Rattle.json5_grammar.proofs.NamesSound.{EscapedSound, escaped_sound}
 use Rattle.json5_grammar.proofs.StringsRead.{escape_head, quote_no_backslash}
 use Rattle.json5_grammar.proofs.StringsSound.{shorter}
-use Rattle.json5_grammar.proofs.ReadingTurns.{string_is, rest_bad, rest_escape, name_rest, name_escaped, name_bad, start_escaped, start_bad}
+use Rattle.json5_grammar.proofs.TextTurns.{string_is, rest_bad, rest_escape, name_rest, name_escaped, name_bad, start_escaped, start_bad}
 use Rattle.json5_text.specs.declared.refusal.Refusal.{Refusal}
-use Rattle.json5_text.specs.declared.texts.Kind.{Kind}
-use Rattle.json5_text.specs.declared.texts.Kind.TheVariants as kind
-use Rattle.json5_text.specs.declared.texts.Stop.{Stop}
-use Rattle.json5_text.specs.declared.texts.Stop.TheVariants as stop
+use Rattle.json5_text.specs.declared.strings_and_names.Kind.{Kind}
+use Rattle.json5_text.specs.declared.strings_and_names.Kind.TheVariants as kind
+use Rattle.json5_text.specs.declared.strings_and_names.Stop.{Stop}
+use Rattle.json5_text.specs.declared.strings_and_names.Stop.TheVariants as stop
 use Rattle.json5_text.specs.Outcome.{outcome}
-use Rattle.json5_text.specs.Refused.{Refuses}
+use Rattle.json5_text.specs.RefusalOutcomes.{Refuses}
 use Rattle.json5_text.specs.TokenResults.{AnswersMore, AnswersOwned}
 use Rattle.json5_text.specs.ScanTexts.{quote_of, after_first_char, past, text_at, fits_name, SkipsRaw, item_of_name, item, ReadsUpTo, AnswersStop, IsRun}
 use Rattle.json5_text.proofs.ScanEscapes.{refuses_as}

@@ -3,17 +3,17 @@ use Rattle.std.proofs.Common.{◌≡◌, ℕ, Bool, true, false, cond, List, [],
 use Rattle.std.specs.Prelude.{◌==◌, ◌||◌}
 use Rattle.std.specs.Str.{IsUtf8, chars}
 use Rattle.std.proofs.lemmas.Str.{encodes-chars}
-use Rattle.json5_grammar.specs.declared.code.ErrorCode.{ErrorCode}
+use Rattle.json5_grammar.specs.declared.error_code.ErrorCode.{ErrorCode}
 use Rattle.json5_grammar.specs.Language.Blanks.{Gap, Solid}
 use Rattle.json5_grammar.specs.Model.Reading.{Read, here, inner, got, bad, word_at}
 use Rattle.json5_grammar.specs.Model.ReadBlanks.{skip, between}
 use Rattle.json5_grammar.specs.Language.Characters.{is_identifier_start}
-use Rattle.json5_grammar.specs.declared.code.ErrorCode.TheVariants.{EofParsingIdentifier, ExpectedIdentifier}
+use Rattle.json5_grammar.specs.declared.error_code.ErrorCode.TheVariants.{EofParsingIdentifier, ExpectedIdentifier}
 use Rattle.json5_grammar.specs.Language.Names.{Ident, goes_on_name}
 use Rattle.json5_grammar.proofs.NamesRead.{name_complete}
 use Rattle.json5_grammar.specs.Model.ReadTexts.{string, identifier}
 use Rattle.json5_grammar.specs.Language.Strings.{is_quote, Str, quoted}
-use Rattle.json5_grammar.proofs.FirstCharacters.{by_test}
+use Rattle.json5_grammar.proofs.CommonLemmas.{by_test}
 use Rattle.json5_grammar.proofs.NamesSound.{Stopped, NameSound, name_sound}
 use Rattle.json5_grammar.proofs.StringsRead.{string_complete}
 use Rattle.json5_grammar.proofs.StringsSound.{StringSound, string_sound}
@@ -22,9 +22,9 @@ use Rattle.json5_grammar.proofs.WordsRead.{WordIs, word_is}
 use Rattle.json5_text.specs.declared.refusal.Refusal.{Refusal}
 use Rattle.json5_text.specs.declared.refusal.Refusal.TheVariants as refusal
 use Rattle.json5_text.specs.Outcome.{gave, outcome, bytes_in}
-use Rattle.json5_text.specs.Refused.{Refuses}
+use Rattle.json5_text.specs.RefusalOutcomes.{Refuses}
 use Rattle.json5_text.specs.Cursor.{Cursor}
-use Rattle.json5_text.specs.Tokens.{FaultyBlanks, FaultyWord, word_differs, word_ends, FaultyString, faulty, no_quote, string_missing, FaultyName, no_name, name_missing}
+use Rattle.json5_text.specs.TokenFaults.{FaultyBlanks, FaultyWord, word_differs, word_ends, FaultyString, faulty, no_quote, string_missing, FaultyName, no_name, name_missing}
 use Rattle.json5_text.specs.Scan.{HasFault, Leaves}
 use Rattle.json5_text.specs.ScanTexts.{string_at}
 use Rattle.json5_text.proofs.ScanFaults.{FaultAt, FaultyIn, gave_failed, no_memory}

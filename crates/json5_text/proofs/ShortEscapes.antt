@@ -12,13 +12,13 @@ use Rattle.json5_grammar.specs.Language.Strings.{short_escape, is_raw}
 use Rattle.json5_grammar.specs.Model.Reading.{got, and_then}
 use Rattle.json5_grammar.specs.Model.ReadTexts.{hex, not_short, one_char, put}
 use Rattle.json5_grammar.proofs.StringsRead.{put_none}
-use Rattle.json5_text.specs.declared.texts.Kind.{Kind}
-use Rattle.json5_text.specs.declared.texts.Kind.TheVariants as kind
-use Rattle.json5_text.specs.declared.texts.Quote.{Quote}
-use Rattle.json5_text.specs.declared.texts.Quote.TheVariants as quotes
-use Rattle.json5_text.specs.declared.texts.Step.{Step}
-use Rattle.json5_text.specs.declared.texts.Stop.{Stop}
-use Rattle.json5_text.specs.declared.texts.Stop.TheVariants as stop
+use Rattle.json5_text.specs.declared.strings_and_names.Kind.{Kind}
+use Rattle.json5_text.specs.declared.strings_and_names.Kind.TheVariants as kind
+use Rattle.json5_text.specs.declared.strings_and_names.Quote.{Quote}
+use Rattle.json5_text.specs.declared.strings_and_names.Quote.TheVariants as quotes
+use Rattle.json5_text.specs.declared.strings_and_names.Step.{Step}
+use Rattle.json5_text.specs.declared.strings_and_names.Stop.{Stop}
+use Rattle.json5_text.specs.declared.strings_and_names.Stop.TheVariants as stop
 use Rattle.json5_text.specs.Scan.{SkipsAll, AtEscape, in_list}
 use Rattle.json5_text.specs.ScanTexts.{quote_of, text_at, is_raw_in, left_in, ReadsUpTo, AnswersStop, IsEscapeStep, IsReadTo, IsStepped}
 use Rattle.json5_text.specs.ShortEscapes.{spells_itself, SpellsAlone, SpellsUnicode, SpellsEscape}

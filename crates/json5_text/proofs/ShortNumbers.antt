@@ -12,11 +12,11 @@ use Rattle.json5_grammar.specs.Language.Numbers.{Number, Num, is_decimal, whole,
 use Rattle.json5_grammar.specs.Model.ReadNumbers as model
 use Rattle.json5_grammar.specs.Model.ReadNumbers.{front_of, rest_of}
 use Rattle.json5_grammar.proofs.DecimalsWritten.{length-front}
-use Rattle.json5_grammar.proofs.Literals.{Head, alone, longer, literal_head}
+use Rattle.json5_grammar.proofs.DecimalLiterals.{Head, alone, longer, literal_head}
 use Rattle.std.proofs.lemmas.Bool.{both_ways}
 use Rattle.json5_grammar.proofs.NumbersRead.{complete, head_bare, lengthens_bare, lengthens_longer}
 use Rattle.json5_grammar.proofs.NumbersSound.{whole_true, whole_num}
-use Rattle.json5_grammar.proofs.NumberTests.{front_rest}
+use Rattle.json5_grammar.proofs.CharacterTests.{front_rest}
 use Rattle.json5_text.specs.ByteRuns.{lengthens_digits}
 use Rattle.json5_text.specs.NumberParts.{SplitsDigits}
 use Rattle.json5_text.specs.ShortWays.{IsInFront}

@@ -10,14 +10,14 @@ use Rattle.json5_grammar.specs.Language.Blanks.{Gap}
 use Rattle.json5_grammar.specs.Language.Characters.{comma_sign}
 use Rattle.json5_grammar.specs.Model.Collections.{IsSign}
 use Rattle.json5_grammar.specs.Model.ReadBlanks.{skip, between}
-use Rattle.json5_grammar.proofs.FirstCharacters.{eq_from}
+use Rattle.json5_grammar.proofs.CommonLemmas.{eq_from}
 use Rattle.json5_grammar.proofs.BlanksSound.{gap_blanks}
 use Rattle.json5_text.specs.TokenResults.{GivesValue}
 use Rattle.json5_text.specs.Cursor.{Cursor}
 use Rattle.json5_text.specs.Scan.{Leaves, LeavesAt}
 use Rattle.json5_text.specs.ShortWays.{IsStep, FindsStep, IsInFront, Stepped, FindsSign, TakesShortSign}
 use Rattle.json5_text.specs.declared.short_ways.Step.{Step}
-use Rattle.json5_text.proofs.NumberRuns.{PassesAscii}
+use Rattle.json5_text.proofs.AsciiRuns.{PassesAscii}
 use Rattle.json5_text.proofs.ScanTokens.{left_counted, blanks_passed}
 use Rattle.json5_text.proofs.ShortWholes.{ends_chars}
 

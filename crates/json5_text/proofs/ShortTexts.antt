@@ -15,7 +15,7 @@ use Rattle.json5_grammar.specs.Language.Strings.{quoted, Items, no_item, raw, is
 use Rattle.json5_grammar.specs.Language.Values.{is_text}
 use Rattle.json5_grammar.proofs.BlanksRead.{skip_rest, begins_solid, printable_solid}
 use Rattle.json5_grammar.proofs.BlanksSound.{gap_blanks}
-use Rattle.json5_grammar.proofs.NumberTests.{front_each, rest_stops}
+use Rattle.json5_grammar.proofs.CharacterTests.{front_each, rest_stops}
 use Rattle.json5_grammar.proofs.ValuesSound.{text_stops}
 use Rattle.json5_text.specs.ByteRuns.{is_ascii_start, is_ascii_part, is_plain_ascii, IsAsciiName}
 use Rattle.json5_text.specs.Cursor.{Cursor}
@@ -26,11 +26,11 @@ use Rattle.json5_text.specs.ScanTexts.{quote_of}
 use Rattle.json5_text.specs.ShortWays.{IsInFront}
 use Rattle.json5_text.specs.ShortTexts.{ReadsEscapeFreeString, ReadsEscapeFreeKey, IsEscapeFreeString, IsEscapeFreeKey, TookEscapeFree, IsSliceBefore, FindsEscapeFree, HasSolid, FindsFirst}
 use Rattle.json5_text.specs.declared.short_texts.FoundText.{FoundText}
-use Rattle.json5_text.specs.declared.texts.Quote.{Quote}
-use Rattle.json5_text.specs.declared.texts.Quote.TheVariants as quotes
+use Rattle.json5_text.specs.declared.strings_and_names.Quote.{Quote}
+use Rattle.json5_text.specs.declared.strings_and_names.Quote.TheVariants as quotes
 use Rattle.json5_text.proofs.AsciiNames.{ascii_start, ascii_part, parts_ascii, parts_counted}
-use Rattle.json5_text.proofs.NumberRuns.{chars_split, rest_cut, rest_utf8}
-use Rattle.json5_text.proofs.ScanBytes.{fits_left, whole_split, bytes_append}
+use Rattle.json5_text.proofs.AsciiRuns.{chars_split, rest_cut, rest_utf8}
+use Rattle.json5_text.proofs.TextCuts.{fits_left, whole_split, bytes_append}
 use Rattle.json5_text.proofs.ScanRuns.{quote_is}
 use Rattle.json5_text.proofs.ScanTokens.{left_counted, blanks_passed}
 

@@ -17,11 +17,11 @@ use Rattle.json5_grammar.proofs.WholesWritten.{literal_alone}
 use Rattle.std.proofs.lemmas.Int.{ints}
 use Rattle.json5_text.specs.TokenResults.{GivesValue}
 use Rattle.json5_grammar.specs.Model.ReadNumbers.{front_of, rest_of}
-use Rattle.json5_grammar.proofs.NumberTests.{front_each, digit_nonzero, nonzero_not_48, nonzero_digit, digit_no_sign}
-use Rattle.json5_grammar.proofs.FirstCharacters.{eq_from}
+use Rattle.json5_grammar.proofs.CharacterTests.{front_each, digit_nonzero, nonzero_not_48, nonzero_digit, digit_no_sign}
+use Rattle.json5_grammar.proofs.CommonLemmas.{eq_from}
 use Rattle.json5_text.specs.declared.byte_runs.FewDigits.{FewDigits}
 use Rattle.json5_text.specs.ByteRuns.{lengthens_digits, IsFewDigits, IsShort}
-use Rattle.json5_text.proofs.NumberRuns.{PassesAscii, digit_is_ascii, not_begun, rest_utf8, rest_cut, chars_split}
+use Rattle.json5_text.proofs.AsciiRuns.{PassesAscii, digit_is_ascii, not_begun, rest_utf8, rest_cut, chars_split}
 
 pub len_counted : (s : List ℕ) (found : FewDigits) → IsFewDigits s found → found.len ≡ length (take_while is_digit s)
 len_counted s found k = let a = length-take (prefix_len is_digit s) s in let l = prefix_len-le-length is_digit s in omega (arith, k.counted, a, l)

@@ -18,7 +18,7 @@ use Rattle.json5_text.specs.Outcome.{bytes_in}
 use Rattle.json5_text.specs.Scan.{InText}
 use Rattle.json5_text.specs.ScanTextTokens.{IsTokenOf, IsTokenIn}
 use Rattle.json5_text.specs.ScanTexts.{string_at}
-use Rattle.json5_text.proofs.ScanBytes.{Halves, halves_in, fits_left, bytes_append, cut_at, part_between, halves_after}
+use Rattle.json5_text.proofs.TextCuts.{Halves, halves_in, fits_left, bytes_append, cut_at, part_between, halves_after}
 use Rattle.json5_text.proofs.ScanTokens.{string_taken, name_taken, left_counted}
 
 -- an escape-free string's body begins with what the string spells

@@ -9,8 +9,8 @@ use Rattle.std.proofs.lemmas.Str.{chars-encodes}
 use Rattle.json5_grammar.specs.Language.Characters.{is_in, is_hex_digit, char, no_char}
 use Rattle.json5_grammar.specs.Language.Strings.{short_escape, Hex4, hex4, is_high, is_low, pair_value, Unicode, single, surrogates, Escape, short, nul, byte, unicode, line_end, cr_lf, lone_cr, itself, Items, no_item, raw, escape, Str, quoted}
 use Rattle.json5_grammar.specs.Language.Names.{NameItem, raw_name, escaped_name, NameParts, no_part, part, Ident, name, Key, string_key, name_key}
-use Rattle.json5_grammar.proofs.FirstCharacters.{by_test}
-use Rattle.json5_text.proofs.ScanBytes.{scalar_halves, one_scalar}
+use Rattle.json5_grammar.proofs.CommonLemmas.{by_test}
+use Rattle.json5_text.proofs.TextCuts.{scalar_halves, one_scalar}
 
 one_more : (c : ℕ) (x : List ℕ) → all_scalars (c ∷ x) ≡ true → IsScalar c × (all_scalars x ≡ true)
 one_more c x e = and_parts _ (all_scalars x) e

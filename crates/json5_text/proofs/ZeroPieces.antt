@@ -6,7 +6,7 @@ use Rattle.std.proofs.lemmas.List.{replicate-append-replicate, length-replicate}
 use Rattle.std.proofs.lemmas.Str.{IsCharBoundary-from_ascii}
 use Rattle.json5_grammar.specs.Language.Characters.{is_digit, Each}
 use Rattle.json5_grammar.specs.Written.NumberText.{zeros}
-use Rattle.json5_text.proofs.NumberRuns.{zero_is_ascii, digit_is_ascii, each_below}
+use Rattle.json5_text.proofs.AsciiRuns.{zero_is_ascii, digit_is_ascii, each_below}
 use Rattle.json5_grammar.proofs.DecimalsWritten.{each_zero}
 
 pub zeros_boundary : (s : List ℕ) (n i : ℕ) → s ≡ zeros n → i ≤ n → IsCharBoundary s i

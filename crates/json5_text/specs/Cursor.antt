@@ -1,8 +1,8 @@
 -- What contracts see of a scanner: the whole input and its unread part, each as the list of its characters.
 use Rattle.std.specs.Prelude.{◌≡◌, ◌-◌, ℕ, List, ◌++◌, length, Option, Some, None}
 use Rattle.std.specs.Str.{encode_utf8_all}
-use Rattle.json5_grammar.specs.declared.code.ErrorCode.{ErrorCode}
-use Rattle.json5_grammar.specs.declared.code.ErrorCode.TheVariants as codes
+use Rattle.json5_grammar.specs.declared.error_code.ErrorCode.{ErrorCode}
+use Rattle.json5_grammar.specs.declared.error_code.ErrorCode.TheVariants as codes
 use Rattle.json5_grammar.specs.Faults.Positions.{position_after}
 use Rattle.json5_grammar.specs.declared.position.Position.{Position}
 use Rattle.json5_text.specs.declared.error.Error.{Error}

@@ -1,8 +1,8 @@
 -- What contracts see of a fault.
 use Rattle.std.specs.Prelude.{◌≡◌, ◌++◌, ◌+◌, ℕ, List, Option, Some, None, string_bytes, decimal}
 use lib.Chars.{codes}
-use Rattle.json5_grammar.specs.declared.code.ErrorCode.{ErrorCode}
-use Rattle.json5_grammar.specs.declared.code.ErrorCode.TheVariants.{OutOfMemory}
+use Rattle.json5_grammar.specs.declared.error_code.ErrorCode.{ErrorCode}
+use Rattle.json5_grammar.specs.declared.error_code.ErrorCode.TheVariants.{OutOfMemory}
 use Rattle.json5_grammar.specs.Faults.CodeTexts.{code_text}
 use Rattle.json5_grammar.specs.declared.position.Position.{Position}
 use Rattle.json5_text.specs.declared.error.Error.{Error}

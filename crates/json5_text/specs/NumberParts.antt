@@ -7,7 +7,7 @@ use Rattle.json5_grammar.specs.Language.Numbers as numbers
 use Rattle.json5_grammar.specs.Language.Numbers.{signed, spelled, in_run}
 use Rattle.json5_grammar.specs.Model.ReadNumbers.{Parts, is_whole, front_of, rest_of, if_literal, unsigned, decimal_run}
 use Rattle.json5_grammar.specs.Model.Reading.{got, bad, here}
-use Rattle.json5_grammar.specs.declared.code.ErrorCode.TheVariants.{OverflowParsingNumber}
+use Rattle.json5_grammar.specs.declared.error_code.ErrorCode.TheVariants.{OverflowParsingNumber}
 use Rattle.json5_text.specs.declared.decimal_literals.Exponent.{Exponent}
 use Rattle.json5_text.specs.declared.decimal_literals.Literal.{Literal}
 use Rattle.json5_text.specs.declared.number_slices.Scanned.{Scanned}

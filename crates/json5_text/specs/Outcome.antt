@@ -1,7 +1,7 @@
 -- What reading gives, a position being the number of bytes that are left there. Private clauses and proofs alone cite it.
 use Rattle.std.specs.Prelude.{ℕ, List, length, Option, Some, None}
 use Rattle.std.specs.Str.{encode_utf8_all}
-use Rattle.json5_grammar.specs.declared.code.ErrorCode.{ErrorCode}
+use Rattle.json5_grammar.specs.declared.error_code.ErrorCode.{ErrorCode}
 use Rattle.json5_grammar.specs.Model.Reading.{Read, got, bad, Place, here, inner}
 
 pub data Outcome (A : Type 0) : Type 0 where

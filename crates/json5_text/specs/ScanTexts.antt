@@ -3,21 +3,21 @@ use Rattle.std.specs.Prelude.{◌≡◌, ◌≤◌, ℕ, zero, suc, Bool, true, 
 use denote.Ref.{Bor}
 use Rattle.std.specs.Str.{IsUtf8, chars, encode_utf8_all}
 use Rattle.json5_grammar.specs.Language.Characters.{backslash, double_quote, single_quote, NotBegun, Each, is_identifier_start, is_identifier_part}
-use Rattle.json5_grammar.specs.declared.code.ErrorCode.{ErrorCode}
-use Rattle.json5_grammar.specs.declared.code.ErrorCode.TheVariants.{EofParsingIdentifier, EofParsingString, ExpectedString}
+use Rattle.json5_grammar.specs.declared.error_code.ErrorCode.{ErrorCode}
+use Rattle.json5_grammar.specs.declared.error_code.ErrorCode.TheVariants.{EofParsingIdentifier, EofParsingString, ExpectedString}
 use Rattle.json5_grammar.specs.Language.Strings.{is_quote, is_raw}
 use Rattle.json5_grammar.specs.Model.Reading.{Read, and_then, here, inner, bad}
 use Rattle.json5_grammar.specs.Model.ReadTexts.{escape_at, name_escape, fit, one_char, put, string, identifier, parts}
 use Rattle.json5_text.specs.declared.refusal.Refusal.{Refusal}
-use Rattle.json5_text.specs.declared.texts.Quote.{Quote}
-use Rattle.json5_text.specs.declared.texts.Quote.TheVariants as quotes
-use Rattle.json5_text.specs.declared.texts.Kind.{Kind}
-use Rattle.json5_text.specs.declared.texts.Kind.TheVariants as kind
-use Rattle.json5_text.specs.declared.texts.Stop.{Stop}
-use Rattle.json5_text.specs.declared.texts.Stop.TheVariants as stop
-use Rattle.json5_text.specs.declared.texts.Step.{Step}
+use Rattle.json5_text.specs.declared.strings_and_names.Quote.{Quote}
+use Rattle.json5_text.specs.declared.strings_and_names.Quote.TheVariants as quotes
+use Rattle.json5_text.specs.declared.strings_and_names.Kind.{Kind}
+use Rattle.json5_text.specs.declared.strings_and_names.Kind.TheVariants as kind
+use Rattle.json5_text.specs.declared.strings_and_names.Stop.{Stop}
+use Rattle.json5_text.specs.declared.strings_and_names.Stop.TheVariants as stop
+use Rattle.json5_text.specs.declared.strings_and_names.Step.{Step}
 use Rattle.json5_text.specs.Outcome.{outcome}
-use Rattle.json5_text.specs.Refused.{Refuses}
+use Rattle.json5_text.specs.RefusalOutcomes.{Refuses}
 use Rattle.json5_text.specs.Scan.{AtEscape, in_list}
 use Rattle.json5_text.specs.TokenResults.{GivesValue, RefusesByCode, RefusesByFault}
 

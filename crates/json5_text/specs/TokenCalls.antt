@@ -1,7 +1,7 @@
 -- What each call of the scanner promises: a token in front is taken whole, or refused with one of its faults, and then nothing is taken.
 use Rattle.std.specs.Prelude.{◌≡◌, ℕ, Bool, true, false, List, ◌∷◌, ◌++◌, ◌⊎◌, ℤ, Option, Result, String, string_bytes, IfOk, IfErr, OnOk, OnErr, IsOk}
 use Rattle.std.specs.Str.{encode_utf8_all}
-use Rattle.json5_grammar.specs.declared.code.ErrorCode.{ErrorCode}
+use Rattle.json5_grammar.specs.declared.error_code.ErrorCode.{ErrorCode}
 use Rattle.json5_grammar.specs.Language.Characters.{NotBegun}
 use Rattle.json5_grammar.specs.Language.Blanks.{Gap, Solid}
 use Rattle.json5_grammar.specs.Language.Names.{Ident, Key, goes_on_name}
@@ -16,8 +16,8 @@ use Rattle.json5_text.specs.Cows.{cow_bytes, is_borrowed}
 use Rattle.json5_text.specs.Cursor.{Cursor, Refused, Took}
 use Rattle.json5_text.specs.Errors.{LacksMemory}
 use Rattle.json5_text.specs.TextTokens.{Spells}
-use Rattle.json5_text.specs.NumberViews.{number_of, keeps_digits, whole_in}
-use Rattle.json5_text.specs.Tokens.{FaultyBlanks, FaultyWord, FaultyNumber, FaultyString, FaultyName, FaultyKey}
+use Rattle.json5_text.specs.NumberMeanings.{number_of, keeps_digits, whole_in}
+use Rattle.json5_text.specs.TokenFaults.{FaultyBlanks, FaultyWord, FaultyNumber, FaultyString, FaultyName, FaultyKey}
 
 -- blanks are passed over, up to what is no blank
 pub record PassesBlanks (old new : Cursor) (result : Result (Unit {0}) Error) : Type 0 where

@@ -10,9 +10,9 @@ use Rattle.json5_text.specs.declared.refusal.Refusal.{Refusal}
 use Rattle.json5_text.specs.declared.refusal.Refusal.TheVariants as refusal
 use Rattle.json5_text.specs.Cows.{cow_bytes, is_borrowed}
 use Rattle.json5_text.specs.NumberParts.{scanned_of}
-use Rattle.json5_text.specs.NumberViews.{whole_in}
+use Rattle.json5_text.specs.NumberMeanings.{whole_in}
 use Rattle.json5_text.specs.Outcome.{outcome}
-use Rattle.json5_text.specs.Refused.{Refuses, WantsForDigits}
+use Rattle.json5_text.specs.RefusalOutcomes.{Refuses, WantsForDigits}
 use Rattle.json5_text.specs.Scan.{HasCode, HasFault}
 
 -- reading gives this value and leaves this rest

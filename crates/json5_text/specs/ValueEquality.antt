@@ -9,7 +9,7 @@ use Rattle.std.specs.Cmp.Derive.{both_true}
 use Rattle.std.specs.Cmp.Lexicographic.{pointwise, bytes_decides}
 use Rattle.json5_grammar.specs.Language.Numbers.{Number, whole, decimal}
 use Rattle.json5_text.specs.NumberDecimals.{decimal_eq}
-use Rattle.json5_text.specs.NumberEquality.{decimal_Decides}
+use Rattle.json5_text.specs.DecimalEquality.{decimal_Decides}
 use Rattle.json5_text.specs.ValueMeanings.{Datum, null, boolean, number, text, array, object, Items, no_item, item, Fields, no_field, field}
 
 abbrev pub number_eq : Number → Number → Bool

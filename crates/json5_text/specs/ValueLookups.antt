@@ -3,7 +3,7 @@ use Rattle.std.specs.Prelude.{◌≡◌, ℕ, zero, suc, max, Bool, true, false,
 use Rattle.std.specs.Cmp.Lexicographic.{pointwise}
 use Rattle.json5_grammar.specs.Language.Numbers.{Decimal, whole, decimal}
 use Rattle.json5_grammar.specs.Language.Documents.{max_depth}
-use Rattle.json5_grammar.specs.declared.code.ErrorCode.TheVariants as codes
+use Rattle.json5_grammar.specs.declared.error_code.ErrorCode.TheVariants as codes
 use Rattle.json5_text.specs.declared.error.Error.{Error}
 use Rattle.json5_text.specs.declared.value.Value.{Value}
 use Rattle.json5_text.specs.Errors.{code, kind_of, error_position}

@@ -4,13 +4,13 @@ ghost use Rattle.std.specs.Prelude.{MatchOption, MatchResult};
 ghost use Rattle.std.specs.Str.{chars};
 ghost use Rattle.json5_grammar.specs.Model.ReadBlanks.{Mode, skip, between, slash};
 ghost use Rattle.json5_text.specs.TokenResults.{Skips, RefusesByCode};
-ghost use Rattle.json5_text.specs.ScanBlanks.{Continues, IsUnclosed};
+ghost use Rattle.json5_text.specs.ScanComments.{Continues, IsUnclosed};
 
 use crate::byte_runs::{begins_solid, blanks_len, line_len, star_offset};
 use crate::char::{is_json5_line_terminator, is_json5_whitespace};
-use crate::front::front;
+use crate::first_char::front;
 use crate::refusal::Refusal;
-use json5_grammar::code::ErrorCode;
+use json5_grammar::error_code::ErrorCode;
 
 /// After `//`: what follows the line's end (JSON5 section 7, ECMAScript 5.1 section 7.4).
 fn skip_line(text: &str) -> &str
@@ -93,7 +93,7 @@ pub(crate) fn skip_blank(text: &str) -> Result<&str, Refusal>
 
 /// The same as `skip_blank`, for any blanks.
 #[inline(never)]
-#[tactic(auto, using(crate::proofs::ScanSteps::line_steps))]
+#[tactic(auto, using(crate::proofs::BlankSteps::line_steps))]
 fn skip_blank_slowly(text: &str) -> Result<&str, Refusal>
     ensures { Skips (skip between (chars text.now)) result }
 {

@@ -7,13 +7,13 @@ ghost use Rattle.json5_grammar.specs.Language.Numbers as numbers;
 ghost use Rattle.json5_grammar.specs.Written.NumberText.{decimal_text, IsNormal};
 ghost use Rattle.json5_text.specs.Errors.{LacksMemory};
 ghost use Rattle.json5_text.specs.NumberDecimals.{has_minus, is_infinity, is_not_a_number, digits_in, exponent_in, sized, ShowsDecimal, IsFiniteIfInRange, IsFiniteOf};
-ghost use Rattle.json5_text.specs.NumberSteps.{raised, IsSmallExponent};
-ghost use Rattle.json5_text.specs.NumberViews.{keeps_digits};
+ghost use Rattle.json5_text.specs.Exponents.{raised, IsSmallExponent};
+ghost use Rattle.json5_text.specs.NumberMeanings.{keeps_digits};
 
 use crate::digit_runs;
 use crate::error::Result;
 use crate::inline_digits::InlineDigits;
-use crate::pieces::Pieces;
+use crate::decimal_pieces::Pieces;
 use std::alloc::{AllocError, Global};
 use std::fmt;
 use std::hash::{Hash, Hasher};
@@ -377,7 +377,7 @@ impl Decimal {
 
 impl PartialEq for Decimal {
     ghost use Rattle.json5_text.specs.NumberDecimals.{decimal_eq};
-    ghost use Rattle.json5_text.specs.NumberEquality.{decimal_partial_equivalence};
+    ghost use Rattle.json5_text.specs.DecimalEquality.{decimal_partial_equivalence};
 
     ghost eq = { decimal_eq };
 
@@ -399,14 +399,14 @@ impl PartialEq for Decimal {
 }
 
 impl Eq for Decimal {
-    ghost use Rattle.json5_text.specs.NumberEquality.{decimal_equivalence};
+    ghost use Rattle.json5_text.specs.DecimalEquality.{decimal_equivalence};
 
     ghost laws = { decimal_equivalence };
 }
 
 impl Hash for Decimal {
     ghost use Rattle.json5_text.specs.NumberDecimals.{decimal_hashed};
-    ghost use Rattle.json5_text.specs.NumberEquality.{decimals_alike};
+    ghost use Rattle.json5_text.specs.DecimalEquality.{decimals_alike};
 
     ghost hash_input = { decimal_hashed };
 

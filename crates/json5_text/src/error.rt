@@ -5,7 +5,7 @@ ghost use Rattle.json5_text.specs.Errors.{FaultKind, custom, failed_write, kind_
 ghost use Rattle.json5_text.specs.ErrorEquality.{same_fault, same_fault_equiv};
 ghost use Rattle.std.specs.Cmp.{partial_equiv_from_equiv};
 
-use json5_grammar::code::ErrorCode;
+use json5_grammar::error_code::ErrorCode;
 use json5_grammar::position::Position;
 use std::alloc::{AllocError, AllocFailed, Global};
 use std::fmt::{self, Write};

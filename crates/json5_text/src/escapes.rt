@@ -11,10 +11,10 @@ ghost use Rattle.json5_text.specs.TokenResults.{GivesValue, ReturnsReading, Answ
 ghost use Rattle.json5_text.specs.Scan.{in_list};
 ghost use Rattle.json5_text.specs.ShortEscapes.{spells_itself, SpellsAlone, SpellsUnicode, SpellsEscape};
 
-use crate::front::{front, front_ascii};
+use crate::first_char::{front, front_ascii};
 use crate::refusal::Refusal;
 use crate::words::skip_word;
-use json5_grammar::code::ErrorCode;
+use json5_grammar::error_code::ErrorCode;
 
 /// The fault at an escape's backslash, with which `escape` begins.
 fn invalid(escape: &str) -> Refusal

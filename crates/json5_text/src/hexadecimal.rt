@@ -5,14 +5,14 @@ ghost use Rattle.std.specs.Str.{chars};
 ghost use Rattle.json5_grammar.specs.Model.ReadNumbers as model;
 ghost use Rattle.json5_text.specs.TokenResults.{AnswersAs};
 ghost use Rattle.json5_text.specs.NumberParts.{scanned_of};
-ghost use Rattle.json5_text.specs.ScanNumbers.{GivesHex, Overflows};
+ghost use Rattle.json5_text.specs.ScanHexadecimal.{GivesHex, Overflows};
 
-use crate::digits::one_more;
-use crate::front::front;
+use crate::digit_values::one_more;
+use crate::first_char::front;
 use crate::number_slices::Scanned;
 use crate::refusal::Refusal;
 use crate::whole::Whole;
-use json5_grammar::code::ErrorCode;
+use json5_grammar::error_code::ErrorCode;
 
 /// The value of a first hexadecimal digit and those in front, and what follows them; or what begins with the digit that takes it
 /// past `u128`.

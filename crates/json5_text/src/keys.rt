@@ -5,12 +5,12 @@ ghost use Rattle.std.specs.Str.{chars};
 ghost use Rattle.json5_text.specs.ScanKeys.{key_ahead};
 ghost use Rattle.json5_text.specs.ScanTextTokens.{AnswersToken};
 
-use crate::front::front;
+use crate::first_char::front;
 use crate::names::read_name;
 use crate::refusal::Refusal;
 use crate::strings::{is_quote, read_string_token};
 use crate::text_token::TextToken;
-use json5_grammar::code::ErrorCode;
+use json5_grammar::error_code::ErrorCode;
 use std::alloc::Global;
 
 /// The key in front, and what follows it. `end` is the length in bytes of the whole input, of which `text` is the rest.

@@ -1,6 +1,6 @@
 //! The laws of values, each the contract of a function that does nothing.
 
-ghost use Rattle.json5_text.specs.Agreeing.{IsEquality, HashesBy, OrdersBy};
+ghost use Rattle.json5_text.specs.EqualityLaws.{IsEquality, HashesBy, OrdersBy};
 ghost use Rattle.json5_text.specs.ByteBufs.{bytes_of};
 ghost use Rattle.json5_text.specs.Cows.{cow_bytes};
 

@@ -2,7 +2,7 @@
 
 ghost use Rattle.std.specs.Prelude.{◌≡◌};
 
-use json5_grammar::code::ErrorCode;
+use json5_grammar::error_code::ErrorCode;
 use std::alloc::AllocError;
 
 /// A fault with the number of bytes that are left at its position, or that memory ran out.

@@ -13,7 +13,7 @@ use crate::input::{Borrows, Input};
 use crate::scanner::Scanner;
 use crate::short_ways::is_in_front;
 use crate::strings::skip_raw;
-use crate::texts::Quote;
+use crate::strings_and_names::Quote;
 
 /// The offsets of a text in the input, from `start` up to `end`, in bytes.
 #[derive(Clone, Copy, Debug, PartialEq, Eq)]

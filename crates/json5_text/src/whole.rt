@@ -5,7 +5,7 @@ ghost use Rattle.std.specs.Fmt.{signed_decimal};
 ghost use Rattle.json5_grammar.specs.Language.Numbers.{signed, InWhole};
 ghost use Rattle.json5_text.specs.NumberWholes.{Converts};
 
-use crate::wide::Wide;
+use crate::u128_halves::Wide;
 use std::fmt;
 use std::marker::Model;
 

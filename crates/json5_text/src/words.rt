@@ -4,13 +4,13 @@ ghost use Rattle.std.specs.Str.{chars};
 ghost use Rattle.json5_grammar.specs.Model.Reading.{word_at};
 ghost use Rattle.json5_text.specs.TokenResults.{Skips};
 
-use crate::front::front;
+use crate::first_char::front;
 use crate::refusal::Refusal;
-use json5_grammar::code::ErrorCode;
+use json5_grammar::error_code::ErrorCode;
 
 /// What follows the word in front: `differs` at the first character that isn't the word's, `ends` if the input ends in the
 /// word.
-#[tactic(auto, using(crate::proofs::ScanSteps::word_steps))]
+#[tactic(auto, using(crate::proofs::BlankSteps::word_steps))]
 pub(crate) fn skip_word<'t>(
     word: &str,
     text: &'t str,

@@ -4,8 +4,8 @@ use Rattle.std.specs.Prelude.{◌==◌, slice_get, Result, Ok, Err, is_some, not
 use Rattle.std.specs.declared.alloc.Global.{Global}
 use Rattle.std.specs.Str.{all_scalars, chars}
 use Rattle.std.proofs.lemmas.Str.{chars-encodes}
-use Rattle.json5_grammar.specs.declared.code.ErrorCode.{ErrorCode}
-use Rattle.json5_grammar.specs.declared.code.ErrorCode.TheVariants as codes
+use Rattle.json5_grammar.specs.declared.error_code.ErrorCode.{ErrorCode}
+use Rattle.json5_grammar.specs.declared.error_code.ErrorCode.TheVariants as codes
 use Rattle.json5_grammar.specs.Language.Characters.{NotBegun}
 use Rattle.json5_grammar.specs.Faults.Fronts.{of_object, closing}
 use Rattle.json5_grammar.specs.Model.Reading.{Read, inner, got, bad, and_then}
@@ -14,7 +14,7 @@ use Rattle.json5_grammar.specs.Model.ReadSteps.{colon_after, key_head, key_at, e
 use Rattle.json5_grammar.specs.Model.ReadTexts.{key, string, identifier}
 use Rattle.json5_grammar.specs.Language.Blanks.{Solid}
 use Rattle.json5_grammar.specs.Language.Strings.{is_quote}
-use Rattle.json5_grammar.proofs.FoundInFront.{Found}
+use Rattle.json5_grammar.proofs.FoundPlaces.{Found}
 use Rattle.json5_grammar.proofs.KeysRead.{key_complete}
 use Rattle.json5_grammar.proofs.Refusals.{Refuses}
 use Rattle.json5_grammar.proofs.ValuesSound.{IsGap, gap_found}
@@ -24,15 +24,15 @@ use Rattle.json5_text.specs.Cursor.{Cursor}
 use Rattle.json5_text.specs.Errors.{code, kind_of, error_position}
 use Rattle.json5_text.specs.TextTokens.{Spells}
 use Rattle.json5_text.specs.TokenCalls.{TakesKey}
-use Rattle.json5_text.specs.Tokens.{FaultyKey, at_quote, at_name}
+use Rattle.json5_text.specs.TokenFaults.{FaultyKey, at_quote, at_name}
 use Rattle.json5_text.proofs.UnicodeScalars.{key_scalars}
 use Rattle.json5_value.specs.Entries.{entry_front, entry_start, next_entry}
-use Rattle.json5_value.specs.Keeping.{BlamesOrMemory, Keeps, OwnsKey, IsFoundKey, IsKeyText, IsNextKey, next_key}
-use Rattle.json5_value.specs.Steps.{IsInside, SameText, RefusesRead, Gave, RefusesToken}
+use Rattle.json5_value.specs.KeepSteps.{BlamesOrMemory, Keeps, OwnsKey, IsFoundKey, IsKeyText, IsNextKey, next_key}
+use Rattle.json5_value.specs.ModelSteps.{IsInside, SameText, RefusesRead, Gave, RefusesToken}
 use Rattle.json5_value.proofs.EntryValues.{key_missing, key_string, key_name}
-use Rattle.json5_value.proofs.OtherCodes.{key_lacks}
-use Rattle.json5_value.proofs.Shorter.{next_shorter}
-use Rattle.json5_value.proofs.Steps.{same_of, none_next, some_next, blames_made, blames_refused}
+use Rattle.json5_value.proofs.NoFailedCode.{key_lacks}
+use Rattle.json5_value.proofs.RestsShorter.{next_shorter}
+use Rattle.json5_value.proofs.ModelSteps.{same_of, none_next, some_next, blames_made, blames_refused}
 use Rattle.json5_value.proofs.TokenSteps.{string_fault_refuses, name_refuses}
 use Rattle.json5_value.proofs.BuildSteps.{takes_then, first_not_taken, taken_as, takes, not_taken, gave_text}
 

@@ -3,8 +3,8 @@ use Rattle.std.proofs.Common.{◌≡◌, ℕ, Bool, true, false, List, [], ◌�
 use Rattle.std.specs.Prelude.{◌||◌, slice_get, Ok, Err}
 use Rattle.std.specs.declared.alloc.Global.{Global}
 use Rattle.std.specs.Str.{all_scalars, encode_utf8_all}
-use Rattle.json5_grammar.specs.declared.code.ErrorCode.{ErrorCode}
-use Rattle.json5_grammar.specs.declared.code.ErrorCode.TheVariants as codes
+use Rattle.json5_grammar.specs.declared.error_code.ErrorCode.{ErrorCode}
+use Rattle.json5_grammar.specs.declared.error_code.ErrorCode.TheVariants as codes
 use Rattle.json5_grammar.specs.Faults.Tokens.{is_sign, begins_number}
 use Rattle.json5_grammar.specs.Model.Reading.{Read, Place, inner, got, bad}
 use Rattle.json5_grammar.specs.Model.ReadNumbers as reading
@@ -22,7 +22,7 @@ use Rattle.json5_text.specs.declared.error.Error.{Error}
 use Rattle.json5_text.specs.declared.value.Value.{Value}
 use Rattle.json5_text.specs.Cursor.{Cursor, Took}
 use Rattle.json5_text.specs.Errors.{code, kind_of, error_position}
-use Rattle.json5_text.specs.Tokens.{FaultyNumber, FaultyString}
+use Rattle.json5_text.specs.TokenFaults.{FaultyNumber, FaultyString}
 use Rattle.json5_text.specs.declared.value.Value as value
 use Rattle.json5_text.specs.ValueMeanings.{value_of, Datum}
 use Rattle.json5_text.specs.ValueMeanings as datum
@@ -32,13 +32,13 @@ use Rattle.json5_value.specs.declared.kinds.Literal.{Literal}
 use Rattle.json5_value.specs.declared.kinds.Literal.TheVariants as literal
 use Rattle.json5_value.specs.declared.kinds.ValueKind.{ValueKind}
 use Rattle.json5_value.specs.declared.kinds.ValueKind.TheVariants as kind
-use Rattle.json5_value.specs.Data.{datum_of}
-use Rattle.json5_value.specs.Keeping.{BlamesOrMemory, Keeps, IsOfTree, as_datum, tree_at, datum_at, datum_of_literal, ReadsOrOpens}
+use Rattle.json5_value.specs.TreeMeanings.{datum_of}
+use Rattle.json5_value.specs.KeepSteps.{BlamesOrMemory, Keeps, IsOfTree, as_datum, tree_at, datum_at, datum_of_literal, ReadsOrOpens}
 use Rattle.json5_value.specs.Kinds.{kind_at, word_of}
-use Rattle.json5_value.specs.Steps.{IsInside, SameText, RefusesRead, Gave, Steps, RefusesToken, value_at}
-use Rattle.json5_value.proofs.OtherCodes.{Lacks, faulty_number_lacks, faulty_string_lacks}
-use Rattle.json5_value.proofs.Scalars.{tests_of, value_shorter}
-use Rattle.json5_value.proofs.Steps.{same_of, none_next, some_next, blames_as, blames_made, blames_refused}
+use Rattle.json5_value.specs.ModelSteps.{IsInside, SameText, RefusesRead, Gave, Steps, RefusesToken, value_at}
+use Rattle.json5_value.proofs.NoFailedCode.{Lacks, faulty_number_lacks, faulty_string_lacks}
+use Rattle.json5_value.proofs.SkipScalars.{tests_of, value_shorter}
+use Rattle.json5_value.proofs.ModelSteps.{same_of, none_next, some_next, blames_as, blames_made, blames_refused}
 use Rattle.json5_value.proofs.TokenSteps.{string_fault_refuses, number_fault_refuses}
 use Rattle.json5_value.specs.declared.read.ValueStart.TheVariants as start
 use Rattle.json5_value.proofs.BuildSteps.{or_blames, takes, not_taken, gave_text}

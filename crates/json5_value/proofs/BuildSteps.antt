@@ -4,9 +4,9 @@ use Rattle.std.specs.Prelude.{Result, Ok, Err}
 use Rattle.json5_grammar.specs.Model.Reading.{Read, got, and_then}
 use Rattle.json5_text.specs.declared.error.Error.{Error}
 use Rattle.json5_text.specs.Cursor.{Cursor, Took}
-use Rattle.json5_value.specs.Keeping.{BlamesOrMemory, Keeps}
-use Rattle.json5_value.specs.Steps.{SameText, RefusesRead, Gave}
-use Rattle.json5_value.proofs.Steps.{blames_as, first_refused, then_step}
+use Rattle.json5_value.specs.KeepSteps.{BlamesOrMemory, Keeps}
+use Rattle.json5_value.specs.ModelSteps.{SameText, RefusesRead, Gave}
+use Rattle.json5_value.proofs.ModelSteps.{blames_as, first_refused, then_step}
 
 gave_then : {A B : Type 0} (old mid new : Cursor) (m : Read A) (a : A) (f : A → List ℕ → Read B) (b : B) → Gave m a old mid → Gave (f a mid.unread) b mid new → Gave (and_then m f) b old new
 gave_then old mid new m a f b g k = (then_step old mid new m a f (Ok b) g (record { given = k; refused = tt; same_text = tt })).given

@@ -15,15 +15,15 @@ use Rattle.json5_text.proofs.ValuesCompared.{view-Array, view-Object}
 use Rattle.json5_value.specs.declared.unfinished.Unfinished.{Unfinished}
 use Rattle.json5_value.specs.declared.unfinished.Unfinished.TheVariants as unfinished
 use Rattle.json5_value.specs.BuildSteps.{elements_before, members_before, object_with, array_at, object_at, value_in_at, start_of, value_in, Building, BuildingInside, TurnsBuildingInside}
-use Rattle.json5_value.specs.Keeping.{BlamesOrMemory, IsNextKey, next_key, datum_at}
+use Rattle.json5_value.specs.KeepSteps.{BlamesOrMemory, IsNextKey, next_key, datum_at}
 use Rattle.json5_value.specs.Nesting.{Within}
 use Rattle.json5_value.specs.Offsets.{StartsAfter, PositionedAt}
-use Rattle.json5_value.specs.Steps.{SameText, RefusesRead, Gave}
+use Rattle.json5_value.specs.ModelSteps.{SameText, RefusesRead, Gave}
 use Rattle.json5_value.proofs.BuildRests.{array_turn, array_step, no_more_elements, array_grown, object_turn, object_step, no_more_members, object_grown}
 use Rattle.json5_value.proofs.Nesting.{value_reached, closed, inside_blamed}
-use Rattle.json5_value.proofs.Shorter.{next_shorter}
-use Rattle.json5_value.proofs.SkipTurns.{no_more_left}
-use Rattle.json5_value.proofs.Steps.{blames_as}
+use Rattle.json5_value.proofs.RestsShorter.{next_shorter}
+use Rattle.json5_value.proofs.SkipInvariant.{no_more_left}
+use Rattle.json5_value.proofs.ModelSteps.{blames_as}
 use Rattle.json5_value.proofs.BuildKeys.{key_shorter}
 
 -- ---- continuing an array or an object

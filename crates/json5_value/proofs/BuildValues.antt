@@ -17,13 +17,13 @@ use Rattle.json5_value.specs.declared.brackets.OpenBracket.{OpenBracket}
 use Rattle.json5_value.specs.declared.unfinished.Unfinished.{Unfinished}
 use Rattle.json5_value.specs.Brackets.{bracket_of}
 use Rattle.json5_value.specs.BuildSteps.{array_at, object_at, value_in_at, start_of, value_in, Building, BuildingInside, PositionedIn, TurnsBuilding, TurnsBuildingInside}
-use Rattle.json5_value.specs.Keeping.{BlamesOrMemory, as_datum, datum_at, ReadsDatum}
+use Rattle.json5_value.specs.KeepSteps.{BlamesOrMemory, as_datum, datum_at, ReadsDatum}
 use Rattle.json5_value.specs.Nesting.{Nested}
 use Rattle.json5_value.specs.Opening.{OpenedAt}
-use Rattle.json5_value.specs.Steps.{IsInside, SameText, RefusesRead, Gave}
+use Rattle.json5_value.specs.ModelSteps.{IsInside, SameText, RefusesRead, Gave}
 use Rattle.json5_value.proofs.BuildRests.{array_opened, object_opened}
 use Rattle.json5_value.proofs.Nesting.{value_ended, value_opened, whole_blamed, innermost_blamed, ends_inside}
-use Rattle.json5_value.proofs.SkipTurns.{ready_opened}
+use Rattle.json5_value.proofs.SkipInvariant.{ready_opened}
 use Rattle.json5_value.proofs.BuildScalars.{datum_got}
 
 -- ---- the first turn of a value

@@ -1,7 +1,7 @@
 -- What is around an element or a member is passed over: the colon of a member, commas, and the blanks before an entry.
 use Rattle.std.proofs.Common.{◌≡◌, ℕ, Bool, true, false, cond, List, [], ◌∷◌, refl, ap, ◌∙◌, subst}
 use Rattle.std.specs.Prelude.{◌==◌, Result, Ok, Err, not}
-use Rattle.json5_grammar.specs.declared.code.ErrorCode.TheVariants as codes
+use Rattle.json5_grammar.specs.declared.error_code.ErrorCode.TheVariants as codes
 use Rattle.json5_grammar.specs.Language.Characters.{NotBegun}
 use Rattle.json5_grammar.specs.Faults.Fronts.{BracketKind, of_array, of_object, closing}
 use Rattle.json5_grammar.specs.Model.Reading.{Read, got, and_then}
@@ -11,9 +11,9 @@ use Rattle.json5_grammar.specs.Model.ReadValues.{colon_at}
 use Rattle.json5_text.specs.declared.error.Error.{Error}
 use Rattle.json5_text.specs.Cursor.{Cursor, Took, Refused}
 use Rattle.json5_value.specs.Entries.{entry_front, entry_start, due_comma, next_entry}
-use Rattle.json5_value.specs.Steps.{IsInside, SameText, RefusesRead, Gave, Steps, Unexpected}
-use Rattle.json5_value.proofs.Signs.{no_comma, no_colon}
-use Rattle.json5_value.proofs.Steps.{same_of, ready_next, then_step, first_step_refused, same_step, took_step, refused_step, took_nothing, refused_there}
+use Rattle.json5_value.specs.ModelSteps.{IsInside, SameText, RefusesRead, Gave, Steps, Unexpected}
+use Rattle.json5_value.proofs.UnexpectedCharacters.{no_comma, no_colon}
+use Rattle.json5_value.proofs.ModelSteps.{same_of, ready_next, then_step, first_step_refused, same_step, took_step, refused_step, took_nothing, refused_there}
 
 -- ---- colons
 

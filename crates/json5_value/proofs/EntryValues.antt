@@ -1,7 +1,7 @@
 -- The value of an entry is reached: of an element at once, of a member over its key and its colon.
 use Rattle.std.proofs.Common.{◌≡◌, ℕ, Bool, true, false, cond, List, [], ◌∷◌, refl, ap, sym, ◌∙◌, Option, Some, None}
 use Rattle.std.specs.Prelude.{◌==◌, slice_get, Result, Ok, Err}
-use Rattle.json5_grammar.specs.declared.code.ErrorCode.TheVariants as codes
+use Rattle.json5_grammar.specs.declared.error_code.ErrorCode.TheVariants as codes
 use Rattle.json5_grammar.specs.Faults.Fronts.{BracketKind, of_array, of_object, closing}
 use Rattle.json5_grammar.specs.Model.Reading.{Read, inner, got, bad, and_then}
 use Rattle.json5_grammar.specs.Model.ReadBlanks.{skip, between}
@@ -13,9 +13,9 @@ use Rattle.json5_text.specs.Errors.{code, kind_of, error_position}
 use Rattle.json5_text.specs.Cursor.{Cursor}
 use Rattle.json5_value.specs.Entries.{entry_front, entry_start, next_entry}
 use Rattle.json5_value.specs.ShortWays.{name_at}
-use Rattle.json5_value.specs.Steps.{SameText, RefusesRead, Gave, Steps}
+use Rattle.json5_value.specs.ModelSteps.{SameText, RefusesRead, Gave, Steps}
 use Rattle.json5_value.proofs.EntrySteps.{start_or_end}
-use Rattle.json5_value.proofs.Steps.{none_next, some_next, blames_made, then_step, first_step_refused, same_step, took_step, refused_step, took_nothing}
+use Rattle.json5_value.proofs.ModelSteps.{none_next, some_next, blames_made, then_step, first_step_refused, same_step, took_step, refused_step, took_nothing}
 
 -- ---- before the value
 

@@ -18,16 +18,16 @@ use Rattle.json5_value.specs.declared.short_ways.NameLeft.{NameLeft}
 use Rattle.json5_value.specs.declared.short_members.ShortMembers.TheVariants as members_reached
 use Rattle.json5_value.specs.declared.short_values.ShortElements.TheVariants as reached
 use Rattle.json5_value.specs.BuildSteps.{array_at, members_before, object_at, start_of, value_in, BuildingInside, TurnsBuildingInside}
-use Rattle.json5_value.specs.Keeping.{OwnsText}
+use Rattle.json5_value.specs.KeepSteps.{OwnsText}
 use Rattle.json5_value.specs.Offsets.{StartsAfter, PositionedAt}
 use Rattle.json5_value.specs.ShortWays.{name_left}
 use Rattle.json5_value.specs.ShortMembers.{TakesMembers, TurnsBuildingNamed, member_left}
 use Rattle.json5_value.specs.ShortValues.{Leaves, TakesElements}
-use Rattle.json5_value.specs.Steps.{SameText, RefusesRead, Gave}
+use Rattle.json5_value.specs.ModelSteps.{SameText, RefusesRead, Gave}
 use Rattle.json5_value.proofs.BuildRests.{member_and_rest}
 use Rattle.json5_value.proofs.BuildTurns.{turn_goes, turn_closed, turn_refused, turn_lacks_memory}
 use Rattle.json5_value.proofs.Nesting.{moved}
-use Rattle.json5_value.proofs.Steps.{blames_as}
+use Rattle.json5_value.proofs.ModelSteps.{blames_as}
 
 -- what is left after a short way is read the longer way
 module _ (m n : ℕ → Read Datum) (at : ℕ) (b due : Bool) (fs after : List Unfinished) (old mid new : Cursor) (l : Leaves m n old mid) (keeps : b ≡ true → (due ≡ true) ⊎ (length mid.unread < length old.unread)) where

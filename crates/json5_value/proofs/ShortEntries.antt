@@ -18,10 +18,10 @@ use Rattle.json5_grammar.specs.Model.ReadValues.{read, colon_at}
 use Rattle.json5_grammar.specs.Language.Trees as trees
 use Rattle.json5_grammar.specs.Language.Strings.{Str}
 use Rattle.json5_grammar.specs.Language.Values.{Val, is_number, is_text}
-use Rattle.json5_grammar.proofs.FirstCharacters.{same_char}
+use Rattle.json5_grammar.proofs.CommonLemmas.{same_char}
 use Rattle.json5_grammar.proofs.BlanksRead.{begins_solid}
 use Rattle.json5_grammar.proofs.BlanksSound.{gap_read, gap_before, one_gap}
-use Rattle.json5_grammar.proofs.Classes.{number_begins, quote_begins}
+use Rattle.json5_grammar.proofs.CharacterClasses.{number_begins, quote_begins}
 use Rattle.json5_grammar.proofs.ObjectsRead.{brace_solid, colon_solid}
 use Rattle.json5_grammar.proofs.ArraysRead.{comma_solid, bracket_solid, phrase_found}
 use Rattle.json5_grammar.proofs.KeysRead.{key_complete}
@@ -29,7 +29,7 @@ use Rattle.json5_grammar.proofs.ValueHeads.{val_head, value_solid, begins_value_
 use Rattle.json5_grammar.proofs.ValuesRead.{read_complete}
 use Rattle.json5_text.specs.declared.value.Value.{Value}
 use Rattle.json5_text.specs.declared.value.Value as value
-use Rattle.json5_text.specs.NumberViews.{whole_in}
+use Rattle.json5_text.specs.NumberMeanings.{whole_in}
 use Rattle.json5_text.specs.ValueMeanings.{value_of}
 use Rattle.json5_text.specs.ValueMeanings as datum
 use Rattle.json5_text.specs.Cursor.{Cursor, Took}
@@ -53,17 +53,17 @@ use Rattle.json5_value.specs.declared.short_ways.ShortEntry.TheVariants as entry
 use Rattle.json5_value.specs.Brackets.{bracket_of, brackets_of}
 use Rattle.json5_value.specs.Entries.{entry_front, entry_start, next_entry}
 use Rattle.json5_value.specs.Kinds.{kind_at, word_of}
-use Rattle.json5_value.specs.Keeping.{Keeps, IsOfTree, tree_at}
+use Rattle.json5_value.specs.KeepSteps.{Keeps, IsOfTree, tree_at}
 use Rattle.json5_value.specs.Opening.{AtScalar, AtKind}
 use Rattle.json5_value.specs.ShortWays.{EntersShort, ReachesMember, PassesShort, PassesTo, name_at, name_left}
-use Rattle.json5_value.specs.Steps.{Gave}
+use Rattle.json5_value.specs.ModelSteps.{Gave}
 use Rattle.json5_value.proofs.BuildScalars.{scalar_taken, text_taken}
 use Rattle.json5_value.proofs.EntrySteps.{separator_is, front_closes, front_goes, closes_here, start_or_end}
 use Rattle.json5_value.proofs.EntryValues.{next_is, head_or_end, head_of, head_named, next_closed, element_reached}
-use Rattle.json5_value.proofs.Scalars.{literal_value, number_value, tests_of}
-use Rattle.json5_value.proofs.Shorter.{entry_shorter}
-use Rattle.json5_value.proofs.Signs.{closing_is}
-use Rattle.json5_value.proofs.Steps.{some_next, took_both, took_nothing}
+use Rattle.json5_value.proofs.SkipScalars.{literal_value, number_value, tests_of}
+use Rattle.json5_value.proofs.RestsShorter.{entry_shorter}
+use Rattle.json5_value.proofs.UnexpectedCharacters.{closing_is}
+use Rattle.json5_value.proofs.ModelSteps.{some_next, took_both, took_nothing}
 
 -- ---- a step on lists
 

@@ -26,18 +26,18 @@ use Rattle.json5_value.specs.declared.short_members.ShortMembers.TheVariants as 
 use Rattle.json5_value.specs.Brackets.{brackets_of}
 use Rattle.json5_value.specs.BuildSteps.{members_before, object_with, object_at}
 use Rattle.json5_value.specs.Entries.{next_entry}
-use Rattle.json5_value.specs.Keeping.{datum_at, next_key}
+use Rattle.json5_value.specs.KeepSteps.{datum_at, next_key}
 use Rattle.json5_value.specs.ShortWays.{PassesTo, name_left}
 use Rattle.json5_value.specs.ShortMembers.{AddsMember, NamesMember, ReachesKey, TakesMembers, member_left}
 use Rattle.json5_value.specs.ShortValues.{LeavesLess}
-use Rattle.json5_value.specs.Steps.{IsInside, SameText, Gave}
+use Rattle.json5_value.specs.ModelSteps.{IsInside, SameText, Gave}
 use Rattle.json5_value.proofs.BuildKeys.{key_and_colon, key_or_end, next_is, key_shorter, next_solid}
 use Rattle.json5_value.proofs.BuildRests.{object_turn, object_step, member_and_rest, no_more_members, object_grown}
 use Rattle.json5_value.proofs.BuildSteps.{gave_text}
 use Rattle.json5_value.proofs.ShortEntries.{start_goes, key_spelled, entry_gave, closing_gave}
 use Rattle.json5_value.proofs.ShortValues.{Passes, datum_shorter}
-use Rattle.json5_value.proofs.Shorter.{entry_shorter}
-use Rattle.json5_value.proofs.Steps.{ready_after, took_both}
+use Rattle.json5_value.proofs.RestsShorter.{entry_shorter}
+use Rattle.json5_value.proofs.ModelSteps.{ready_after, took_both}
 
 -- ---- one member
 

@@ -17,11 +17,11 @@ use Rattle.json5_value.specs.Opening.{OpenedAt}
 use Rattle.json5_value.specs.Offsets.{StartsAfter, PositionedAt}
 use Rattle.json5_value.specs.ShortWays.{ReachesMember, PassesShort, name_left, member_left, SkippingMember, TurnsMember, Advanced, TurnsShort, ResumesShort}
 use Rattle.json5_value.specs.SkipSteps.{start_of, rest_in, rest_at, Skipping, SkippingInside}
-use Rattle.json5_value.specs.Steps.{SameText, RefusesRead, Gave, value_at}
+use Rattle.json5_value.specs.ModelSteps.{SameText, RefusesRead, Gave, value_at}
 use Rattle.json5_value.proofs.Nesting.{value_reached, inside_blamed, moved}
-use Rattle.json5_value.proofs.SkipTurns.{room_within, no_more_left, inside_goes, inside_closed, inside_of, ended_inside, first_scalar}
-use Rattle.json5_value.proofs.Scalars.{scalar_passed}
-use Rattle.json5_value.proofs.Steps.{blames_as}
+use Rattle.json5_value.proofs.SkipInvariant.{room_within, no_more_left, inside_goes, inside_closed, inside_of, ended_inside, first_scalar}
+use Rattle.json5_value.proofs.SkipScalars.{scalar_passed}
+use Rattle.json5_value.proofs.ModelSteps.{blames_as}
 
 -- ---- members
 

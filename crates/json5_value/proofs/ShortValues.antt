@@ -12,16 +12,16 @@ use Rattle.json5_text.specs.Cursor.{Cursor}
 use Rattle.json5_text.specs.ValueMeanings.{Datum, array, item, items_view, value_of}
 use Rattle.json5_text.specs.ValueMeanings as datum
 use Rattle.json5_value.specs.BuildSteps.{elements_before, array_with, array_at}
-use Rattle.json5_value.specs.Keeping.{Keeps, IsOfTree, as_datum, tree_at, datum_at}
+use Rattle.json5_value.specs.KeepSteps.{Keeps, IsOfTree, as_datum, tree_at, datum_at}
 use Rattle.json5_value.specs.declared.short_values.ShortElements.TheVariants as reached
 use Rattle.json5_value.specs.declared.short_values.ShortValue.{ShortValue}
 use Rattle.json5_value.specs.ShortValues.{KeepsShort, Leaves, LeavesLess, TakesElements, element_left}
-use Rattle.json5_value.specs.Steps.{IsInside, SameText, Gave}
+use Rattle.json5_value.specs.ModelSteps.{IsInside, SameText, Gave}
 use Rattle.json5_value.proofs.BuildRests.{array_turn, array_step, no_more_elements, array_grown}
 use Rattle.json5_value.proofs.BuildScalars.{datum_got}
-use Rattle.json5_value.proofs.Scalars.{value_shorter}
-use Rattle.json5_value.proofs.Shorter.{next_shorter}
-use Rattle.json5_value.proofs.Steps.{ready_after, took_both}
+use Rattle.json5_value.proofs.SkipScalars.{value_shorter}
+use Rattle.json5_value.proofs.RestsShorter.{next_shorter}
+use Rattle.json5_value.proofs.ModelSteps.{ready_after, took_both}
 
 -- ---- a value
 

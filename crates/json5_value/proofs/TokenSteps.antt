@@ -2,8 +2,8 @@
 use Rattle.std.proofs.Common.{◌≡◌, ◌≢◌, ℕ, Bool, true, false, cond, ◌||◌, List, [], ◌∷◌, ◌++◌, refl, ap, sym, ◌∙◌, subst, Option, Some}
 use Rattle.std.specs.Prelude.{◌==◌, ℤ, Result, Ok, Err, IsOk, IfOk, IfErr, OnOk, OnErr}
 use Rattle.std.proofs.lemmas.Bool.{both_ways, false≢true}
-use Rattle.json5_grammar.specs.declared.code.ErrorCode.{ErrorCode}
-use Rattle.json5_grammar.specs.declared.code.ErrorCode.TheVariants as codes
+use Rattle.json5_grammar.specs.declared.error_code.ErrorCode.{ErrorCode}
+use Rattle.json5_grammar.specs.declared.error_code.ErrorCode.TheVariants as codes
 use Rattle.json5_grammar.specs.Language.Characters.{NotBegun, is_identifier_start}
 use Rattle.json5_grammar.specs.Language.Names.{Ident, goes_on_name}
 use Rattle.json5_grammar.specs.Language.Numbers as numbers
@@ -20,7 +20,7 @@ use Rattle.json5_grammar.proofs.NamesRead.{name_complete, name_refused}
 use Rattle.json5_grammar.proofs.NamesSound.{NameSound, name_sound}
 use Rattle.json5_grammar.proofs.NumbersRead.{complete}
 use Rattle.json5_grammar.proofs.NumbersSound.{SoundNumber, sound, PlaceIs}
-use Rattle.json5_grammar.proofs.NumbersUnique as unique
+use Rattle.json5_grammar.proofs.NumberFaultsRefused as unique
 use Rattle.json5_grammar.proofs.Refusals.{Refuses}
 use Rattle.json5_grammar.proofs.StringsRead.{string_complete, string_refused}
 use Rattle.json5_grammar.proofs.StringsSound.{StringSound, string_sound}
@@ -28,12 +28,12 @@ use Rattle.json5_grammar.proofs.WordsRead.{differs_at, ends_in, word_complete}
 use Rattle.json5_text.specs.declared.error.Error.{Error}
 use Rattle.json5_text.specs.Cursor.{Cursor, Took}
 use Rattle.json5_text.specs.TokenCalls.{PassesBlanks, PassesString, PassesName, PassesNumber, TakesWord}
-use Rattle.json5_text.specs.NumberViews.{whole_in}
-use Rattle.json5_text.specs.Tokens.{FaultyBlanks, FaultyWord, word_differs, word_ends, FaultyNumber, no_number, number_missing, FaultyString, no_quote, string_missing, FaultyName, no_name, name_missing}
-use Rattle.json5_text.specs.Tokens as tokens
-use Rattle.json5_value.specs.Steps.{IsInside, RefusesRead, Gave, Steps, RefusesToken}
-use Rattle.json5_value.proofs.OtherCodes.{Lacks, in_blanks_other, word_lacks, faulty_number_lacks, faulty_string_lacks, faulty_name_lacks}
-use Rattle.json5_value.proofs.Steps.{same_of, blames_refused, blames_token, forget_got, forget_refuses}
+use Rattle.json5_text.specs.NumberMeanings.{whole_in}
+use Rattle.json5_text.specs.TokenFaults.{FaultyBlanks, FaultyWord, word_differs, word_ends, FaultyNumber, no_number, number_missing, FaultyString, no_quote, string_missing, FaultyName, no_name, name_missing}
+use Rattle.json5_text.specs.TokenFaults as tokens
+use Rattle.json5_value.specs.ModelSteps.{IsInside, RefusesRead, Gave, Steps, RefusesToken}
+use Rattle.json5_value.proofs.NoFailedCode.{Lacks, in_blanks_other, word_lacks, faulty_number_lacks, faulty_string_lacks, faulty_name_lacks}
+use Rattle.json5_value.proofs.ModelSteps.{same_of, blames_refused, blames_token, forget_got, forget_refuses}
 
 -- ---- tokens
 

@@ -1,5 +1,5 @@
 -- The two kinds of brackets.
-use Rattle.json5_grammar.specs.declared.code.ErrorCode.TheVariants as codes
+use Rattle.json5_grammar.specs.declared.error_code.ErrorCode.TheVariants as codes
 use Rattle.json5_grammar.specs.Faults.Fronts.{of_array, of_object}
 use Rattle.json5_grammar.specs.Faults.Fronts as fronts
 use Rattle.json5_value.specs.declared.brackets.Brackets.{Brackets}

@@ -1,7 +1,7 @@
 -- What a value begins with, and the literals.
 use Rattle.std.specs.Prelude.{ℕ, ◌==◌, ◌||◌, cond, List}
-use Rattle.json5_grammar.specs.declared.code.ErrorCode.{ErrorCode}
-use Rattle.json5_grammar.specs.declared.code.ErrorCode.TheVariants as codes
+use Rattle.json5_grammar.specs.declared.error_code.ErrorCode.{ErrorCode}
+use Rattle.json5_grammar.specs.declared.error_code.ErrorCode.TheVariants as codes
 use Rattle.json5_grammar.specs.Language.Characters.{letter_f, letter_n, letter_t}
 use Rattle.json5_grammar.specs.Faults.Tokens.{is_sign, begins_number}
 use Rattle.json5_grammar.specs.Language.Strings.{is_quote}

@@ -1,14 +1,14 @@
 pub mod Brackets
 pub mod Kinds
 pub mod Offsets
-pub mod Steps
+pub mod ModelSteps
 pub mod Entries
 pub mod Opening
 pub mod Nesting
 pub mod SkipSteps
 pub mod ShortWays
-pub mod Data
-pub mod Keeping
+pub mod TreeMeanings
+pub mod KeepSteps
 pub mod BuildSteps
 pub mod ShortValues
 pub mod ShortMembers

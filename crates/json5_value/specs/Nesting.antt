@@ -3,7 +3,7 @@ use Rattle.std.specs.Prelude.{◌≡◌, ℕ, ◌-◌, ◌<◌, ◌≤◌, List,
 use Rattle.json5_grammar.specs.Model.Reading.{Read, and_then, placed}
 use Rattle.json5_text.specs.Cursor.{Cursor}
 use Rattle.json5_value.specs.Offsets.{CountsTo}
-use Rattle.json5_value.specs.Steps.{IsInside}
+use Rattle.json5_value.specs.ModelSteps.{IsInside}
 
 -- these are open, the outermost first; at most d brackets may be open at once; and what m reads makes w of the whole
 abbrev pub Nested : {F D : Type 0} → (F → ℕ) → (F → ℕ → D → List ℕ → Read D) → List ℕ → ℕ → List F → Read D → Read D → Type 0

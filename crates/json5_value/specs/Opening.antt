@@ -8,7 +8,7 @@ use Rattle.json5_value.specs.declared.kinds.ValueKind.{ValueKind}
 use Rattle.json5_value.specs.Brackets.{bracket_of}
 use Rattle.json5_value.specs.Kinds.{kind_at}
 use Rattle.json5_value.specs.Offsets.{CountsTo}
-use Rattle.json5_value.specs.Steps.{IsInside, SameText, RefusesRead, value_at}
+use Rattle.json5_value.specs.ModelSteps.{IsInside, SameText, RefusesRead, value_at}
 
 -- a value that is no collection begins here with this character
 pub record AtScalar (c : ℕ) (s : Cursor) : Type 0 where

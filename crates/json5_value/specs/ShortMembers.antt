@@ -19,10 +19,10 @@ use Rattle.json5_value.specs.declared.short_members.ShortMembers.TheVariants as 
 use Rattle.json5_text.specs.declared.error.Error.{Error}
 use Rattle.json5_value.specs.declared.unfinished.Unfinished.{Unfinished}
 use Rattle.json5_value.specs.BuildSteps.{TurnsBuildingInside, members_before, object_with, object_at}
-use Rattle.json5_value.specs.Keeping.{as_datum, next_key}
+use Rattle.json5_value.specs.KeepSteps.{as_datum, next_key}
 use Rattle.json5_value.specs.ShortWays.{name_left}
 use Rattle.json5_value.specs.ShortValues.{Leaves, LeavesLess}
-use Rattle.json5_value.specs.Steps.{SameText, Gave}
+use Rattle.json5_value.specs.ModelSteps.{SameText, Gave}
 
 -- the input has this key at the span
 pub record IsKeyAt (input : List ℕ) (span : Span) (key : List ℕ) : Type 0 where

@@ -13,8 +13,8 @@ use Rattle.json5_value.specs.declared.short_values.ShortElements.TheVariants as 
 use Rattle.json5_value.specs.declared.short_values.ShortValue.{ShortValue}
 use Rattle.json5_value.specs.declared.short_values.ShortValue.TheVariants as short
 use Rattle.json5_value.specs.BuildSteps.{elements_before, array_with, array_at}
-use Rattle.json5_value.specs.Keeping.{datum_at}
-use Rattle.json5_value.specs.Steps.{SameText, Gave}
+use Rattle.json5_value.specs.KeepSteps.{datum_at}
+use Rattle.json5_value.specs.ModelSteps.{SameText, Gave}
 
 -- the value in front was taken, however many brackets may be open, or nothing was, or memory ran out
 abbrev pub KeepsShort : Cursor → Cursor → ShortValue → Type 0

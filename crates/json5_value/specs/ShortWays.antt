@@ -17,7 +17,7 @@ use Rattle.json5_value.specs.declared.skip.ShortTurn.TheVariants as turn
 use Rattle.json5_value.specs.Brackets.{bracket_of}
 use Rattle.json5_value.specs.Nesting.{WithinInner}
 use Rattle.json5_value.specs.SkipSteps.{start_of, rest_in, Skipping, SkippingInside}
-use Rattle.json5_value.specs.Steps.{SameText, RefusesRead, Gave, value_at}
+use Rattle.json5_value.specs.ModelSteps.{SameText, RefusesRead, Gave, value_at}
 
 -- ---- names
 

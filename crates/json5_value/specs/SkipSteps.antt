@@ -9,7 +9,7 @@ use Rattle.json5_value.specs.Brackets.{bracket_of}
 use Rattle.json5_value.specs.Nesting.{Within, WithinInner}
 use Rattle.json5_value.specs.Opening.{OpenedAt}
 use Rattle.json5_value.specs.Offsets.{StartsAfter, PositionedAt}
-use Rattle.json5_value.specs.Steps.{SameText, RefusesRead, Gave, value_at}
+use Rattle.json5_value.specs.ModelSteps.{SameText, RefusesRead, Gave, value_at}
 
 -- ---- how a value begins
 

@@ -4,7 +4,7 @@ ghost use Rattle.std.specs.Prelude.{◌≡◌, Some, slice_get};
 ghost use Rattle.json5_grammar.specs.Faults.Fronts.{opening};
 ghost use Rattle.json5_value.specs.Brackets.{bracket_of, brackets_of};
 ghost use Rattle.json5_value.specs.Opening.{OpensBracket};
-ghost use Rattle.json5_value.specs.Steps.{IsInside};
+ghost use Rattle.json5_value.specs.ModelSteps.{IsInside};
 
 use json5_text::ErrorCode;
 use json5_text::error::{Error, Result};

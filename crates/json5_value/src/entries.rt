@@ -5,7 +5,7 @@ ghost use Rattle.json5_grammar.specs.Model.ReadTexts.{key};
 ghost use Rattle.json5_value.specs.Brackets.{bracket_of};
 ghost use Rattle.json5_value.specs.Entries.{due_comma, next_entry};
 ghost use Rattle.json5_value.specs.ShortWays.{name_left};
-ghost use Rattle.json5_value.specs.Steps.{IsInside, Steps};
+ghost use Rattle.json5_value.specs.ModelSteps.{IsInside, Steps};
 
 use crate::brackets::BracketKind;
 use crate::faults::unexpected_here;

@@ -4,7 +4,7 @@ ghost use Rattle.std.specs.Prelude.{◌≡◌, [], Some};
 ghost use Rattle.json5_text.specs.Cursor.{Refused, IsPositioned};
 ghost use Rattle.json5_text.specs.Errors.{FaultKind, kind_of};
 ghost use Rattle.json5_value.specs.Offsets.{PositionedAt, StartsAfter};
-ghost use Rattle.json5_value.specs.Steps.{Unexpected};
+ghost use Rattle.json5_value.specs.ModelSteps.{Unexpected};
 
 use json5_text::ErrorCode;
 use json5_text::error::Error;

@@ -12,5 +12,5 @@ mod short_members;
 mod short_values;
 mod short_ways;
 pub mod skip;
-pub mod tokens;
+pub mod owned_tokens;
 mod unfinished;

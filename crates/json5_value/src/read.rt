@@ -1,12 +1,12 @@
 //! Reading of values of any kind (JSON5 sections 2 to 6).
 
 ghost use Rattle.json5_value.specs.BuildSteps.{PositionedIn, TurnsBuilding};
-ghost use Rattle.json5_value.specs.Keeping.{ReadsDatum, ReadsOrOpens};
-ghost use Rattle.json5_value.specs.Steps.{IsInside};
+ghost use Rattle.json5_value.specs.KeepSteps.{ReadsDatum, ReadsOrOpens};
+ghost use Rattle.json5_value.specs.ModelSteps.{IsInside};
 
 use crate::brackets::{BracketKind, OpenBracket, open_bracket};
 use crate::faults::with_position_at;
-use crate::tokens::read_scalar;
+use crate::owned_tokens::read_scalar;
 use crate::unfinished::{Unfinished, attach_value, resume_array, resume_object};
 use json5_text::ErrorCode;
 use json5_text::error::{Error, Result};

@@ -3,7 +3,7 @@
 
 ghost use Rattle.std.specs.Prelude.{◌≡◌, ◌<◌, [], ◌∷◌, ◌++◌, IsTrue, vec_len, vec_capacity};
 ghost use Rattle.json5_value.specs.ShortMembers.{AddsMember, EntersMember, TakesMembers};
-ghost use Rattle.json5_value.specs.Steps.{IsInside};
+ghost use Rattle.json5_value.specs.ModelSteps.{IsInside};
 
 use crate::short_values::{ShortValue, short_value};
 use crate::short_ways::{NameLeft, short_colon};

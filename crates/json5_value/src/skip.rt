@@ -5,7 +5,7 @@ ghost use Rattle.json5_grammar.specs.Language.Documents.{max_depth};
 ghost use Rattle.json5_grammar.specs.Faults.Fronts.{opening};
 ghost use Rattle.json5_value.specs.Brackets.{bracket_of};
 ghost use Rattle.json5_value.specs.Opening.{AtScalar};
-ghost use Rattle.json5_value.specs.Steps.{IsInside, Steps, value_at};
+ghost use Rattle.json5_value.specs.ModelSteps.{IsInside, Steps, value_at};
 ghost use Rattle.json5_value.specs.ShortWays.{TurnsMember, ResumesShort, TurnsShort};
 ghost use Rattle.json5_value.specs.SkipSteps.{SkipsOrOpens, TurnsSkipping, TurnsSkippingInside, PositionedWithin, SkipsValue};
 

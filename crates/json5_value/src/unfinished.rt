@@ -3,7 +3,7 @@
 ghost use Rattle.std.specs.Prelude.{◌≡◌, true};
 ghost use Rattle.json5_value.specs.BuildSteps.{TurnsBuildingInside, array_at, object_at, start_of, value_in_at};
 ghost use Rattle.json5_value.specs.ShortMembers.{TurnsBuildingNamed};
-ghost use Rattle.json5_value.specs.Steps.{IsInside};
+ghost use Rattle.json5_value.specs.ModelSteps.{IsInside};
 
 use crate::brackets::BracketKind;
 use crate::entries::{skip_name, skip_to_value};
@@ -11,7 +11,7 @@ use crate::faults::with_position_at;
 use crate::short_members::{ShortMembers, add_entry, short_members};
 use crate::short_values::{ShortElements, short_elements};
 use crate::short_ways::NameLeft;
-use crate::tokens::{next_member_key, own_text};
+use crate::owned_tokens::{next_member_key, own_text};
 use json5_text::ErrorCode;
 use json5_text::error::{Error, Result};
 use json5_text::input::Input;

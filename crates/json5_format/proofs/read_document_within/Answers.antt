@@ -2,10 +2,10 @@ use Rattle.std.proofs.Common.{sym, ◌∙◌, subst}
 use Rattle.std.specs.Str.{chars}
 use Rattle.std.proofs.lemmas.Result.{err_from_is_err_and}
 use Rattle.json5_text.specs.Cursor.{Refused}
-use Rattle.json5_text.specs.Tokens.{FaultyBlanks}
+use Rattle.json5_text.specs.TokenFaults.{FaultyBlanks}
 use Rattle.json5_text.specs.ValueMeanings.{value_of}
-use Rattle.json5_value.specs.Keeping.{BlamesOrMemory, datum_at}
-use Rattle.json5_value.specs.Steps.{Gave}
+use Rattle.json5_value.specs.KeepSteps.{BlamesOrMemory, datum_at}
+use Rattle.json5_value.specs.ModelSteps.{Gave}
 use Rattle.json5_format.proofs.WholeValues.{Passed, front_refused, value_refused, rest_refused, all_read, character_refused}
 use Rattle.json5_format.proofs.read_document_within.Goals as goal
 

@@ -1,8 +1,8 @@
 -- What each code prints.
 use Rattle.std.specs.Prelude.{ℕ, List}
 use lib.Chars.{codes}
-use Rattle.json5_grammar.specs.declared.code.ErrorCode.{ErrorCode}
-use Rattle.json5_grammar.specs.declared.code.ErrorCode.TheVariants as code
+use Rattle.json5_grammar.specs.declared.error_code.ErrorCode.{ErrorCode}
+use Rattle.json5_grammar.specs.declared.error_code.ErrorCode.TheVariants as code
 
 abbrev pub code_text : ErrorCode → List ℕ
 code_text code.EofParsingArray = codes "EOF parsing array"

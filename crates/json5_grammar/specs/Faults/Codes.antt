@@ -1,7 +1,7 @@
 -- The codes of faults, and what shows a fault.
 use Rattle.std.specs.Prelude.{ℕ, List, ◌++◌, Option, Some, None}
-pub use Rattle.json5_grammar.specs.declared.code.ErrorCode.{ErrorCode}
-pub use Rattle.json5_grammar.specs.declared.code.ErrorCode.TheVariants.{EofParsingArray, EofParsingBool, EofParsingComment, EofParsingEscapeSequence, EofParsingIdentifier, EofParsingNull, EofParsingNumber, EofParsingObject, EofParsingString, EofParsingValue, ExpectedBool, ExpectedColon, ExpectedComma, ExpectedComment, ExpectedIdentifier, ExpectedNull, ExpectedNumber, ExpectedValue, InvalidEscapeSequence, LeadingZero, LineTerminatorInString, OverflowParsingNumber, TrailingCharacters, TooDeep}
+pub use Rattle.json5_grammar.specs.declared.error_code.ErrorCode.{ErrorCode}
+pub use Rattle.json5_grammar.specs.declared.error_code.ErrorCode.TheVariants.{EofParsingArray, EofParsingBool, EofParsingComment, EofParsingEscapeSequence, EofParsingIdentifier, EofParsingNull, EofParsingNumber, EofParsingObject, EofParsingString, EofParsingValue, ExpectedBool, ExpectedColon, ExpectedComma, ExpectedComment, ExpectedIdentifier, ExpectedNull, ExpectedNumber, ExpectedValue, InvalidEscapeSequence, LeadingZero, LineTerminatorInString, OverflowParsingNumber, TrailingCharacters, TooDeep}
 
 -- what shows a fault: the last character of the faulty part, or the end of the input
 pub data Shown : Type 0 where

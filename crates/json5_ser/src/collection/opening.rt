@@ -12,7 +12,7 @@ use json5_text::error::Result;
 use std::io::Write;
 
 impl<W: Write + Drop> Serializer<W> {
-    ghost use Rattle.json5_ser.specs.Lending.{lends_list, lends_object, lends_variant, ListBegun, ObjectBegun, VariantListBegun, VariantObjectBegun};
+    ghost use Rattle.json5_ser.specs.WrittenCollections.{lends_list, lends_object, lends_variant, ListBegun, ObjectBegun, VariantListBegun, VariantObjectBegun};
 
     /// Opens an array, and lends the serializer to the collection that writes its elements. The length changes nothing.
     ///

@@ -2,7 +2,7 @@
 
 ghost use Rattle.json5_grammar.specs.Written.NumberText.{decimal_text};
 ghost use Rattle.json5_ser.specs.WrittenTrees.{named};
-ghost use Rattle.json5_ser.specs.Keys.{WritesKey};
+ghost use Rattle.json5_ser.specs.WrittenKeys.{WritesKey};
 
 use crate::{MapKey, SerializeKey, Serializer};
 use itoa::{Buffer, Integer};

@@ -9,7 +9,7 @@ use crate::error::Error;
 use crate::input::Input;
 use crate::refusal::Refusal;
 use crate::scanner::Scanner;
-use json5_grammar::code::ErrorCode;
+use json5_grammar::error_code::ErrorCode;
 use json5_grammar::position::Position;
 use std::fmt::Display;
 

@@ -1,6 +1,6 @@
 use Rattle.std.proofs.Common.{rules, refl, ◌∙◌, ◌∷◌, [], ◌++◌}
 use Rattle.json5_de.specs.Lending.{map_state_of}
-use Rattle.json5_de.proofs.Gathering.{begins, reads_key, reads_value, stops, key_completes, value_completes, end_completes, key_faults, value_faults, closes_there}
+use Rattle.json5_de.proofs.MemberLoops.{begins, reads_key, reads_value, stops, key_completes, value_completes, end_completes, key_faults, value_faults, closes_there}
 use Rattle.json5_de.proofs.gather.gather.Goals as goal
 
 pub loop-map-init : goal.loop-map-init

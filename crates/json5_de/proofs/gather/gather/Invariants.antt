@@ -1,6 +1,6 @@
 use Rattle.std.proofs.Common.{List, length, None}
 use Rattle.json5_de.specs.Lending.{map_state_of, HoldsTheSameMap}
-use Rattle.json5_de.proofs.Gathering.{ReadingMembers}
+use Rattle.json5_de.proofs.MemberLoops.{ReadingMembers}
 use Rattle.json5_de.proofs.gather.gather.Given as goal
 
 abbrev pub invariant-loop-map : goal.invariant-loop-map

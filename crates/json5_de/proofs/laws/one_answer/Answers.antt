@@ -1,4 +1,4 @@
-use Rattle.json5_de.proofs.Documents.{same_answer}
+use Rattle.json5_de.proofs.WholeInputs.{same_answer}
 use Rattle.json5_de.proofs.laws.one_answer.Goals as goal
 
 pub returns : goal.returns

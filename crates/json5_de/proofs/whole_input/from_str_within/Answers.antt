@@ -2,11 +2,11 @@ use Rattle.std.proofs.Common.{sym, ap, ◌∙◌, ◌≡◌, Some, refl, subst}
 use Rattle.std.proofs.lemmas.Bool.{false≢true}
 use Rattle.std.proofs.lemmas.Result.{err_from_is_err_and}
 use Rattle.std.specs.Str.{chars}
-use Rattle.json5_de.specs.Law.{TookValue}
+use Rattle.json5_de.specs.DeserializeLaw.{TookValue}
 use Rattle.json5_de.specs.WholeInputs.{in_value, after_value}
-use Rattle.json5_de.proofs.OtherCodes.{trailing_lacks}
+use Rattle.json5_de.proofs.NoFailedCode.{trailing_lacks}
 use Rattle.json5_de.proofs.TokenKinds.{refused_other}
-use Rattle.json5_de.proofs.Documents.{read_document, readable, the_document, blames_value, blames_rest, live_after}
+use Rattle.json5_de.proofs.WholeInputs.{read_document, readable, the_document, blames_value, blames_rest, live_after}
 use Rattle.json5_de.proofs.whole_input.from_str_within.Goals as goal
 
 pub returns-in_err-value-clause-complete : goal.returns-in_err-value-clause-complete

@@ -1,6 +1,6 @@
 use Rattle.std.proofs.Common.{rules, ◌<◌, ◌^◌, string_bytes}
 use Rattle.std.specs.Str.{chars}
-use Rattle.json5.proofs.ReadAgain.{read_again}
+use Rattle.json5.proofs.WrittenThenRead.{read_again}
 use Rattle.json5_own_type.specs.Endpoints.{endpoint_tree, endpoint_content}
 use Rattle.json5_own_type.proofs.EndpointsBack.{endpoint_back}
 use Rattle.json5_own_type.proofs.ports.endpoint_again.Goals as goal

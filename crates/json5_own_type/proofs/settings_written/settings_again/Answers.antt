@@ -1,7 +1,7 @@
 use Rattle.std.proofs.Common.{rules, ◌<◌, ◌^◌, string_bytes}
 use Rattle.std.specs.Str.{chars}
 use Rattle.json5.specs.WrittenTrees.{object}
-use Rattle.json5.proofs.ReadAgain.{read_again}
+use Rattle.json5.proofs.WrittenThenRead.{read_again}
 use Rattle.json5_own_type.specs.SettingsWritten.{settings_fields, settings_content}
 use Rattle.json5_own_type.proofs.SettingsBack.{settings_back}
 use Rattle.json5_own_type.proofs.settings_written.settings_again.Goals as goal

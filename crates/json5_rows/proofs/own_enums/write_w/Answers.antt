@@ -1,7 +1,7 @@
 use Rattle.std.proofs.Common.{rules}
 use Rattle.std.specs.Prelude.{codes}
 use Rattle.std.specs.Str.{chars}
-use Rattle.json5.proofs.Members.{variant_object_refused, variant_object_begun, field_on, field_refused, object_ended}
+use Rattle.json5.proofs.CollectionsWritten.{variant_object_refused, variant_object_begun, field_on, field_refused, object_ended}
 use Rattle.json5_rows.specs.OwnEnums.{w_fields}
 use Rattle.json5_rows.proofs.own_enums.write_w.Goals as goal
 

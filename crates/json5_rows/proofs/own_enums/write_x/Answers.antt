@@ -1,7 +1,7 @@
 use Rattle.std.proofs.Common.{rules}
 use Rattle.std.specs.Prelude.{codes}
 use Rattle.std.specs.Str.{chars}
-use Rattle.json5.proofs.Members.{variant_list_refused, variant_list_begun, element_on, element_refused, list_ended}
+use Rattle.json5.proofs.CollectionsWritten.{variant_list_refused, variant_list_begun, element_on, element_refused, list_ended}
 use Rattle.json5_rows.specs.OwnEnums.{x_elements}
 use Rattle.json5_rows.proofs.own_enums.write_x.Goals as goal
 

@@ -2,9 +2,9 @@ use Rattle.std.proofs.Common.{rules, ◌<◌, ◌≤◌, false, length, sym, ap,
 use Rattle.json5_grammar.specs.Language.Characters.{left_bracket, right_bracket}
 use Rattle.json5_ser.specs.WrittenTrees.{elements_of}
 use Rattle.json5_ser.specs.Out.{elements_out}
-use Rattle.json5_ser.proofs.Members.{item_first}
+use Rattle.json5_ser.proofs.CollectionsWritten.{item_first}
 use Rattle.json5_ser.proofs.Commas.{open_put_refused, left_first, elements_as, element_line_on, element_line_returned, left_ended}
-use Rattle.json5_ser.proofs.PutsJoined.{wrote_whole}
+use Rattle.json5_ser.proofs.ShortWritesJoined.{wrote_whole}
 use Rattle.json5_ser.proofs.lists.write_items.Goals as goal
 
 pub returns-in_err-open_short : goal.returns-in_err-open_short

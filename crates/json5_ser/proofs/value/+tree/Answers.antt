@@ -7,7 +7,7 @@ use Rattle.json5_ser.specs.Writes.{WritesTree}
 use Rattle.json5_ser.specs.Out.{fields_out}
 use Rattle.json5_grammar.specs.Language.Characters.{left_brace, right_brace}
 use Rattle.json5_ser.proofs.Commas.{open_put_refused, left_first, fields_as, member_line_on, member_line_returned, left_ended}
-use Rattle.json5_ser.proofs.PutsJoined.{wrote_whole}
+use Rattle.json5_ser.proofs.ShortWritesJoined.{wrote_whole}
 use Rattle.json5_ser.proofs.ValuesInside.{tree-String, tree-Array, tree-Object}
 use Rattle.json5_ser.proofs.value.+tree.Goals as goal
 

@@ -1,6 +1,6 @@
 use Rattle.std.proofs.Common.{◌∙◌, sym}
 use Rattle.std.specs.Str.{chars}
-use Rattle.json5_text.proofs.ScanSteps.{at_solid}
+use Rattle.json5_text.proofs.BlankSteps.{at_solid}
 use Rattle.json5_text.proofs.blanks.skip_blank_slowly.Goals as goal
 
 pub returns-else-c-eq47 : goal.returns-else-c-eq47

@@ -4,8 +4,8 @@ use Rattle.std.specs.Str.{chars}
 use Rattle.json5_grammar.specs.Language.Characters.{NotBegun}
 use Rattle.std.specs.List.{prefix_len}
 use Rattle.json5_text.specs.ByteRuns.{is_no_star}
-use Rattle.json5_text.proofs.ScanSteps.{block_none, block_end, block_star}
-use Rattle.json5_text.proofs.StopRuns.{stop_boundary, star_chars}
+use Rattle.json5_text.proofs.BlankSteps.{block_none, block_end, block_star}
+use Rattle.json5_text.proofs.RunBoundaries.{stop_boundary, star_chars}
 use Rattle.json5_text.proofs.AsciiBlanks.{star_run, star_there}
 use Rattle.json5_text.proofs.blanks.skip_block.Goals as goal
 

@@ -2,7 +2,7 @@ use Rattle.std.proofs.Common.{refl, arith, ap, ◌∙◌}
 use Rattle.std.specs.Str.{chars}
 use Rattle.std.proofs.lemmas.Str.{encodes-chars}
 use Rattle.json5_text.specs.Outcome.{outcome}
-use Rattle.json5_text.proofs.ScanSteps.{slash_none, slash_slash, slash_star, slash_other}
+use Rattle.json5_text.proofs.BlankSteps.{slash_none, slash_slash, slash_star, slash_other}
 use Rattle.json5_text.proofs.blanks.skip_comment.Goals as goal
 
 pub returns-in_default : goal.returns-in_default

@@ -1,8 +1,8 @@
 use Rattle.std.proofs.Common.{◌∙◌, ap, sym, refl, arith}
 use Rattle.std.specs.List.{prefix_len}
 use Rattle.json5_text.specs.ByteRuns.{is_in_line, is_line_part}
-use Rattle.json5_text.proofs.ScanSteps.{line_none, line_end, line_more}
-use Rattle.json5_text.proofs.StopRuns.{stop_boundary, line_chars}
+use Rattle.json5_text.proofs.BlankSteps.{line_none, line_end, line_more}
+use Rattle.json5_text.proofs.RunBoundaries.{stop_boundary, line_chars}
 use Rattle.json5_text.proofs.AsciiBlanks.{line_run}
 use Rattle.json5_text.proofs.blanks.skip_line.Goals as goal
 

@@ -1,7 +1,7 @@
 use Rattle.std.proofs.Common.{◌∙◌, sym}
 use Rattle.std.specs.Str.{chars}
 use Rattle.json5_text.proofs.NumberZeros.{is_none, is_some}
-use Rattle.json5_text.proofs.NumberLiterals.{exponent_no_digit, exponent_more, exponent_found}
+use Rattle.json5_text.proofs.DecimalLiteralParts.{exponent_no_digit, exponent_more, exponent_found}
 use Rattle.json5_text.proofs.DecimalRuns.{front_is, more_follows, none_follows, ends_after}
 use Rattle.json5_text.specs.NumberParts.{run_of}
 use Rattle.json5_text.proofs.decimal_literals.read_exponent_digits.Goals as goal

@@ -3,7 +3,7 @@ use Rattle.std.specs.Prelude.{◌==◌}
 use Rattle.json5_grammar.specs.Language.Characters.{NotBegun}
 use Rattle.std.specs.Str.{chars}
 use Rattle.json5_text.specs.NumberParts.{run_of}
-use Rattle.json5_text.proofs.NumberLiterals.{point_without_digits, point_without_exponent, point_found}
+use Rattle.json5_text.proofs.DecimalLiteralParts.{point_without_digits, point_without_exponent, point_found}
 use Rattle.json5_text.proofs.DecimalRuns.{run_escape_free, run_pointed, rest_past_digits, ends_pointed, whole_literal}
 use Rattle.json5_text.proofs.decimal_literals.read_literal.Goals as goal
 

@@ -1,8 +1,8 @@
 use Rattle.std.proofs.Common.{ap, ◌∙◌, subst, sym}
 use Rattle.std.specs.Str.{chars, IsUtf8}
 use Rattle.json5_grammar.specs.Language.Characters.{is_digit, Each}
-use Rattle.json5_grammar.proofs.NumberTests.{front_each}
-use Rattle.json5_text.proofs.NumberRuns.{counted, digit_is_ascii, front_boundary, front_cut, rest_cut, rest_utf8, front_chars, rest_chars}
+use Rattle.json5_grammar.proofs.CharacterTests.{front_each}
+use Rattle.json5_text.proofs.AsciiRuns.{counted, digit_is_ascii, front_boundary, front_cut, rest_cut, rest_utf8, front_chars, rest_chars}
 use Rattle.json5_text.proofs.digit_runs.split_digits.Goals as goal
 
 pub split_at-requires : goal.split_at-requires

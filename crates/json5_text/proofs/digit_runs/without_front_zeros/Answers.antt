@@ -1,6 +1,6 @@
 use Rattle.std.proofs.Common.{◌∙◌, sym, refl, arith}
 use Rattle.std.proofs.lemmas.Str.{IsCharBoundary-start, IsCharBoundary-after_ascii}
-use Rattle.json5_text.proofs.NumberRuns.{zero_past}
+use Rattle.json5_text.proofs.AsciiRuns.{zero_past}
 use Rattle.json5_text.proofs.digit_runs.without_front_zeros.Goals as goal
 
 pub loop-start-init : goal.loop-start-init

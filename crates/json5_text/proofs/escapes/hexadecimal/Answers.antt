@@ -1,7 +1,7 @@
 use Rattle.std.proofs.Common.{◌≡◌, ◌<◌, ◌≤◌, ◌+◌, ◌-◌, ap, sym, ◌∙◌, arith}
 use Rattle.std.specs.Char.{digit_value}
 use Rattle.std.specs.List.{slice_get}
-use Rattle.json5_grammar.specs.declared.code.ErrorCode.TheVariants.{InvalidEscapeSequence}
+use Rattle.json5_grammar.specs.declared.error_code.ErrorCode.TheVariants.{InvalidEscapeSequence}
 use Rattle.json5_text.specs.Outcome.{outcome}
 use Rattle.json5_text.proofs.ScanEscapes.{refused_here, hex_done, hex_no_byte, hex_no_digit, hex_more, digit_cut, digit_begins, three_digits, one_more}
 use Rattle.json5_text.proofs.escapes.hexadecimal.Goals as goal

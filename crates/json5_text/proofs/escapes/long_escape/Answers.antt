@@ -1,6 +1,6 @@
 use Rattle.std.proofs.Common.{arith}
 use Rattle.std.specs.Str.{chars}
-use Rattle.json5_grammar.specs.declared.code.ErrorCode.TheVariants.{InvalidEscapeSequence}
+use Rattle.json5_grammar.specs.declared.error_code.ErrorCode.TheVariants.{InvalidEscapeSequence}
 use Rattle.json5_text.proofs.ScanEscapes.{refused_here, digit_escape}
 use Rattle.json5_text.proofs.escapes.long_escape.Goals as goal
 

@@ -1,6 +1,6 @@
 use Rattle.std.proofs.Common.{ap}
 use Rattle.std.specs.Str.{chars}
-use Rattle.json5_grammar.specs.declared.code.ErrorCode.TheVariants.{InvalidEscapeSequence}
+use Rattle.json5_grammar.specs.declared.error_code.ErrorCode.TheVariants.{InvalidEscapeSequence}
 use Rattle.json5_text.specs.Outcome.{outcome}
 use Rattle.json5_text.proofs.ScanEscapes.{refused_here}
 use Rattle.json5_text.proofs.ScanTexts.{escape_none, escape_other, escape_unicode}

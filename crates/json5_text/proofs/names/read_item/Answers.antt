@@ -1,5 +1,5 @@
 use Rattle.std.proofs.Common.{sym}
-use Rattle.json5_grammar.specs.declared.code.ErrorCode.TheVariants.{ExpectedIdentifier}
+use Rattle.json5_grammar.specs.declared.error_code.ErrorCode.TheVariants.{ExpectedIdentifier}
 use Rattle.json5_text.proofs.ScanEscapes.{refused_here}
 use Rattle.json5_text.proofs.ScanTexts.{item_misfits}
 use Rattle.json5_text.proofs.names.read_item.Goals as goal

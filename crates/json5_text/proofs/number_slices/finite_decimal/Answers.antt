@@ -1,7 +1,7 @@
 use Rattle.std.proofs.Common.{arith, refl, ap, ◌∙◌}
 use Rattle.std.proofs.lemmas.Int.{ints, to_z-of_z}
 use mir.Syntax.{w128}
-use Rattle.json5_text.proofs.LiteralValues.{after_or, after_each, found_is, means_decimal}
+use Rattle.json5_text.proofs.DecimalLiteralValues.{after_or, after_each, found_is, means_decimal}
 use Rattle.json5_text.proofs.number_slices.finite_decimal.Goals as goal
 
 pub new-requires-clause-after_digits : goal.new-requires-clause-after_digits

@@ -5,7 +5,7 @@ use Rattle.json5_grammar.specs.Language.Numbers.{whole}
 use Rattle.json5_grammar.specs.Model.Reading.{got}
 use Rattle.json5_text.specs.NumberParts.{parts_of}
 use Rattle.json5_text.proofs.NumberSteps.{failed_here}
-use Rattle.json5_text.proofs.LiteralValues.{judged_whole, not_whole}
+use Rattle.json5_text.proofs.DecimalLiteralValues.{judged_whole, not_whole}
 use Rattle.json5_text.proofs.number_slices.judge.Goals as goal
 
 pub returns-in-Some : goal.returns-in-Some

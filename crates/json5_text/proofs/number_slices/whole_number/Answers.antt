@@ -1,9 +1,9 @@
 use Rattle.std.proofs.Common.{◌∙◌, sym}
 use mathlib.Core.Bool.{true≢false}
 use Rattle.json5_grammar.specs.Language.Numbers.{signed, spelled}
-use Rattle.json5_grammar.proofs.NumberTests.{in_whole_yes, in_whole_true}
+use Rattle.json5_grammar.proofs.CharacterTests.{in_whole_yes, in_whole_true}
 use Rattle.json5_text.specs.NumberParts.{raised_of}
-use Rattle.json5_text.proofs.LiteralValues.{whole_at, value_found, value_past}
+use Rattle.json5_text.proofs.DecimalLiteralValues.{whole_at, value_found, value_past}
 use Rattle.json5_text.proofs.number_slices.whole_number.Goals as goal
 
 pub returns-in_err-magnitude-clause-whole : goal.returns-in_err-magnitude-clause-whole

@@ -3,7 +3,7 @@ use Rattle.json5_text.specs.ScanTexts.{quote_of}
 use Rattle.json5_text.specs.ShortWays.{IsInFront}
 use Rattle.json5_text.proofs.ScanRuns.{quote_is}
 use Rattle.json5_text.proofs.ShortTexts.{quoted_found}
-use Rattle.json5_text.proofs.StopRuns.{quote_ascii}
+use Rattle.json5_text.proofs.RunBoundaries.{quote_ascii}
 use Rattle.json5_text.proofs.short_texts.quoted.Goals as goal
 
 pub is_in_front-requires : goal.is_in_front-requires

@@ -1,10 +1,10 @@
 use Rattle.std.proofs.Common.{◌≡◌, ◌∷◌, ◌∙◌, false, ap, arith}
 use Rattle.std.specs.Str.{chars}
 use Rattle.json5_grammar.specs.Language.Strings.{is_quote}
-use Rattle.json5_grammar.specs.declared.code.ErrorCode.TheVariants.{ExpectedString}
+use Rattle.json5_grammar.specs.declared.error_code.ErrorCode.TheVariants.{ExpectedString}
 use Rattle.std.proofs.lemmas.Bool.Decides.{nat_tests}
 use Rattle.json5_text.specs.Outcome.{outcome}
-use Rattle.json5_text.specs.declared.texts.Quote.TheVariants as quotes
+use Rattle.json5_text.specs.declared.strings_and_names.Quote.TheVariants as quotes
 use Rattle.json5_text.proofs.ScanEscapes.{refused_here}
 use Rattle.json5_text.proofs.ScanRuns.{string_none, string_other, string_quote}
 use Rattle.json5_text.proofs.strings.read_quote.Goals as goal

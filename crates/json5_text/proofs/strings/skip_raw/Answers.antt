@@ -2,7 +2,7 @@ use Rattle.std.proofs.Common.{◌∙◌, ap}
 use Rattle.std.specs.List.{prefix_len}
 use Rattle.json5_grammar.specs.Language.Strings.{is_raw}
 use Rattle.json5_text.specs.ScanTexts.{quote_of}
-use Rattle.json5_text.proofs.StopRuns.{stop_boundary, stop_skips, raw_chars, quote_ascii}
+use Rattle.json5_text.proofs.RunBoundaries.{stop_boundary, stop_skips, raw_chars, quote_ascii}
 use Rattle.json5_text.proofs.ScanRuns.{quote_is}
 use Rattle.json5_text.proofs.strings.skip_raw.Goals as goal
 

@@ -2,7 +2,7 @@ use Rattle.std.proofs.Common.{length, Some, ap, sym, ◌∙◌}
 use Rattle.std.specs.Str.{chars}
 use Rattle.std.proofs.lemmas.Str.{encodes-chars}
 use Rattle.json5_text.specs.Outcome.{failed, outcome}
-use Rattle.json5_text.proofs.ScanSteps.{word_ends, word_differs}
+use Rattle.json5_text.proofs.BlankSteps.{word_ends, word_differs}
 use Rattle.json5_text.proofs.words.skip_word.Goals as goal
 
 pub returns-in_default-front : goal.returns-in_default-front

@@ -1,7 +1,7 @@
 use Rattle.std.proofs.Common.{arith}
 use Rattle.json5_value.specs.Brackets.{bracket_of}
-use Rattle.json5_value.proofs.Scalars.{bracket_too_deep, bracket_opened}
-use Rattle.json5_value.proofs.Signs.{opening_is}
+use Rattle.json5_value.proofs.SkipScalars.{bracket_too_deep, bracket_opened}
+use Rattle.json5_value.proofs.UnexpectedCharacters.{opening_is}
 use Rattle.json5_value.proofs.brackets.open_bracket.Goals as goal
 
 pub returns-then-room-eq0 : goal.returns-then-room-eq0

@@ -1,7 +1,7 @@
 use Rattle.std.proofs.Common.{refl, Ok, Err}
 use Rattle.std.proofs.lemmas.Result.{err_from_is_err_and}
 use Rattle.json5_value.proofs.EntrySteps.{colon_blanks, colon_missing, colon_passed}
-use Rattle.json5_value.proofs.Steps.{ready_sign, same_of}
+use Rattle.json5_value.proofs.ModelSteps.{ready_sign, same_of}
 use Rattle.json5_value.proofs.TokenSteps.{gap_given, gap_blamed, blanks_step}
 use Rattle.json5_value.proofs.entries.skip_colon.Goals as goal
 

@@ -2,8 +2,8 @@ use Rattle.std.proofs.Common.{true, false, Ok, Err, refl}
 use Rattle.std.proofs.lemmas.Result.{err_from_is_err_and}
 use Rattle.json5_value.specs.Brackets.{bracket_of}
 use Rattle.json5_value.proofs.EntrySteps.{after_comma_due, none_due, comma_blanks, comma_taken, comma_closed, comma_missing}
-use Rattle.json5_value.proofs.Signs.{closing_is, ends_is}
-use Rattle.json5_value.proofs.Steps.{same_of}
+use Rattle.json5_value.proofs.UnexpectedCharacters.{closing_is, ends_is}
+use Rattle.json5_value.proofs.ModelSteps.{same_of}
 use Rattle.json5_value.proofs.TokenSteps.{gap_given, gap_blamed}
 use Rattle.json5_value.proofs.entries.skip_comma.Goals as goal
 

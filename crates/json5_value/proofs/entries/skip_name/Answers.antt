@@ -1,6 +1,6 @@
 use Rattle.json5_grammar.specs.Model.ReadSteps.{forget, colon_after}
 use Rattle.json5_grammar.specs.Model.ReadTexts.{key}
-use Rattle.json5_value.proofs.Steps.{then_step, ready_next}
+use Rattle.json5_value.proofs.ModelSteps.{then_step, ready_next}
 use Rattle.json5_value.proofs.TokenSteps.{blanks_step}
 use Rattle.json5_value.proofs.entries.skip_name.Goals as goal
 

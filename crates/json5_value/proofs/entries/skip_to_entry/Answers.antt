@@ -2,8 +2,8 @@ use Rattle.std.proofs.Common.{Ok, Err}
 use Rattle.std.proofs.lemmas.Result.{err_from_is_err_and}
 use Rattle.json5_value.specs.Brackets.{bracket_of}
 use Rattle.json5_value.proofs.EntrySteps.{closed_for_comma, entry_blanks, entry_found}
-use Rattle.json5_value.proofs.Signs.{closing_is}
-use Rattle.json5_value.proofs.Steps.{ready_next, same_of}
+use Rattle.json5_value.proofs.UnexpectedCharacters.{closing_is}
+use Rattle.json5_value.proofs.ModelSteps.{ready_next, same_of}
 use Rattle.json5_value.proofs.TokenSteps.{gap_given, gap_blamed}
 use Rattle.json5_value.proofs.entries.skip_to_entry.Goals as goal
 

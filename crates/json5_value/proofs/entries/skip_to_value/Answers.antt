@@ -2,7 +2,7 @@ use Rattle.std.proofs.Common.{ap}
 use Rattle.std.proofs.lemmas.Result.{err_from_is_err_and}
 use Rattle.json5_value.specs.Brackets.{bracket_of}
 use Rattle.json5_value.proofs.EntryValues.{next_refused, next_closed, element_reached, name_refused, member_reached}
-use Rattle.json5_value.proofs.Steps.{ready_next}
+use Rattle.json5_value.proofs.ModelSteps.{ready_next}
 use Rattle.json5_value.proofs.entries.skip_to_value.Goals as goal
 
 pub returns-in_err-more : goal.returns-in_err-more

@@ -1,7 +1,7 @@
 use Rattle.std.proofs.Common.{Some, ap, sym, ◌∙◌}
 use Rattle.std.proofs.lemmas.List.{append-nil}
 use Rattle.json5_grammar.specs.Faults.Positions.{position_after}
-use Rattle.json5_value.proofs.Steps.{counted_before}
+use Rattle.json5_value.proofs.ModelSteps.{counted_before}
 use Rattle.json5_value.proofs.faults.fault_here.Goals as goal
 
 pub returns-clause-placed : goal.returns-clause-placed

@@ -1,5 +1,5 @@
-use Rattle.json5_value.proofs.Signs.{refused_end, refused_char}
-use Rattle.json5_value.proofs.Steps.{counted_before}
+use Rattle.json5_value.proofs.UnexpectedCharacters.{refused_end, refused_char}
+use Rattle.json5_value.proofs.ModelSteps.{counted_before}
 use Rattle.json5_value.proofs.faults.unexpected_here.Goals as goal
 
 pub returns-in-Some : goal.returns-in-Some

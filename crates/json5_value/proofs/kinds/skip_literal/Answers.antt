@@ -1,5 +1,5 @@
 use Rattle.std.proofs.Common.{subst}
-use Rattle.json5_grammar.specs.declared.code.ErrorCode.TheVariants as codes
+use Rattle.json5_grammar.specs.declared.error_code.ErrorCode.TheVariants as codes
 use Rattle.json5_text.specs.TokenCalls.{TakesWord}
 use Rattle.json5_value.proofs.WordCharacters.{chars_null, chars_true, chars_false}
 use Rattle.json5_value.proofs.kinds.skip_literal.Goals as goal

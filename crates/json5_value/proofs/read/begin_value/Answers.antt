@@ -1,10 +1,10 @@
 use Rattle.std.proofs.Common.{refl, subst}
 use Rattle.json5_text.specs.ValueMeanings.{value_of}
-use Rattle.json5_value.specs.Keeping.{BlamesOrMemory, datum_at}
+use Rattle.json5_value.specs.KeepSteps.{BlamesOrMemory, datum_at}
 use Rattle.json5_value.specs.Opening.{OpenedAt}
-use Rattle.json5_value.specs.Steps.{Gave}
+use Rattle.json5_value.specs.ModelSteps.{Gave}
 use Rattle.json5_value.proofs.BuildValues.{room_left, first_refused, first_scalar, array_begun, object_begun}
-use Rattle.json5_value.proofs.SkipTurns.{ready_opened}
+use Rattle.json5_value.proofs.SkipInvariant.{ready_opened}
 use Rattle.json5_value.proofs.read.begin_value.Goals as goal
 
 pub returns-in-Err : goal.returns-in-Err

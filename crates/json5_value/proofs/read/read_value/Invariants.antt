@@ -1,7 +1,7 @@
 use Rattle.std.proofs.Common.{length}
 use Rattle.json5_value.specs.BuildSteps.{Building}
-use Rattle.json5_value.specs.Keeping.{datum_at}
-use Rattle.json5_value.specs.Steps.{SameText}
+use Rattle.json5_value.specs.KeepSteps.{datum_at}
+use Rattle.json5_value.specs.ModelSteps.{SameText}
 use Rattle.json5_value.proofs.read.read_value.Given as goal
 
 abbrev pub invariant-loop-ended : goal.invariant-loop-ended

@@ -1,6 +1,6 @@
 use Rattle.std.proofs.Common.{rules}
 use Rattle.json5_value.proofs.ShortValues.{value_left, array_ended, memory_lost, element_taken, goes_down}
-use Rattle.json5_value.proofs.Steps.{ready_next}
+use Rattle.json5_value.proofs.ModelSteps.{ready_next}
 use Rattle.json5_value.proofs.short_values.short_elements.Goals as goal
 
 pub returns-in-Closing : goal.returns-in-Closing

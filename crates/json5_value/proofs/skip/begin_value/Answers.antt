@@ -1,7 +1,7 @@
 use Rattle.std.proofs.Common.{◌≡◌, ◌-◌, ◌∙◌, refl, ap, subst, length, arith}
 use Rattle.json5_value.specs.Opening.{OpenedAt}
-use Rattle.json5_value.specs.Steps.{value_at, RefusesRead, Gave}
-use Rattle.json5_value.proofs.SkipTurns.{first_refused, first_scalar, first_bracket, ready_opened}
+use Rattle.json5_value.specs.ModelSteps.{value_at, RefusesRead, Gave}
+use Rattle.json5_value.proofs.SkipInvariant.{first_refused, first_scalar, first_bracket, ready_opened}
 use Rattle.json5_value.proofs.skip.begin_value.Goals as goal
 
 pub returns-in-Err : goal.returns-in-Err

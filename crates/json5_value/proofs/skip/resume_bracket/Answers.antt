@@ -1,4 +1,4 @@
-use Rattle.json5_value.proofs.SkipTurns.{inside_goes, inside_closed, inside_refused}
+use Rattle.json5_value.proofs.SkipInvariant.{inside_goes, inside_closed, inside_refused}
 use Rattle.json5_value.proofs.skip.resume_bracket.Goals as goal
 
 pub returns-in-Ok-true : goal.returns-in-Ok-true

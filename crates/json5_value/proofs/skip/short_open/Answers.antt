@@ -1,8 +1,8 @@
 use Rattle.std.proofs.Common.{◌-◌, length, arith}
 use Rattle.json5_value.specs.declared.brackets.OpenBracket.{OpenBracket}
-use Rattle.json5_value.proofs.Scalars.{bracket_opened}
+use Rattle.json5_value.proofs.SkipScalars.{bracket_opened}
 use Rattle.json5_value.proofs.ShortTurns.{opened_short}
-use Rattle.json5_value.proofs.Signs.{opening_is}
+use Rattle.json5_value.proofs.UnexpectedCharacters.{opening_is}
 use Rattle.json5_value.proofs.skip.short_open.Goals as goal
 
 pub returns : goal.returns

@@ -1,4 +1,4 @@
-use Rattle.json5_value.proofs.Scalars.{value_missing, scalar_passed}
+use Rattle.json5_value.proofs.SkipScalars.{value_missing, scalar_passed}
 use Rattle.json5_value.proofs.skip.skip_or_open.Goals as goal
 
 pub returns-in_default : goal.returns-in_default

@@ -1,6 +1,6 @@
 use Rattle.std.proofs.Common.{refl, Ok, Err}
 use Rattle.std.proofs.lemmas.Result.{err_from_is_err_and}
-use Rattle.json5_value.proofs.Scalars.{literal_value, string_value, number_value, other_value}
+use Rattle.json5_value.proofs.SkipScalars.{literal_value, string_value, number_value, other_value}
 use Rattle.json5_value.proofs.skip.skip_scalar.Goals as goal
 
 pub returns-in-Literal : goal.returns-in-Literal

@@ -1,6 +1,6 @@
 use Rattle.std.proofs.Common.{◌∙◌}
-use Rattle.json5_value.specs.Steps.{value_at}
-use Rattle.json5_value.proofs.SkipTurns.{ends_whole}
+use Rattle.json5_value.specs.ModelSteps.{value_at}
+use Rattle.json5_value.proofs.SkipInvariant.{ends_whole}
 use Rattle.json5_value.proofs.skip.skip_value.Goals as goal
 
 pub returns-in-Whole : goal.returns-in-Whole

@@ -1,6 +1,6 @@
 use Rattle.std.proofs.Common.{length}
 use Rattle.json5_value.specs.SkipSteps.{Skipping}
-use Rattle.json5_value.specs.Steps.{SameText, value_at}
+use Rattle.json5_value.specs.ModelSteps.{SameText, value_at}
 use Rattle.json5_value.proofs.skip.skip_value.Given as goal
 
 abbrev pub invariant-loop-scanner : goal.invariant-loop-scanner

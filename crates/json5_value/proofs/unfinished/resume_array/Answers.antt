@@ -1,7 +1,7 @@
 use Rattle.std.proofs.Common.{inl}
 use Rattle.json5_value.specs.BuildSteps.{array_at}
 use Rattle.json5_value.proofs.ShortBuilds.{turn_left, element_next, elements_end}
-use Rattle.json5_value.proofs.Steps.{ready_after}
+use Rattle.json5_value.proofs.ModelSteps.{ready_after}
 use Rattle.json5_value.proofs.unfinished.resume_array.Goals as goal
 
 pub returns-else-not-add_entry : goal.returns-else-not-add_entry

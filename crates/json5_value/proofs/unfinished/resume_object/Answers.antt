@@ -1,6 +1,6 @@
 use Rattle.json5_value.specs.BuildSteps.{object_at}
 use Rattle.json5_value.proofs.ShortBuilds.{turn_left, members_end, member_next}
-use Rattle.json5_value.proofs.Steps.{ready_after}
+use Rattle.json5_value.proofs.ModelSteps.{ready_after}
 use Rattle.json5_value.proofs.unfinished.resume_object.Goals as goal
 
 pub returns-in-Closed : goal.returns-in-Closed

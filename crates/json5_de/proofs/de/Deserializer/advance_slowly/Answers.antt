@@ -1,12 +1,12 @@
 use Rattle.std.proofs.Common.{◌∙◌, refl, [], ◌∷◌}
 use Rattle.std.proofs.lemmas.Result.{err_from_is_err_and}
-use Rattle.json5_grammar.proofs.FirstCharacters.{true_false}
-use Rattle.json5_de.specs.Seq.{in_blanks_after}
+use Rattle.json5_grammar.proofs.CommonLemmas.{true_false}
+use Rattle.json5_de.specs.AccessCalls.{in_blanks_after}
 use Rattle.json5_de.proofs.ReadSteps.{input_of, refused_blanks, refused_token}
 use Rattle.json5_de.proofs.RefusalPositions.{refused_as, refused_after}
-use Rattle.json5_de.proofs.OtherCodes.{next_lacks}
+use Rattle.json5_de.proofs.NoFailedCode.{next_lacks}
 use Rattle.json5_de.proofs.TokenKinds.{refused_other}
-use Rattle.json5_de.proofs.Arrays.{failed_of, after_gap_of, no_next, nowhere_next, nowhere_faulty, nowhere_after, goes_after}
+use Rattle.json5_de.proofs.BracketSteps.{failed_of, after_gap_of, no_next, nowhere_next, nowhere_faulty, nowhere_after, goes_after}
 use Rattle.json5_value.specs.Brackets.{brackets_of}
 use Rattle.json5_de.proofs.ObjectMembers.{signs_of}
 use Rattle.json5_de.proofs.de.Deserializer.advance_slowly.Goals as goal

@@ -1,7 +1,7 @@
 use Rattle.std.proofs.Common.{Some, refl, ap, sym, ◌∙◌}
 use Rattle.std.specs.Result.{result_ok}
 use Rattle.hex.specs.Hex.{decode_of}
-use Rattle.json5_de.proofs.BytesDecoded.{judged_undecoded}
+use Rattle.json5_de.proofs.BytesRefused.{judged_undecoded}
 use Rattle.json5_de.proofs.de.Deserializer.bytes_of.Goals as goal
 
 pub returns-in-Ok : goal.returns-in-Ok

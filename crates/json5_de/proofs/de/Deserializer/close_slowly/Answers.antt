@@ -1,5 +1,5 @@
 use Rattle.std.proofs.Common.{◌∙◌}
-use Rattle.json5_de.proofs.Arrays.{failed_of}
+use Rattle.json5_de.proofs.BracketSteps.{failed_of}
 use Rattle.json5_de.proofs.OpenClose.{closes, refuses_closing}
 use Rattle.json5_de.proofs.ReadSteps.{input_of}
 use Rattle.json5_value.specs.Brackets.{brackets_of}

@@ -1,10 +1,10 @@
 use Rattle.std.proofs.Common.{refl, ap, ◌∙◌}
 use Rattle.std.proofs.lemmas.Result.{err_from_is_err_and}
-use Rattle.json5_grammar.proofs.FirstCharacters.{true_false}
+use Rattle.json5_grammar.proofs.CommonLemmas.{true_false}
 use Rattle.json5_de.specs.State.{State}
 use Rattle.json5_de.proofs.ReadSteps.{input_of, refused_blanks}
 use Rattle.json5_de.proofs.MemberRefusals.{after_colon, no_value_next, no_value_faulty, refused_colon}
-use Rattle.json5_de.proofs.OtherCodes.{colon_lacks}
+use Rattle.json5_de.proofs.NoFailedCode.{colon_lacks}
 use Rattle.json5_de.proofs.TokenKinds.{refused_other}
 use Rattle.json5_de.proofs.de.Deserializer.colon_slowly.Goals as goal
 

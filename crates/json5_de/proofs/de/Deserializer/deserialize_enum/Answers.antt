@@ -2,7 +2,7 @@ use Rattle.std.proofs.Common.{refl}
 use Rattle.std.proofs.lemmas.Result.{err_from_is_err_and}
 use Rattle.json5_de.specs.Convert.{names_bytes}
 use Rattle.json5_de.specs.Lending.{enum_state_of, named_state_of}
-use Rattle.json5_de.proofs.Arrays.{failed_of}
+use Rattle.json5_de.proofs.BracketSteps.{failed_of}
 use Rattle.json5_de.proofs.VariantNames.{named_seen, unnamed_seen, lent_name}
 use Rattle.json5_de.proofs.de.Deserializer.deserialize_enum.Goals as goal
 

@@ -3,7 +3,7 @@ use Rattle.std.proofs.lemmas.Result.{err_from_is_err_and}
 use Rattle.json5_de.specs.State.{State}
 use Rattle.json5_de.proofs.ReadSteps.{input_of}
 use Rattle.json5_de.proofs.de.Deserializer.deserialize_newtype_struct.Goals as goal
-use Rattle.json5_grammar.proofs.FirstCharacters.{true_false}
+use Rattle.json5_grammar.proofs.CommonLemmas.{true_false}
 
 pub returns-in-Err : goal.returns-in-Err
 returns-in-Err g c = rw c.refuse.ensures.result (record {

@@ -2,9 +2,9 @@ use Rattle.std.proofs.Common.{refl}
 use Rattle.std.proofs.lemmas.Result.{err_from_is_err_and}
 use Rattle.json5_value.specs.Brackets.{square}
 use Rattle.json5_de.specs.Lending.{state_of}
-use Rattle.json5_de.proofs.Arrays.{failed_of}
+use Rattle.json5_de.proofs.BracketSteps.{failed_of}
 use Rattle.json5_de.proofs.AccessCalls.{opened_seen}
-use Rattle.json5_de.proofs.Elements.{opens_array, refuses_array}
+use Rattle.json5_de.proofs.ArrayElements.{opens_array, refuses_array}
 use Rattle.json5_de.proofs.de.Deserializer.deserialize_seq.Goals as goal
 
 pub returns-in_err-start : goal.returns-in_err-start

@@ -2,10 +2,10 @@ use Rattle.std.proofs.Common.{◌∙◌, refl, arith}
 use Rattle.std.proofs.lemmas.Bool.{false≢true}
 use Rattle.std.proofs.lemmas.Result.{err_from_is_err_and, IfOk-weaker, IfErr-weaker}
 use Rattle.json5_de.specs.ObjectFaults.{no_value, in_value}
-use Rattle.json5_de.proofs.Arrays.{level_of, failed_of}
+use Rattle.json5_de.proofs.BracketSteps.{level_of, failed_of}
 use Rattle.json5_de.proofs.MemberRefusals.{value_read, value_found}
 use Rattle.json5_de.proofs.ReadSteps.{input_of}
-use Rattle.json5_grammar.proofs.FirstCharacters.{true_false}
+use Rattle.json5_grammar.proofs.CommonLemmas.{true_false}
 use Rattle.json5_de.proofs.de.Deserializer.member_value.Goals as goal
 
 pub returns-in_err-colon : goal.returns-in_err-colon

@@ -2,9 +2,9 @@ use Rattle.std.proofs.Common.{refl}
 use Rattle.std.proofs.lemmas.Result.{err_from_is_err_and}
 use Rattle.json5_value.specs.Brackets.{curly}
 use Rattle.json5_de.specs.Lending.{map_state_of, enum_state_of, reader_of_enum}
-use Rattle.json5_de.proofs.Arrays.{failed_of}
+use Rattle.json5_de.proofs.BracketSteps.{failed_of}
 use Rattle.json5_de.proofs.AccessCalls.{opened_seen}
-use Rattle.json5_de.proofs.VariantEnds.{struct_opened, struct_not_opened, given_up_lent}
+use Rattle.json5_de.proofs.VariantBrackets.{struct_opened, struct_not_opened, given_up_lent}
 use Rattle.json5_de.proofs.enums.EnumAccess.struct_variant.Goals as goal
 
 pub returns-in_err-start : goal.returns-in_err-start

@@ -2,9 +2,9 @@ use Rattle.std.proofs.Common.{refl}
 use Rattle.std.proofs.lemmas.Result.{err_from_is_err_and}
 use Rattle.json5_value.specs.Brackets.{square}
 use Rattle.json5_de.specs.Lending.{state_of, enum_state_of, reader_of_enum}
-use Rattle.json5_de.proofs.Arrays.{failed_of}
+use Rattle.json5_de.proofs.BracketSteps.{failed_of}
 use Rattle.json5_de.proofs.AccessCalls.{opened_seen}
-use Rattle.json5_de.proofs.VariantEnds.{tuple_opened, tuple_not_opened, given_up_lent}
+use Rattle.json5_de.proofs.VariantBrackets.{tuple_opened, tuple_not_opened, given_up_lent}
 use Rattle.json5_de.proofs.enums.EnumAccess.tuple_variant.Goals as goal
 
 pub returns-in_err-start : goal.returns-in_err-start

@@ -1,6 +1,6 @@
 use Rattle.std.proofs.Common.{ap, refl, ◌∙◌}
 use Rattle.std.proofs.lemmas.Result.{err_from_is_err_and}
-use Rattle.json5_grammar.proofs.FirstCharacters.{true_false}
+use Rattle.json5_grammar.proofs.CommonLemmas.{true_false}
 use Rattle.json5_de.specs.Lending.{reader_of_key}
 use Rattle.json5_de.specs.State.{State}
 use Rattle.json5_de.proofs.ReadSteps.{input_of}

@@ -1,6 +1,6 @@
 use Rattle.std.proofs.lemmas.Result.{err_from_is_err_and}
 use Rattle.json5_de.specs.Lending.{reader_of_key}
-use Rattle.json5_de.specs.Options.{RefusesLive}
+use Rattle.json5_de.specs.OptionFaults.{RefusesLive}
 use Rattle.json5_de.proofs.FoundKeys.{some_key, no_some_key}
 use Rattle.json5_de.proofs.key.MapKey.deserialize_option.Goals as goal
 

@@ -1,7 +1,7 @@
 use Rattle.std.proofs.Common.{sym, subst}
 use Rattle.json5_de.specs.Enums.{EndsObject}
 use Rattle.json5_de.specs.Lending.{map_state_of}
-use Rattle.json5_de.proofs.VariantEnds.{object_ends, struct_ends}
+use Rattle.json5_de.proofs.VariantBrackets.{object_ends, struct_ends}
 use Rattle.json5_de.proofs.map.MapAccess.end.Goals as goal
 use Rattle.json5_de.proofs.map.MapAccess.end.Goals.{in-None, in-Some}
 

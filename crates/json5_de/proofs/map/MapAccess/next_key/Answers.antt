@@ -1,6 +1,6 @@
 use Rattle.std.proofs.Common.{refl}
 use Rattle.json5_de.specs.Lending.{blocking_map}
-use Rattle.json5_de.proofs.MapCalls.{lent, key_given, key_refused}
+use Rattle.json5_de.proofs.ObjectCalls.{lent, key_given, key_refused}
 use Rattle.json5_de.proofs.map.MapAccess.next_key.Goals as goal
 
 pub returns-in-Ok : goal.returns-in-Ok

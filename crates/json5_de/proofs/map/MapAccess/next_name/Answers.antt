@@ -2,7 +2,7 @@ use Rattle.std.proofs.Common.{refl, Global, string_bytes}
 use Rattle.json5_de.specs.Convert.{every_text}
 use Rattle.json5_de.specs.KeyKinds.{RefusedAsKey, string_key}
 use Rattle.json5_de.specs.Lending.{blocking_map}
-use Rattle.json5_de.proofs.MapCalls.{lent, key_given, key_refused}
+use Rattle.json5_de.proofs.ObjectCalls.{lent, key_given, key_refused}
 use Rattle.json5_de.proofs.map.MapAccess.next_name.Goals as goal
 
 pub returns-in-Ok : goal.returns-in-Ok

@@ -1,6 +1,6 @@
 use Rattle.std.proofs.Common.{refl}
 use Rattle.json5_de.specs.Lending.{blocking_map}
-use Rattle.json5_de.proofs.MapCalls.{lent, value_given, value_refused}
+use Rattle.json5_de.proofs.ObjectCalls.{lent, value_given, value_refused}
 use Rattle.json5_de.proofs.map.MapAccess.next_value.Goals as goal
 
 pub returns-in-Ok : goal.returns-in-Ok

@@ -1,7 +1,7 @@
 use Rattle.std.proofs.Common.{sym, subst}
 use Rattle.json5_de.specs.Enums.{EndsArray}
 use Rattle.json5_de.specs.Lending.{state_of}
-use Rattle.json5_de.proofs.VariantEnds.{array_ends, tuple_ends}
+use Rattle.json5_de.proofs.VariantBrackets.{array_ends, tuple_ends}
 use Rattle.json5_de.proofs.seq.SeqAccess.end.Goals as goal
 use Rattle.json5_de.proofs.seq.SeqAccess.end.Goals.{in-None, in-Some}
 

@@ -1,6 +1,6 @@
 use Rattle.std.proofs.lemmas.Result.{err_from_is_err_and}
 use Rattle.json5_de.specs.Lending.{state_of}
-use Rattle.json5_de.specs.Lists.{missing}
+use Rattle.json5_de.specs.ListFaults.{missing}
 use Rattle.json5_de.proofs.RequiredElements.{short_before, left_refused, left_missing}
 use Rattle.json5_de.proofs.seq.SeqAccess.required.Goals as goal
 

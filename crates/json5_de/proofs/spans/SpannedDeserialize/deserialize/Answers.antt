@@ -5,7 +5,7 @@ use Rattle.json5_grammar.specs.Language.Trees.{Tree, depth}
 use Rattle.json5_grammar.specs.Language.Values.{Reads}
 use Rattle.json5_de.specs.State.{State}
 use Rattle.json5_de.specs.ReaderSteps.{PassedGap}
-use Rattle.json5_de.proofs.Arrays.{level_of, failed_of}
+use Rattle.json5_de.proofs.BracketSteps.{level_of, failed_of}
 use Rattle.json5_de.proofs.Options.{blanks_no_value, value_next, took_after}
 use Rattle.json5_de.proofs.ReadSteps.{input_of}
 use Rattle.json5_de.proofs.Refinement.{reads_content}

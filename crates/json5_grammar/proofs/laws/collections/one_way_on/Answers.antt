@@ -1,4 +1,4 @@
-use Rattle.json5_grammar.proofs.ArraysPassed.{one_opening, one_element, one_close, element_or_close, one_tail}
+use Rattle.json5_grammar.proofs.ArraysPartlyRead.{one_opening, one_element, one_close, element_or_close, one_tail}
 use Rattle.json5_grammar.proofs.laws.collections.one_way_on.Goals as goal
 
 pub returns-clause-opening : goal.returns-clause-opening

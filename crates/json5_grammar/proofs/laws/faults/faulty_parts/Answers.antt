@@ -1,6 +1,6 @@
 use Rattle.std.proofs.Common.{◌++◌, sym, subst}
 use Rattle.json5_grammar.specs.Faults.{Fault}
-use Rattle.json5_grammar.proofs.FaultsParts.{fault_in, fault_part}
+use Rattle.json5_grammar.proofs.FaultParts.{fault_in, fault_part}
 use Rattle.json5_grammar.proofs.FaultsShown.{fault_shows}
 use Rattle.json5_grammar.proofs.FaultsRemain.{fault_follows}
 use Rattle.json5_grammar.proofs.laws.faults.faulty_parts.Goals as goal

@@ -1,4 +1,4 @@
-use Rattle.json5_grammar.proofs.NumbersUnique
+use Rattle.json5_grammar.proofs.NumberFaultsRefused
 use Rattle.json5_grammar.proofs.laws.numbers.one_number.Goals as goal
 
 pub returns : goal.returns

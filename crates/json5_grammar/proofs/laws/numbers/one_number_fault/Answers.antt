@@ -1,8 +1,8 @@
 use Rattle.std.proofs.Common.{◌++◌, sym, subst}
 use Rattle.json5_grammar.specs.Faults.Tokens.{NumberFault}
-use Rattle.json5_grammar.proofs.NumbersUnique.{one_fault, no_fault}
+use Rattle.json5_grammar.proofs.NumberFaultsRefused.{one_fault, no_fault}
 use Rattle.json5_grammar.proofs.NumberFaultsRemain.{part_rest, whatever_follows}
-use Rattle.json5_grammar.proofs.NumberPartOf.{part_of}
+use Rattle.json5_grammar.proofs.NumberFaultParts.{part_of}
 use Rattle.json5_grammar.proofs.laws.numbers.one_number_fault.Goals as goal
 
 pub returns-clause-same : goal.returns-clause-same

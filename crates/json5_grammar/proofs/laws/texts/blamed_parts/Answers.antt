@@ -1,4 +1,4 @@
-use Rattle.json5_grammar.proofs.TextPartOf.{string_part, name_part}
+use Rattle.json5_grammar.proofs.TextFaultParts.{string_part, name_part}
 use Rattle.json5_grammar.proofs.laws.texts.blamed_parts.Goals as goal
 
 pub returns-clause-strings : goal.returns-clause-strings

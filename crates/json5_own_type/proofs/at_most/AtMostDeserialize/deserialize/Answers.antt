@@ -4,7 +4,7 @@ use Rattle.json5.specs.Trees.{Tree, Trees}
 use Rattle.json5.specs.Collections.{contents}
 use Rattle.json5.specs.declared.Spanned.{Spanned}
 use Rattle.json5.specs.Lending.{state_of}
-use Rattle.json5.proofs.Loops.{HasContents, HasAtMost, begins, steps, stops, next_completes, past_completes, end_completes}
+use Rattle.json5.proofs.ElementLoops.{HasContents, HasAtMost, begins, steps, stops, next_completes, past_completes, end_completes}
 use Rattle.json5_own_type.specs.Accepted.{at_most}
 use Rattle.json5_own_type.proofs.at_most.AtMostDeserialize.deserialize.Goals as goal
 

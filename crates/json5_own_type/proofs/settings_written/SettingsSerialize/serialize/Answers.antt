@@ -1,5 +1,5 @@
 use Rattle.std.proofs.Common.{rules, ap}
-use Rattle.json5.proofs.Members.{object_refused, object_begun, field_on, field_refused, object_ended, same_fields}
+use Rattle.json5.proofs.CollectionsWritten.{object_refused, object_begun, field_on, field_refused, object_ended, same_fields}
 use Rattle.json5_own_type.specs.SettingsWritten.{settings_fields, label_field}
 use Rattle.json5_own_type.proofs.settings_written.SettingsSerialize.serialize.Goals as goal
 

@@ -1,5 +1,5 @@
 use Rattle.std.proofs.Common.{rules}
-use Rattle.json5.proofs.Members.{object_refused, object_begun, field_on, field_refused, object_ended}
+use Rattle.json5.proofs.CollectionsWritten.{object_refused, object_begun, field_on, field_refused, object_ended}
 use Rattle.json5_rows.specs.OwnStructs.{config_fields}
 use Rattle.json5_rows.proofs.own_structs.ConfigSerialize.serialize.Goals as goal
 

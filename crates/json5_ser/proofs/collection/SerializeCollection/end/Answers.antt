@@ -1,6 +1,6 @@
-use Rattle.json5_ser.specs.Lending.{state_of, in_variant}
+use Rattle.json5_ser.specs.WrittenCollections.{state_of, in_variant}
 use Rattle.json5_ser.proofs.OutputsJoined.{Writes-handed}
-use Rattle.json5_ser.proofs.Remains.{end_refused, end_in_variant}
+use Rattle.json5_ser.proofs.RemainingOutput.{end_refused, end_in_variant}
 use Rattle.json5_ser.proofs.collection.SerializeCollection.end.Goals as goal
 
 pub returns-in_err-close : goal.returns-in_err-close

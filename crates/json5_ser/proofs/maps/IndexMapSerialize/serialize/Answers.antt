@@ -3,7 +3,7 @@ use Rattle.json5_grammar.specs.Language.Characters.{left_brace, right_brace}
 use Rattle.json5_ser.specs.WrittenTrees.{fields_of}
 use Rattle.json5_ser.specs.Out.{fields_out}
 use Rattle.json5_ser.proofs.Commas.{open_put_refused, left_first, fields_as, member_line_on, member_line_returned, left_ended}
-use Rattle.json5_ser.proofs.PutsJoined.{wrote_whole}
+use Rattle.json5_ser.proofs.ShortWritesJoined.{wrote_whole}
 use Rattle.json5_ser.proofs.maps.IndexMapSerialize.serialize.Goals as goal
 
 pub returns-in_err-open_short : goal.returns-in_err-open_short

@@ -3,7 +3,7 @@ use Rattle.json5_grammar.specs.Faults.Fronts.{closing}
 use Rattle.json5_ser.specs.Brackets.{bracket_of}
 use Rattle.json5_ser.specs.Out.{line, piece}
 use Rattle.json5_ser.proofs.OutputsJoined.{Reaches-first, Reaches-last}
-use Rattle.json5_ser.proofs.PutsJoined.{Puts-exit}
+use Rattle.json5_ser.proofs.ShortWritesJoined.{Puts-exit}
 use Rattle.json5_ser.proofs.serializer.Serializer.close.Goals as goal
 
 pub returns-in_err-start_line : goal.returns-in_err-start_line

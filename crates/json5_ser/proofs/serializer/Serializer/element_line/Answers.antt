@@ -1,7 +1,7 @@
 use Rattle.json5_ser.specs.Out.{out, line, piece}
 use Rattle.json5_ser.specs.Commas.{comma_before}
 use Rattle.json5_ser.proofs.OutputsJoined.{Writes-as, Reaches-first, Reaches-last}
-use Rattle.json5_ser.proofs.PutsJoined.{Puts-exit}
+use Rattle.json5_ser.proofs.ShortWritesJoined.{Puts-exit}
 use Rattle.json5_ser.proofs.Commas.{comma_before_then, tree_after}
 use Rattle.json5_ser.proofs.serializer.Serializer.element_line.Goals as goal
 

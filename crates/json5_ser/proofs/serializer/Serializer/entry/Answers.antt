@@ -2,7 +2,7 @@ use Rattle.std.proofs.Common.{sym, subst}
 use Rattle.json5_ser.specs.Out.{out, key_part, value_part}
 use Rattle.json5_ser.specs.Writes.{Writes}
 use Rattle.json5_ser.proofs.OutputsJoined.{Reaches-first, Reaches-last}
-use Rattle.json5_ser.proofs.PutsJoined.{Writes-returned, wrote_whole}
+use Rattle.json5_ser.proofs.ShortWritesJoined.{Writes-returned, wrote_whole}
 use Rattle.json5_ser.proofs.serializer.Serializer.entry.Goals as goal
 
 pub returns-then-is_err : goal.returns-then-is_err

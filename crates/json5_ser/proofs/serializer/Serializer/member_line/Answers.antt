@@ -3,7 +3,7 @@ use Rattle.json5_grammar.specs.Language.Characters.{colon_sign, space}
 use Rattle.json5_ser.specs.Out.{out, line, piece, ◌then◌, key_out}
 use Rattle.json5_ser.specs.Commas.{comma_before}
 use Rattle.json5_ser.proofs.OutputsJoined.{Writes-as, Reaches-first, Reaches-next, Reaches-last}
-use Rattle.json5_ser.proofs.PutsJoined.{Puts-exit, Reaches-put, Reaches-returned, wrote_whole}
+use Rattle.json5_ser.proofs.ShortWritesJoined.{Puts-exit, Reaches-put, Reaches-returned, wrote_whole}
 use Rattle.json5_ser.proofs.PiecesWritten.{chars_colon_space}
 use Rattle.json5_ser.proofs.Commas.{member_parts, tree_after}
 use Rattle.json5_ser.proofs.serializer.Serializer.member_line.Goals as goal

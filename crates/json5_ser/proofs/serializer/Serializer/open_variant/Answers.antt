@@ -2,7 +2,7 @@ use Rattle.std.specs.Prelude.{⊤, Ok}
 use Rattle.std.specs.Str.{chars}
 use Rattle.json5_grammar.specs.Faults.Fronts.{opening}
 use Rattle.json5_ser.specs.Brackets.{bracket_of}
-use Rattle.json5_ser.proofs.PutsJoined.{Puts-exit, Puts-handed}
+use Rattle.json5_ser.proofs.ShortWritesJoined.{Puts-exit, Puts-handed}
 use Rattle.json5_ser.proofs.PiecesWritten.{chars_colon_space}
 use Rattle.json5_ser.proofs.VariantOpened.{key_refused, colon_refused, variant_opened}
 use Rattle.json5_ser.proofs.serializer.Serializer.open_variant.Goals as goal

@@ -1,4 +1,4 @@
-use Rattle.json5_ser.proofs.PutsJoined.{Puts-handed}
+use Rattle.json5_ser.proofs.ShortWritesJoined.{Puts-handed}
 use Rattle.json5_ser.proofs.serializer.Serializer.put.Goals as goal
 
 pub returns-in-Err : goal.returns-in-Err

@@ -1,6 +1,6 @@
 use Rattle.std.proofs.Common.{◌∙◌, subst}
 use Rattle.json5_ser.specs.WrittenTrees.{named}
-use Rattle.json5_ser.specs.Keys.{WritesKey}
+use Rattle.json5_ser.specs.WrittenKeys.{WritesKey}
 use Rattle.json5_ser.proofs.PiecesWritten.{chars_number}
 use Rattle.json5_ser.proofs.serializer.Serializer.put_digits.Goals as goal
 

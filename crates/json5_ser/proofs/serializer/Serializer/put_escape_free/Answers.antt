@@ -2,7 +2,7 @@ use Rattle.std.proofs.Common.{[], ◌∷◌}
 use Rattle.std.specs.Str.{chars}
 use Rattle.json5_ser.specs.Out.{piece, ◌then◌}
 use Rattle.json5_ser.proofs.OutputsJoined.{Reaches-first, Reaches-next, Reaches-last}
-use Rattle.json5_ser.proofs.PutsJoined.{Puts-exit, Reaches-put}
+use Rattle.json5_ser.proofs.ShortWritesJoined.{Puts-exit, Reaches-put}
 use Rattle.json5_ser.proofs.PiecesWritten.{chars_double_quote}
 use Rattle.json5_ser.proofs.serializer.Serializer.put_escape_free.Goals as goal
 

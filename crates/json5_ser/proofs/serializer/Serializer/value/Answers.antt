@@ -2,7 +2,7 @@ use Rattle.std.proofs.Common.{[], ◌∷◌, sym}
 use Rattle.json5_grammar.specs.Language.Characters.{colon_sign, space, comma_sign}
 use Rattle.json5_ser.specs.Out.{out, piece, ◌then◌}
 use Rattle.json5_ser.proofs.OutputsJoined.{Reaches-first, Reaches-next, Reaches-last}
-use Rattle.json5_ser.proofs.PutsJoined.{Puts-exit, Reaches-returned, wrote_whole}
+use Rattle.json5_ser.proofs.ShortWritesJoined.{Puts-exit, Reaches-returned, wrote_whole}
 use Rattle.json5_ser.proofs.PiecesWritten.{chars_comma, chars_colon_space}
 use Rattle.json5_ser.proofs.Commas.{tree_after}
 use Rattle.json5_ser.proofs.serializer.Serializer.value.Goals as goal

@@ -1,6 +1,6 @@
 use Rattle.std.proofs.Common.{rules}
 use Rattle.json5_ser.specs.WrittenTrees.{element, no_element}
-use Rattle.json5_ser.proofs.Members.{list_refused, list_begun, element_on, element_refused, list_ended}
+use Rattle.json5_ser.proofs.CollectionsWritten.{list_refused, list_begun, element_on, element_refused, list_ended}
 use Rattle.json5_ser.proofs.tuples.Tuple3Serialize.serialize.Goals as goal
 
 pub returns-in_err-list : goal.returns-in_err-list

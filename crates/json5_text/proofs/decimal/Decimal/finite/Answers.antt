@@ -1,8 +1,8 @@
 use Rattle.std.proofs.Common.{◌∙◌, refl, subst}
 use Rattle.std.proofs.lemmas.List.{append-nil}
 use Rattle.json5_grammar.specs.Language.Characters.{is_digit, Each, no_char}
-use Rattle.json5_grammar.proofs.NumberTests.{front_each}
-use Rattle.json5_text.proofs.NumberRuns.{something_follows, nothing_follows}
+use Rattle.json5_grammar.proofs.CharacterTests.{front_each}
+use Rattle.json5_text.proofs.AsciiRuns.{something_follows, nothing_follows}
 use Rattle.json5_text.proofs.NumberZeros.{widened}
 use Rattle.json5_text.proofs.decimal.Decimal.finite.Goals as goal
 

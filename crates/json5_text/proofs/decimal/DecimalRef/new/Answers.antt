@@ -1,7 +1,7 @@
 use Rattle.std.proofs.Common.{◌∙◌, ◌++◌, ap, refl}
 use Rattle.std.proofs.lemmas.Int.{to_z-of_z}
 use mir.Syntax.{w128}
-use Rattle.json5_grammar.proofs.NumberTests.{Each-append}
+use Rattle.json5_grammar.proofs.CharacterTests.{Each-append}
 use Rattle.json5_text.proofs.NumberZeros.{back, fewer_digits, normal_exponent_is, normal_parts, normal_value}
 use Rattle.json5_text.proofs.decimal.DecimalRef.new.Goals as goal
 

@@ -1,5 +1,5 @@
 use Rattle.std.proofs.Common.{◌∙◌, arith}
-use Rattle.json5_grammar.proofs.NumberTests.{Each-append}
+use Rattle.json5_grammar.proofs.CharacterTests.{Each-append}
 use Rattle.json5_text.proofs.InlineDigits.{copied}
 use Rattle.json5_text.proofs.inline_digits.InlineDigits.new.Goals as goal
 

@@ -2,7 +2,7 @@ use Rattle.std.proofs.Common.{◌≡◌, ◌+◌, ◌-◌, List, ℕ, [], ◌∷
 use Rattle.std.specs.Str.{chars, IsCharBoundary}
 use Rattle.json5_text.specs.Outcome.{bytes_in}
 use Rattle.json5_text.specs.Cursor.{Cursor}
-use Rattle.json5_text.proofs.ScanBytes.{next_is, next_left, cut_left, drop_left, whole_split}
+use Rattle.json5_text.proofs.TextCuts.{next_is, next_left, cut_left, drop_left, whole_split}
 use Rattle.json5_text.proofs.scanner.Scanner.eat.Goals as goal
 
 pub overflow_add-self : goal.overflow_add-self

@@ -3,7 +3,7 @@ use Rattle.std.specs.Str.{chars}
 use Rattle.json5_grammar.specs.Language.Names.{Key}
 use Rattle.json5_text.specs.Cursor.{Cursor}
 use Rattle.json5_text.specs.ScanKeys.{key_ahead}
-use Rattle.json5_text.specs.Tokens.{FaultyKey}
+use Rattle.json5_text.specs.TokenFaults.{FaultyKey}
 use Rattle.json5_text.proofs.ScanFaults.{refusal_in, refused}
 use Rattle.json5_text.proofs.TextTokens.{unread_fits, token_inside}
 use Rattle.json5_text.proofs.ScanKeys.{key_taken, key_faulty, key_memory, escape_free_key_memory, made_of_memory}

@@ -1,4 +1,4 @@
-use Rattle.json5_text.proofs.ScanBytes.{halves_in, parts_scalar, offset_counted}
+use Rattle.json5_text.proofs.TextCuts.{halves_in, parts_scalar, offset_counted}
 use Rattle.json5_text.proofs.scanner.Scanner.offset.Goals as goal
 
 pub returns-clause-counted : goal.returns-clause-counted

@@ -1,7 +1,7 @@
 use Rattle.std.proofs.Common.{◌∙◌, ap}
 use Rattle.std.specs.Prelude.{slice_get, Some}
 use Rattle.json5_text.specs.Cursor.{Cursor}
-use Rattle.json5_text.proofs.ScanBytes.{ascii_next}
+use Rattle.json5_text.proofs.TextCuts.{ascii_next}
 use Rattle.json5_text.proofs.scanner.Scanner.peek.Goals as goal
 
 pub returns-then-bytes-self-lt128 : goal.returns-then-bytes-self-lt128

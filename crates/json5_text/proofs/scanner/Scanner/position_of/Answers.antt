@@ -2,7 +2,7 @@ use Rattle.std.proofs.Common.{◌≡◌, take, ap, sym, ◌∙◌, subst, refl, 
 use Rattle.std.specs.Str.{chars, IsCharBoundary}
 use Rattle.json5_grammar.specs.Faults.Positions.{position_after}
 use Rattle.json5_text.specs.Cursor.{Cursor, IsOffset}
-use Rattle.json5_text.proofs.ScanBytes.{cut_before, take_before, boundary_offset}
+use Rattle.json5_text.proofs.TextCuts.{cut_before, take_before, boundary_offset}
 use Rattle.json5_text.proofs.scanner.Scanner.position_of.Goals as goal
 
 pub returns-in-Some : goal.returns-in-Some

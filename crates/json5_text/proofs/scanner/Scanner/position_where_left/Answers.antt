@@ -2,7 +2,7 @@ use Rattle.std.proofs.Common.{◌-◌, take, ap, sym, ◌∙◌, subst}
 use Rattle.std.specs.Str.{chars, IsCharBoundary}
 use Rattle.json5_grammar.specs.Faults.Positions.{position_after}
 use Rattle.json5_text.specs.Cursor.{Cursor}
-use Rattle.json5_text.proofs.ScanBytes.{cut_left, take_left, fits_left, whole_split}
+use Rattle.json5_text.proofs.TextCuts.{cut_left, take_left, fits_left, whole_split}
 use Rattle.json5_text.proofs.scanner.Scanner.position_where_left.Goals as goal
 
 pub overflow_sub-self-inside : goal.overflow_sub-self-inside

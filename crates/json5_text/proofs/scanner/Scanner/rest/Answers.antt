@@ -1,7 +1,7 @@
 use Rattle.std.proofs.Common.{drop, ap, sym, ◌∙◌, subst}
 use Rattle.std.specs.Str.{chars, IsCharBoundary}
 use Rattle.json5_text.specs.Cursor.{Cursor}
-use Rattle.json5_text.proofs.ScanBytes.{same_text}
+use Rattle.json5_text.proofs.TextCuts.{same_text}
 use Rattle.json5_text.proofs.scanner.Scanner.rest.Goals as goal
 
 pub range_from-requires : goal.range_from-requires

@@ -1,6 +1,6 @@
 use Rattle.std.proofs.Common.{◌++◌, ap, sym, ◌∙◌}
 use Rattle.json5_text.specs.Cursor.{Cursor}
-use Rattle.json5_text.proofs.ScanBytes.{cut_left, drop_left, fits_left, whole_split}
+use Rattle.json5_text.proofs.TextCuts.{cut_left, drop_left, fits_left, whole_split}
 use Rattle.json5_text.proofs.scanner.Scanner.set_remaining.Goals as goal
 
 pub overflow_sub-self : goal.overflow_sub-self

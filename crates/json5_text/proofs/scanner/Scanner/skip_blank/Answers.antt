@@ -3,7 +3,7 @@ use Rattle.std.specs.Str.{chars}
 use Rattle.json5_grammar.specs.Language.Blanks.{Gap, Solid}
 use Rattle.json5_grammar.specs.Model.ReadBlanks.{skip, between}
 use Rattle.json5_text.specs.ByteRuns.{BeginsSolid}
-use Rattle.json5_text.specs.Tokens.{FaultyBlanks}
+use Rattle.json5_text.specs.TokenFaults.{FaultyBlanks}
 use Rattle.json5_text.proofs.AsciiBlanks.{at_solid_text}
 use Rattle.json5_text.proofs.ScanFaults.{refusal_in, coded}
 use Rattle.json5_text.proofs.ScanTokens.{left_counted, leaves_rest, blanks_passed, blanks_faulty}

@@ -1,7 +1,7 @@
 use Rattle.std.proofs.Common.{refl, ◌∙◌}
 use Rattle.std.specs.Str.{chars}
 use Rattle.json5_grammar.specs.Model.ReadTexts.{identifier}
-use Rattle.json5_text.specs.Tokens.{FaultyName}
+use Rattle.json5_text.specs.TokenFaults.{FaultyName}
 use Rattle.json5_text.proofs.ScanFaults.{refusal_in, refused}
 use Rattle.json5_text.proofs.ScanTokens.{left_counted, leaves_rest, name_taken, name_faulty, name_never}
 use Rattle.json5_text.proofs.scanner.Scanner.skip_identifier.Goals as goal

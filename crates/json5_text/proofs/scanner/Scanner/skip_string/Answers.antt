@@ -1,7 +1,7 @@
 use Rattle.std.proofs.Common.{refl}
 use Rattle.std.specs.Str.{chars}
 use Rattle.json5_text.specs.ScanTexts.{string_at}
-use Rattle.json5_text.specs.Tokens.{FaultyString}
+use Rattle.json5_text.specs.TokenFaults.{FaultyString}
 use Rattle.json5_text.proofs.ScanFaults.{refusal_in, refused}
 use Rattle.json5_text.proofs.ScanTokens.{left_counted, leaves_rest, string_taken, string_faulty, string_never}
 use Rattle.json5_text.proofs.scanner.Scanner.skip_string.Goals as goal

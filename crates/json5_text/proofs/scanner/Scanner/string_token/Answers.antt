@@ -2,7 +2,7 @@ use Rattle.std.proofs.Common.{ap, refl}
 use Rattle.std.specs.Str.{chars}
 use Rattle.json5_text.specs.Cursor.{Cursor}
 use Rattle.json5_text.specs.ScanTexts.{string_at}
-use Rattle.json5_text.specs.Tokens.{FaultyString}
+use Rattle.json5_text.specs.TokenFaults.{FaultyString}
 use Rattle.json5_text.proofs.ScanFaults.{refusal_in, refused}
 use Rattle.json5_text.proofs.ScanTokens.{left_counted, leaves_rest, string_taken, string_faulty, escape_free_memory}
 use Rattle.json5_text.proofs.TextTokens.{unread_fits, token_inside}

@@ -1,7 +1,7 @@
 use Rattle.std.proofs.Common.{refl}
 use Rattle.std.specs.Str.{chars}
 use Rattle.json5_grammar.specs.Model.Reading.{word_at}
-use Rattle.json5_text.specs.Tokens.{FaultyWord}
+use Rattle.json5_text.specs.TokenFaults.{FaultyWord}
 use Rattle.json5_text.proofs.ScanFaults.{refusal_in, coded}
 use Rattle.json5_text.proofs.ScanTokens.{left_counted, leaves_rest, word_passed, word_faulty}
 use Rattle.json5_text.proofs.scanner.Scanner.word.Goals as goal
