@@ -1,4 +1,4 @@
--- Lemmas.
+-- Lists the lemmas that proofs of users' types cite.
 pub mod WholeValues
 pub mod NamesBack
 pub mod ReadsBack

@@ -10,7 +10,7 @@ use Rattle.std.specs.List.Sorted.{IsStrictlySortedBy}
 use Rattle.std.specs.Map.{keys_of}
 use Rattle.std.specs.BTreeMap as tree
 use Rattle.indexmap.specs.IndexMap.{insert_entry}
-use Rattle.json5_de.specs.Maps.{pair_content, in_order, in_turn}
+use Rattle.json5_de.specs.Maps.{pair_content, in_key_order, in_insertion_order}
 use Rattle.json5_de.proofs.MapContents.{order_content, turn_content}
 use Rattle.json5.specs.ReadsBack.{OrderStays, TurnStays}
 
@@ -62,7 +62,7 @@ module _ {K V : Type 0} (cmp : K → K → Ordering) (total : IsTotalOrder cmp) 
   put_last [] k v h = refl
   put_last (e ∷ es) k v h = let above : cmp k e.0 ≡ Greater = total.antisymm k e.0 ∙ ap ordering_reverse h.0 in rw (above) (ap (λ l. e ∷ l) (put_last es k v h.1))
 
-  order_again : (es : List (K × V)) → IsStrictlySortedBy cmp (keys_of es) → in_order cmp es ≡ es
+  order_again : (es : List (K × V)) → IsStrictlySortedBy cmp (keys_of es) → in_key_order cmp es ≡ es
   order_again es s = made_again (λ x y. cmp x y ≡ Less) (tree.insert_entry cmp) put_last es (sorted cmp (keys_of es) s)
 
 module _ {K V : Type 0} (eq : K → K → Bool) (equivalence : IsEquivalence eq) where
@@ -70,7 +70,7 @@ module _ {K V : Type 0} (eq : K → K → Bool) (equivalence : IsEquivalence eq)
   put_new [] k v h = refl
   put_new (e ∷ es) k v h = let other : eq k e.0 ≡ false = equivalence.symm k e.0 ∙ h.0 in rw (other) (ap (λ l. e ∷ l) (put_new es k v h.1))
 
-  turn_again : (es : List (K × V)) → IsDistinct eq (keys_of es) → in_turn eq es ≡ es
+  turn_again : (es : List (K × V)) → IsDistinct eq (keys_of es) → in_insertion_order eq es ≡ es
   turn_again es s = made_again (λ x y. eq x y ≡ false) (insert_entry eq) put_new es (distinct eq (keys_of es) s)
 
 pub order_stays : {K V C D : Type 0} (key : K → C) (value : V → D) (cmp : K → K → Ordering) → IsTotalOrder cmp → OrderStays key value cmp

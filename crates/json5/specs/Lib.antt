@@ -1,3 +1,4 @@
+-- Lists the definitions that contracts and users' types cite.
 pub mod WholeValues
 pub mod ReadsBack
 -- What else contracts cite, and what a user's type cites: trees, and what an input holds.

@@ -7,7 +7,7 @@ use Rattle.std.specs.declared.cmp.Ordering.{Ordering}
 use Rattle.json5_grammar.specs.Language.Trees.{Tree}
 use Rattle.json5_grammar.specs.Model.Collections.{contents, array_of}
 use Rattle.json5_de.specs.Keys.{KeyConversion}
-use Rattle.json5_de.specs.Maps.{TellsKeys, pair_content, pairs_of, in_order, in_turn}
+use Rattle.json5_de.specs.Maps.{TellsKeys, pair_content, pairs_of, in_key_order, in_insertion_order}
 use Rattle.json5_ser.specs.WrittenTrees.{Written, WrittenKey, named, array, object, elements_of, fields_of}
 use Rattle.json5_ser.specs.Marks.{marks, is_escape_free_key}
 
@@ -39,9 +39,9 @@ MembersReadBack {K} {V} key keys as_key tree values as_value =
 -- members whose keys ascend stay as they are if they are inserted in turn into a map that keeps the keys' order
 abbrev pub OrderStays : {K V C D : Type 0} → (K → C) → (V → D) → (K → K → Ordering) → Type 0
 OrderStays {K} {V} {C} key value cmp =
-    (es : List (K × V)) (test : C → C → Ordering) → IsStrictlySortedBy cmp (keys_of es) → TellsKeys key cmp test → in_order test (map (pair_content key value) es) ≡ map (pair_content key value) es
+    (es : List (K × V)) (test : C → C → Ordering) → IsStrictlySortedBy cmp (keys_of es) → TellsKeys key cmp test → in_key_order test (map (pair_content key value) es) ≡ map (pair_content key value) es
 
 -- the same of members whose keys differ, and of a map that keeps the order in which they came
 abbrev pub TurnStays : {K V C D : Type 0} → (K → C) → (V → D) → (K → K → Bool) → Type 0
 TurnStays {K} {V} {C} key value eq =
-    (es : List (K × V)) (test : C → C → Bool) → IsDistinct eq (keys_of es) → TellsKeys key eq test → in_turn test (map (pair_content key value) es) ≡ map (pair_content key value) es
+    (es : List (K × V)) (test : C → C → Bool) → IsDistinct eq (keys_of es) → TellsKeys key eq test → in_insertion_order test (map (pair_content key value) es) ≡ map (pair_content key value) es

@@ -1,4 +1,4 @@
--- What is expected of a kind of value: at the end and at a character that begins none of it there is no such value, and what can be read isn't refused.
+-- A kind of value: none is found at the end of the input or at a character that can't begin one, and one that can be read isn't refused.
 use Rattle.std.proofs.Common.{◌≡◌, ℕ, Bool, true, false, List, [], ◌∷◌, ◌++◌, refl, ap, sym, ◌∙◌, subst, inl, inr, Option, Some, None}
 use Rattle.std.specs.Prelude.{Result, Ok, Err, IfOk, IfErr}
 use Rattle.std.proofs.lemmas.List.{append-nil}

@@ -1,3 +1,4 @@
+-- Lists the lemmas about typed reading.
 pub mod ExpectedKinds
 pub mod WordFaults
 pub mod ExpectsWords

@@ -6,7 +6,7 @@ use Rattle.std.specs.declared.cmp.Ordering.TheVariants.{Less, Equal, Greater}
 use Rattle.std.specs.BTreeMap as tree
 use Rattle.indexmap.specs.IndexMap.{insert_entry, insert_all}
 use Rattle.json5_de.specs.ConvertLists.{if_some}
-use Rattle.json5_de.specs.Maps.{TellsKeys, pair_content, last_value, found_in, in_turn, in_order}
+use Rattle.json5_de.specs.Maps.{TellsKeys, pair_content, last_value, found_in, in_insertion_order, in_key_order}
 
 module _ {K V C D : Type 0} (key : K → C) (value : V → D) where
   -- what counts of a map is made of what counts of each member
@@ -26,7 +26,7 @@ module _ {K V C D : Type 0} (key : K → C) (value : V → D) where
   all_contents eq same tells es (p ∷ ps) =
       all_contents eq same tells (insert_entry eq es p.0 p.1) ps ∙ ap (λ l. insert_all same l (map (pair_content key value) ps)) (insert_content eq same tells es p)
 
-  pub turn_content : (eq : K → K → Bool) (same : C → C → Bool) → TellsKeys key eq same → (ps : List (K × V)) → map (pair_content key value) (in_turn eq ps) ≡ in_turn same (map (pair_content key value) ps)
+  pub turn_content : (eq : K → K → Bool) (same : C → C → Bool) → TellsKeys key eq same → (ps : List (K × V)) → map (pair_content key value) (in_insertion_order eq ps) ≡ in_insertion_order same (map (pair_content key value) ps)
   turn_content eq same tells ps = all_contents eq same tells [] ps
 
   insert_content_ordered : (cmp : K → K → Ordering) (compare : C → C → Ordering) → TellsKeys key cmp compare → (es : List (K × V)) (p : K × V)
@@ -48,7 +48,7 @@ module _ {K V C D : Type 0} (key : K → C) (value : V → D) where
       all_contents_ordered cmp compare tells (tree.insert_entry cmp es p.0 p.1) ps
       ∙ ap (λ l. fold (λ done e. tree.insert_entry compare done e.0 e.1) l (map (pair_content key value) ps)) (insert_content_ordered cmp compare tells es p)
 
-  pub order_content : (cmp : K → K → Ordering) (compare : C → C → Ordering) → TellsKeys key cmp compare → (ps : List (K × V)) → map (pair_content key value) (in_order cmp ps) ≡ in_order compare (map (pair_content key value) ps)
+  pub order_content : (cmp : K → K → Ordering) (compare : C → C → Ordering) → TellsKeys key cmp compare → (ps : List (K × V)) → map (pair_content key value) (in_key_order cmp ps) ≡ in_key_order compare (map (pair_content key value) ps)
   order_content cmp compare tells ps = all_contents_ordered cmp compare tells [] ps
 
   either : (b : Bool) (v w : V) → value (if b then v else w) ≡ (if b then value v else value w)

@@ -9,7 +9,7 @@ use Rattle.json5_de.specs.State.{State}
 use Rattle.json5_de.specs.DeserializeLaw.{TookValue, Gives, Completes}
 use Rattle.json5_de.specs.Keys.{KeyConversion}
 use Rattle.json5_de.specs.ConvertLists.{if_some}
-use Rattle.json5_de.specs.Maps.{TellsKeys, Told, pair_content, found_in, in_turn, in_order, pairs_of, map_of, GivesMembers}
+use Rattle.json5_de.specs.Maps.{TellsKeys, Told, pair_content, found_in, in_insertion_order, in_key_order, pairs_of, map_of, GivesMembers}
 use Rattle.json5_de.proofs.MapContents.{turn_content, order_content, found_content}
 
 some_from : {A B : Type 0} (f : A → B) (o : Option A) (b : B) → if_some f o ≡ Some b → (a : A) × (o ≡ Some a) × (f a ≡ b)
@@ -28,12 +28,12 @@ module _ {C D A : Type 0} (keys : KeyConversion C) (values : Tree → Option D) 
   completes_map result complete t r c live reads shallow is = let (cs, are, made) = some_from gathered (pairs_of keys values t) c is in complete t r cs live reads shallow are
 
 module _ {K V C D : Type 0} (key : K → C) (value : V → D) where
-  pub ordered_content : (cmp : K → K → Ordering) (es ps : List (K × V)) → es ≡ in_order cmp ps
-      → Path (Told key cmp (List (C × D))) (λ test tells. map (pair_content key value) es) (λ test tells. in_order test (map (pair_content key value) ps))
+  pub ordered_content : (cmp : K → K → Ordering) (es ps : List (K × V)) → es ≡ in_key_order cmp ps
+      → Path (Told key cmp (List (C × D))) (λ test tells. map (pair_content key value) es) (λ test tells. in_key_order test (map (pair_content key value) ps))
   ordered_content cmp es ps are = λ i test tells. (ap (map (pair_content key value)) are ∙ order_content key value cmp test tells ps) i
 
-  pub indexed_content : (eq : K → K → Bool) (es ps : List (K × V)) → es ≡ in_turn eq ps
-      → Path (Told key eq (List (C × D))) (λ test tells. map (pair_content key value) es) (λ test tells. in_turn test (map (pair_content key value) ps))
+  pub indexed_content : (eq : K → K → Bool) (es ps : List (K × V)) → es ≡ in_insertion_order eq ps
+      → Path (Told key eq (List (C × D))) (λ test tells. map (pair_content key value) es) (λ test tells. in_insertion_order test (map (pair_content key value) ps))
   indexed_content eq es ps are = λ i test tells. (ap (map (pair_content key value)) are ∙ turn_content key value eq test tells ps) i
 
   pub hashed_content : (eq : K → K → Bool) (es ps : List (K × V)) → ((q : K) → lookup_entry (eq q) es ≡ found_in (eq q) ps)

@@ -1,4 +1,4 @@
--- What the steps of a read amount to.
+-- A gap and a token together make one value that was read.
 use Rattle.std.proofs.Common.{◌≡◌, ℕ, Bool, false, List, [], ◌∷◌, ◌++◌, refl, ap, sym, ◌∙◌, subst, append_assoc, ◌⊎◌, inl, inr, Option, Some, None, arith}
 use Rattle.json5_grammar.specs.declared.error_code.ErrorCode.{ErrorCode}
 use Rattle.json5_grammar.specs.Faults.Codes.{after_text}

@@ -30,7 +30,7 @@ abbrev pub Completes : {V C : Type 0} → (Tree → Option C) → State → Resu
 Completes {C = C} convert old result =
     (t : Tree) (r : List ℕ) (c : C) → old.failed ≡ false → Reads old.unread t r → old.level + depth t ≤ max_depth → convert t ≡ Some c → IsOkOrMemory result
 
--- a tree that is free and can be read is read without memory
+-- a tree that is allocation-free and can be read is read without taking memory
 abbrev pub CompletesFree : {V C : Type 0} → (Tree → Bool) → (Tree → Option C) → State → Result V Error → Type 0
 CompletesFree {C = C} allocation_free convert old result =
     (t : Tree) (r : List ℕ) (c : C) → old.failed ≡ false → Reads old.unread t r → old.level + depth t ≤ max_depth → convert t ≡ Some c → allocation_free t ≡ true → IsOk result

@@ -33,7 +33,7 @@ pub data NotText {C : Type 0} (other : Option ErrorCode) (convert : List ℕ →
   faulty_text : {x : List ℕ} {reason : Option ErrorCode} {place : Option (List ℕ)} → FaultyString x reason place → NotText other convert x reason place
   other_text : {s u : List ℕ} {escape_free : Bool} (r : List ℕ) → Str s u escape_free → convert u escape_free ≡ None → NotText other convert (s ++ r) other (Some [])
 
--- a reader that hasn't failed refuses with a fault of blanks, or with one that the relation gives what follows them, at its position
+-- a reader that hasn't failed refuses with a fault of the blanks, or with a fault that IsFault allows for what follows them; the error has that fault's position
 abbrev pub RefusedBy : FaultRelation → State → Error → Type 0
 RefusedBy IsFault old e = old.failed ≡ false → Refused (AfterBlanks IsFault) (cursor_of old) e
 

@@ -1,3 +1,4 @@
+-- Lists the definitions that contracts of typed reading cite.
 pub mod State
 pub mod DeserializeLaw
 pub mod Faults

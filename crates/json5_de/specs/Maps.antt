@@ -14,11 +14,11 @@ use Rattle.json5_de.specs.Keys.{KeyConversion}
 
 -- ---- equal keys, by their contents
 
--- the test tells contents apart as the type tells keys apart
+-- the test compares contents as the type compares keys
 abbrev pub TellsKeys : {K C A : Type 0} → (K → C) → (K → K → A) → (C → C → A) → Type 0
 TellsKeys {K} content compare test = (x y : K) → test (content x) (content y) ≡ compare x y
 
--- an A for each test that tells contents apart as the type tells keys apart
+-- an A for each test that compares contents as the type compares keys
 abbrev pub Told : {K C R : Type 0} → (K → C) → (K → K → R) → Type 0 → Type 0
 Told {K} {C} {R} content compare A = (test : C → C → R) → TellsKeys content compare test → A
 
@@ -39,12 +39,12 @@ found_in test [] = None
 found_in test (p ∷ ps) = if test p.0 then Some (p.0, last_value test p.1 ps) else found_in test ps
 
 -- the members inserted in turn into a map that keeps the order in which keys first came
-abbrev pub in_turn : {C D : Type 0} → (C → C → Bool) → List (C × D) → List (C × D)
-in_turn same ps = insert_all same [] ps
+abbrev pub in_insertion_order : {C D : Type 0} → (C → C → Bool) → List (C × D) → List (C × D)
+in_insertion_order same ps = insert_all same [] ps
 
 -- the members inserted in turn into a map that keeps the keys' order
-abbrev pub in_order : {C D : Type 0} → (C → C → Ordering) → List (C × D) → List (C × D)
-in_order compare ps = fold (λ done p. tree.insert_entry compare done p.0 p.1) [] ps
+abbrev pub in_key_order : {C D : Type 0} → (C → C → Ordering) → List (C × D) → List (C × D)
+in_key_order compare ps = fold (λ done p. tree.insert_entry compare done p.0 p.1) [] ps
 
 -- ---- maps
 
@@ -68,12 +68,12 @@ module _ {K C D R M A : Type 0} (key : K → C) (compare : K → K → R) (keys 
 
 module _ {K V C D : Type 0} (key : K → C) (value : V → D) where
   -- by the keys' order
-  abbrev pub HoldsInOrder : (cmp : K → K → Ordering) → KeyConversion C → (Tree → Option D) → (tree.BTreeMap K V → Told key cmp (List (C × D))) → (Tree → Option (Told key cmp (List (C × D)))) → Type 0
-  HoldsInOrder cmp keys values content convert = Holds key cmp keys values content convert (λ m. map (pair_content key value) m.entries) (λ test ps. in_order test ps)
+  abbrev pub HoldsInKeyOrder : (cmp : K → K → Ordering) → KeyConversion C → (Tree → Option D) → (tree.BTreeMap K V → Told key cmp (List (C × D))) → (Tree → Option (Told key cmp (List (C × D)))) → Type 0
+  HoldsInKeyOrder cmp keys values content convert = Holds key cmp keys values content convert (λ m. map (pair_content key value) m.entries) (λ test ps. in_key_order test ps)
 
   -- by the order in which keys first came
-  abbrev pub HoldsInTurn : {S : Type 0} (eq : K → K → Bool) → KeyConversion C → (Tree → Option D) → (IndexMap K V S → Told key eq (List (C × D))) → (Tree → Option (Told key eq (List (C × D)))) → Type 0
-  HoldsInTurn eq keys values content convert = Holds key eq keys values content convert (λ m. map (pair_content key value) m.entries) (λ test ps. in_turn test ps)
+  abbrev pub HoldsInInsertionOrder : {S : Type 0} (eq : K → K → Bool) → KeyConversion C → (Tree → Option D) → (IndexMap K V S → Told key eq (List (C × D))) → (Tree → Option (Told key eq (List (C × D)))) → Type 0
+  HoldsInInsertionOrder eq keys values content convert = Holds key eq keys values content convert (λ m. map (pair_content key value) m.entries) (λ test ps. in_insertion_order test ps)
 
   -- in no order: what is found at each key
   abbrev pub HoldsAtKeys : {S : Type 0} (eq : K → K → Bool) → KeyConversion C → (Tree → Option D) → (HashMap K V S → Told key eq (K → Option (C × D))) → (Tree → Option (Told key eq (K → Option (C × D)))) → Type 0

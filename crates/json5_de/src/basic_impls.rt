@@ -1,4 +1,4 @@
-//! The types that can be read, beside integers, lists and maps.
+//! `Deserialize` for literals, decimals, strings, bytes and values of any kind.
 
 ghost use Rattle.std.specs.Prelude.{string_bytes};
 ghost use Rattle.json5_text.specs.ByteBufs.{bytes_of};

@@ -9,9 +9,9 @@ use std::collections::BTreeMap;
 
 impl<K: Ord + Drop, V: Drop> Gathers<K, V> for BTreeMap<K, V> {
     ghost use Rattle.std.specs.Prelude.{◌≡◌};
-    ghost use Rattle.json5_de.specs.Maps.{in_order};
+    ghost use Rattle.json5_de.specs.Maps.{in_key_order};
 
-    ghost gathered = { λ m ps. m.entries ≡ in_order K.cmp ps };
+    ghost gathered = { λ m ps. m.entries ≡ in_key_order K.cmp ps };
 
     fn put(&mut self, key: K, value: V) -> Result<()> {
         self.insert(key, value)?;
@@ -24,14 +24,14 @@ impl<K: Ord + Drop, V: Drop> Gathers<K, V> for BTreeMap<K, V> {
 /// value that is refused, and `OutOfMemory`.
 impl<I: Input, K: DeserializeKey<I> + Ord, V: Deserialize<I>> Deserialize<I> for BTreeMap<K, V> {
     ghost use Rattle.std.specs.Prelude.{List, map};
-    ghost use Rattle.json5_de.specs.Maps.{Told, pair_content, map_of, in_order};
+    ghost use Rattle.json5_de.specs.Maps.{Told, pair_content, map_of, in_key_order};
     ghost use Rattle.json5_de.specs.MapFaults.{sides, RefusesMap};
 
     ghost Content = { Told K.content K.cmp (List (K.Content × V.Content)) };
 
     ghost content = { λ m test tells. map (pair_content K.content V.content) m.entries };
 
-    ghost convert = { map_of K.convert V.convert (λ ps test tells. in_order test ps) };
+    ghost convert = { map_of K.convert V.convert (λ ps test tells. in_key_order test ps) };
 
     ghost refuses = { RefusesMap (sides K.convert V.convert K.refuses V.refuses) };
 

@@ -31,9 +31,9 @@ use json5_text::value::Value;
 use json5_text::{ErrorCode, Position};
 use json5_value::faults::{fault_here, unexpected_here, with_position_at};
 use json5_value::kinds::{Literal, skip_literal};
+use json5_value::owned_tokens::key_owned;
 use json5_value::read::read_value;
 use json5_value::skip::skip_value;
-use json5_value::owned_tokens::key_owned;
 use std::alloc::Global;
 use std::marker::Model;
 
@@ -164,7 +164,7 @@ impl<I: Input> Deserializer<I> {
     }
 
     /// Makes a reader at the start of the text that opens no more brackets at once than the limit, and refuses the next with
-    /// `TooDeep`. Nothing is read yet. In its contract the brackets past the limit count as open, 128 minus the limit, so that
+    /// `TooDeep`. Nothing is read yet. Its contract counts 128 minus the limit as brackets that are already open, so that
     /// the same contracts hold for every limit.
     ///
     /// ```text

@@ -10,9 +10,9 @@ use std::hash::Hash;
 
 impl<K: Eq + Hash + Drop, V: Drop> Gathers<K, V> for IndexMap<K, V> {
     ghost use Rattle.std.specs.Prelude.{◌≡◌};
-    ghost use Rattle.json5_de.specs.Maps.{in_turn};
+    ghost use Rattle.json5_de.specs.Maps.{in_insertion_order};
 
-    ghost gathered = { λ m ps. m.entries ≡ in_turn K.eq ps };
+    ghost gathered = { λ m ps. m.entries ≡ in_insertion_order K.eq ps };
 
     fn put(&mut self, key: K, value: V) -> Result<()> {
         self.insert(key, value)?;
@@ -28,14 +28,14 @@ impl<K: Eq + Hash + Drop, V: Drop> Gathers<K, V> for IndexMap<K, V> {
 impl<I: Input, K: DeserializeKey<I> + Eq + Hash, V: Deserialize<I>> Deserialize<I>
     for IndexMap<K, V> {
     ghost use Rattle.std.specs.Prelude.{List, map};
-    ghost use Rattle.json5_de.specs.Maps.{Told, pair_content, map_of, in_turn};
+    ghost use Rattle.json5_de.specs.Maps.{Told, pair_content, map_of, in_insertion_order};
     ghost use Rattle.json5_de.specs.MapFaults.{sides, RefusesMap};
 
     ghost Content = { Told K.content K.eq (List (K.Content × V.Content)) };
 
     ghost content = { λ m test tells. map (pair_content K.content V.content) m.entries };
 
-    ghost convert = { map_of K.convert V.convert (λ ps test tells. in_turn test ps) };
+    ghost convert = { map_of K.convert V.convert (λ ps test tells. in_insertion_order test ps) };
 
     ghost refuses = { RefusesMap (sides K.convert V.convert K.refuses V.refuses) };
 

@@ -2,19 +2,19 @@
 #![tactic(auto)]
 
 mod any;
+mod basic_impls;
 mod brackets;
 mod btree_map;
 mod bytes;
 mod de;
-mod whole_decimals;
 mod enums;
 mod fields;
 mod found_text;
 mod gather;
 mod hash_map;
 mod index_map;
-mod integer_types;
 mod integer_ranges;
+mod integer_types;
 mod key;
 mod key_documents;
 mod key_texts;
@@ -34,8 +34,8 @@ mod spans;
 mod stage;
 mod strings;
 mod tuples;
-mod basic_impls;
 mod variant_names;
+mod whole_decimals;
 mod whole_input;
 
 pub use any::IgnoredAny;

@@ -6,9 +6,9 @@ ghost use Rattle.json5_de.specs.TokenKinds.{ReadsAs, ReadsNull, bool_kind, whole
 ghost use Rattle.json5_de.specs.ReaderSteps.{WholeAt};
 
 use crate::de::Deserializer;
-use crate::whole_decimals::same_decimal;
 use crate::integer_ranges::{signed, unsigned};
 use crate::mismatch::Mismatch;
+use crate::whole_decimals::same_decimal;
 use json5_text::decimal::Decimal;
 use json5_text::error::Result;
 use json5_text::input::Input;

@@ -23,7 +23,7 @@ use json5_text::input::Input;
 pub struct Spanned<T> {
     /// The count of bytes before the value's first character.
     pub start: usize,
-    /// The count of bytes before what follows the value.
+    /// The offset in bytes just after the value.
     pub end: usize,
     /// The value itself.
     pub value: T,

@@ -1,3 +1,3 @@
--- Lemmas.
+-- Lists the lemmas about `format`.
 pub mod WholeValues
 pub mod Formats

@@ -77,14 +77,14 @@ refused_whole limit x e b = record { sound = tt; complete = λ t d. only_memory 
 -- ---- one part after another
 
 -- blanks were passed over
-abbrev pub Passed : Cursor → Cursor → Type 0
-Passed old new = (w : List ℕ) × Took old w new × Gap w new.unread × Solid new.unread
+abbrev pub SkippedGap : Cursor → Cursor → Type 0
+SkippedGap old new = (w : List ℕ) × Took old w new × Gap w new.unread × Solid new.unread
 
 parts : (limit : ℕ) (x : List ℕ) → document limit x ≡ and_then (skip between x) (λ u y. and_then (read limit y) to_end)
 unfolding document
 parts limit x = refl
 
-skipped : (old new : Cursor) → Passed old new → skip between old.unread ≡ got tt new.unread
+skipped : (old new : Cursor) → SkippedGap old new → skip between old.unread ≡ got tt new.unread
 skipped old new (w, took, g, s) = ap (skip between) took.split ∙ gap_read g s
 
 blanks_lack : Lacks FaultyBlanks
@@ -98,17 +98,17 @@ module _ (limit : ℕ) (x : List ℕ) where
   inside : IsInside (unread_text x)
   inside = record { before = []; inside = refl }
 
-  inside_after : (mid : Cursor) → Passed (unread_text x) mid → IsInside mid
+  inside_after : (mid : Cursor) → SkippedGap (unread_text x) mid → IsInside mid
   inside_after mid (w, took, g, s) = ready_after (unread_text x) mid w inside took
 
-  input_after : (mid : Cursor) → Passed (unread_text x) mid → mid.input ≡ x
+  input_after : (mid : Cursor) → SkippedGap (unread_text x) mid → mid.input ≡ x
   input_after mid (w, took, g, s) = took.same
 
   -- a comment before the value is refused
   pub front_refused : (e : Error) → Refused FaultyBlanks (unread_text x) e → ReadsText limit x (Err e)
   front_refused e f = refused_whole limit x e (inr (blames_refused (unread_text x) (document limit x) e inside blanks_lack (λ reason place (before, part, shown, k). blanks_refused limit x reason place (blank_refused k)) f))
 
-  module _ (mid : Cursor) (p : Passed (unread_text x) mid) where
+  module _ (mid : Cursor) (p : SkippedGap (unread_text x) mid) where
     from_value : document limit x ≡ and_then (read limit mid.unread) to_end
     from_value = parts limit x ∙ ap (λ m. and_then m (λ u y. and_then (read limit y) to_end)) (skipped (unread_text x) mid p)
 
@@ -140,7 +140,7 @@ module _ (limit : ℕ) (x : List ℕ) where
           refused_whole limit x e (inr (blames_as new.input x (to_end found.0 new.unread) (document limit x) e rest_input (λ c q is. from_rest ∙ is)
           (blames_refused new (to_end found.0 new.unread) e rest_inside blanks_lack (λ reason place (before, part, shown, k). comment_refused found.0 new.unread reason place (blank_refused k)) f)))
 
-      module _ (last : Cursor) (q : Passed new last) where
+      module _ (last : Cursor) (q : SkippedGap new last) where
         from_end : document limit x ≡ at_end found.0 last.unread
         from_end = from_rest ∙ ap (λ m. and_then m (λ u r. at_end found.0 r)) (skipped new last q)
 

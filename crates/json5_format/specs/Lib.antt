@@ -1,3 +1,4 @@
+-- Lists the definitions that contracts of `format` cite.
 pub mod WholeValues
 pub mod Formatted
 -- What a tree means, which contracts cite too.

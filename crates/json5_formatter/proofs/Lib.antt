@@ -1,3 +1,4 @@
+-- Lists the lemmas about the program.
 pub mod PiecesJoined
 pub mod LinesJoined
 pub mod LinesWritten

@@ -1,4 +1,4 @@
--- What the status may be.
+-- The exit status is at most 2.
 use Rattle.std.proofs.Common.{ℕ, ◌≤◌, max, List, Option, arith}
 use Rattle.std.specs.declared.alloc.Global.{Global}
 use Rattle.std.specs.Prelude.{String}

@@ -1,4 +1,4 @@
--- What the words come to.
+-- What the program does for each form of its command line.
 use Rattle.std.proofs.Common.{◌≡◌, ◌≢◌, ℕ, suc, ◌∙◌, true, false, List, [], ◌∷◌, length, Option, sym, subst, arith, eqb-true}
 use Rattle.std.specs.declared.alloc.Global.{Global}
 use Rattle.std.specs.Prelude.{String, string_bytes, ◌==◌}

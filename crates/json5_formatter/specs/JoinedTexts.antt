@@ -1,4 +1,4 @@
--- Strings in a row.
+-- The concatenation of several strings.
 use Rattle.std.specs.Prelude.{ℕ, List, [], ◌∷◌, ◌++◌}
 use Rattle.std.specs.Borrow.{Bor}
 

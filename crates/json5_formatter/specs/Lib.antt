@@ -1,3 +1,4 @@
+-- Lists the definitions of what the program does.
 pub mod ProgramRuns
 pub mod Formats
 pub mod JoinedTexts

@@ -5,24 +5,24 @@
 //! refused, 2 for anything else.
 #![tactic(auto)]
 
-mod program_runs;
 mod failure;
 #[cfg(test)]
 mod file_tests;
 mod files;
-mod input;
-mod write_texts;
 mod host_program;
+mod input;
+mod program_runs;
 mod reports;
 mod streams;
 #[cfg(test)]
 mod tests;
 mod work;
+mod write_texts;
 
-pub use program_runs::answer;
 pub use failure::Failure;
 pub use files::work_through;
 pub use host_program::{program, words};
+pub use program_runs::answer;
 pub use reports::{report, usage};
 pub use streams::{check, run};
 pub use work::Work;

@@ -1,4 +1,4 @@
--- The elements of an array that were passed, one at a time: one way to go on, and what is left of the array.
+-- An array of which some elements were read: it goes on in only one way, and what is left of it.
 use Rattle.std.proofs.Common.{◌≡◌, ℕ, ◌+◌, ◌≤◌, ◌<◌, max, Bool, true, false, List, [], ◌∷◌, ◌++◌, length, refl, ap, sym, arith, length-append, ◌⊎◌, inl, inr, subst}
 use Rattle.std.specs.Prelude.{◌==◌}
 use Rattle.json5_grammar.specs.Language.Trees.{Tree, Trees, array, no_more, more, depth, depths}

@@ -26,7 +26,7 @@ front_room (after_comma f g) = front_room f
 front_room (after_key f k g) = front_room f
 front_room (after_colon f g) = front_room f
 
--- a beginning of a document's beginning
+-- a prefix of what begins a document begins it too
 begins_before : (limit : ℕ) (f g : List ℕ) → Begins limit (f ++ g) → Begins limit f
 begins_before limit f g b =
     record { more = g ++ b.more; tree = b.tree; document = subst (λ z. Doc limit z b.tree) (append_assoc f g b.more) b.document }

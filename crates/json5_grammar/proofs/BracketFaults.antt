@@ -1,4 +1,4 @@
--- What reading refuses within a bracket is a fault of the table, if what it refuses of values is one.
+-- What reading refuses within a bracket is a fault of the table, provided that what it refuses in nested values is one.
 use Rattle.std.proofs.Common.{◌≡◌, ℕ, zero, suc, ◌+◌, ◌<◌, ◌≤◌, Bool, true, false, cond, List, [], ◌∷◌, ◌++◌, length, refl, ap, arith, length-append, subst, Some}
 use Rattle.std.specs.Prelude.{◌==◌}
 use Rattle.std.proofs.lemmas.Bool.{not-false, or_from}

@@ -1,4 +1,4 @@
--- Tests, where faults are, and what depends on the next character alone.
+-- Common lemmas: tests, lists, bounds, where faults are, and what depends on the next character alone.
 use Rattle.std.proofs.Common.{◌≡◌, ℕ, ◌<◌, ◌≤◌, Bool, true, false, cond, ◌||◌, List, [], ◌∷◌, ◌++◌, refl, ap, sym, ◌∙◌, append_assoc, arith, ◌≢◌, subst, Option, Some, None}
 use Rattle.std.specs.Prelude.{◌==◌, ◌&&◌, ⊤, nat_lt}
 use Rattle.std.specs.Char.{digit_value}

@@ -1,4 +1,4 @@
--- Lemmas.
+-- Lists the lemmas about the grammar.
 pub mod CommonLemmas
 pub mod Refusals
 pub mod HexadecimalEscapes

@@ -1,1 +1,2 @@
+-- Lists the definition of what the sample type is read as.
 pub mod Sample

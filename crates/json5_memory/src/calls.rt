@@ -1,8 +1,8 @@
 //! Formatting, clones, custom faults, and values of any kind.
 
+use crate::inputs::{README, SETTINGS};
 use crate::print;
 use crate::reads::taken;
-use crate::inputs::{README, SETTINGS};
 use json5::{Decimal, Deserializer, Error, Position, Result, Value, format, from_str, to_string};
 use std::alloc::Global;
 use std::io::{self, Write};

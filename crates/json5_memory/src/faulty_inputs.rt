@@ -1,8 +1,8 @@
 //! An input for each fault of reading a value of any kind while memory is held: within an object and an array.
 
+use crate::inputs::MOST;
 use crate::print;
 use crate::reads::read;
-use crate::inputs::MOST;
 use json5::{Result, Value};
 use std::alloc::Global;
 use std::io::{self, Write};

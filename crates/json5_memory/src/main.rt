@@ -6,10 +6,10 @@
 
 mod calls;
 mod faulty_inputs;
+mod inputs;
 mod own_types;
 mod reads;
 mod sample;
-mod inputs;
 
 use json5::Result;
 use std::alloc::Global;

@@ -1,4 +1,4 @@
-//! Reading as users' types, and writing them.
+//! Calls that read and write users' own types.
 
 use crate::print;
 use crate::reads::{read, taken};

@@ -11,8 +11,8 @@ use std::alloc::Global;
 use std::collections::{BTreeMap, HashMap};
 use std::io::{self, Write};
 
-/// What is written of the value that is read from the input; if the read is refused, its fault, if the reader then returns
-/// `Failed`.
+/// Reads the input and returns its value written again. A refused read returns its fault; `taken` says when it returns `Failed`
+/// instead.
 pub(crate) fn read<'de, T: Deserialize<&'de str> + Serialize>(
     alloc: Global,
     text: &'de str,

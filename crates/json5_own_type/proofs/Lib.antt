@@ -1,2 +1,3 @@
+-- Lists the proofs that these types read back what they write.
 pub mod EndpointsBack
 pub mod SettingsBack

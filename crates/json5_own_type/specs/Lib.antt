@@ -1,3 +1,4 @@
+-- Lists the definitions of what each type here is read and written as.
 pub mod Accepted
 pub mod Articles
 pub mod Colors

@@ -2,21 +2,21 @@
 #![tactic(auto)]
 
 mod call_results;
+mod call_spelling;
 mod limits;
 mod objects;
+mod other_calls;
 mod own_enums;
 mod own_keys;
 mod own_structs;
+mod reader_calls;
 mod reads;
 mod rows;
 mod scans;
-mod reader_calls;
 mod spelling;
-mod call_spelling;
-mod other_calls;
 mod token_lengths;
-mod writes;
 mod writer_calls;
+mod writes;
 
 use std::io::{self, BufRead, BufReader, BufWriter, Write};
 

@@ -1,8 +1,8 @@
 //! Calls of the access of an object: `map(key,value,end)`.
 
 use crate::call_results::{Answer, Printed, push_answer, push_text, shown, unknown};
-use crate::own_keys::{ByAny, ByBytes, ByNewtypeStruct, ByUnitStruct};
 use crate::call_spelling::{Close, split_close};
+use crate::own_keys::{ByAny, ByBytes, ByNewtypeStruct, ByUnitStruct};
 use json5::{ByteBuf, DeserializeKey, Error, ErrorCode, MapAccess};
 use std::alloc::Global;
 use std::fmt::Debug;

@@ -4,8 +4,8 @@
 //! where that is `leak`.
 
 use crate::call_results::{Answer, Any, Digits, Printed, push_answer, push_text, shown, unknown};
-use crate::objects;
 use crate::call_spelling::{Close, split_close};
+use crate::objects;
 use json5::{Deserializer, Error, ErrorCode, SeqAccess};
 use std::alloc::Global;
 use std::mem::forget;

@@ -4,8 +4,8 @@
 //! leaked where that is `leak`.
 
 use crate::call_results::{Answer, Printed, by_message, push_answer, push_text, shown, unknown};
-use crate::own_keys::{NewtypeStructKey, NoKey, UnitStructKey};
 use crate::call_spelling::{Close, split_close};
+use crate::own_keys::{NewtypeStructKey, NoKey, UnitStructKey};
 use json5::{Serialize, SerializeCollection, SerializeKey, Serializer, Value, from_str, to_writer};
 use std::alloc::Global;
 use std::collections::BTreeMap;

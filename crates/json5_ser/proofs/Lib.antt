@@ -1,3 +1,4 @@
+-- Lists the lemmas about writing.
 pub mod OutputsJoined
 pub mod PiecesWritten
 pub mod ShortWritesJoined

@@ -1,4 +1,4 @@
--- The starts of lines.
+-- The comma, line feed and indentation before an element or a member.
 use Rattle.std.proofs.Common.{◌≡◌, ◌≤◌, ◌<◌, slice_index, ℕ, zero, suc, ◌+◌, ◌*◌, List, ◌∷◌, Bool, true, false, length, take, drop, replicate, ap, ◌∙◌, subst, arith, sym}
 use Rattle.std.specs.Str.{IsAscii, IsCharBoundary, chars}
 use Rattle.std.proofs.lemmas.List.{take-replicate, length-replicate}

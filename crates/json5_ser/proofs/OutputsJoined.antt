@@ -1,4 +1,4 @@
--- Laws of what is written in parts.
+-- Two outputs that are written in turn are one output.
 use Rattle.std.proofs.Common.{◌≡◌, ℕ, List, [], ◌∷◌, ◌++◌, Bool, true, false, ◌&&◌, Option, Result, Ok, Err, refl, sym, ap, ◌∙◌, subst, append_assoc}
 use Rattle.std.specs.Result.{IsErrAnd}
 use Rattle.std.specs.Str.{encode_utf8_all, all_scalars}

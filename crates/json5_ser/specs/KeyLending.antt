@@ -15,6 +15,6 @@ module _ {W : Type 0} where
   abbrev pub WritesNull : {A : Type 0} → MapKey W → Result A Error → SerializerState → Type 0
   WritesNull key result new = WritesKey (named null_text) (serializer_of_key key) result new
 
-  -- a call of what is no key
+  -- a call that writes something that can't be a key
   abbrev pub RefusesKey : {A : Type 0} → MapKey W → Result A Error → SerializerState → Type 0
   RefusesKey key result new = WritesKey bad (serializer_of_key key) result new

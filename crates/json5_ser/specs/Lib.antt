@@ -1,3 +1,4 @@
+-- Lists the definitions that contracts of writing cite.
 pub mod WrittenTrees
 pub mod WritableNumbers
 pub mod Out

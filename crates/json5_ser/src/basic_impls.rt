@@ -1,4 +1,4 @@
-//! The types of one token that can be written, options and references.
+//! `Serialize` for the types that are written as one token, and for options and references.
 
 ghost use Rattle.std.specs.Prelude.{[], ◌∷◌, string_bytes};
 ghost use Rattle.std.specs.Str.{chars};

@@ -1,10 +1,11 @@
 //! Typed writing of JSON5: a whole text by `to_string` or `to_writer`, or value by value with a `Serializer`.
 #![tactic(auto)]
 
+mod basic_impls;
 mod brackets;
+mod byte_copies;
 mod bytes;
 mod collection;
-mod byte_copies;
 mod decimals;
 mod escape_free;
 mod identifiers;
@@ -15,7 +16,6 @@ mod line_starts;
 mod lists;
 mod maps;
 mod options_and_variants;
-pub mod write_whole;
 mod quoting;
 mod refusal;
 mod serialize;
@@ -23,9 +23,9 @@ mod serializer;
 mod stage;
 mod string_writer;
 mod tuples;
-mod basic_impls;
 mod value;
 mod whole_output;
+pub mod write_whole;
 
 pub use collection::SerializeCollection;
 pub use key::{MapKey, SerializeKey};

@@ -1,4 +1,4 @@
-//! The starts of lines.
+//! The comma, line feed and indentation before an element or a member.
 
 ghost use Rattle.std.specs.Prelude.{◌≡◌, ◌≤◌, ◌∷◌};
 ghost use Rattle.std.specs.Str.{chars};

@@ -1,1 +1,2 @@
+-- Lists the definition for the types that nest brackets.
 pub mod Brackets

@@ -61,7 +61,7 @@ fn stops_at_the_129th(alloc: Global) -> Result<bool> {
     )
 }
 
-/// Whether as many as are read are written, and cloned, and no more.
+/// Whether a value nested 128 deep, as deep as reading allows, is written and cloned, and one nested 129 deep isn't cloned.
 fn keeps_to_the_limit(alloc: Global) -> Result<bool> {
     let most = arrays(alloc, 128)?;
     let more = arrays(alloc, 129)?;
@@ -81,7 +81,7 @@ fn the_129th_bracket_is_not_written(rt: HostRuntime) -> std::result::Result<(), 
     Ok(())
 }
 
-/// Whether a key that is none is refused without a place, after the line feed and the blanks before it.
+/// Whether a value that can't be a key is refused without a position, after the line feed and the blanks before it.
 fn stops_at_no_key(alloc: Global) -> Result<bool> {
     let mut map: IndexMap<Option<i32>, u8> = IndexMap::new(alloc);
     map.insert(None, 0)?;

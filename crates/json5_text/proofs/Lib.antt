@@ -1,3 +1,4 @@
+-- Lists the lemmas about the scanner, errors and values.
 pub mod AsciiRuns
 pub mod NumberZeros
 pub mod ZeroPieces

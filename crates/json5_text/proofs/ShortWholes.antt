@@ -1,4 +1,4 @@
--- Few digits in front of the input, as a number of the grammar.
+-- Few digits in front of the input, with or without a minus, are a number of the grammar.
 use Rattle.std.proofs.Common.{◌≡◌, ℕ, ◌<◌, Bool, true, false, not, ◌||◌, ◌&&◌, List, [], ◌∷◌, ◌++◌, length, drop, refl, ap, sym, ◌∙◌, subst, arith}
 use Rattle.std.specs.Prelude.{◌==◌, ℤ, pos, neg_ℤ, slice_index}
 use Rattle.std.specs.Char.{encode_utf8}

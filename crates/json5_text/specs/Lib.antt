@@ -1,3 +1,4 @@
+-- Lists the definitions for the scanner, errors and values.
 pub mod Errors
 pub mod Outcome
 pub mod RefusalOutcomes

@@ -1,4 +1,4 @@
--- What private clauses of the scanner say.
+-- Cuts, fronts and skipped runs of the input, for private contracts of the scanner.
 use Rattle.std.specs.Prelude.{◌≡◌, ◌<◌, ◌≤◌, ℕ, Bool, List, [], ◌∷◌, ◌++◌, length, Option, Some, None, ◌⊎◌, ⊤}
 use denote.Ref.{Bor}
 use Rattle.std.specs.Str.{IsUtf8, IsCharBoundary, chars}

@@ -1,4 +1,4 @@
--- What private clauses say of keys.
+-- How a key is read where the input may have ended.
 use Rattle.std.specs.Prelude.{Bool, ℕ, List, [], ◌∷◌}
 use Rattle.json5_grammar.specs.Model.Reading.{Read}
 use Rattle.json5_grammar.specs.Model.ReadTexts.{identifier, key}

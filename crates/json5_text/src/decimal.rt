@@ -10,10 +10,10 @@ ghost use Rattle.json5_text.specs.NumberDecimals.{has_minus, is_infinity, is_not
 ghost use Rattle.json5_text.specs.Exponents.{raised, IsSmallExponent};
 ghost use Rattle.json5_text.specs.NumberMeanings.{keeps_digits};
 
+use crate::decimal_pieces::Pieces;
 use crate::digit_runs;
 use crate::error::Result;
 use crate::inline_digits::InlineDigits;
-use crate::decimal_pieces::Pieces;
 use std::alloc::{AllocError, Global};
 use std::fmt;
 use std::hash::{Hash, Hasher};

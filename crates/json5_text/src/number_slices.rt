@@ -11,8 +11,8 @@ ghost use Rattle.json5_text.specs.NumberParts.{scanned_of, parts_of, signed_limi
 ghost use Rattle.json5_text.specs.Exponents.{IsSmallExponent};
 
 use crate::decimal::{Decimal, DecimalRef};
-use crate::digit_values::{EXPONENT_LIMIT, decimal_value, limited_value};
 use crate::decimal_literals::{Exponent, Literal};
+use crate::digit_values::{EXPONENT_LIMIT, decimal_value, limited_value};
 use crate::number::Number;
 use crate::refusal::Refusal;
 use crate::whole::Whole;

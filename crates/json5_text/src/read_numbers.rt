@@ -12,9 +12,9 @@ ghost use Rattle.json5_text.specs.NumberMeanings.{number_of};
 ghost use Rattle.json5_text.specs.NumberParts.{scanned_of};
 
 use crate::byte_runs::{begins_minus, short_digits};
+use crate::decimal_literals::{after_sign, read_literal};
 use crate::first_char::front;
 use crate::hexadecimal::hexadecimal;
-use crate::decimal_literals::{after_sign, read_literal};
 use crate::number::Number;
 use crate::number_slices::{Scanned, judge};
 use crate::refusal::Refusal;

@@ -11,9 +11,9 @@ ghost use Rattle.json5_text.specs.ShortWays.{TakesShortDecimal};
 
 use crate::blanks::skip_ascii;
 use crate::decimal::Decimal;
+use crate::decimal_literals::{Literal, after_sign, read_literal};
 use crate::first_char::front;
 use crate::input::Input;
-use crate::decimal_literals::{Literal, after_sign, read_literal};
 use crate::number_slices::finite_decimal;
 use crate::scanner::Scanner;
 

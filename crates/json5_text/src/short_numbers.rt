@@ -9,9 +9,9 @@ ghost use Rattle.json5_text.specs.TokenResults.{GivesRest};
 
 use crate::blanks::skip_ascii;
 use crate::byte_runs::goes_on;
+use crate::decimal_literals::is_integer;
 use crate::digit_runs::split_digits;
 use crate::input::Input;
-use crate::decimal_literals::is_integer;
 use crate::scanner::Scanner;
 use crate::short_ways::is_in_front;
 

@@ -12,8 +12,8 @@ use crate::byte_runs::raw_end;
 use crate::cow_str::CowStr;
 use crate::first_char::front;
 use crate::refusal::Refusal;
-use crate::text_token::TextToken;
 use crate::strings_and_names::{Kind, Quote, read_text, read_text_owned, skip_text};
+use crate::text_token::TextToken;
 use json5_grammar::error_code::ErrorCode;
 use std::alloc::Global;
 

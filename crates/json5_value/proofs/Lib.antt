@@ -1,3 +1,4 @@
+-- Lists the lemmas about reading and skipping a value of any kind.
 pub mod NoFailedCode
 pub mod ModelSteps
 pub mod TokenSteps

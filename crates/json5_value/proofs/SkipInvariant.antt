@@ -1,4 +1,4 @@
--- The open brackets around a value that is passed over, and what they make of what is read within.
+-- While a value is skipped: what the whole comes to, given the open brackets and what was read inside them.
 use Rattle.std.proofs.Common.{◌≡◌, ℕ, suc, ◌-◌, ◌<◌, ◌≤◌, Bool, true, false, List, [], ◌∷◌, ◌++◌, length, refl, ap, sym, ◌∙◌, subst, append_assoc, arith, length-append, inl, inr}
 use Rattle.std.specs.Prelude.{Result, Ok, Err}
 use Rattle.json5_grammar.specs.Faults.Fronts.{opening}

@@ -1,4 +1,4 @@
--- The characters of the words.
+-- Which characters `null`, `true` and `false` have.
 use Rattle.std.proofs.Common.{◌≡◌, refl}
 use Rattle.std.specs.Str.{chars}
 use Rattle.json5_grammar.specs.Language.Values.{null_text, true_text, false_text}

@@ -1,3 +1,4 @@
+-- Lists the definitions for reading and skipping a value of any kind.
 pub mod Brackets
 pub mod Kinds
 pub mod Offsets

@@ -1,4 +1,4 @@
-//! Keys and values of one token, which are kept.
+//! Owned copies of keys, and of values that are one token.
 
 ghost use Rattle.std.specs.Prelude.{◌≡◌};
 ghost use Rattle.json5_grammar.specs.Model.ReadTexts.{key};

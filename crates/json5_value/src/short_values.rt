@@ -7,8 +7,8 @@ ghost use Rattle.json5_value.specs.Opening.{AtKind};
 ghost use Rattle.json5_value.specs.ModelSteps.{IsInside};
 
 use crate::kinds::{Literal, ValueKind, kind_at};
-use crate::short_ways::short_literal;
 use crate::owned_tokens::value_of_literal;
+use crate::short_ways::short_literal;
 use json5_text::input::Input;
 use json5_text::scanner::Scanner;
 use json5_text::short_ways::ShortStep;

@@ -6,7 +6,7 @@ use Rattle.json5_text.specs.TokenFaults.{FaultyBlanks}
 use Rattle.json5_text.specs.ValueMeanings.{value_of}
 use Rattle.json5_value.specs.KeepSteps.{BlamesOrMemory, datum_at}
 use Rattle.json5_value.specs.ModelSteps.{Gave}
-use Rattle.json5_format.proofs.WholeValues.{Passed, front_refused, value_refused, rest_refused, all_read, character_refused}
+use Rattle.json5_format.proofs.WholeValues.{SkippedGap, front_refused, value_refused, rest_refused, all_read, character_refused}
 use Rattle.json5_format.proofs.read_document_within.Goals as goal
 
 pub returns-in_err-skip_blank : goal.returns-in_err-skip_blank
@@ -20,7 +20,7 @@ returns-in_err-value c =
     let (y, is, from) = err_from_is_err_and c.from_residual-in_err-value.result c.from_residual-in_err-value.ensures.1 in
     let e = c.in_err-value.field-0.0 in
     let mid = c.skip_blank.new.self in
-    let passed = subst (λ s. Passed s mid) c.new-scanner.ensures c.in_ok-skip_blank.ensures.passed in
+    let passed = subst (λ s. SkippedGap s mid) c.new-scanner.ensures c.in_ok-skip_blank.ensures.passed in
     let blamed = subst (λ room. BlamesOrMemory mid.input (datum_at room mid) e) (c.from.ensures ∙ c.get.ensures.number) c.in_err-value.ensures.refused in
     rw (is, from) (value_refused c.args.limit (chars c.args.text.now) mid passed e blamed)
 
@@ -30,7 +30,7 @@ returns-in_err-skip_blank-2 c =
     let mid = c.skip_blank.new.self in
     let new = c.read_value.new.scanner in
     let v = c.in_ok-value.value in
-    let passed = subst (λ s. Passed s mid) c.new-scanner.ensures c.in_ok-skip_blank.ensures.passed in
+    let passed = subst (λ s. SkippedGap s mid) c.new-scanner.ensures c.in_ok-skip_blank.ensures.passed in
     let gave = subst (λ room. Gave (datum_at room mid) (value_of v) mid new) (c.from.ensures ∙ c.get.ensures.number) c.in_ok-value.ensures.given in
     rw (is, from) (rest_refused c.args.limit (chars c.args.text.now) mid passed v new gave c.in_err-skip_blank-2.field-0.0 c.in_err-skip_blank-2.ensures.refused)
 
@@ -39,7 +39,7 @@ returns-in-Some c =
     let mid = c.skip_blank.new.self in
     let new = c.read_value.new.scanner in
     let v = c.in_ok-value.value in
-    let passed = subst (λ s. Passed s mid) c.new-scanner.ensures c.in_ok-skip_blank.ensures.passed in
+    let passed = subst (λ s. SkippedGap s mid) c.new-scanner.ensures c.in_ok-skip_blank.ensures.passed in
     let gave = subst (λ room. Gave (datum_at room mid) (value_of v) mid new) (c.from.ensures ∙ c.get.ensures.number) c.in_ok-value.ensures.given in
     character_refused c.args.limit (chars c.args.text.now) mid passed v new gave c.skip_blank-2.new.self c.in_ok-skip_blank-2.ensures.passed c.in-Some.field-0 c.fault_here.result (sym c.in-Some.ensures) c.fault_here.ensures.kind c.fault_here.ensures.placed
 
@@ -48,6 +48,6 @@ returns-in-None c =
     let mid = c.skip_blank.new.self in
     let new = c.read_value.new.scanner in
     let v = c.in_ok-value.value in
-    let passed = subst (λ s. Passed s mid) c.new-scanner.ensures c.in_ok-skip_blank.ensures.passed in
+    let passed = subst (λ s. SkippedGap s mid) c.new-scanner.ensures c.in_ok-skip_blank.ensures.passed in
     let gave = subst (λ room. Gave (datum_at room mid) (value_of v) mid new) (c.from.ensures ∙ c.get.ensures.number) c.in_ok-value.ensures.given in
     all_read c.args.limit (chars c.args.text.now) mid passed v new gave c.skip_blank-2.new.self c.in_ok-skip_blank-2.ensures.passed (sym c.in-None.ensures)

@@ -24,7 +24,7 @@ close_or m (c ∷ r) = cond (c == right_bracket) (got no_more r) m
 abbrev pub element_at : (List ℕ → Read Tree) → (List ℕ → Read Trees) → List ℕ → Read Trees
 element_at val k x = and_then (val x) (λ t r. and_then (skip between r) (λ u y. and_then (after_element k y) (λ ts z. got (more t ts) z)))
 
--- the number bounds the turns; any above the length of x is enough
+-- the number is fuel: it bounds the recursion, and any number above the length of x is enough
 unfoldable pub read_elements : (List ℕ → Read Tree) → ℕ → List ℕ → Read Trees
 read_elements val zero x = bad (Some EofParsingArray) inner
 read_elements val (suc n) x = and_then (skip between x) (λ u y. close_or (element_at val (read_elements val n) y) y)
