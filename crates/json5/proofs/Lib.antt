@@ -1,5 +1,5 @@
 -- Lists the lemmas that proofs of users' types cite.
-pub mod WholeValues
+pub mod DocumentReads
 pub mod NamesBack
 pub mod ReadsBack
 pub mod ValuesBack

@@ -3,7 +3,7 @@ use Rattle.std.proofs.Common.{◌≡◌, refl, ap, Some}
 use Rattle.json5_text.specs.ValueMeanings as datum
 use Rattle.json5_text.specs.ValueMeanings.{Datum, Items, no_item, item, Fields}
 use Rattle.json5_de.specs.Convert.{datum_of, items_of, fields_of, every_datum}
-use Rattle.json5_ser.specs.Marks.{marks, element_marks, field_marks}
+use Rattle.json5_ser.specs.EscapeFreeMarks.{marks, element_marks, field_marks}
 use Rattle.json5_ser.specs.ValueTrees.{datum_tree, items_tree, fields_tree}
 use Rattle.json5.specs.ReadsBack.{ReadsBack}
 

@@ -1,5 +1,5 @@
 -- Lists the definitions that contracts and users' types cite.
-pub mod WholeValues
+pub mod DocumentReads
 pub mod ReadsBack
 -- What else contracts cite, and what a user's type cites: trees, and what an input holds.
 pub use Rattle.json5_grammar.specs.Language.Trees
@@ -52,7 +52,7 @@ pub use Rattle.json5_de.specs.WholeInputs
 pub use Rattle.json5_ser.specs.WrittenTrees
 pub use Rattle.json5_ser.specs.ValueTrees
 pub use Rattle.json5_ser.specs.Out
-pub use Rattle.json5_ser.specs.Marks
+pub use Rattle.json5_ser.specs.EscapeFreeMarks
 pub use Rattle.json5_ser.specs.Writes
 pub use Rattle.json5_ser.specs.Pieces
 pub use Rattle.json5_ser.specs.WholeOutputs

@@ -9,7 +9,7 @@ use Rattle.json5_grammar.specs.Model.Collections.{contents, array_of}
 use Rattle.json5_de.specs.Keys.{KeyConversion}
 use Rattle.json5_de.specs.Maps.{TellsKeys, pair_content, pairs_of, in_key_order, in_insertion_order}
 use Rattle.json5_ser.specs.WrittenTrees.{Written, WrittenKey, named, array, object, elements_of, fields_of}
-use Rattle.json5_ser.specs.Marks.{marks, is_escape_free_key}
+use Rattle.json5_ser.specs.EscapeFreeMarks.{marks, is_escape_free_key}
 
 -- the tree that is written of the value converts, once it is read, to the value's content
 abbrev pub ReadsBack : {V C : Type 0} → (V → Written) → (Tree → Option C) → (V → C) → V → Type 0

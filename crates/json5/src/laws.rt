@@ -13,9 +13,9 @@ ghost use Rattle.json5_de.specs.KeyKinds.{document_of};
 ghost use Rattle.json5_de.specs.Convert.{every_datum, unit_of, bool_of, unsigned_below, signed_below, decimal_of, text_of, escape_free_of, char_of, every_text, one_character};
 ghost use Rattle.json5_de.specs.ConvertLists.{option_of};
 ghost use Rattle.json5_ser.specs.WrittenTrees.{null, boolean, number, text, natural, integer, natural_key, integer_key};
-ghost use Rattle.json5_ser.specs.Marks.{marks, is_escape_free_text};
+ghost use Rattle.json5_ser.specs.EscapeFreeMarks.{marks, is_escape_free_text};
 ghost use Rattle.json5_ser.specs.ValueTrees.{datum_tree};
-ghost use Rattle.json5.specs.WholeValues.{FaultyDocument, IsOneFault, IsNoDocument, ReadsEachText};
+ghost use Rattle.json5.specs.DocumentReads.{FaultyDocument, IsOneFault, IsNoDocument, ReadsEachText};
 ghost use Rattle.json5_format.specs.Formatted.{IsFormattedWithin};
 ghost use Rattle.json5.specs.ReadsBack.{ReadsBack, KeyReadsBack, MembersReadBack, OrderStays, TurnStays, list_tree, list_of};
 

@@ -22,7 +22,7 @@ use Rattle.json5_text.specs.TokenFaults.{FaultyBlanks}
 use Rattle.json5_de.proofs.TreeFaults.{as_fault}
 use Rattle.json5_text.specs.declared.value.Value.{Value}
 use Rattle.json5_text.specs.ValueMeanings.{value_of}
-use Rattle.json5_value.specs.KeepSteps.{ReadsDatum, BlamesOrMemory, as_datum, datum_at}
+use Rattle.json5_value.specs.OwnedReads.{ReadsDatum, BlamesOrMemory, as_datum, datum_at}
 use Rattle.json5_value.specs.SkipSteps.{SkipsValue}
 use Rattle.json5_value.specs.ModelSteps.{HasPositionAt, RefusesRead, value_at}
 use Rattle.json5_value.proofs.BuildScalars.{datum_got}

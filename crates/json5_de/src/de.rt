@@ -5,7 +5,7 @@ ghost use Rattle.std.specs.Str.{chars};
 ghost use Rattle.json5_text.specs.Cursor.{Locates};
 ghost use Rattle.json5_grammar.specs.Language.Documents.{max_depth};
 ghost use Rattle.json5_grammar.specs.declared.error_code.ErrorCode.TheVariants as codes;
-ghost use Rattle.json5_value.specs.KeepSteps.{OwnsKey, ReadsDatum};
+ghost use Rattle.json5_value.specs.OwnedReads.{OwnsKey, ReadsDatum};
 ghost use Rattle.json5_value.specs.Kinds.{word_of, ends_of, differs_of};
 ghost use Rattle.json5_value.specs.Offsets.{PositionedAt, StartsAfter};
 ghost use Rattle.json5_value.specs.SkipSteps.{SkipsValue};

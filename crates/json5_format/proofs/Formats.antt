@@ -11,7 +11,7 @@ use Rattle.json5_text.specs.Cursor.{IsOutOfMemory}
 use Rattle.json5_text.specs.Errors.{FaultKind, code, custom, failed_write, kind_of}
 use Rattle.json5_text.specs.ValueMeanings.{Datum}
 use Rattle.json5_value.specs.TreeMeanings.{datum_of, items_of, fields_of}
-use Rattle.json5_ser.specs.Marks.{marks, unmarked, unmarked_elements, unmarked_fields}
+use Rattle.json5_ser.specs.EscapeFreeMarks.{marks, unmarked, unmarked_elements, unmarked_fields}
 use Rattle.json5_ser.specs.Out.{Out, whole, invalid_key, too_deep, written_text, text_within}
 use Rattle.json5_ser.specs.Pieces.{AppendsFront, Pushes}
 use Rattle.json5_ser.specs.WholeOutputs.{IsText, RefusesToString, StopsAs}

@@ -1,3 +1,3 @@
 -- Lists the lemmas about `format`.
-pub mod WholeValues
+pub mod DocumentReads
 pub mod Formats

@@ -4,7 +4,7 @@ use Rattle.std.specs.Str.{chars}
 use Rattle.json5_grammar.specs.Language.Trees.{Tree}
 use Rattle.json5_grammar.specs.Language.Documents.{Doc, max_depth}
 use Rattle.json5_ser.specs.Out.{text_within}
-use Rattle.json5_ser.specs.Marks.{unmarked}
+use Rattle.json5_ser.specs.EscapeFreeMarks.{unmarked}
 use Rattle.json5_ser.specs.WholeOutputs.{IsText}
 
 -- the bytes are the output of the tree without its marks

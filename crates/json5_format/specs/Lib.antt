@@ -1,5 +1,5 @@
 -- Lists the definitions that contracts of `format` cite.
-pub mod WholeValues
+pub mod DocumentReads
 pub mod Formatted
 -- What a tree means, which contracts cite too.
 pub use Rattle.json5_value.specs.TreeMeanings

@@ -8,7 +8,7 @@ ghost use Rattle.std.specs.Str.{chars};
 ghost use Rattle.json5_grammar.specs.Language.Trees.{Tree};
 ghost use Rattle.json5_grammar.specs.Language.Documents.{Doc, max_depth};
 ghost use Rattle.json5_text.specs.Cursor.{IsOutOfMemory};
-ghost use Rattle.json5_format.specs.WholeValues.{IsRefused, IsRefusedWithin, ReadsText};
+ghost use Rattle.json5_format.specs.DocumentReads.{IsRefused, IsRefusedWithin, ReadsText};
 ghost use Rattle.json5_format.specs.Formatted.{WritesUnmarked, IsFormatted, IsFormattedWithin};
 
 use json5_ser::to_string_within;

@@ -2,7 +2,7 @@
 use Rattle.std.specs.Prelude.{ℕ, List}
 use Rattle.std.specs.Str.{chars}
 use Rattle.json5_text.specs.declared.error.Error.{Error}
-use Rattle.json5_format.specs.WholeValues.{IsRefused}
+use Rattle.json5_format.specs.DocumentReads.{IsRefused}
 use Rattle.json5_format.specs.Formatted.{IsFormatted}
 
 -- the input is a document, and this is written of it

@@ -7,7 +7,7 @@ use Rattle.json5_format.specs.TreeMeanings.{datum_of}
 use Rattle.json5_text.specs.Cursor.{IsOutOfMemory}
 use Rattle.json5_grammar.specs.Language.Documents.{Doc, max_depth}
 use Rattle.json5_text.specs.declared.error.Error.{Error}
-use Rattle.json5_ser.specs.Marks.{unmarked}
+use Rattle.json5_ser.specs.EscapeFreeMarks.{unmarked}
 use Rattle.json5_ser.specs.Out.{whole, written_text}
 use Rattle.json5_ser.specs.Pieces.{AppendsFront}
 use Rattle.json5_grammar.specs.Language.Trees.{Tree}

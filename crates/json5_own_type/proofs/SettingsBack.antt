@@ -5,7 +5,7 @@ use Rattle.std.specs.declared.alloc.Global.{Global}
 use Rattle.std.specs.Str.{chars}
 use Rattle.std.proofs.lemmas.Bool.Decides.{nat_tests}
 use Rattle.json5.specs.ConvertLists.{if_some}
-use Rattle.json5.specs.Marks.{marks}
+use Rattle.json5.specs.EscapeFreeMarks.{marks}
 use Rattle.json5.specs.Collections.{object_of}
 use Rattle.json5.specs.ReadsBack.{ReadsBack}
 use Rattle.json5.specs.WrittenTrees.{field, named, text, natural, object}

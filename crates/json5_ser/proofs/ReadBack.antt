@@ -9,7 +9,7 @@ use Rattle.json5_grammar.proofs.ScalarsWritten.{number_value, text_value}
 use Rattle.json5_grammar.proofs.TextsWritten.{quoted_is, name_is}
 use Rattle.json5_ser.specs.WrittenTrees.{Written, null, boolean, number, text, array, object, Elements, no_element, element, Fields, no_field, field, named, bad}
 use Rattle.json5_ser.specs.Out.{Out, whole, invalid_key, piece, stopped, too_deep, ◌then◌, line, out, elements_out, fields_out, opened_by, element_out, key_part, value_part}
-use Rattle.json5_ser.specs.Marks.{marks, element_marks, field_marks, unmarked, is_escape_free_text, is_escape_free_key}
+use Rattle.json5_ser.specs.EscapeFreeMarks.{marks, element_marks, field_marks, unmarked, is_escape_free_text, is_escape_free_key}
 use Rattle.json5_ser.proofs.WritableNumbers.{number_piece, number_whole}
 use Rattle.json5_ser.proofs.Unmarked.{parts, tree_again}
 use Rattle.json5_grammar.proofs.OneTree.{one_front}

@@ -8,7 +8,7 @@ use Rattle.json5_grammar.specs.Language.Documents.{Doc}
 use Rattle.json5_grammar.proofs.NormalForms.{num_normal}
 use Rattle.json5_ser.specs.Out as written
 use Rattle.json5_ser.specs.Out.{out}
-use Rattle.json5_ser.specs.Marks.{marks, element_marks, field_marks, unmarked, unmarked_elements, unmarked_fields, IsSpelled, AreSpelled, FieldsAreSpelled}
+use Rattle.json5_ser.specs.EscapeFreeMarks.{marks, element_marks, field_marks, unmarked, unmarked_elements, unmarked_fields, IsSpelled, AreSpelled, FieldsAreSpelled}
 use Rattle.json5_ser.proofs.WrittenDepths.{whole_from}
 
 number_spelled : {s : List ℕ} (n : Number) → Num s n → IsNumber n

@@ -3,7 +3,7 @@ use Rattle.std.proofs.Common.{◌≡◌, ℕ, ◌+◌, List, [], ◌∷◌, ◌+
 use Rattle.json5_grammar.specs.Language.Characters.{left_bracket, left_brace}
 use Rattle.json5_ser.specs.WrittenTrees.{Written, null, boolean, number, text, array, object, Elements, no_element, element, Fields, no_field, field, named, bad}
 use Rattle.json5_ser.specs.Out.{Out, Stop, whole, invalid_key, too_deep, no_number, piece, followed_by, ◌then◌, out, elements_out, fields_out, opened_by, element_out, key_part, value_part}
-use Rattle.json5_ser.specs.Marks.{marks, element_marks, field_marks, unmarked, unmarked_elements, unmarked_fields}
+use Rattle.json5_ser.specs.EscapeFreeMarks.{marks, element_marks, field_marks, unmarked, unmarked_elements, unmarked_fields}
 
 -- both parts of a whole output are whole
 pub record Parts (a b : Out) : Type 0 where

@@ -10,7 +10,7 @@ use Rattle.json5_grammar.proofs.ScalarsWritten.{alone}
 use Rattle.json5_ser.specs.WrittenTrees.{Written, null, boolean, number, text, array, object, Elements, no_element, element, Fields, no_field, field, named, bad}
 use Rattle.json5_ser.specs.Out.{Out, Stop, whole, invalid_key, too_deep, piece, stopped, followed_by, ◌then◌, out, text_within, elements_out, fields_out, opened_by, closed_by, element_out, key_part, value_part}
 use Rattle.json5_ser.specs.WholeOutputs.{IsText}
-use Rattle.json5_ser.specs.Marks.{marks, element_marks, field_marks, IsSpelled, AreSpelled, FieldsAreSpelled}
+use Rattle.json5_ser.specs.EscapeFreeMarks.{marks, element_marks, field_marks, IsSpelled, AreSpelled, FieldsAreSpelled}
 use Rattle.json5_ser.proofs.WritableNumbers.{number_piece, number_whole}
 use Rattle.json5_ser.proofs.Unmarked.{parts}
 use Rattle.json5_ser.proofs.ReadBack.{whole_value}

@@ -4,7 +4,7 @@ pub mod WritableNumbers
 pub mod Out
 pub mod Commas
 pub mod Copies
-pub mod Marks
+pub mod EscapeFreeMarks
 pub mod Writes
 pub mod Pieces
 pub mod ShortWrites

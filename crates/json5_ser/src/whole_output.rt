@@ -3,7 +3,7 @@
 ghost use Rattle.std.specs.Prelude.{string_bytes, IfOk, IfErr};
 ghost use Rattle.std.specs.Str.{chars};
 ghost use Rattle.json5_grammar.specs.Language.Documents.{Doc, max_depth};
-ghost use Rattle.json5_ser.specs.Marks.{marks};
+ghost use Rattle.json5_ser.specs.EscapeFreeMarks.{marks};
 ghost use Rattle.json5_ser.specs.Out.{written_text, text_within};
 ghost use Rattle.json5_ser.specs.Writes.{WritesTree, fresh, fresh_within, ended, ended_within};
 ghost use Rattle.json5_ser.specs.WholeOutputs.{IsText, RefusesToString};

@@ -39,4 +39,4 @@ pub mod ShortWholes
 pub mod ShortWays
 pub mod ShortSteps
 pub mod ShortTexts
-pub mod ShortNumbers
+pub mod ShortNumberSkips

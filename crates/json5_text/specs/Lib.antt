@@ -32,5 +32,5 @@ pub mod ScanTextTokens
 pub mod ScanComments
 pub mod ShortWays
 pub mod ShortTexts
-pub mod ShortNumbers
+pub mod ShortNumberSkips
 pub mod ShortWords

@@ -27,7 +27,7 @@ use Rattle.json5_text.specs.TokenCalls.{TakesKey}
 use Rattle.json5_text.specs.TokenFaults.{FaultyKey, at_quote, at_name}
 use Rattle.json5_text.proofs.UnicodeScalars.{key_scalars}
 use Rattle.json5_value.specs.Entries.{entry_front, entry_start, next_entry}
-use Rattle.json5_value.specs.KeepSteps.{BlamesOrMemory, Keeps, OwnsKey, IsFoundKey, IsKeyText, IsNextKey, next_key}
+use Rattle.json5_value.specs.OwnedReads.{BlamesOrMemory, Keeps, OwnsKey, IsFoundKey, IsKeyText, IsNextKey, next_key}
 use Rattle.json5_value.specs.ModelSteps.{IsInside, SameText, RefusesRead, Gave, RefusesToken}
 use Rattle.json5_value.proofs.EntryValues.{key_missing, key_string, key_name}
 use Rattle.json5_value.proofs.NoFailedCode.{key_lacks}

@@ -12,7 +12,7 @@ use Rattle.json5_text.specs.declared.value.Value.{Value}
 use Rattle.json5_text.specs.ValueMeanings as views
 use Rattle.json5_text.specs.ValueMeanings.{Datum, Items, Fields, no_item, item, no_field, field, value_of, items_view, fields_view}
 use Rattle.json5_value.specs.BuildSteps.{elements_before, members_before, array_with, object_with, rest_of_array, rest_of_object}
-use Rattle.json5_value.specs.KeepSteps.{as_datum, next_key}
+use Rattle.json5_value.specs.OwnedReads.{as_datum, next_key}
 use Rattle.json5_value.specs.TreeMeanings.{datum_of, items_of, fields_of}
 
 -- ---- arrays

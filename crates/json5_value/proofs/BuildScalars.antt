@@ -33,7 +33,7 @@ use Rattle.json5_value.specs.declared.kinds.Literal.TheVariants as literal
 use Rattle.json5_value.specs.declared.kinds.ValueKind.{ValueKind}
 use Rattle.json5_value.specs.declared.kinds.ValueKind.TheVariants as kind
 use Rattle.json5_value.specs.TreeMeanings.{datum_of}
-use Rattle.json5_value.specs.KeepSteps.{BlamesOrMemory, Keeps, IsOfTree, as_datum, tree_at, datum_at, datum_of_literal, ReadsOrOpens}
+use Rattle.json5_value.specs.OwnedReads.{BlamesOrMemory, Keeps, IsOfTree, as_datum, tree_at, datum_at, datum_of_literal, ReadsOrOpens}
 use Rattle.json5_value.specs.Kinds.{kind_at, word_of}
 use Rattle.json5_value.specs.ModelSteps.{IsInside, SameText, RefusesRead, Gave, Steps, RefusesToken, value_at}
 use Rattle.json5_value.proofs.NoFailedCode.{Lacks, faulty_number_lacks, faulty_string_lacks}

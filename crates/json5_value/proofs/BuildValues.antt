@@ -17,7 +17,7 @@ use Rattle.json5_value.specs.declared.brackets.OpenBracket.{OpenBracket}
 use Rattle.json5_value.specs.declared.unfinished.Unfinished.{Unfinished}
 use Rattle.json5_value.specs.Brackets.{bracket_of}
 use Rattle.json5_value.specs.BuildSteps.{array_at, object_at, value_in_at, start_of, value_in, Building, BuildingInside, PositionedIn, TurnsBuilding, TurnsBuildingInside}
-use Rattle.json5_value.specs.KeepSteps.{BlamesOrMemory, as_datum, datum_at, ReadsDatum}
+use Rattle.json5_value.specs.OwnedReads.{BlamesOrMemory, as_datum, datum_at, ReadsDatum}
 use Rattle.json5_value.specs.Nesting.{Nested}
 use Rattle.json5_value.specs.Opening.{OpenedAt}
 use Rattle.json5_value.specs.ModelSteps.{IsInside, SameText, RefusesRead, Gave}

@@ -18,7 +18,7 @@ use Rattle.json5_value.specs.declared.short_ways.NameLeft.{NameLeft}
 use Rattle.json5_value.specs.declared.short_members.ShortMembers.TheVariants as members_reached
 use Rattle.json5_value.specs.declared.short_values.ShortElements.TheVariants as reached
 use Rattle.json5_value.specs.BuildSteps.{array_at, members_before, object_at, start_of, value_in, BuildingInside, TurnsBuildingInside}
-use Rattle.json5_value.specs.KeepSteps.{OwnsText}
+use Rattle.json5_value.specs.OwnedReads.{OwnsText}
 use Rattle.json5_value.specs.Offsets.{StartsAfter, PositionedAt}
 use Rattle.json5_value.specs.ShortWays.{name_left}
 use Rattle.json5_value.specs.ShortMembers.{TakesMembers, TurnsBuildingNamed, member_left}

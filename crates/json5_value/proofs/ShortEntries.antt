@@ -37,7 +37,7 @@ use Rattle.json5_text.specs.declared.short_ways.ShortStep.{ShortStep}
 use Rattle.json5_text.specs.declared.short_ways.ShortStep.TheVariants as steps
 use Rattle.json5_text.specs.declared.short_texts.Span.{Span}
 use Rattle.json5_text.specs.ShortWays.{AfterGap, StepsTo, IsStep, Stepped, TookNumber, TakesShortStep, TakesShortSign}
-use Rattle.json5_text.specs.ShortNumbers.{TakesShortNumber}
+use Rattle.json5_text.specs.ShortNumberSkips.{TakesShortNumber}
 use Rattle.json5_text.specs.ShortWords.{TakesShortWord}
 use Rattle.json5_text.specs.ShortTexts.{TakesShortKey, TakesShortString, IsTextAt}
 use Rattle.json5_text.specs.TextTokens.{IsSliceAt}
@@ -53,7 +53,7 @@ use Rattle.json5_value.specs.declared.short_ways.ShortEntry.TheVariants as entry
 use Rattle.json5_value.specs.Brackets.{bracket_of, brackets_of}
 use Rattle.json5_value.specs.Entries.{entry_front, entry_start, next_entry}
 use Rattle.json5_value.specs.Kinds.{kind_at, word_of}
-use Rattle.json5_value.specs.KeepSteps.{Keeps, IsOfTree, tree_at}
+use Rattle.json5_value.specs.OwnedReads.{Keeps, IsOfTree, tree_at}
 use Rattle.json5_value.specs.Opening.{AtScalar, AtKind}
 use Rattle.json5_value.specs.ShortWays.{EntersShort, ReachesMember, PassesShort, PassesTo, name_at, name_left}
 use Rattle.json5_value.specs.ModelSteps.{Gave}

@@ -26,7 +26,7 @@ use Rattle.json5_value.specs.declared.short_members.ShortMembers.TheVariants as 
 use Rattle.json5_value.specs.Brackets.{brackets_of}
 use Rattle.json5_value.specs.BuildSteps.{members_before, object_with, object_at}
 use Rattle.json5_value.specs.Entries.{next_entry}
-use Rattle.json5_value.specs.KeepSteps.{datum_at, next_key}
+use Rattle.json5_value.specs.OwnedReads.{datum_at, next_key}
 use Rattle.json5_value.specs.ShortWays.{PassesTo, name_left}
 use Rattle.json5_value.specs.ShortMembers.{AddsMember, NamesMember, ReachesKey, TakesMembers, member_left}
 use Rattle.json5_value.specs.ShortValues.{LeavesLess}

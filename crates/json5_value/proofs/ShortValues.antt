@@ -12,7 +12,7 @@ use Rattle.json5_text.specs.Cursor.{Cursor}
 use Rattle.json5_text.specs.ValueMeanings.{Datum, array, item, items_view, value_of}
 use Rattle.json5_text.specs.ValueMeanings as datum
 use Rattle.json5_value.specs.BuildSteps.{elements_before, array_with, array_at}
-use Rattle.json5_value.specs.KeepSteps.{Keeps, IsOfTree, as_datum, tree_at, datum_at}
+use Rattle.json5_value.specs.OwnedReads.{Keeps, IsOfTree, as_datum, tree_at, datum_at}
 use Rattle.json5_value.specs.declared.short_values.ShortElements.TheVariants as reached
 use Rattle.json5_value.specs.declared.short_values.ShortValue.{ShortValue}
 use Rattle.json5_value.specs.ShortValues.{KeepsShort, Leaves, LeavesLess, TakesElements, element_left}

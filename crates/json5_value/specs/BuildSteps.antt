@@ -12,7 +12,7 @@ use Rattle.json5_text.specs.ValueMeanings.{Datum, Items, Fields, array, object, 
 use Rattle.json5_value.specs.declared.unfinished.Unfinished.{Unfinished}
 use Rattle.json5_value.specs.declared.unfinished.Unfinished.TheVariants as unfinished
 use Rattle.json5_value.specs.TreeMeanings.{items_of, fields_of}
-use Rattle.json5_value.specs.KeepSteps.{datum_at}
+use Rattle.json5_value.specs.OwnedReads.{datum_at}
 use Rattle.json5_value.specs.Nesting.{Within, WithinInner}
 use Rattle.json5_value.specs.Offsets.{StartsAfter, PositionedAt}
 use Rattle.json5_value.specs.ModelSteps.{SameText, RefusesRead}

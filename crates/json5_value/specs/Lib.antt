@@ -9,7 +9,7 @@ pub mod Nesting
 pub mod SkipSteps
 pub mod ShortWays
 pub mod TreeMeanings
-pub mod KeepSteps
+pub mod OwnedReads
 pub mod BuildSteps
 pub mod ShortValues
 pub mod ShortMembers

@@ -19,7 +19,7 @@ use Rattle.json5_value.specs.declared.short_members.ShortMembers.TheVariants as 
 use Rattle.json5_text.specs.declared.error.Error.{Error}
 use Rattle.json5_value.specs.declared.unfinished.Unfinished.{Unfinished}
 use Rattle.json5_value.specs.BuildSteps.{TurnsBuildingInside, members_before, object_with, object_at}
-use Rattle.json5_value.specs.KeepSteps.{as_datum, next_key}
+use Rattle.json5_value.specs.OwnedReads.{as_datum, next_key}
 use Rattle.json5_value.specs.ShortWays.{name_left}
 use Rattle.json5_value.specs.ShortValues.{Leaves, LeavesLess}
 use Rattle.json5_value.specs.ModelSteps.{SameText, Gave}

@@ -13,7 +13,7 @@ use Rattle.json5_value.specs.declared.short_values.ShortElements.TheVariants as 
 use Rattle.json5_value.specs.declared.short_values.ShortValue.{ShortValue}
 use Rattle.json5_value.specs.declared.short_values.ShortValue.TheVariants as short
 use Rattle.json5_value.specs.BuildSteps.{elements_before, array_with, array_at}
-use Rattle.json5_value.specs.KeepSteps.{datum_at}
+use Rattle.json5_value.specs.OwnedReads.{datum_at}
 use Rattle.json5_value.specs.ModelSteps.{SameText, Gave}
 
 -- the value in front was taken, however many brackets may be open, or nothing was, or memory ran out

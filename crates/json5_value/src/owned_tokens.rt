@@ -5,7 +5,7 @@ ghost use Rattle.json5_grammar.specs.Model.ReadTexts.{key};
 ghost use Rattle.json5_text.specs.NumberMeanings.{number_of};
 ghost use Rattle.json5_text.specs.ValueMeanings as datum;
 ghost use Rattle.json5_text.specs.ValueMeanings.{value_of};
-ghost use Rattle.json5_value.specs.KeepSteps.{Keeps, OwnsKey, OwnsText, IsKeyText, IsNextKey, ReadsScalar, datum_of_literal, next_key};
+ghost use Rattle.json5_value.specs.OwnedReads.{Keeps, OwnsKey, OwnsText, IsKeyText, IsNextKey, ReadsScalar, datum_of_literal, next_key};
 ghost use Rattle.json5_value.specs.Opening.{AtScalar};
 ghost use Rattle.json5_value.specs.ModelSteps.{IsInside};
 

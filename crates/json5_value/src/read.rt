@@ -1,7 +1,7 @@
 //! Reading of values of any kind (JSON5 sections 2 to 6).
 
 ghost use Rattle.json5_value.specs.BuildSteps.{PositionedIn, TurnsBuilding};
-ghost use Rattle.json5_value.specs.KeepSteps.{ReadsDatum, ReadsOrOpens};
+ghost use Rattle.json5_value.specs.OwnedReads.{ReadsDatum, ReadsOrOpens};
 ghost use Rattle.json5_value.specs.ModelSteps.{IsInside};
 
 use crate::brackets::{BracketKind, OpenBracket, open_bracket};

@@ -4,9 +4,9 @@ use Rattle.std.proofs.lemmas.Result.{err_from_is_err_and}
 use Rattle.json5_text.specs.Cursor.{Refused}
 use Rattle.json5_text.specs.TokenFaults.{FaultyBlanks}
 use Rattle.json5_text.specs.ValueMeanings.{value_of}
-use Rattle.json5_value.specs.KeepSteps.{BlamesOrMemory, datum_at}
+use Rattle.json5_value.specs.OwnedReads.{BlamesOrMemory, datum_at}
 use Rattle.json5_value.specs.ModelSteps.{Gave}
-use Rattle.json5_format.proofs.WholeValues.{SkippedGap, front_refused, value_refused, rest_refused, all_read, character_refused}
+use Rattle.json5_format.proofs.DocumentReads.{SkippedGap, front_refused, value_refused, rest_refused, all_read, character_refused}
 use Rattle.json5_format.proofs.read_document_within.Goals as goal
 
 pub returns-in_err-skip_blank : goal.returns-in_err-skip_blank

@@ -1,4 +1,4 @@
-use Rattle.json5.proofs.WholeValues.{one_fault, no_fault}
+use Rattle.json5.proofs.DocumentReads.{one_fault, no_fault}
 use Rattle.json5.proofs.laws.one_refusal.Goals as goal
 
 pub returns-clause-same : goal.returns-clause-same

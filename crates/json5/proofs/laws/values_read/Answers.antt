@@ -1,4 +1,4 @@
-use Rattle.json5.proofs.WholeValues.{reads_text}
+use Rattle.json5.proofs.DocumentReads.{reads_text}
 use Rattle.json5.proofs.laws.values_read.Goals as goal
 
 pub returns : goal.returns

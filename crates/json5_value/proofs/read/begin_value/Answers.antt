@@ -1,6 +1,6 @@
 use Rattle.std.proofs.Common.{refl, subst}
 use Rattle.json5_text.specs.ValueMeanings.{value_of}
-use Rattle.json5_value.specs.KeepSteps.{BlamesOrMemory, datum_at}
+use Rattle.json5_value.specs.OwnedReads.{BlamesOrMemory, datum_at}
 use Rattle.json5_value.specs.Opening.{OpenedAt}
 use Rattle.json5_value.specs.ModelSteps.{Gave}
 use Rattle.json5_value.proofs.BuildValues.{room_left, first_refused, first_scalar, array_begun, object_begun}

@@ -2,7 +2,7 @@ use Rattle.std.proofs.Common.{◌∙◌, arith}
 use Rattle.std.proofs.lemmas.List.{nil_from_length}
 use Rattle.std.proofs.lemmas.Result.{err_from_is_err_and}
 use Rattle.json5_value.specs.BuildSteps.{start_of, value_in_at}
-use Rattle.json5_value.specs.KeepSteps.{datum_at}
+use Rattle.json5_value.specs.OwnedReads.{datum_at}
 use Rattle.json5_value.proofs.BuildValues.{value_read, ended_inside, member_not_read}
 use Rattle.json5_value.proofs.read.read_value.Goals as goal
 

@@ -1,6 +1,6 @@
 use Rattle.std.proofs.Common.{length}
 use Rattle.json5_value.specs.BuildSteps.{Building}
-use Rattle.json5_value.specs.KeepSteps.{datum_at}
+use Rattle.json5_value.specs.OwnedReads.{datum_at}
 use Rattle.json5_value.specs.ModelSteps.{SameText}
 use Rattle.json5_value.proofs.read.read_value.Given as goal
 

@@ -20,7 +20,7 @@ use Rattle.json5_grammar.proofs.CharacterTests.{front_rest}
 use Rattle.json5_text.specs.ByteRuns.{lengthens_digits}
 use Rattle.json5_text.specs.NumberParts.{SplitsDigits}
 use Rattle.json5_text.specs.ShortWays.{IsInFront}
-use Rattle.json5_text.specs.ShortNumbers.{FollowsSign, FollowsMantissa, FollowsPower, FollowsExponent}
+use Rattle.json5_text.specs.ShortNumberSkips.{FollowsSign, FollowsMantissa, FollowsPower, FollowsExponent}
 use Rattle.json5_text.specs.TokenResults.{GivesRest}
 use Rattle.json5_text.proofs.ShortWholes.{whole_digits, literal_end, not_lengthened, ends_chars, lengthens_ascii}
 

@@ -1,7 +1,7 @@
 use Rattle.std.proofs.Common.{refl, subst}
 use Rattle.json5_text.specs.ShortWays.{IsInFront}
-use Rattle.json5_text.proofs.ShortNumbers.{exponent_if, no_exponent_follows}
-use Rattle.json5_text.proofs.short_numbers.after_exponent.Goals as goal
+use Rattle.json5_text.proofs.ShortNumberSkips.{exponent_if, no_exponent_follows}
+use Rattle.json5_text.proofs.short_number_skips.after_exponent.Goals as goal
 
 pub returns : goal.returns
 returns c = no_exponent_follows c.args.text.now c.utf8.text

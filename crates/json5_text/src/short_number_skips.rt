@@ -4,7 +4,7 @@
 ghost use Rattle.std.specs.Prelude.{IfSome};
 ghost use Rattle.std.specs.Str.{chars};
 ghost use Rattle.json5_grammar.specs.Model.ReadNumbers as model;
-ghost use Rattle.json5_text.specs.ShortNumbers.{FollowsSign, FollowsMantissa, FollowsPower, FollowsExponent, TakesShortNumber};
+ghost use Rattle.json5_text.specs.ShortNumberSkips.{FollowsSign, FollowsMantissa, FollowsPower, FollowsExponent, TakesShortNumber};
 ghost use Rattle.json5_text.specs.TokenResults.{GivesRest};
 
 use crate::blanks::skip_ascii;

@@ -1,6 +1,6 @@
 use Rattle.std.proofs.Common.{◌≤◌, ◌<◌, length, rules}
-use Rattle.json5_text.proofs.ShortNumbers.{power_follows}
-use Rattle.json5_text.proofs.short_numbers.after_exponent_digits.Goals as goal
+use Rattle.json5_text.proofs.ShortNumberSkips.{power_follows}
+use Rattle.json5_text.proofs.short_number_skips.after_exponent_digits.Goals as goal
 
 pub returns : goal.returns
 returns c =

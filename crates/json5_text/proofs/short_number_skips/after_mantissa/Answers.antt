@@ -1,7 +1,7 @@
 use Rattle.std.proofs.Common.{◌≤◌, length, subst, sym, ◌∙◌, rules}
 use Rattle.json5_text.specs.ShortWays.{IsInFront}
-use Rattle.json5_text.proofs.ShortNumbers.{integer_follows, point_follows}
-use Rattle.json5_text.proofs.short_numbers.after_mantissa.Goals as goal
+use Rattle.json5_text.proofs.ShortNumberSkips.{integer_follows, point_follows}
+use Rattle.json5_text.proofs.short_number_skips.after_mantissa.Goals as goal
 
 pub returns-then-not-is_in_front : goal.returns-then-not-is_in_front
 returns-then-not-is_in_front c =

@@ -1,7 +1,7 @@
 use Rattle.std.proofs.Common.{subst}
 use Rattle.json5_text.specs.ShortWays.{IsInFront}
-use Rattle.json5_text.proofs.ShortNumbers.{minus_follows, plus_follows, none_follows}
-use Rattle.json5_text.proofs.short_numbers.after_sign.Goals as goal
+use Rattle.json5_text.proofs.ShortNumberSkips.{minus_follows, plus_follows, none_follows}
+use Rattle.json5_text.proofs.short_number_skips.after_sign.Goals as goal
 
 pub returns-then-is_in_front : goal.returns-then-is_in_front
 returns-then-is_in_front c = minus_follows c.args.text.now c.split_at.result.1.now (subst (IsInFront 45 c.args.text.now) c.if-is_in_front.true c.is_in_front.ensures) c.split_at.ensures.back

@@ -1,8 +1,8 @@
 use Rattle.std.proofs.Common.{drop, subst}
 use Rattle.json5_grammar.specs.Language.Characters.{NotBegun}
 use Rattle.json5_text.specs.ByteRuns.{lengthens_digits}
-use Rattle.json5_text.proofs.ShortNumbers.{number_follows}
-use Rattle.json5_text.proofs.short_numbers.after_number.Goals as goal
+use Rattle.json5_text.proofs.ShortNumberSkips.{number_follows}
+use Rattle.json5_text.proofs.short_number_skips.after_number.Goals as goal
 
 pub returns : goal.returns
 returns c =

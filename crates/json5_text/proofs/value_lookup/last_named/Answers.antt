@@ -3,8 +3,8 @@ use Rattle.std.specs.Str.{chars}
 use Rattle.json5_text.specs.ValueMeanings.{value_of, fields_view}
 use Rattle.json5_text.specs.ValueLookups.{or_else, last_named}
 use Rattle.json5_text.proofs.LookedUp.{at_name, past_name, from_here, same_key}
-use Rattle.json5_text.proofs.lookup.last_named.Goals as goal
-use Rattle.json5_text.proofs.lookup.last_named.Goals.{then-eq, else-eq}
+use Rattle.json5_text.proofs.value_lookup.last_named.Goals as goal
+use Rattle.json5_text.proofs.value_lookup.last_named.Goals.{then-eq, else-eq}
 
 pub loop-name-preserved : goal.loop-name-preserved
 loop-name-preserved c =

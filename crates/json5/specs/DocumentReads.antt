@@ -9,7 +9,7 @@ use Rattle.json5_text.specs.ValueMeanings.{Datum, value_of}
 use Rattle.json5_de.specs.Faults.{FaultRelation}
 use Rattle.json5_de.specs.State.{State}
 use Rattle.json5_de.specs.WholeInputs.{ReadsWholeText}
-pub use Rattle.json5_format.specs.WholeValues.{FaultyDocument, unread_text, IsRefused, IsRefusedWithin, ReadsText}
+pub use Rattle.json5_format.specs.DocumentReads.{FaultyDocument, unread_text, IsRefused, IsRefusedWithin, ReadsText}
 
 -- an input has at most one fault of the relation, within each limit
 abbrev pub IsOneFault : (ℕ → FaultRelation) → Type 0

@@ -23,12 +23,12 @@ use Rattle.json5_text.specs.Errors.{code, kind_of}
 use Rattle.json5_text.specs.TokenFaults.{FaultyBlanks}
 use Rattle.json5_text.specs.ValueMeanings.{value_of}
 use Rattle.json5_value.specs.TreeMeanings.{datum_of}
-use Rattle.json5_value.specs.KeepSteps.{BlamesOrMemory, as_datum, datum_at}
+use Rattle.json5_value.specs.OwnedReads.{BlamesOrMemory, as_datum, datum_at}
 use Rattle.json5_value.specs.ModelSteps.{IsInside, HasPositionAt, RefusesRead, Gave}
 use Rattle.json5_value.proofs.BuildScalars.{datum_got}
 use Rattle.json5_value.proofs.NoFailedCode.{Lacks, in_blanks_other, memory_other}
 use Rattle.json5_value.proofs.ModelSteps.{blames_refused, blames_made, blames_as, ready_after, none_next, some_next}
-use Rattle.json5_format.specs.WholeValues.{FaultyDocument, unread_text, IsRefusedWithin, ReadsText}
+use Rattle.json5_format.specs.DocumentReads.{FaultyDocument, unread_text, IsRefusedWithin, ReadsText}
 
 -- ---- the answer, from what reading on lists gives
 
