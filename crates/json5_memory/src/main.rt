@@ -48,5 +48,5 @@ fn main(rt: HostRuntime) -> io::Result<()> {
     calls::print_all(alloc, &mut out)?;
     reads::print_all(alloc, &mut out)?;
     own_types::print_all(alloc, &mut out)?;
-    faults::print_all(alloc, &mut out)
+    faulty_inputs::print_all(alloc, &mut out)
 }

@@ -2,7 +2,7 @@
 
 use crate::call_results::{Answer, by_code, by_message};
 use crate::spelling::{shortened, unescaped};
-use crate::{limits, reads, scans, sequences, texts, token_lengths, writes, writings};
+use crate::{limits, other_calls, reader_calls, reads, scans, token_lengths, writer_calls, writes};
 use std::alloc::{AllocError, Global};
 
 /// Whether the line is a row: neither blank nor a comment.
@@ -31,19 +31,19 @@ fn answer(alloc: Global, call: &str, text: &str) -> Answer {
         "format" => json5::format(alloc, text),
         "formatted" => read_formatted(alloc, words, text),
         "variant" => reads::read_variant(alloc, words, text),
-        "sequence" => sequences::sequence(alloc, words, text),
-        "writing" => writings::writing(alloc, words),
-        "stops" => writings::stops(alloc, words, text),
+        "sequence" => reader_calls::sequence(alloc, words, text),
+        "writing" => writer_calls::writing(alloc, words),
+        "stops" => writer_calls::stops(alloc, words, text),
         "within" | "written" | "format_within" | "fits_within" => {
             limits::limited(alloc, name, words, text)
         }
         "limit" => limits::limit(alloc, words),
         "reaches" => token_lengths::reaches(alloc, words, text),
         "scan" => scans::scan(alloc, words, text),
-        "position" => texts::position(alloc, words, text),
-        "finite" => texts::finite(alloc, words, text),
-        "escape" => texts::escaped(alloc, words, text),
-        "characters" => texts::characters(alloc, words, text),
+        "position" => other_calls::position(alloc, words, text),
+        "finite" => other_calls::finite(alloc, words, text),
+        "escape" => other_calls::escaped(alloc, words, text),
+        "characters" => other_calls::characters(alloc, words, text),
         _ => reads::read(alloc, call, text),
     }
 }
