@@ -1,17 +1,18 @@
 -- Elements and members without the comma after them, and what remains to be written of their collection.
 use Rattle.std.proofs.Common.{◌≡◌, ℕ, ◌+◌, ◌-◌, [], ◌∷◌, Bool, true, false, Result, Ok, Err, refl, sym, ap, ◌∙◌, subst, arith}
+use Rattle.std.specs.Prelude.{⊤}
 use Rattle.std.specs.Result.{is_err, IsErrAnd}
 use Rattle.json5_text.specs.declared.error.Error.{Error}
 use Rattle.json5_grammar.specs.Language.Characters.{comma_sign, colon_sign, space}
 use Rattle.json5_ser.specs.WrittenTrees.{WrittenKey, Written, Elements, element, Fields, field}
 use Rattle.json5_ser.specs.Out.{Out, piece, ◌then◌, line, opened_by, closed_by, out, elements_out, fields_out, key_part, key_out}
 use Rattle.json5_ser.specs.Writes.{SerializerState, Wrote, RefusesBy, RefusesWrite, Writes, at_depth, after_closing}
-use Rattle.json5_ser.specs.ShortWrites.{refusal_by, MakesError}
+use Rattle.json5_ser.specs.ShortWrites.{Puts, refusal_by, MakesError}
 use Rattle.json5_ser.specs.declared.refusal.Refused.{Refused}
 use Rattle.json5_ser.specs.Commas.{comma_before, element_line, member_line}
 use Rattle.json5_ser.proofs.OutputsJoined.{Writes-exit, Reaches, Reaches-first, Reaches-next, Reaches-exit, Reaches-last}
-use Rattle.json5_ser.proofs.ShortWritesJoined.{refused_as}
-use Rattle.json5_ser.proofs.RemainingOutput.{Wrote-at, Refuses-at, then_assoc}
+use Rattle.json5_ser.proofs.ShortWritesJoined.{refused_as, Puts-stop, Reaches-stop, Reaches-end}
+use Rattle.json5_ser.proofs.RemainingOutput.{Wrote-at, RefusesBy-at, Refuses-at, then_assoc}
 
 pub comma_before_then : (due : Bool) (a b : Out) → comma_before due (a then b) ≡ comma_before due a then b
 comma_before_then true a b = sym (then_assoc (piece (comma_sign ∷ [])) a b)
@@ -130,3 +131,35 @@ fields_as {all} {at} {s} due e h = subst (λ fs. Left all at s (fields_left at.l
 
 pub tree_after : {A : Type 0} {a : Out} {o m : SerializerState} (s n : SerializerState) (r : Result A Error) (t : Written) → Wrote a o m → Writes (out m.limit t m.depth) s r n → Writes (out o.limit t o.depth) s r n
 tree_after {A} {a} {o} {m} s n r t w p = subst (λ l. Writes (out l t o.depth) s r n) w.limit (subst (λ d. Writes (out m.limit t d) s r n) w.depth p)
+
+-- ---- the same of calls that return a small value
+
+pub open_stop : (sign : ℕ) (rest : Out) (at n : SerializerState) (r : Refused) (x : Result ⊤ Refused) → RefusesBy (opened_by at.limit at.depth sign) at (refusal_by r) (at_depth at.depth n) → IsErrAnd x (λ y. y ≡ r)
+    → Puts (opened_by at.limit at.depth sign then rest) at x n
+open_stop sign rest at n r x p is =
+    let first = opened_by at.limit at.depth sign in
+    Puts-stop first rest at n r x is (RefusesBy-at at.depth n.depth first at (at_depth at.depth n) (refusal_by r) p)
+
+left_stop : (all a rest : Out) (at s n : SerializerState) (r : Refused) (x : Result ⊤ Refused) → Left all at s (a then rest) → IsErrAnd x (λ y. y ≡ r) → RefusesBy a s (refusal_by r) n → Puts all at x n
+left_stop all a rest at s n r x h is p = Reaches-stop all a rest at (at_depth at.depth s) n r x h.reaches is (RefusesBy-at at.depth n.depth a s n (refusal_by r) p)
+
+pub element_stop : {all : Out} {at s : SerializerState} (n : SerializerState) (r : Refused) (t : Written) (ts : Elements) (x : Result ⊤ Refused) (due : Bool) → Left all at s (elements_left at.limit (element t ts) at.depth due)
+    → RefusesBy (comma_before due (element_line s.limit s.depth t)) s (refusal_by r) n → IsErrAnd x (λ y. y ≡ r) → Puts all at x n
+element_stop {all} {at} {s} n r t ts x due h p is =
+    left_stop all (comma_before due (element_line at.limit (at.depth + 1) t)) (elements_left at.limit ts at.depth true) at s n r x
+    (subst (Left all at s) (next_element at.limit at.depth due t ts) h) is (moved (λ l d. RefusesBy (comma_before due (element_line l d t)) s (refusal_by r) n) at s h.depth h.limit p)
+
+pub member_stop : {all : Out} {at s : SerializerState} (n : SerializerState) (r : Refused) (k : WrittenKey) (t : Written) (fs : Fields) (x : Result ⊤ Refused) (due : Bool) → Left all at s (fields_left at.limit (field k t fs) at.depth due)
+    → RefusesBy (comma_before due (member_line s.limit s.depth k t)) s (refusal_by r) n → IsErrAnd x (λ y. y ≡ r) → Puts all at x n
+member_stop {all} {at} {s} n r k t fs x due h p is =
+    left_stop all (comma_before due (member_line at.limit (at.depth + 1) k t)) (fields_left at.limit fs at.depth true) at s n r x
+    (subst (Left all at s) (next_field at.limit at.depth due k t fs) h) is (moved (λ l d. RefusesBy (comma_before due (member_line l d k t)) s (refusal_by r) n) at s h.depth h.limit p)
+
+pub left_closed : {all : Out} {at s : SerializerState} (sign : ℕ) (n : SerializerState) (x : Result ⊤ Refused) (due : Bool) → Left all at s (comma_before due (closed_by at.depth due sign))
+    → Puts (comma_before due (closed_by (s.depth - 1) due sign)) (after_closing s) x n → Puts all at x n
+left_closed {all} {at} {s} sign n x due h p =
+    let d : s.depth - 1 ≡ at.depth = let k = h.depth in omega (arith, k) in
+    Reaches-end all (comma_before due (closed_by at.depth due sign)) at (at_depth at.depth s) n x h.reaches (subst (λ k. Puts (comma_before due (closed_by k due sign)) (at_depth k s) x n) d p)
+
+pub tree_put : {a : Out} {o m : SerializerState} (s n : SerializerState) (x : Result ⊤ Refused) (t : Written) → Wrote a o m → Puts (out m.limit t m.depth) s x n → Puts (out o.limit t o.depth) s x n
+tree_put {a} {o} {m} s n x t w p = subst (λ l. Puts (out l t o.depth) s x n) w.limit (subst (λ d. Puts (out m.limit t d) s x n) w.depth p)

@@ -1,6 +1,6 @@
 -- A decimal's spelling, which is ASCII, in its pieces.
 use Rattle.std.proofs.Common.{◌≡◌, ◌<◌, Result, ℕ, zero, suc, ◌-◌, List, [], ◌∷◌, ◌++◌, Bool, true, false, ◌&&◌, ◌||◌, nat_lt, nat_le, cond, length, take, drop, refl, ap, ◌∙◌, subst, arith}
-use Rattle.std.specs.Prelude.{ℤ, pos, negsuc}
+use Rattle.std.specs.Prelude.{ℤ, pos, negsuc, ⊤}
 use Rattle.std.specs.List.{list_all}
 use Rattle.std.specs.Str.{IsAscii, chars}
 use Rattle.std.specs.Fmt.{sign_text}
@@ -13,9 +13,11 @@ use Rattle.json5_grammar.specs.Written.NumberText.{zeros, pointed, digits_text, 
 use Rattle.json5_text.specs.DecimalPieces.{BeginsWithPiece}
 use Rattle.json5_ser.specs.Out.{piece, ◌then◌}
 use Rattle.std.specs.Result.{IsErrAnd}
-use Rattle.json5_text.specs.declared.error.Error.{Error}
-use Rattle.json5_ser.specs.Writes.{SerializerState, Wrote, RefusesWrite, Writes}
-use Rattle.json5_ser.proofs.OutputsJoined.{Reaches, Reaches-none, Reaches-next, Reaches-exit}
+use Rattle.json5_ser.specs.Writes.{SerializerState, Wrote, RefusesBy}
+use Rattle.json5_ser.specs.ShortWrites.{Puts, refusal_by}
+use Rattle.json5_ser.specs.declared.refusal.Refused.{Refused}
+use Rattle.json5_ser.proofs.OutputsJoined.{Reaches, Reaches-none, Reaches-next}
+use Rattle.json5_ser.proofs.ShortWritesJoined.{Reaches-stop}
 
 pub first : (a b : Bool) → (a && b) ≡ true → a ≡ true
 first true b e = refl
@@ -153,9 +155,9 @@ left_next d o m n rest p after h f w =
       started = λ _. wrote.failed;
     }
 
-pub left_exit : {A : Type 0} (d : Decimal) (o m n : SerializerState) (rest p after : List ℕ) (e : Error) (r : Result A Error) → IsLeft d o m rest → BeginsWithPiece rest p after → IsErrAnd r (λ y. y ≡ e) → RefusesWrite (piece (chars p)) m e n → Writes (piece (decimal_text d)) o r n
-left_exit d o m n rest p after e r h f q w =
-    Reaches-exit (piece (decimal_text d)) (piece p) (piece after) o m n e r (parted d o m rest p after h f) q (subst (λ t. RefusesWrite (piece t) m e n) (piece_escape_free rest p after h.ascii f) w)
+pub left_stop : (d : Decimal) (o m n : SerializerState) (rest p after : List ℕ) (r : Refused) (x : Result ⊤ Refused) → IsLeft d o m rest → BeginsWithPiece rest p after → IsErrAnd x (λ y. y ≡ r) → RefusesBy (piece (chars p)) m (refusal_by r) n → Puts (piece (decimal_text d)) o x n
+left_stop d o m n rest p after r x h f q w =
+    Reaches-stop (piece (decimal_text d)) (piece p) (piece after) o m n r x (parted d o m rest p after h f) q (subst (λ t. RefusesBy (piece t) m (refusal_by r) n) (piece_escape_free rest p after h.ascii f) w)
 
 pub left_none : (d : Decimal) (o m : SerializerState) (rest : List ℕ) → IsLeft d o m rest → rest ≡ [] → Wrote (piece (decimal_text d)) o m
 left_none d o m rest h e =

@@ -50,7 +50,7 @@ Broke-after s too_deep b o n p = record { was = p.was; front = p.front; rest = p
 Broke-after s no_number b o n p = record { was = p.was; front = p.front; rest = p.rest; cut = p.cut; bytes = p.bytes; failed = p.failed }
 
 -- a refusal in the first part
-RefusesBy-before : (a b : Out) (o n : SerializerState) (r : Refusal) → RefusesBy a o r n → RefusesBy (a then b) o r n
+pub RefusesBy-before : (a b : Out) (o n : SerializerState) (r : Refusal) → RefusesBy a o r n → RefusesBy (a then b) o r n
 RefusesBy-before a b o n by_depth p = subst (λ x. Stopped too_deep x o n) (sym (after_too_deep a b p.stop)) (record { was = p.was; stop = refl; bytes = p.bytes; failed = p.failed })
 RefusesBy-before a b o n by_key p = subst (λ x. Stopped invalid_key x o n) (sym (after_invalid_key a b p.stop)) (record { was = p.was; stop = refl; bytes = p.bytes; failed = p.failed })
 RefusesBy-before a b o n by_writer p = Broke-after a.text a.stop b o n p
@@ -66,7 +66,7 @@ Stopped-after s a b o m n p q =
     (record { was = p.was; stop = q.stop; bytes = encoded-append _ _ _ a.text b.text p.bytes q.bytes; failed = q.failed })
 
 -- a refusal after a part that was written
-RefusesBy-after : (a b : Out) (o m n : SerializerState) (r : Refusal) → Wrote a o m → RefusesBy b m r n → RefusesBy (a then b) o r n
+pub RefusesBy-after : (a b : Out) (o m n : SerializerState) (r : Refusal) → Wrote a o m → RefusesBy b m r n → RefusesBy (a then b) o r n
 RefusesBy-after a b o m n by_depth p q = Stopped-after too_deep a b o m n p q
 RefusesBy-after a b o m n by_key p q = Stopped-after invalid_key a b o m n p q
 RefusesBy-after a b o m n by_writer p q =
@@ -101,27 +101,30 @@ Writes-exit a b o n e r q p = Writes-handed (a then b) o n e r q (Refuses-before
 -- writing the rest completes the whole
 pub record Reaches (all : Out) (o m : SerializerState) (rest : Out) : Type 0 where
   pub wrote : (n : SerializerState) → Wrote rest m n → Wrote all o n
-  pub refused : (n : SerializerState) (e : Error) → RefusesWrite rest m e n → RefusesWrite all o e n
+  pub refuses : (n : SerializerState) (r : Refusal) → RefusesBy rest m r n → RefusesBy all o r n
+
+pub Reaches-refused : (all rest : Out) (o m n : SerializerState) (e : Error) → Reaches all o m rest → RefusesWrite rest m e n → RefusesWrite all o e n
+Reaches-refused all rest o m n e h p = record { leaves = h.refuses n (refusal_of (kind_of e)) p.leaves; no_place = p.no_place }
 
 -- nothing is written yet
 pub Reaches-none : (all : Out) (o : SerializerState) → Reaches all o o all
-Reaches-none all o = record { wrote = λ n p. p; refused = λ n e p. p }
+Reaches-none all o = record { wrote = λ n p. p; refuses = λ n r p. p }
 
 pub Reaches-next : (all a rest : Out) (o m n : SerializerState) → Reaches all o m (a then rest) → Wrote a m n → Reaches all o n rest
 Reaches-next all a rest o m n h p =
-    record { wrote = λ k q. h.wrote k (Wrote-then a rest m n k p q); refused = λ k e q. h.refused k e (Refuses-after a rest m n k e p q) }
+    record { wrote = λ k q. h.wrote k (Wrote-then a rest m n k p q); refuses = λ k r q. h.refuses k r (RefusesBy-after a rest m n k r p q) }
 
 pub Reaches-first : (a rest : Out) (o m : SerializerState) → Wrote a o m → Reaches (a then rest) o m rest
 Reaches-first a rest o m p = Reaches-next (a then rest) a rest o o m (Reaches-none (a then rest) o) p
 
 -- what a `?` forwards after what was written
 pub Reaches-exit : {A : Type 0} (all a rest : Out) (o m n : SerializerState) (e : Error) (r : Result A Error) → Reaches all o m (a then rest) → IsErrAnd r (λ y. y ≡ e) → RefusesWrite a m e n → Writes all o r n
-Reaches-exit all a rest o m n e r h q p = Writes-handed all o n e r q (h.refused n e (Refuses-before a rest m n e p))
+Reaches-exit all a rest o m n e r h q p = Writes-handed all o n e r q (Reaches-refused all (a then rest) o m n e h (Refuses-before a rest m n e p))
 
 -- the last part
 pub Reaches-last : {A : Type 0} (all a : Out) (o m n : SerializerState) (r : Result A Error) → Reaches all o m a → Writes a m r n → Writes all o r n
 Reaches-last all a o m n (Ok x) h p = h.wrote n p
-Reaches-last all a o m n (Err e) h p = h.refused n e p
+Reaches-last all a o m n (Err e) h p = Reaches-refused all a o m n e h p
 
 -- a refusal with this kind
 pub refused_so : (w : Out) (o n : SerializerState) (e : Error) (k : FaultKind) → kind_of e ≡ k → error_position e ≡ Option.None → RefusesBy w o (refusal_of k) n → RefusesWrite w o e n

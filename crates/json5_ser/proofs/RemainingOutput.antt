@@ -15,7 +15,7 @@ use Rattle.json5_ser.specs.WrittenCollections.{within_variant, inner, serializer
 use Rattle.json5_ser.specs.declared.brackets.Brackets.{Brackets}
 use Rattle.json5_ser.specs.declared.brackets.Brackets.TheVariants as brackets
 use Rattle.json5_ser.specs.declared.collection.SerializeCollection.{SerializeCollection}
-use Rattle.json5_ser.proofs.OutputsJoined.{Refuses-before, Writes-handed, Reaches, Reaches-first, Reaches-next, Reaches-last}
+use Rattle.json5_ser.proofs.OutputsJoined.{Refuses-before, Writes-handed, Reaches, Reaches-refused, Reaches-first, Reaches-next, Reaches-last}
 
 -- elements, fields, or the value of the key that was written last and the fields after it
 pub data Rest : Type 0 where
@@ -52,7 +52,7 @@ pub record Remains {W : Type 0} (t : Written) (name : GName) (at : SerializerSta
 pub Wrote-at : (d : ℕ) (w : Out) (o n : SerializerState) → Wrote w o n → Wrote w (at_depth d o) (at_depth d n)
 Wrote-at d w o n p = record { was = p.was; stop = p.stop; chars = p.chars; bytes = p.bytes; depth = refl; limit = p.limit; failed = p.failed }
 
-RefusesBy-at : (d e : ℕ) (w : Out) (o n : SerializerState) (r : Refusal) → RefusesBy w o r n → RefusesBy w (at_depth d o) r (at_depth e n)
+pub RefusesBy-at : (d e : ℕ) (w : Out) (o n : SerializerState) (r : Refusal) → RefusesBy w o r n → RefusesBy w (at_depth d o) r (at_depth e n)
 RefusesBy-at d e w o n by_key p = record { was = p.was; stop = p.stop; bytes = p.bytes; failed = p.failed }
 RefusesBy-at d e w o n by_depth p = record { was = p.was; stop = p.stop; bytes = p.bytes; failed = p.failed }
 RefusesBy-at d e w o n by_writer p = record { was = p.was; front = p.front; rest = p.rest; cut = p.cut; bytes = p.bytes; failed = p.failed }
@@ -152,7 +152,7 @@ module _ {W : Type 0} where
       let all = out at.limit t at.depth in
       let d = at.depth in
       let left = left_first all part at (at_depth d (state_of c)) (in_variant c) r rest (has_member c) b h.reaches in
-      let refused = left.refused (at_depth d (state_of n)) e (Refuses-before part (rest_in at.limit (in_variant c) d rest true) (at_depth d (state_of c)) (at_depth d (state_of n)) e (Refuses-at d d part (state_of c) (state_of n) e s.writes)) in
+      let refused = Reaches-refused all (part then rest_in at.limit (in_variant c) d rest true) at (at_depth d (state_of c)) (at_depth d (state_of n)) e left (Refuses-before part (rest_in at.limit (in_variant c) d rest true) (at_depth d (state_of c)) (at_depth d (state_of n)) e (Refuses-at d d part (state_of c) (state_of n) e s.writes)) in
       let where_left = Writes-handed all at (serializer_of n) e result is (Refuses-lender all at (serializer_of n) d (state_of n).failed e s.blocks refused) in
       subst (Writes all at result) (sym (follows (sym (s.same_reference ∙ h.same_reference)) ∙ dropped)) where_left
 

@@ -1,6 +1,6 @@
 -- The test of numbers decides whether they can be written.
 use Rattle.std.proofs.Common.{◌≡◌, ◌<◌, ℕ, ◌^◌, List, [], ◌∷◌, Bool, true, false, ◌&&◌, ◌||◌, not, cond, Result, refl, sym, ap, ◌∙◌, subst, arith}
-use Rattle.std.specs.Prelude.{ℤ, pos, negsuc, ◌≤ℤ◌}
+use Rattle.std.specs.Prelude.{ℤ, pos, negsuc, ◌≤ℤ◌, ⊤}
 use Rattle.std.specs.List.{list_all}
 use Rattle.std.specs.Ordering.{int_eq}
 use Rattle.std.specs.Cmp.{signed_Decides}
@@ -14,6 +14,8 @@ use Rattle.json5_text.specs.declared.error.Error.{Error}
 use Rattle.json5_ser.specs.WritableNumbers.{is_within, is_normal, is_writable}
 use Rattle.json5_ser.specs.Out.{Out, whole as ended_whole, no_number, piece, stopped, number_out}
 use Rattle.json5_ser.specs.Writes.{SerializerState, Wrote, RefusesWrite, Writes}
+use Rattle.json5_ser.specs.ShortWrites.{Puts}
+use Rattle.json5_ser.specs.declared.refusal.Refused.{Refused}
 use Rattle.std.proofs.lemmas.Bool.{and_parts}
 
 both_from : (a b : Bool) → a ≡ true → b ≡ true → (a && b) ≡ true
@@ -84,6 +86,9 @@ number_whole n h = number_from n (whole_by (is_writable n) (piece (number_text n
 
 pub Writes-number : {A : Type 0} (n : Number) (o m : SerializerState) (r : Result A Error) → IsNumber n → Writes (piece (number_text n)) o r m → Writes (number_out n) o r m
 Writes-number n o m r h w = subst (λ x. Writes x o r m) (sym (number_piece n h)) w
+
+pub Puts-number : (n : Number) (o m : SerializerState) (r : Result ⊤ Refused) → IsNumber n → Puts (piece (number_text n)) o r m → Puts (number_out n) o r m
+Puts-number n o m r h w = subst (λ x. Puts x o r m) (sym (number_piece n h)) w
 
 pub unsigned_whole : (n : ℕ) → n < 2 ^ 128 → InWhole (pos n)
 unsigned_whole n l = (omega (arith, ints), omega (arith, ints, l))

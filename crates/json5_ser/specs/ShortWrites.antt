@@ -3,7 +3,8 @@ use Rattle.std.specs.Prelude.{None, Result, Ok, Err, ⊤}
 use Rattle.json5_grammar.specs.declared.error_code.ErrorCode.TheVariants as codes
 use Rattle.json5_text.specs.declared.error.Error.{Error}
 use Rattle.json5_text.specs.Errors.{FaultKind, code, failed_write, SaysAt}
-use Rattle.json5_ser.specs.Out.{Out}
+use Rattle.json5_ser.specs.WrittenTrees.{Written}
+use Rattle.json5_ser.specs.Out.{Out, out}
 use Rattle.json5_ser.specs.Writes.{SerializerState, Wrote, Refusal, by_writer, by_refusal, by_depth, RefusesBy}
 use Rattle.json5_ser.specs.declared.refusal.Refused.{Refused}
 use Rattle.json5_ser.specs.declared.refusal.Refused.TheVariants as refused
@@ -18,6 +19,10 @@ refusal_by refused.TooDeep = by_depth
 abbrev pub Puts : Out → SerializerState → Result ⊤ Refused → SerializerState → Type 0
 Puts o old (Ok x) new = Wrote o old new
 Puts o old (Err r) new = RefusesBy o old (refusal_by r) new
+
+-- what a call did that has this tree to write, within the brackets that are open
+abbrev pub PutsTree : Written → SerializerState → Result ⊤ Refused → SerializerState → Type 0
+PutsTree t old result new = Puts (out old.limit t old.depth) old result new
 
 -- what its error says
 abbrev pub kind_by : Refused → FaultKind

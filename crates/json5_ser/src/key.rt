@@ -4,7 +4,8 @@ ghost use Rattle.std.specs.Prelude.{◌≡◌, [], ◌∷◌, Some};
 ghost use Rattle.std.specs.Str.{chars};
 ghost use Rattle.hex.specs.Hex.{encode_lower};
 ghost use Rattle.json5_ser.specs.WrittenTrees.{WrittenKey, named, option_key};
-ghost use Rattle.json5_ser.specs.Out.{bool_text};
+ghost use Rattle.json5_ser.specs.Out.{bool_text, key_out};
+ghost use Rattle.json5_ser.specs.ShortWrites.{Puts};
 ghost use Rattle.json5_ser.specs.WrittenKeys.{WritesKey};
 
 mod members;
@@ -13,6 +14,7 @@ mod refusals;
 
 use crate::Serializer;
 use crate::identifiers::is_identifier;
+use crate::refusal::Put;
 use json5_text::error::Result;
 use std::io::Write;
 
@@ -76,7 +78,7 @@ pub trait SerializeKey {
 }
 
 #[tactic(auto, using(crate::proofs::PiecesWritten::chars_true, crate::proofs::PiecesWritten::chars_false))]
-fn bool_name(value: bool) -> &'static str
+pub(crate) fn bool_name(value: bool) -> &'static str
     ensures { chars result.now ≡ bool_text value }
 {
     if value { "true" } else { "false" }
@@ -84,14 +86,21 @@ fn bool_name(value: bool) -> &'static str
 
 impl<W: Write + Drop> Serializer<W> {
     /// Writes a key's text, between quotes if it is no identifier.
+    pub(crate) fn put_key(&mut self, text: &str) -> Put
+        ensures { Puts (key_out (named (chars text.now))) self.old result self.new }
+    {
+        if is_identifier(text) {
+            self.put_short(text)
+        } else {
+            self.put_str(text)
+        }
+    }
+
+    /// Writes a key's text as `put_key` does, for a call that may be refused otherwise too.
     fn put_name(&mut self, text: &str) -> Result<()>
         ensures { WritesKey (named (chars text.now)) self.old result self.new }
     {
-        if is_identifier(text) {
-            self.put(text)
-        } else {
-            self.serialize_str(text)
-        }
+        Ok(self.put_key(text)?)
     }
 }
 

@@ -226,14 +226,21 @@ impl<W: Write + Drop> Serializer<W> {
     }
 
     /// Closes a collection whose last member lacks its comma, if it has one.
-    pub(crate) fn close_after(&mut self, comma_due: bool, brackets: Brackets) -> Result<()>
-        ensures { Writes (closed_after comma_due (self.old.depth - 1) (closing (bracket_of brackets))) (after_closing self.old) result self.new }
+    pub(crate) fn close_short(&mut self, comma_due: bool, brackets: Brackets) -> Put
+        ensures { Puts (closed_after comma_due (self.old.depth - 1) (closing (bracket_of brackets))) (after_closing self.old) result self.new }
     {
         self.exit_bracket();
         if !comma_due {
-            return self.put(brackets.closing());
+            return self.put_short(brackets.closing());
         }
         self.start_line(true)?;
-        self.put(brackets.closing())
+        self.put_short(brackets.closing())
+    }
+
+    /// Closes a collection as `close_short` does, for a call that may be refused otherwise too.
+    pub(crate) fn close_after(&mut self, comma_due: bool, brackets: Brackets) -> Result<()>
+        ensures { Writes (closed_after comma_due (self.old.depth - 1) (closing (bracket_of brackets))) (after_closing self.old) result self.new }
+    {
+        Ok(self.close_short(comma_due, brackets)?)
     }
 }

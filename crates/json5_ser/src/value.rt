@@ -1,10 +1,15 @@
-//! Writing of values of any kind.
+//! Writing of values of any kind. It returns small values, so that no frame of it holds an `Error`.
 
-ghost use Rattle.json5_ser.specs.WrittenTrees.{integer, object, fields_of};
+ghost use Rattle.std.specs.Str.{chars};
+ghost use Rattle.std.specs.Prelude.{string_bytes};
+ghost use Rattle.json5_ser.specs.WrittenTrees.{integer, natural, named, array, object, elements_of, fields_of};
 ghost use Rattle.json5_ser.specs.ValueTrees.{value_tree, key_of_string};
-ghost use Rattle.json5_ser.specs.Writes.{WritesTree};
+ghost use Rattle.json5_ser.specs.Commas.{comma_before, element_line, member_line};
+ghost use Rattle.json5_ser.specs.ShortWrites.{Puts, PutsTree};
 
 use crate::brackets::Brackets;
+use crate::key::bool_name;
+use crate::refusal::Put;
 use crate::{Serialize, Serializer};
 use json5_text::error::Result;
 use json5_text::value::Value;
@@ -15,44 +20,97 @@ use std::io::Write;
 impl Serialize for Value {
     ghost tree = { value_tree };
 
-    #[cycle(tree)]
     fn serialize<W: Write + Drop>(&self, ser: &mut Serializer<W>) -> Result<()> {
-        match self {
-            Value::Null => ser.serialize_unit(),
-            Value::Bool(truth) => ser.serialize_bool(*truth),
-            Value::Whole(number) => write_whole_number(*number, ser),
-            Value::Decimal(number) => ser.serialize_decimal(number),
-            Value::String(text) => ser.serialize_str(text.as_str()),
-            Value::Array(items) => items.serialize(ser),
-            Value::Object(fields) => write_fields(fields, ser),
-        }
+        Ok(put_value(self, ser)?)
     }
 }
 
-/// An object of the members, in their order.
+/// Writes a value of any kind.
 #[cycle(tree)]
-fn write_fields<W: Write + Drop>(fields: &[(String, Value)], ser: &mut Serializer<W>) -> Result<()>
-    ensures { WritesTree (object (fields_of key_of_string value_tree fields.now)) ser.old result ser.new }
+fn put_value<W: Write + Drop>(value: &Value, ser: &mut Serializer<W>) -> Put
+    ensures { PutsTree (value_tree value.now) ser.old result ser.new }
+{
+    match value {
+        Value::Null => ser.put_short("null"),
+        Value::Bool(truth) => ser.put_short(bool_name(*truth)),
+        Value::Whole(number) => put_whole_number(*number, ser),
+        Value::Decimal(number) => ser.put_decimal(number),
+        Value::String(text) => ser.put_str(text.as_str()),
+        Value::Array(items) => put_items(items, ser),
+        Value::Object(fields) => put_fields(fields, ser),
+    }
+}
+
+/// Writes an array of the values.
+#[cycle(tree)]
+fn put_items<W: Write + Drop>(items: &[Value], ser: &mut Serializer<W>) -> Put
+    ensures { PutsTree (array (elements_of value_tree items.now)) ser.old result ser.new }
+{
+    ser.open_short(Brackets::Square)?;
+    let mut comma_due = false;
+    for item in items {
+        put_element(comma_due, item, ser)?;
+        comma_due = true;
+    }
+    ser.close_short(comma_due, Brackets::Square)
+}
+
+/// Writes the line of an element, without the comma after it.
+#[cycle(tree)]
+fn put_element<W: Write + Drop>(comma_due: bool, value: &Value, ser: &mut Serializer<W>) -> Put
+    ensures { Puts (comma_before comma_due (element_line ser.old.limit ser.old.depth (value_tree value.now))) ser.old result ser.new }
+{
+    ser.start_line(comma_due)?;
+    put_value(value, ser)
+}
+
+/// Writes an object of the members, in their order.
+#[cycle(tree)]
+fn put_fields<W: Write + Drop>(fields: &[(String, Value)], ser: &mut Serializer<W>) -> Put
+    ensures { PutsTree (object (fields_of key_of_string value_tree fields.now)) ser.old result ser.new }
 {
     ser.open_short(Brackets::Curly)?;
     let mut comma_due = false;
     for (key, value) in fields {
-        let written = ser.member_line(comma_due, key, value);
-        if written.is_err() {
-            return written;
-        }
+        put_member(comma_due, key, value, ser)?;
         comma_due = true;
     }
-    ser.close_after(comma_due, Brackets::Curly)
+    ser.close_short(comma_due, Brackets::Curly)
+}
+
+/// Writes the line of a member, without the comma after it.
+#[cycle(tree)]
+fn put_member<W: Write + Drop>(
+    comma_due: bool,
+    key: &str,
+    value: &Value,
+    ser: &mut Serializer<W>,
+) -> Put
+    ensures { Puts (comma_before comma_due (member_line ser.old.limit ser.old.depth (named (chars key.now)) (value_tree value.now))) ser.old result ser.new }
+{
+    ser.start_line(comma_due)?;
+    ser.put_key(key)?;
+    ser.put_short(": ")?;
+    put_value(value, ser)
 }
 
 /// Writes the decimal digits of a whole number of either sign.
-fn write_whole_number<W: Write + Drop>(value: Whole, ser: &mut Serializer<W>) -> Result<()>
-    ensures { WritesTree (integer value) ser.old result ser.new }
+fn put_whole_number<W: Write + Drop>(value: Whole, ser: &mut Serializer<W>) -> Put
+    ensures { PutsTree (integer value) ser.old result ser.new }
 {
     if let Some(positive) = value.as_u128() {
-        return ser.serialize_u128(positive);
+        return put_natural(positive, ser);
     }
     let negative = value.as_i128();
-    ser.serialize_i128(negative.unwrap())
+    ser.put_i128(negative.unwrap())
+}
+
+/// Writes the decimal digits of a number that isn't negative, by the digits of 64 bits where it has no more.
+fn put_natural<W: Write + Drop>(value: u128, ser: &mut Serializer<W>) -> Put
+    ensures { PutsTree (natural value) ser.old result ser.new }
+{
+    match u64::try_from(value) {
+        Ok(short) => ser.put_integer(short),
+        Err(_) => ser.put_integer(value),
+    }
 }

@@ -1,8 +1,11 @@
 //! Whole numbers (JSON5 section 6).
 
 ghost use Rattle.json5_ser.specs.Out.{piece};
-ghost use Rattle.json5_ser.specs.Writes.{Writes, WritesTree};
+ghost use Rattle.json5_ser.specs.ShortWrites.{Puts, PutsTree};
+ghost use Rattle.json5_ser.specs.WrittenTrees.{integer};
+ghost use Rattle.json5_ser.specs.Writes.{WritesTree};
 
+use crate::refusal::Put;
 use crate::{Serialize, Serializer};
 use itoa::{Buffer, Integer};
 use json5_text::error::Result;
@@ -10,12 +13,20 @@ use std::io::Write;
 
 impl<W: Write + Drop> Serializer<W> {
     /// Writes the decimal digits, after a minus if the number is below zero.
-    fn put_integer<I: Integer>(&mut self, value: I) -> Result<()>
-        ensures { Writes (piece (I.text value)) self.old result self.new }
+    #[inline(always)]
+    pub(crate) fn put_integer<I: Integer>(&mut self, value: I) -> Put
+        ensures { Puts (piece (I.text value)) self.old result self.new }
     {
         let mut buffer = Buffer::new();
         let digits = buffer.format(value);
-        self.put(digits)
+        self.put_short(digits)
+    }
+
+    /// Writes the decimal digits of an `i128`, after a minus where it is negative.
+    pub(crate) fn put_i128(&mut self, value: i128) -> Put
+        ensures { PutsTree (integer value) self.old result self.new }
+    {
+        self.put_integer(value)
     }
 
     /// Writes the decimal digits of a `u8` (JSON5 section 6).
@@ -75,7 +86,7 @@ impl<W: Write + Drop> Serializer<W> {
     pub fn serialize_u64(&mut self, value: u64) -> Result<()>
         ensures { WritesTree (⟦<u64 as Serialize>⟧.tree value) self.old result self.new }
     {
-        self.put_integer(value)
+        Ok(self.put_integer(value)?)
     }
 
     /// Writes the decimal digits of a `u128`.
@@ -90,7 +101,7 @@ impl<W: Write + Drop> Serializer<W> {
     pub fn serialize_u128(&mut self, value: u128) -> Result<()>
         ensures { WritesTree (⟦<u128 as Serialize>⟧.tree value) self.old result self.new }
     {
-        self.put_integer(value)
+        Ok(self.put_integer(value)?)
     }
 
     /// Writes the decimal digits of a `i8`, after a minus where it is negative (JSON5 section 6).
@@ -150,7 +161,7 @@ impl<W: Write + Drop> Serializer<W> {
     pub fn serialize_i64(&mut self, value: i64) -> Result<()>
         ensures { WritesTree (⟦<i64 as Serialize>⟧.tree value) self.old result self.new }
     {
-        self.put_integer(value)
+        Ok(self.put_integer(value)?)
     }
 
     /// Writes the decimal digits of a `i128`, after a minus where it is negative.
@@ -165,6 +176,6 @@ impl<W: Write + Drop> Serializer<W> {
     pub fn serialize_i128(&mut self, value: i128) -> Result<()>
         ensures { WritesTree (⟦<i128 as Serialize>⟧.tree value) self.old result self.new }
     {
-        self.put_integer(value)
+        Ok(self.put_i128(value)?)
     }
 }

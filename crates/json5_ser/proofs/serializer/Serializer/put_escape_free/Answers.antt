@@ -1,23 +1,23 @@
 use Rattle.std.proofs.Common.{[], ◌∷◌}
 use Rattle.std.specs.Str.{chars}
 use Rattle.json5_ser.specs.Out.{piece, ◌then◌}
-use Rattle.json5_ser.proofs.OutputsJoined.{Reaches-first, Reaches-next, Reaches-last}
-use Rattle.json5_ser.proofs.ShortWritesJoined.{Puts-exit, Reaches-put}
+use Rattle.json5_ser.proofs.OutputsJoined.{Reaches-first, Reaches-next}
+use Rattle.json5_ser.proofs.ShortWritesJoined.{Puts-stop, Reaches-stop, Reaches-end}
 use Rattle.json5_ser.proofs.PiecesWritten.{chars_double_quote}
 use Rattle.json5_ser.proofs.serializer.Serializer.put_escape_free.Goals as goal
 
 pub returns-in_err-put_short : goal.returns-in_err-put_short
 returns-in_err-put_short g c =
     let mark = rw chars_double_quote at c.in_err-put_short.ensures in
-    Puts-exit (piece (34 ∷ [])) (piece (chars c.args.text.now) then piece (34 ∷ [])) _ _ _ _ c.from_residual.ensures.1 mark
+    Puts-stop (piece (34 ∷ [])) (piece (chars c.args.text.now) then piece (34 ∷ [])) _ _ _ _ c.from_residual.ensures.1 mark
 
 pub returns-in_err-put_short-2 : goal.returns-in_err-put_short-2
 returns-in_err-put_short-2 g c =
     let mark = rw chars_double_quote at c.in_ok-put_short.ensures in
-    Reaches-put _ (piece (chars c.args.text.now)) (piece (34 ∷ [])) _ _ _ _ _ (Reaches-first (piece (34 ∷ [])) (piece (chars c.args.text.now) then piece (34 ∷ [])) _ _ mark) c.from_residual-in_err-put_short-2.ensures.1 c.in_err-put_short-2.ensures
+    Reaches-stop _ (piece (chars c.args.text.now)) (piece (34 ∷ [])) _ _ _ _ _ (Reaches-first (piece (34 ∷ [])) (piece (chars c.args.text.now) then piece (34 ∷ [])) _ _ mark) c.from_residual-in_err-put_short-2.ensures.1 c.in_err-put_short-2.ensures
 
 pub returns : goal.returns
 returns g c =
     let mark = rw chars_double_quote at c.in_ok-put_short.ensures in
-    let last = rw chars_double_quote at c.put.ensures in
-    Reaches-last _ (piece (34 ∷ [])) _ _ _ _ (Reaches-next _ (piece (chars c.args.text.now)) (piece (34 ∷ [])) _ _ _ (Reaches-first (piece (34 ∷ [])) (piece (chars c.args.text.now) then piece (34 ∷ [])) _ _ mark) c.in_ok-put_short-2.ensures) last
+    let last = rw chars_double_quote at c.put_short-3.ensures in
+    Reaches-end _ (piece (34 ∷ [])) _ _ _ _ (Reaches-next _ (piece (chars c.args.text.now)) (piece (34 ∷ [])) _ _ _ (Reaches-first (piece (34 ∷ [])) (piece (chars c.args.text.now) then piece (34 ∷ [])) _ _ mark) c.in_ok-put_short-2.ensures) last

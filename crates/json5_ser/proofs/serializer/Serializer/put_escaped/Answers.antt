@@ -4,7 +4,8 @@ use Rattle.json5_grammar.specs.Written.Quoting.{escaped_all}
 use Rattle.json5_ser.specs.Out.{Out, piece, ◌then◌}
 use Rattle.json5_ser.specs.Writes.{SerializerState}
 use Rattle.json5_ser.specs.Escaping.{SplitsAtEscape}
-use Rattle.json5_ser.proofs.OutputsJoined.{Reaches, Reaches-none, Reaches-next, Reaches-exit, Reaches-last}
+use Rattle.json5_ser.proofs.OutputsJoined.{Reaches, Reaches-none, Reaches-next}
+use Rattle.json5_ser.proofs.ShortWritesJoined.{Reaches-stop, Reaches-end}
 use Rattle.json5_ser.proofs.serializer.Serializer.put_escaped.Goals as goal
 
 parted : (all : Out) (q : ℕ) (o m : SerializerState) (t raw esc after : List ℕ) → SplitsAtEscape q t raw esc after → Reaches all o m (piece (escaped_all q (chars t)))
@@ -17,20 +18,20 @@ unescaped all q o m t e h = subst (λ x. Reaches all o m (piece x)) e h
 pub loop-raw-init : goal.loop-raw-init
 loop-raw-init g c = record { reaches = Reaches-none _ _; utf8 = c.utf8.text }
 
-pub returns-in_err-put : goal.returns-in_err-put
-returns-in_err-put g c =
+pub returns-in_err-put_short : goal.returns-in_err-put_short
+returns-in_err-put_short g c =
     let h = parted _ _ _ _ _ _ _ _ c.in-Some.ensures c.loop-raw.invariant.reaches in
-    Reaches-exit _ _ _ _ _ _ _ _ h c.from_residual.ensures.1 c.in_err-put.ensures
+    Reaches-stop _ _ _ _ _ _ _ _ h c.from_residual.ensures.1 c.in_err-put_short.ensures
 
-pub returns-in_err-put-2 : goal.returns-in_err-put-2
-returns-in_err-put-2 g c =
+pub returns-in_err-put_short-2 : goal.returns-in_err-put_short-2
+returns-in_err-put_short-2 g c =
     let h = parted _ _ _ _ _ _ _ _ c.in-Some.ensures c.loop-raw.invariant.reaches in
-    Reaches-exit _ _ _ _ _ _ _ _ (Reaches-next _ _ _ _ _ _ h c.in_ok-put.ensures) c.from_residual-in_err-put-2.ensures.1 c.in_err-put-2.ensures
+    Reaches-stop _ _ _ _ _ _ _ _ (Reaches-next _ _ _ _ _ _ h c.in_ok-put_short.ensures) c.from_residual-in_err-put_short-2.ensures.1 c.in_err-put_short-2.ensures
 
 pub loop-raw-preserved : goal.loop-raw-preserved
 loop-raw-preserved g c =
     let h = parted _ _ _ _ _ _ _ _ c.in-Some.ensures c.loop-raw.invariant.reaches in
-    record { reaches = Reaches-next _ _ _ _ _ _ (Reaches-next _ _ _ _ _ _ h c.in_ok-put.ensures) c.in_ok-put-2.ensures; utf8 = c.in-Some.ensures.utf8 }
+    record { reaches = Reaches-next _ _ _ _ _ _ (Reaches-next _ _ _ _ _ _ h c.in_ok-put_short.ensures) c.in_ok-put_short-2.ensures; utf8 = c.in-Some.ensures.utf8 }
 
 pub returns : goal.returns
-returns g c = Reaches-last _ _ _ _ _ _ (unescaped _ _ _ _ _ c.in_default.ensures c.loop-raw.invariant.reaches) c.put-2.ensures
+returns g c = Reaches-end _ _ _ _ _ _ (unescaped _ _ _ _ _ c.in_default.ensures c.loop-raw.invariant.reaches) c.put_short-2.ensures

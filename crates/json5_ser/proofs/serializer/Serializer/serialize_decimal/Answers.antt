@@ -1,16 +1,5 @@
-use Rattle.json5_grammar.specs.Language.Numbers.{decimal}
-use Rattle.json5_ser.proofs.DecimalPieces.{left_all, left_next, left_exit, left_none}
-use Rattle.json5_ser.proofs.WritableNumbers.{Writes-number, number_wrote}
+use Rattle.json5_ser.proofs.ShortWritesJoined.{Puts-handed}
 use Rattle.json5_ser.proofs.serializer.Serializer.serialize_decimal.Goals as goal
 
-pub loop-piece-init : goal.loop-piece-init
-loop-piece-init g c = left_all _ _ _ c.pieces-pieces.ensures.normal c.pieces-pieces.ensures.value
-
-pub returns-in_err-put : goal.returns-in_err-put
-returns-in_err-put g c = Writes-number (decimal c.args.value.now) _ _ _ c.pieces-pieces.ensures.normal (left_exit _ _ _ _ _ _ _ _ _ c.loop-piece.invariant c.in-Some.ensures c.from_residual.ensures.1 c.in_err-put.ensures)
-
-pub loop-piece-preserved : goal.loop-piece-preserved
-loop-piece-preserved g c = left_next _ _ _ _ _ _ _ c.loop-piece.invariant c.in-Some.ensures c.in_ok-put.ensures
-
-pub returns : goal.returns
-returns g c = number_wrote (decimal c.args.value.now) _ _ c.pieces-pieces.ensures.normal (left_none _ _ _ _ c.loop-piece.invariant c.in_default.ensures)
+pub returns-in_err-put_decimal : goal.returns-in_err-put_decimal
+returns-in_err-put_decimal g c = Puts-handed _ _ _ _ _ c.from_residual.ensures.1 c.in_err-put_decimal.ensures

@@ -1,9 +1,7 @@
-use Rattle.std.proofs.Common.{arith}
 use mir.Syntax.{w128}
 use Rattle.std.proofs.lemmas.Int.{to_z-of_z}
-use Rattle.json5_grammar.specs.Language.Numbers.{whole}
-use Rattle.json5_ser.proofs.WritableNumbers.{Writes-number, signed_whole}
+use Rattle.json5_ser.proofs.ShortWritesJoined.{Puts-handed}
 use Rattle.json5_ser.proofs.serializer.Serializer.serialize_i128.Goals as goal
 
-pub returns : goal.returns
-returns g c = Writes-number (whole c.args.value) _ _ _ (signed_whole c.args.value (omega (arith, c.ranges.value.sfits))) (rw (to_z-of_z w128 c.args.value c.ranges.value) at c.put_integer.ensures)
+pub returns-in_err-put_i128 : goal.returns-in_err-put_i128
+returns-in_err-put_i128 g c = Puts-handed _ _ _ _ _ c.from_residual.ensures.1 (rw (to_z-of_z w128 c.args.value c.ranges.value) at c.in_err-put_i128.ensures)

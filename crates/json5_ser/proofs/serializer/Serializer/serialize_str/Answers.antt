@@ -1,9 +1,5 @@
-use Rattle.std.proofs.Common.{ap, refl}
-use Rattle.std.specs.Str.{chars}
-use Rattle.json5_ser.specs.Out.{piece}
-use Rattle.json5_ser.proofs.OutputsJoined.{Writes-as}
-use Rattle.json5_ser.proofs.EscapesSplit.{quoted_escape_free}
+use Rattle.json5_ser.proofs.ShortWritesJoined.{Puts-handed}
 use Rattle.json5_ser.proofs.serializer.Serializer.serialize_str.Goals as goal
 
-pub returns-then-is_escape_free : goal.returns-then-is_escape_free
-returns-then-is_escape_free g c = Writes-as _ _ _ _ _ (ap piece (quoted_escape_free (chars c.args.value.now) (c.if-is_escape_free.ensures refl))) c.put_escape_free.ensures
+pub returns-in_err-put_str : goal.returns-in_err-put_str
+returns-in_err-put_str g c = Puts-handed _ _ _ _ _ c.from_residual.ensures.1 c.in_err-put_str.ensures

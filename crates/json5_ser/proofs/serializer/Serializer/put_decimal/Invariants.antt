@@ -1,6 +1,6 @@
 use Rattle.std.proofs.Common.{length}
 use Rattle.json5_ser.proofs.DecimalPieces.{IsLeft}
-use Rattle.json5_ser.proofs.serializer.Serializer.serialize_decimal.Given as goal
+use Rattle.json5_ser.proofs.serializer.Serializer.put_decimal.Given as goal
 
 abbrev pub invariant-loop-piece : goal.invariant-loop-piece
 invariant-loop-piece g l = IsLeft l.fn.value l.fn.self l.self l.pieces
