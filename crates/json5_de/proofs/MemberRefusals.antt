@@ -1,6 +1,6 @@
 -- How a key and its value begin, and how they are refused.
 use Rattle.std.proofs.Common.{◌≡◌, ◌≢◌, ℕ, Bool, true, false, List, [], ◌∷◌, ◌++◌, length, refl, ap, sym, ◌∙◌, subst, arith, Option, Some, None, Ok, Err}
-use Rattle.std.specs.Prelude.{◌==◌, is_some, Result}
+use Rattle.std.specs.Prelude.{◌==◌, is_some, Result, String, string_bytes}
 use Rattle.std.specs.Str.{encode_utf8_all}
 use Rattle.std.proofs.lemmas.Bool.{or_parts}
 use Rattle.std.proofs.lemmas.Result.{err_from_is_err_and}
@@ -21,10 +21,15 @@ use Rattle.json5_grammar.proofs.ArraysPartlyRead.{after_same_comma, same_sign}
 use Rattle.json5_grammar.proofs.ObjectsRead.{colon_solid}
 use Rattle.json5_text.specs.declared.error.Error.{Error}
 use Rattle.json5_text.specs.Errors.{code, kind_of}
+use Rattle.json5_text.specs.TextTokens.{IsSliceAt}
+use Rattle.json5_text.specs.declared.short_texts.Span.{Span}
 use Rattle.json5_text.specs.Cursor.{Refused}
 use Rattle.json5_text.specs.TokenFaults.{FaultyBlanks}
+use Rattle.json5_de.specs.Convert.{every_text}
+use Rattle.json5_de.specs.KeyKinds.{RefusedAsKey, string_key}
+use Rattle.json5_de.specs.ShortWays.{OwnsTextAt}
 use Rattle.json5_de.specs.State.{State, OnlyRead, SameText, cursor_of}
-use Rattle.json5_de.specs.DeserializeLaw.{TookValue, Steady, IsUnprompted}
+use Rattle.json5_de.specs.DeserializeLaw.{TookValue}
 use Rattle.json5_de.specs.ReaderSteps.{PassedGap, TookText, IsCount}
 use Rattle.json5_de.specs.Keys.{KeyConversion, TookKey, GivesKey, CompletesKey, ReadsKeyOf}
 use Rattle.json5_value.specs.Brackets.{curly}
@@ -32,10 +37,12 @@ use Rattle.json5_de.specs.Faults.{AfterBlanks, in_blanks, after_gap, RefusedBy, 
 use Rattle.json5_de.specs.Arrays.{AtClose, PositionedAtBracket}
 use Rattle.json5_value.specs.ModelSteps.{Unexpected, at_end, at_char}
 use Rattle.json5_value.specs.Offsets.{StartsAfter}
-use Rattle.json5_de.specs.AccessCalls.{IsAfterGap, IsEntryStart, AtEntry, NothingNext, NoNext, no_comma, comma_missing, in_blanks_after}
+use Rattle.json5_de.specs.AccessCalls.{IsAfterGap, IsEntryStart, IsUnexpected, Advances, AtEntry, NothingNext, NoNext, no_comma, comma_missing, in_blanks_after}
 use Rattle.json5_de.specs.Objects.{MapAccessState, bare_map, TookMemberKey, AfterColon, TookMemberValue, GivesMemberKey, GivesMemberValue, CompletesMemberKey}
+use Rattle.json5_value.proofs.NoFailedCode.{other_says}
+use Rattle.json5_de.proofs.ShortReads.{own_key}
 use Rattle.json5_de.proofs.Offsets.{placed_where}
-use Rattle.json5_de.specs.ObjectFaults.{begins_key, AtKey, NoKeyHere, no_key, key_missing, NoKey, no_next, not_here, not_after_comma, PositionedAtKey, at_key, as_it_is, PositionsKey, RefusesMemberKey, not_reached, in_key, ReadsKeyOfMember, begins_next_key, no_key_code, RefusesNextKey, NoColon, no_colon, colon_missing, is_colon, RefusesMemberValue, no_value, in_value, RefusesNextValue}
+use Rattle.json5_de.specs.ObjectFaults.{begins_key, AtKey, NoKeyHere, no_key, key_missing, NoKey, no_next, not_here, not_after_comma, PositionedAtKey, at_key, as_it_is, PositionsKey, is_positionless, RefusesMemberKey, not_reached, in_key, ReadsKeyOfMember, begins_next_key, no_key_code, RefusesNextKey, NoColon, no_colon, colon_missing, is_colon, RefusesMemberValue, no_value, in_value, RefusesNextValue}
 use Rattle.json5_de.proofs.ExpectedKinds.{Expected, end_fault, other_fault}
 use Rattle.json5_de.proofs.ReadSteps.{input_of, placed_after, refused_token}
 use Rattle.json5_de.proofs.RefusalPositions.{refused_as, refused_after}
@@ -303,45 +310,94 @@ module _ {K C : Type 0} (content : K → C) (convert : KeyConversion C) (refuses
   key_completes own e same complete u p r c live key is =
       same ∙ complete u p r c (failed_of at.entry.rest ∙ live) (pair_key_found comma_due s.unread mid.unread r u p at.entry.begun key) is
 
-  key_cause : (own e : Error) (offset : ℕ) → SameText mid end → ((before : List ℕ) → mid.input ≡ before ++ mid.unread → offset ≡ length (encode_utf8_all before)) → PositionedAtKey (StartsAfter end.input offset) own e
-      → refuses mid own end → RefusesMemberKey refuses comma_due s e end
-  key_cause own e offset same counted placed r =
-      in_key mid own at r (placed_before mid end offset own e same counted placed)
-
   -- a key was read
-  read_key_given : (more : Option ℕ) (k : K) → Steady {V = Option ℕ} s mid (Ok more) → GivesKey content convert mid end k → SameText mid end → ReadsKeyOfMember content convert refuses comma_due s end (Ok (Some k))
-  read_key_given more k before gives same = record {
+  read_key_given : (k : K) → GivesKey content convert mid end k → SameText mid end → ReadsKeyOfMember content convert refuses comma_due s end (Ok (Some k))
+  read_key_given k gives same = record {
     sound = key_given k gives;
     complete = λ u escape_free r c live key is. tt;
     closing = λ r live close. refl;
     cause = tt;
-    steady = record { same_text = same ∙ before.same_text; unprompted = tt; before = λ h. absurd (before.before h) };
+    steady = record { same_text = same ∙ input_of at.entry.rest; unprompted = tt; before = λ h. true_false h at.entry.live };
   }
 
   -- or refused
-  read_key_refused : (more : Option ℕ) (own e : Error) (offset : ℕ) → Steady {V = Option ℕ} s mid (Ok more) → CompletesKey {V = K} convert mid (Err own) → refuses mid own end → (mid.failed ≡ false → IsUnprompted own) → SameText mid end
-      → ((before : List ℕ) → mid.input ≡ before ++ mid.unread → offset ≡ length (encode_utf8_all before)) → PositionedAtKey (StartsAfter end.input offset) own e → ReadsKeyOfMember content convert refuses comma_due s end (Err e)
-  read_key_refused more own e offset before complete refused unprompted same counted placed =
+  read_key_refused : (own e : Error) → ReadsKeyOf content convert refuses mid end (Err own) → PositionedAtKey (λ before. mid.input ≡ before ++ mid.unread) own e → ReadsKeyOfMember content convert refuses comma_due s end (Err e)
+  read_key_refused own e reads placed =
       let kind = key_kind _ own e placed in
       record {
         sound = tt;
-        complete = key_completes own e kind complete;
+        complete = key_completes own e kind reads.complete;
         closing = λ r live close. absurd (no_close_found curly curly_signs comma_due s.unread mid.unread r at.entry.begun at.entry.inside close);
-        cause = key_cause own e offset same counted placed refused;
+        cause = in_key mid own at reads.refused placed;
         steady = record {
-          same_text = same ∙ before.same_text;
-          unprompted = λ live failed. unprompted (failed_of at.entry.rest ∙ live) (sym kind ∙ failed);
-          before = λ h. absurd (before.before h);
+          same_text = reads.same_text ∙ input_of at.entry.rest;
+          unprompted = λ live failed. reads.unprompted (failed_of at.entry.rest ∙ live) (sym kind ∙ failed);
+          before = λ h. absurd (true_false h at.entry.live);
         };
       }
 
   -- it is given, or its fault where it is placed
-  pub read_key_placed : (more : Option ℕ) (read : Result K Error) (result : Result (Option K) Error) (offset : ℕ) → Steady {V = Option ℕ} s mid (Ok more) → ReadsKeyOf content convert refuses mid end read → IsCount mid offset → PositionsKey (StartsAfter end.input offset) read result
+  pub read_key_placed : (read : Result K Error) (result : Result (Option K) Error) (offset : ℕ) → ReadsKeyOf content convert refuses mid end read → IsCount mid offset → PositionsKey (StartsAfter end.input offset) read result
       → ReadsKeyOfMember content convert refuses comma_due s end result
-  read_key_placed more (Ok k) result offset before reads count is = subst (ReadsKeyOfMember content convert refuses comma_due s end) (sym is) (read_key_given more k before reads.sound reads.same_text)
-  read_key_placed more (Err own) result offset before reads count is =
+  read_key_placed (Ok k) result offset reads count is = subst (ReadsKeyOfMember content convert refuses comma_due s end) (sym is) (read_key_given k reads.sound reads.same_text)
+  read_key_placed (Err own) result offset reads count is =
       let (e, same, placed) = err_from_is_err_and result is in
-      subst (ReadsKeyOfMember content convert refuses comma_due s end) (sym same) (read_key_refused more own e offset before reads.complete reads.refused reads.unprompted reads.same_text count.counted placed)
+      subst (ReadsKeyOfMember content convert refuses comma_due s end) (sym same) (read_key_refused own e reads (placed_before mid end offset own e reads.same_text count.counted placed))
+
+module _ {K C : Type 0} (content : K → C) (convert : KeyConversion C) (refuses : State → Error → State → Type 0) (comma_due : Bool) (s end : State) where
+  -- no member was reached
+  pub no_entry : (e : Error) → Advances curly comma_due s end (Err e) → ReadsKeyOfMember content convert refuses comma_due s end (Err e)
+  no_entry e a = record {
+    sound = tt;
+    complete = λ u p r c live key is. absurd ((no_pair_next comma_due s.unread (a.nowhere live)).no_key u p r key);
+    closing = λ r live close. absurd ((a.nowhere live).no_close r close);
+    cause = not_reached (refused_next_key comma_due s e a.refused);
+    steady = record { same_text = a.steady.same_text; unprompted = a.steady.unprompted; before = a.steady.before };
+  }
+
+  -- a member was reached, and no key begins it
+  pub no_key_at_entry : (mid : State) (e : Error) → AtEntry curly comma_due s mid → NotBegun begins_key mid.unread → IsUnexpected codes.EofParsingObject codes.ExpectedIdentifier mid end e → ReadsKeyOfMember content convert refuses comma_due s end (Err e)
+  no_key_at_entry mid e at none is =
+      let nowhere = no_pair_here comma_due s.unread mid.unread at.begun at.inside none in
+      let f = is.fault in
+      record {
+        sound = tt;
+        complete = λ u p r c live key is. absurd (nowhere.no_key u p r key);
+        closing = λ r live close. absurd (nowhere.no_brace r close);
+        cause = not_reached (refused_key_here comma_due s mid e at none f);
+        steady = record {
+          same_text = ap (λ (m : State). m.input) is.state ∙ input_of at.rest;
+          unprompted = λ live. other_says f.reason e (other mid.unread f.reason f.place f.fault) f.says;
+          before = λ h. absurd (true_false h at.live);
+        };
+      }
+    where
+      other : (x : List ℕ) (reason : Option ErrorCode) (place : Option (List ℕ)) → Unexpected codes.EofParsingObject codes.ExpectedIdentifier x reason place → reason ≢ Some codes.Failed
+      other x reason place at_end same = absurd (cc)
+      other x reason place (at_char c r) same = absurd (cc)
+
+-- a key that is taken where a member begins begins there
+key_begun : (comma_due : Bool) (s mid last : State) (u : List ℕ) (p : Bool) → AtEntry curly comma_due s mid → TookKey mid u p last → AtKey comma_due s mid
+key_begun comma_due s mid last u p at took =
+    let head = key_head took.reads.key in
+    let split = key_at mid.unread mid.unread last.unread u p (no_gap mid.unread (begun_solid comma_due s.unread mid.unread at.begun)) took.reads in
+    record { entry = at; begins = record { char = head.char; more = head.more ++ last.unread; split = split ∙ ap (λ z. z ++ last.unread) head.is; is_first = head.begins } }
+
+-- the name of a member, whose text is at the span
+module _ {span : Span} (comma_due : Bool) (s mid taken end : State) (at : AtEntry curly comma_due s mid) (key : (u : List ℕ) × TookKey mid u true taken × IsSliceAt taken.input u span.start span.end) where
+  name_begins : AtKey comma_due s mid
+  name_begins = key_begun comma_due s mid taken key.0 true at key.1
+
+  name_read : {A : Type 0} (r : Result (String A) Error) → OwnsTextAt span taken end r → ReadsKeyOf string_bytes every_text (RefusedAsKey string_key) mid end r
+  name_read r owns = let k = own_key mid taken end r key owns in record { sound = k.sound; complete = k.complete; refused = k.refused; unprompted = k.unprompted; same_text = k.same_text }
+
+  pub name_given : {A : Type 0} (t : String A) → OwnsTextAt span taken end (Ok t) → ReadsKeyOfMember string_bytes every_text (RefusedAsKey string_key) comma_due s end (Ok (Some t))
+  name_given t owns = let k = name_read (Ok t) owns in read_key_given string_bytes every_text (RefusedAsKey string_key) comma_due s mid end name_begins t k.sound k.same_text
+
+  -- or memory ran out
+  pub name_refused : {A : Type 0} (e : Error) → OwnsTextAt {A = A} span taken end (Err e) → ReadsKeyOfMember {K = String A} string_bytes every_text (RefusedAsKey string_key) comma_due s end (Err e)
+  name_refused {A = A} e owns =
+      read_key_refused (string_bytes {Z = A}) every_text (RefusedAsKey string_key) comma_due s mid end name_begins e e (name_read (Err e) owns) (as_it_is (ap is_positionless owns.0.kind) refl refl)
 
 -- ---- a colon and a value
 

@@ -11,11 +11,10 @@ use Rattle.json5_grammar.specs.Model.Collections.{IsKeyValue}
 use Rattle.json5_grammar.specs.Language.Trees.{Tree}
 use Rattle.json5_de.specs.State.{State, GivesUp}
 use Rattle.json5_de.specs.DeserializeLaw.{Steady}
-use Rattle.json5_de.specs.ReaderSteps.{IsCount}
 use Rattle.json5_value.specs.Offsets.{PositionedAt}
 use Rattle.json5_value.specs.Brackets.{curly}
 use Rattle.json5_de.specs.Faults.{AfterBlanks, RefusedBy}
-use Rattle.json5_de.specs.Arrays.{AtClose, CompletesClose, bare, is_comma_or_closing}
+use Rattle.json5_de.specs.Arrays.{CompletesClose, bare, is_comma_or_closing}
 use Rattle.json5_de.specs.AccessCalls.{AtEntry, NoNext, PositionedFault, RefusesCall}
 use Rattle.json5_de.specs.Keys.{KeyConversion}
 use Rattle.json5_de.specs.Objects.{MapAccessState, AfterColon, GivesMemberKey, CompletesMemberKey, GivesMemberValue, CompletesMemberValue, bare_map}
@@ -37,11 +36,6 @@ pub record BeginsKey (x : List ℕ) : Type 0 where
 pub record AtKey (comma_due : Bool) (old new : State) : Type 0 where
   pub entry : AtEntry curly comma_due old new
   pub begins : BeginsKey new.unread
-
--- the reader goes to a key, which begins after so many bytes, or to the closing brace
-abbrev pub GoesToKey : Bool → State → State → Option ℕ → Type 0
-GoesToKey comma_due old new (Some start) = AtKey comma_due old new × IsCount new start
-GoesToKey comma_due old new None = AtClose curly comma_due old new
 
 -- what is refused where a key may begin
 pub data NoKeyHere : List ℕ → Option ErrorCode → Option (List ℕ) → Type 0 where
@@ -96,6 +90,10 @@ pub record ReadsKeyOfMember {K C : Type 0} (content : K → C) (convert : KeyCon
   pub closing : CompletesClose curly (bare old comma_due) result
   pub cause : IfErr result (λ e. RefusesMemberKey refuses comma_due old e new)
   pub steady : Steady old new result
+
+-- the key of the member that begins here is read, from wherever the reader went to it
+abbrev pub ReadsKeyAtEntry : {K C : Type 0} → (K → C) → KeyConversion C → (State → Error → State → Type 0) → State → State → Result (Option K) Error → Type 0
+ReadsKeyAtEntry content convert refuses old new result = (comma_due : Bool) (from : State) → AtEntry curly comma_due from old → ReadsKeyOfMember content convert refuses comma_due from new result
 
 -- what is next at a key: after a member the comma or the brace, else a key or the brace
 abbrev pub begins_next_key : Bool → ℕ → Bool

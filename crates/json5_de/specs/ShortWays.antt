@@ -1,5 +1,5 @@
 -- What the short ways promise: they return what the reader's other calls return, or None, and then nothing has changed.
-use Rattle.std.specs.Prelude.{◌≡◌, ℕ, Bool, true, false, List, Option, MatchOption, Result, Ok, Err, String, string_bytes}
+use Rattle.std.specs.Prelude.{◌≡◌, ℕ, Bool, true, false, List, Option, Some, None, MatchOption, Result, Ok, Err, String, string_bytes}
 use Rattle.std.specs.Borrow.{Bor}
 use Rattle.std.specs.Str.{encode_utf8_all}
 use Rattle.json5_grammar.specs.Language.Trees.{text}
@@ -63,3 +63,17 @@ ClosesShort b old new false = new ≡ old
 abbrev pub OwnsTextAt : {A : Type 0} → Span → State → State → Result (String A) Error → Type 0
 OwnsTextAt span old new (Ok t) = (new ≡ old) × IsTextAt old.input span (string_bytes t)
 OwnsTextAt span old new (Err e) = LacksMemory e × GivesUp old new
+
+-- what a call that puts something into a variable returns with what it put there
+abbrev pub filled : {A : Type 0} → A → Result (Unit {0}) Error → Result A Error
+filled value (Ok done) = Ok value
+filled value (Err e) = Err e
+
+-- the same of a call that says whether it put something there
+abbrev pub if_given : {A : Type 0} → A → Bool → Option A
+if_given value true = Some value
+if_given value false = None
+
+abbrev pub filled_if_given : {A : Type 0} → A → Result Bool Error → Result (Option A) Error
+filled_if_given value (Ok given) = Ok (if_given value given)
+filled_if_given value (Err e) = Err e

@@ -5,12 +5,13 @@ ghost use Rattle.json5_grammar.specs.declared.error_code.ErrorCode.TheVariants a
 ghost use Rattle.json5_text.specs.Errors.{code};
 ghost use Rattle.json5_de.specs.Arrays.{IsFailedAtBracket};
 ghost use Rattle.json5_de.specs.Convert.{every_text};
-ghost use Rattle.json5_de.specs.KeyKinds.{ReadsKeyAs, RefusedAsKey, string_key};
-ghost use Rattle.json5_de.specs.ObjectFaults.{ReadsKeyOfMember};
+ghost use Rattle.json5_de.specs.KeyKinds.{RefusedAsKey, string_key};
+ghost use Rattle.json5_de.specs.ObjectFaults.{ReadsKeyAtEntry, ReadsKeyOfMember};
 ghost use Rattle.json5_de.specs.DeserializeLaw.{IsUnprompted};
 ghost use Rattle.json5_de.specs.Objects.{KeepsPending};
 ghost use Rattle.json5_de.specs.Fields.{FieldRead, FieldRequired, IsOwnAtBracket, RefusesHere};
 ghost use Rattle.json5_de.specs.Plans.{PassesMember, ReadsMembers};
+ghost use Rattle.json5_de.specs.ShortWays.{filled_if_given};
 ghost use Rattle.json5_de.specs.StructFaults.{RefusesMembers};
 ghost use Rattle.json5_de.specs.Lending.{map_state_of, KeepsMap, KeyPending, NoKeyPending, TakesPendingKey, ReadsNextKey};
 
@@ -20,6 +21,7 @@ use crate::map::MapAccess;
 use json5_text::ErrorCode;
 use json5_text::error::{Error, Result};
 use json5_text::input::Input;
+use json5_value::brackets::BracketKind;
 use std::fmt;
 
 /// The fields of a struct, as far as they were read: what [`MapAccess::read_fields`] fills.
@@ -67,27 +69,42 @@ pub trait Fields<I: Input>: Sized + Drop {
 }
 
 impl<I: Input> Deserializer<I> {
-    /// Reads a key as a string. A key of the short way is put into the memory of a spare string.
+    /// Puts the name of the member that begins here into a string. A key of the short way takes the memory that the string has.
     #[inline(always)]
-    fn key_in(&mut self, spare: String) -> Result<String>
-        ensures { ReadsKeyAs string_key string_bytes self.old self.new result }
+    fn entry_name(&mut self, name: &mut String) -> Result<bool>
+        ensures { ReadsKeyAtEntry string_bytes every_text (RefusedAsKey string_key) self.old self.new (filled_if_given name.new result) }
     {
-        match self.short_key() {
-            Some(span) => self.text_in(span, spare),
-            None => self.key_string_slowly(),
+        let Some(span) = self.short_key() else {
+            return self.entry_name_slowly(name);
+        };
+        match self.put_text(span, name) {
+            Ok(()) => Ok(true),
+            Err(e) => Err(e),
         }
     }
 
-    /// The next key of an object, as `member_key::<String>` returns it, in the memory of a spare string.
-    #[inline(always)]
-    fn member_name(&mut self, comma_due: bool, spare: String) -> Result<Option<String>>
-        ensures { ReadsKeyOfMember string_bytes every_text (RefusedAsKey string_key) comma_due self.old self.new result }
+    /// The same of any key.
+    #[inline(never)]
+    fn entry_name_slowly(&mut self, name: &mut String) -> Result<bool>
+        ensures { ReadsKeyAtEntry string_bytes every_text (RefusedAsKey string_key) self.old self.new (filled_if_given name.new result) }
     {
-        let Some(start) = self.advance_to_key(comma_due)? else {
-            return Ok(None);
+        let Some(key) = self.entry_key::<String>()? else {
+            return Ok(false);
         };
-        let read = self.key_in(spare);
-        self.positioned_key(read, start)
+        *name = key;
+        Ok(true)
+    }
+
+    /// Reads the next key of an object as `member_key::<String>` does, and puts it into a string. Says whether there was one.
+    #[inline(always)]
+    fn member_name(&mut self, comma_due: bool, name: &mut String) -> Result<bool>
+        ensures { ReadsKeyOfMember string_bytes every_text (RefusedAsKey string_key) comma_due self.old self.new (filled_if_given name.new result) }
+    {
+        match self.advance_to_entry(BracketKind::Object, comma_due) {
+            Ok(true) => self.entry_name(name),
+            Ok(false) => Ok(false),
+            Err(e) => Err(e),
+        }
     }
 }
 
@@ -205,18 +222,18 @@ impl<'a, I: Input> MapAccess<'a, I> {
         }
     }
 
-    /// The next key, as `next_key::<String>` returns it, in the memory of a spare string.
+    /// Reads the next key as `next_key::<String>` does, and puts it into a string. Says whether there was one.
     #[inline(always)]
-    fn next_name(&mut self, spare: String) -> Result<Option<String>>
+    fn next_name(&mut self, name: &mut String) -> Result<bool>
         requires no_key { NoKeyPending self.old }
-        ensures { ReadsNextKey string_bytes every_text (RefusedAsKey string_key) self.old self.new result }
+        ensures { ReadsNextKey string_bytes every_text (RefusedAsKey string_key) self.old self.new (filled_if_given name.new result) }
     {
         self.de.set_failed(self.failed);
-        match self.de.member_name(self.stage.is_comma_due(), spare) {
-            Ok(name) => {
+        match self.de.member_name(self.stage.is_comma_due(), name) {
+            Ok(given) => {
                 self.de.set_failed(true);
-                self.stage = self.stage.with_key(name.is_some());
-                Ok(name)
+                self.stage = self.stage.with_key(given);
+                Ok(given)
             }
             Err(e) => Err(self.refused(e)),
         }
@@ -244,9 +261,8 @@ impl<'a, I: Input> MapAccess<'a, I> {
         ensures refused { RefusesMembers F.step F.refuses (F.content fields.old) (map_state_of self.old) result }
     {
         let mut name = String::new(self.de.allocator());
-        while let Some(next) = self.next_name(name)? {
-            fields.read(self, next.as_str())?;
-            name = next;
+        while self.next_name(&mut name)? {
+            fields.read(self, name.as_str())?;
         }
         Ok(())
     }

@@ -1,14 +1,11 @@
 //! Reading the keys of an object's members.
 
-ghost use Rattle.std.specs.Prelude.{◌≡◌, true, false, IfOk, IfErr, OnErr};
+ghost use Rattle.std.specs.Prelude.{◌≡◌, true, false};
 ghost use Rattle.json5_grammar.specs.Language.Characters.{NotBegun};
-ghost use Rattle.json5_grammar.specs.Model.Collections.{NoMemberGoes};
 ghost use Rattle.json5_text.specs.Errors.{kind_of};
 ghost use Rattle.json5_value.specs.Offsets.{StartsAfter};
-ghost use Rattle.json5_de.specs.DeserializeLaw.{Steady};
-ghost use Rattle.json5_de.specs.Faults.{RefusedBy};
 ghost use Rattle.json5_de.specs.ObjectFaults as faults;
-ghost use Rattle.json5_de.specs.ObjectFaults.{BeginsKey, GoesToKey, NoKey, PositionsKey, ReadsKeyOfMember, is_positionless};
+ghost use Rattle.json5_de.specs.ObjectFaults.{BeginsKey, PositionsKey, ReadsKeyAtEntry, ReadsKeyOfMember, is_positionless};
 
 use crate::de::Deserializer;
 use crate::key::DeserializeKey;
@@ -19,9 +16,13 @@ use json5_text::input::Input;
 use json5_value::brackets::BracketKind;
 
 /// Whether a key may begin with this character: a quote, a backslash or an identifier start.
+#[inline(always)]
 fn begins_key(c: char) -> bool
     ensures { result ≡ faults.begins_key c }
 {
+    if matches!(c, 'a'..='z' | 'A'..='Z') {
+        return true;
+    }
     matches!(c, '"' | '\'' | '\\') || is_json5_identifier_start(c)
 }
 
@@ -64,26 +65,6 @@ impl<I: Input> Deserializer<I> {
         }
     }
 
-    /// Goes to the next key and returns its offset, or to the closing brace and returns None.
-    #[inline(always)]
-    pub(crate) fn advance_to_key(&mut self, comma_due: bool) -> Result<Option<usize>>
-        ensures sound { IfOk result (GoesToKey comma_due self.old self.new) }
-        ensures refused { IfErr result (RefusedBy (NoKey comma_due) self.old) }
-        ensures nowhere { OnErr result (self.old.failed ≡ false → NoMemberGoes comma_due self.old.unread) }
-        ensures steady { Steady self.old self.new result }
-    {
-        if !self.advance_to_entry(BracketKind::Object, comma_due)? {
-            return Ok(None);
-        }
-        if !self.at_key() {
-            return Err(self.fail_unexpected(
-                ErrorCode::EofParsingObject,
-                ErrorCode::ExpectedIdentifier,
-            ));
-        }
-        Ok(Some(self.offset()))
-    }
-
     /// A key that was read at this offset. A fault gets the key's position if it has none and may have one.
     #[inline(always)]
     pub(crate) fn positioned_key<K>(&self, read: Result<K>, start: usize) -> Result<Option<K>>
@@ -96,15 +77,31 @@ impl<I: Input> Deserializer<I> {
         }
     }
 
+    /// The key of the member that begins here.
+    #[inline(always)]
+    pub(crate) fn entry_key<K: DeserializeKey<I>>(&mut self) -> Result<Option<K>>
+        ensures { ReadsKeyAtEntry K.content K.convert K.refuses self.old self.new result }
+    {
+        if !self.at_key() {
+            return Err(self.fail_unexpected(
+                ErrorCode::EofParsingObject,
+                ErrorCode::ExpectedIdentifier,
+            ));
+        }
+        let start = self.offset();
+        let read = self.read_key::<K>();
+        self.positioned_key(read, start)
+    }
+
     /// The next key of an object, or None if the closing brace is next.
     #[inline(always)]
     pub(crate) fn member_key<K: DeserializeKey<I>>(&mut self, comma_due: bool) -> Result<Option<K>>
         ensures { ReadsKeyOfMember K.content K.convert K.refuses comma_due self.old self.new result }
     {
-        let Some(start) = self.advance_to_key(comma_due)? else {
-            return Ok(None);
-        };
-        let read = self.read_key::<K>();
-        self.positioned_key(read, start)
+        match self.advance_to_entry(BracketKind::Object, comma_due) {
+            Ok(true) => self.entry_key(),
+            Ok(false) => Ok(None),
+            Err(e) => Err(e),
+        }
     }
 }

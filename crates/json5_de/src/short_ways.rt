@@ -5,7 +5,7 @@ ghost use Rattle.std.specs.Prelude.{◌+◌, nat_abs, IfSome};
 ghost use Rattle.json5_value.specs.Brackets.{brackets_of};
 ghost use Rattle.json5_de.specs.Convert.{IsUpTo, IsWithin};
 ghost use Rattle.json5_de.specs.TokenKinds.{natural_kind, integer_kind, decimal_kind};
-ghost use Rattle.json5_de.specs.ShortWays.{ReadsShort, StepsShort, ReadsShortText, ReadsShortKey, ReadsEscapeFreeText, TakesEscapeFreeKey, PassesShortColon, OpensShort, ClosesShort, OwnsTextAt};
+ghost use Rattle.json5_de.specs.ShortWays.{ReadsShort, StepsShort, ReadsShortText, ReadsShortKey, ReadsEscapeFreeText, TakesEscapeFreeKey, PassesShortColon, OpensShort, ClosesShort, OwnsTextAt, filled};
 
 use crate::de::Deserializer;
 use json5_text::ErrorCode;
@@ -138,14 +138,14 @@ impl<I: Input> Deserializer<I> {
         }
     }
 
-    /// The same in the memory of a spare string.
+    /// Puts a copy of the text of the span into a string, in place of what it holds. If memory runs out, the reader has failed.
     #[inline(always)]
-    pub(crate) fn text_in(&mut self, span: Span, mut spare: String) -> Result<String>
-        ensures { OwnsTextAt span self.old self.new result }
+    pub(crate) fn put_text(&mut self, span: Span, text: &mut String) -> Result<()>
+        ensures { OwnsTextAt span self.old self.new (filled text.new result) }
     {
-        spare.clear();
-        match spare.push_str(self.scanner.text_of_span(span)) {
-            Ok(()) => Ok(spare),
+        text.clear();
+        match text.push_str(self.scanner.text_of_span(span)) {
+            Ok(()) => Ok(()),
             Err(_) => self.refuse(Error::new(ErrorCode::OutOfMemory)),
         }
     }

@@ -2,57 +2,58 @@ use Rattle.std.proofs.Common.{refl, ◌∙◌, Global}
 use Rattle.std.specs.Prelude.{string_bytes}
 use Rattle.json5_de.specs.Convert.{every_text}
 use Rattle.json5_de.specs.Lending.{map_state_of}
+use Rattle.json5_de.specs.ShortWays.{if_given}
 use Rattle.json5_de.proofs.Structs.{no_pairs, reads_name, takes_pair, all_read, key_refuses, pair_refuses, live_after_key, live_at_brace, brace_next}
 use Rattle.json5_de.proofs.StructFaults.{live_before, key_cause, value_cause}
 use Rattle.json5_de.proofs.map.MapAccess.read_fields.Goals as goal
 
-pub loop-next-init : goal.loop-next-init
-loop-next-init g c = record { same_reference = refl; start = refl; same_text = refl; failed = λ f. f; no_key = c.requires.no_key; reading = no_pairs g.F.Fields.step (g.F.Fields.content c.args.fields.now) (map_state_of c.args.self.now) }
+pub loop-name-init : goal.loop-name-init
+loop-name-init g c = record { same_reference = refl; start = refl; same_text = refl; failed = λ f. f; no_key = c.requires.no_key; reading = no_pairs g.F.Fields.step (g.F.Fields.content c.args.fields.now) (map_state_of c.args.self.now) }
 
-pub loop-next-preserved : goal.loop-next-preserved
-loop-next-preserved g c =
-    let m = c.loop-next.invariant in
-    let key = c.in_ok-next.ensures in
+pub loop-name-preserved : goal.loop-name-preserved
+loop-name-preserved g c =
+    let m = c.loop-name.invariant in
+    let key = c.in_ok-next_name.ensures in
     let access = c.in_ok-read.ensures.access in
-    let named = reads_name string_bytes c.in-Some.next m.reading (live_after_key string_bytes every_text (map_state_of c.loop-next.self) (map_state_of c.next_name.new.self) c.in-Some.next (rw c.in-Some.is at key.sound)) (rw c.in-Some.is at key.read) (rw c.in-Some.is at key.left) in
+    let named = reads_name string_bytes c.next_name.new.name m.reading (live_after_key string_bytes every_text (map_state_of c.loop-name.self) (map_state_of c.next_name.new.self) c.next_name.new.name (rw c.if-branch.true at key.sound)) (rw c.if-branch.true at key.read) (rw c.if-branch.true at key.left) in
     record {
       same_reference = access.same_reference ∙ key.access.same_reference ∙ m.same_reference;
       start = access.start ∙ key.access.start ∙ m.start;
       same_text = access.same_text ∙ key.access.same_text ∙ m.same_text;
-      failed = λ f. absurd (live_before string_bytes every_text (map_state_of c.loop-next.self) (map_state_of c.next_name.new.self) _ key.sound (m.failed f));
+      failed = λ f. absurd (live_before string_bytes every_text (map_state_of c.loop-name.self) (map_state_of c.next_name.new.self) (if_given c.next_name.new.name c.in_ok-next_name.field-0) key.sound (m.failed f));
       no_key = c.in_ok-read.ensures.pending;
       reading = takes_pair named (rw c.as_str.ensures.value at c.in_ok-read.ensures.takes);
     }
 
-pub returns-in_err-next-clause-reads : goal.returns-in_err-next-clause-reads
-returns-in_err-next-clause-reads g c =
-    key_refuses _ _ string_bytes c.from_residual.ensures.1 c.loop-next.invariant.reading c.in_err-next.ensures.refused.failed c.in_err-next.ensures.refused.unprompted c.in_err-next.ensures.left
+pub returns-in_err-next_name-clause-reads : goal.returns-in_err-next_name-clause-reads
+returns-in_err-next_name-clause-reads g c =
+    key_refuses _ _ string_bytes c.from_residual.ensures.1 c.loop-name.invariant.reading c.in_err-next_name.ensures.refused.failed c.in_err-next_name.ensures.refused.unprompted c.in_err-next_name.ensures.left
 
 pub returns-in_err-read-clause-reads : goal.returns-in_err-read-clause-reads
 returns-in_err-read-clause-reads g c =
-    let key = c.in_ok-next.ensures in
-    let named = reads_name string_bytes c.in-Some.next c.loop-next.invariant.reading (live_after_key string_bytes every_text (map_state_of c.loop-next.self) (map_state_of c.next_name.new.self) c.in-Some.next (rw c.in-Some.is at key.sound)) (rw c.in-Some.is at key.read) (rw c.in-Some.is at key.left) in
+    let key = c.in_ok-next_name.ensures in
+    let named = reads_name string_bytes c.next_name.new.name c.loop-name.invariant.reading (live_after_key string_bytes every_text (map_state_of c.loop-name.self) (map_state_of c.next_name.new.self) c.next_name.new.name (rw c.if-branch.true at key.sound)) (rw c.if-branch.true at key.read) (rw c.if-branch.true at key.left) in
     pair_refuses _ _ c.from_residual-in_err-read.ensures.1 named (rw c.as_str.ensures.value at c.in_err-read.ensures.takes)
 
 pub returns-clause-reads : goal.returns-clause-reads
 returns-clause-reads g c =
-    let key = c.in_ok-next.ensures in
-    let none = rw c.in_default.is at key.sound in
-    all_read (string_bytes {Z = Global}) c.loop-next.invariant.reading (live_at_brace (string_bytes {Z = Global}) every_text (map_state_of c.loop-next.self) (map_state_of c.next_name.new.self) none)
-    (brace_next (string_bytes {Z = Global}) every_text (map_state_of c.loop-next.self) (map_state_of c.next_name.new.self) none) (rw c.in_default.is at key.read) (rw c.in_default.is at key.left)
+    let key = c.in_ok-next_name.ensures in
+    let none = rw c.if-branch.false at key.sound in
+    all_read (string_bytes {Z = Global}) c.loop-name.invariant.reading (live_at_brace (string_bytes {Z = Global}) every_text (map_state_of c.loop-name.self) (map_state_of c.next_name.new.self) none)
+    (brace_next (string_bytes {Z = Global}) every_text (map_state_of c.loop-name.self) (map_state_of c.next_name.new.self) none) (rw c.if-branch.false at key.read) (rw c.if-branch.false at key.left)
 
-pub returns-in_err-next-clause-refused : goal.returns-in_err-next-clause-refused
-returns-in_err-next-clause-refused g c =
-    key_cause _ _ _ c.from_residual.ensures.1 c.loop-next.invariant.reading c.loop-next.invariant.same_text c.loop-next.invariant.start c.in_err-next.ensures.refused.cause
-    (λ f. c.in_err-next.ensures.refused.before (c.loop-next.invariant.failed f))
+pub returns-in_err-next_name-clause-refused : goal.returns-in_err-next_name-clause-refused
+returns-in_err-next_name-clause-refused g c =
+    key_cause _ _ _ c.from_residual.ensures.1 c.loop-name.invariant.reading c.loop-name.invariant.same_text c.loop-name.invariant.start c.in_err-next_name.ensures.refused.cause
+    (λ f. c.in_err-next_name.ensures.refused.before (c.loop-name.invariant.failed f))
 
 pub returns-in_err-read-clause-refused : goal.returns-in_err-read-clause-refused
 returns-in_err-read-clause-refused g c =
-    let m = c.loop-next.invariant in
-    let key = c.in_ok-next.ensures in
-    let named = reads_name string_bytes c.in-Some.next m.reading (live_after_key string_bytes every_text (map_state_of c.loop-next.self) (map_state_of c.next_name.new.self) c.in-Some.next (rw c.in-Some.is at key.sound)) (rw c.in-Some.is at key.read) (rw c.in-Some.is at key.left) in
+    let m = c.loop-name.invariant in
+    let key = c.in_ok-next_name.ensures in
+    let named = reads_name string_bytes c.next_name.new.name m.reading (live_after_key string_bytes every_text (map_state_of c.loop-name.self) (map_state_of c.next_name.new.self) c.next_name.new.name (rw c.if-branch.true at key.sound)) (rw c.if-branch.true at key.read) (rw c.if-branch.true at key.left) in
     value_cause _ _ _ c.from_residual-in_err-read.ensures.1 named (key.access.same_text ∙ m.same_text) (key.access.start ∙ m.start) (rw c.as_str.ensures.value at c.in_err-read.ensures.refused)
-    (λ f. live_before string_bytes every_text (map_state_of c.loop-next.self) (map_state_of c.next_name.new.self) _ key.sound (m.failed f))
+    (λ f. live_before string_bytes every_text (map_state_of c.loop-name.self) (map_state_of c.next_name.new.self) (if_given c.next_name.new.name c.in_ok-next_name.field-0) key.sound (m.failed f))
 
 pub returns-clause-refused : goal.returns-clause-refused
-returns-clause-refused g c = record { cause = tt; before = λ f. absurd (live_before (string_bytes {Z = Global}) every_text (map_state_of c.loop-next.self) (map_state_of c.next_name.new.self) _ c.in_ok-next.ensures.sound (c.loop-next.invariant.failed f)) }
+returns-clause-refused g c = record { cause = tt; before = λ f. absurd (live_before (string_bytes {Z = Global}) every_text (map_state_of c.loop-name.self) (map_state_of c.next_name.new.self) (if_given c.next_name.new.name c.in_ok-next_name.field-0) c.in_ok-next_name.ensures.sound (c.loop-name.invariant.failed f)) }

@@ -1,7 +1,7 @@
 use Rattle.std.proofs.Common.{◌++◌, ap, refl, ◌∙◌}
 use Rattle.json5_de.proofs.ShortReads.{slice_at}
 use Rattle.json5_de.proofs.TokenKinds.{gives_up}
-use Rattle.json5_de.proofs.de.Deserializer.text_in.Goals as goal
+use Rattle.json5_de.proofs.de.Deserializer.put_text.Goals as goal
 
 pub returns-in-Ok : goal.returns-in-Ok
 returns-in-Ok g c = (refl, λ u k. c.in-Ok.ensures.bytes ∙ ap (λ b. b ++ c.text_of_span.result.now) c.clear.ensures.bytes ∙ c.text_of_span.ensures u (slice_at c.self.inside.scanner c.self.view_is k))
