@@ -54,7 +54,7 @@ use Rattle.json5_value.specs.Brackets.{bracket_of, brackets_of}
 use Rattle.json5_value.specs.Entries.{entry_front, entry_start, next_entry}
 use Rattle.json5_value.specs.Kinds.{kind_at, word_of}
 use Rattle.json5_value.specs.OwnedReads.{Keeps, IsOfTree, tree_at}
-use Rattle.json5_value.specs.Opening.{AtScalar, AtKind}
+use Rattle.json5_value.specs.Opening.{AtKind}
 use Rattle.json5_value.specs.ShortWays.{EntersShort, ReachesMember, PassesShort, PassesTo, name_at, name_left}
 use Rattle.json5_value.specs.ModelSteps.{Gave}
 use Rattle.json5_value.proofs.BuildScalars.{scalar_taken, text_taken}
@@ -205,52 +205,49 @@ entry_closed k b comma_due old mid new ate e s taken kept = (next_closed (bracke
 -- ---- strings
 
 -- no blanks stand before it
-string_split : (old new : Cursor) (c : ℕ) (found : ValueKind) (span : Span) → AtScalar c old → found ≡ kind_at c → found ≡ kinds.String → (k : TakesShortString old new (Some span)) → old.unread ≡ k.read.phrase ++ new.unread
-string_split old new c found span at is string k =
-    let (r, x) = some_next old.unread c at.first in
-    let solid : Solid old.unread = subst Solid (sym x) (begins_solid c r (begins_value_solid c (quote_begins c (tests_of c found kinds.String is string)))) in
+string_split : (old new : Cursor) (span : Span) → AtKind kinds.String old → (k : TakesShortString old new (Some span)) → old.unread ≡ k.read.phrase ++ new.unread
+string_split old new span at k =
+    let (r, x) = some_next old.unread at.char at.first in
+    let solid : Solid old.unread = subst Solid (sym x) (begins_solid at.char r (begins_value_solid at.char (quote_begins at.char (tests_of at.char (kind_at at.char) kinds.String refl at.is)))) in
     phrase_found old.unread [] old.unread new.unread (trees.text k.spelled true) refl (blanks.Gap.blanks blanks.Blanks.empty) solid k.read
 
-string_passed : (old new : Cursor) (c : ℕ) (found : ValueKind) (span : Span) → AtScalar c old → found ≡ kind_at c → found ≡ kinds.String → TakesShortString old new (Some span) → PassesShort old new true
-string_passed old new c found span at is string k room =
-    let split = string_split old new c found span at is string k in
+string_passed : (old new : Cursor) (span : Span) → AtKind kinds.String old → TakesShortString old new (Some span) → PassesShort old new true
+string_passed old new span at k room =
+    let split = string_split old new span at k in
     record {
       reads = ap (λ z. forget (read room z)) split ∙ ap forget (read_complete k.read.value new.unread k.read.stops room (omega arith));
       taken = k.read.phrase;
       took = record { split = split; same = k.same };
     }
 
-pub string_short : (old new : Cursor) (c : ℕ) (found : ValueKind) (o : Option Span) (b : Bool) → AtScalar c old → found ≡ kind_at c → found ≡ kinds.String → TakesShortString old new o → b ≡ is_some o → PassesShort old new b
-string_short old new c found None b at is string same e = subst (PassesShort old new) (sym e) same
-string_short old new c found (Some span) b at is string k e = subst (PassesShort old new) (sym e) (string_passed old new c found span at is string k)
+pub string_short : (old new : Cursor) (o : Option Span) (b : Bool) → AtKind kinds.String old → TakesShortString old new o → b ≡ is_some o → PassesShort old new b
+string_short old new None b at same e = subst (PassesShort old new) (sym e) same
+string_short old new (Some span) b at k e = subst (PassesShort old new) (sym e) (string_passed old new span at k)
 
 -- ---- literals
 
-pub literal_short : (old new : Cursor) (c : ℕ) (found : ValueKind) (l : Literal) (b : Bool) → AtScalar c old → found ≡ kind_at c → found ≡ kinds.Literal l → TakesShortWord (word_of l) old new b → PassesShort old new b
-literal_short old new c found l false at is literal same = same
-literal_short old new c found l true at is literal took = λ room. (literal_value room old new c at.first found is l (Ok tt) at.ready literal (record { taken = took; refused = tt; kept = tt })).given
+pub literal_short : (old new : Cursor) (l : Literal) (b : Bool) → AtKind (kinds.Literal l) old → TakesShortWord (word_of l) old new b → PassesShort old new b
+literal_short old new l false at same = same
+literal_short old new l true at took = λ room. (literal_value room old new at.char at.first (kind_at at.char) refl l (Ok tt) at.ready at.is (record { taken = took; refused = tt; kept = tt })).given
 
 -- ---- numbers
 
 -- a number has no blanks before it
-number_took : (old new : Cursor) (c : ℕ) (found : ValueKind) (n : Number) → AtScalar c old → found ≡ kind_at c → found ≡ kinds.Number → (k : TookNumber old new n) → Took old k.literal new
-number_took old new c found n at is number k =
-    let (r, x) = some_next old.unread c at.first in
-    let (none, phrase) = gap_before [] k.gap (k.literal ++ new.unread) c r blanks.Blanks.empty (begins_value_solid c (number_begins c (tests_of c found kinds.Number is number))) k.is_gap (value_solid new.unread (val_head (is_number k.is_number))) (sym x ∙ k.split) in
+number_took : (old new : Cursor) (n : Number) → AtKind kinds.Number old → (k : TookNumber old new n) → Took old k.literal new
+number_took old new n at k =
+    let (r, x) = some_next old.unread at.char at.first in
+    let (none, phrase) = gap_before [] k.gap (k.literal ++ new.unread) at.char r blanks.Blanks.empty (begins_value_solid at.char (number_begins at.char (tests_of at.char (kind_at at.char) kinds.Number refl at.is))) k.is_gap (value_solid new.unread (val_head (is_number k.is_number))) (sym x ∙ k.split) in
     record { split = x ∙ sym phrase; same = k.same }
 
-number_passed : (old new : Cursor) (c : ℕ) (found : ValueKind) (n : Number) → AtScalar c old → found ≡ kind_at c → found ≡ kinds.Number → TookNumber old new n → PassesShort old new true
-number_passed old new c found n at is number k room =
-    (number_value room old new c at.first found is (Ok (whole_in n)) at.ready number (record {
-      taken = (k.literal, n, number_took old new c found n at is number k, k.is_number, k.stops, refl);
+pub number_short : (old new : Cursor) (b : Bool) → AtKind kinds.Number old → TakesShortNumber old new b → PassesShort old new b
+number_short old new false at same = same
+number_short old new true at (n, k) = λ room.
+    (number_value room old new at.char at.first (kind_at at.char) refl (Ok (whole_in n)) at.ready at.is (record {
+      taken = (k.literal, n, number_took old new n at k, k.is_number, k.stops, refl);
       refused = tt;
       kept = tt;
       memory = λ s r n split num stops. refl;
     })).given
-
-pub number_short : (old new : Cursor) (c : ℕ) (found : ValueKind) (b : Bool) → AtScalar c old → found ≡ kind_at c → found ≡ kinds.Number → TakesShortNumber old new b → PassesShort old new b
-number_short old new c found false at is number same = same
-number_short old new c found true at is number (n, k) = number_passed old new c found n at is number k
 
 -- ---- texts, which are kept
 
@@ -259,13 +256,13 @@ str_of (is_text k) = k
 
 pub string_kept : (room : ℕ) (old new : Cursor) (span : Span) (t : String Global) → AtKind kinds.String old → all_scalars old.unread ≡ true → TakesShortString old new (Some span) → IsTextAt new.input span (string_bytes t) → Keeps IsOfTree (tree_at room old) old new (Ok (value.String t))
 string_kept room old new span t at scalars k is =
-    let split = string_split old new at.char (kind_at at.char) span at.scalar refl at.is k in
+    let split = string_split old new span at k in
     text_taken room old new t scalars (k.read.phrase, k.spelled, true, record { split = split; same = k.same }, str_of k.read.value, is k.spelled (subst (λ z. IsSliceAt z k.spelled span.start span.end) (sym k.same) k.stands))
 
 -- ---- numbers, which are kept
 
 pub number_kept : (room : ℕ) (old new : Cursor) (n : Number) (v : Value) → AtKind kinds.Number old → TookNumber old new n → value_of v ≡ datum.number n → Keeps IsOfTree (tree_at room old) old new (Ok v)
-number_kept room old new n v at k is = scalar_taken room old new k.literal (trees.number n) v refl (number_took old new at.char (kind_at at.char) n at.scalar refl at.is k) (is_number k.is_number) k.stops is
+number_kept room old new n v at k is = scalar_taken room old new k.literal (trees.number n) v refl (number_took old new n at k) (is_number k.is_number) k.stops is
 
 pub kind_front : (k : ValueKind) (old mid : Cursor) → mid ≡ old → AtKind k old → AtKind k mid
 kind_front k old mid same at = subst (AtKind k) (sym same) at

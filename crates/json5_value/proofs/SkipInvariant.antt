@@ -35,7 +35,7 @@ module _ (room : ℕ) (bs : List OpenBracket) (f : OpenBracket) (comma_due : Boo
       (λ c p is. rest_step (bracket_of f.kind) comma_due left old.unread ∙ ap (λ m. and_then m (turn (bracket_of f.kind) left)) is) b
 
   -- a value comes next
-  value_is : (goes : Bool) (new : Cursor) → goes ≡ true → Gave (next_value (bracket_of f.kind) comma_due old.unread) goes old new → rest_at room bs f comma_due old ≡ and_then (value_at left new) (rest_in f left)
+  pub value_is : (goes : Bool) (new : Cursor) → goes ≡ true → Gave (next_value (bracket_of f.kind) comma_due old.unread) goes old new → rest_at room bs f comma_due old ≡ and_then (value_at left new) (rest_in f left)
   value_is goes new is g = rest_is goes new g ∙ ap (λ b. turn (bracket_of f.kind) left b new.unread) is
 
 pub room_within : (room : ℕ) (bs : List OpenBracket) (f : OpenBracket) → room - length (bs ++ f ∷ []) ≡ room - length bs - 1

@@ -1,8 +1,9 @@
 -- How a value begins: with the first character of a scalar, or with an opening bracket.
-use Rattle.std.specs.Prelude.{◌≡◌, ℕ, ◌<◌, false, ◌∷◌, Some, Result, IfOk, IfErr, OnErr, ◌==◌, ◌||◌, slice_get}
+use Rattle.std.specs.Prelude.{◌≡◌, ℕ, ◌<◌, false, ◌∷◌, Option, Some, None, Result, IfOk, IfErr, OnErr, ◌==◌, ◌||◌, slice_get}
 use Rattle.json5_grammar.specs.Faults.Fronts.{of_array, of_object, opening}
 use Rattle.json5_text.specs.declared.error.Error.{Error}
 use Rattle.json5_text.specs.Cursor.{Cursor}
+use Rattle.json5_value.specs.declared.brackets.BracketKind.{BracketKind}
 use Rattle.json5_value.specs.declared.brackets.OpenBracket.{OpenBracket}
 use Rattle.json5_value.specs.declared.kinds.ValueKind.{ValueKind}
 use Rattle.json5_value.specs.Brackets.{bracket_of}
@@ -10,16 +11,22 @@ use Rattle.json5_value.specs.Kinds.{kind_at}
 use Rattle.json5_value.specs.Offsets.{CountsTo}
 use Rattle.json5_value.specs.ModelSteps.{IsInside, SameText, RefusesRead, value_at}
 
+-- the character opens brackets of this kind, or none
+abbrev pub OpensKind : ℕ → Option BracketKind → Type 0
+OpensKind c (Some k) = c ≡ opening (bracket_of k)
+OpensKind c None = ((c == opening of_array) || (c == opening of_object)) ≡ false
+
 -- a value that is no collection begins here with this character
 pub record AtScalar (c : ℕ) (s : Cursor) : Type 0 where
   pub ready : IsInside s
   pub first : slice_get s.unread 0 ≡ Some c
-  pub other : ((c == opening of_array) || (c == opening of_object)) ≡ false
+  pub other : OpensKind c None
 
 -- one of this kind begins here
 pub record AtKind (k : ValueKind) (s : Cursor) : Type 0 where
   pub char : ℕ
-  pub scalar : AtScalar char s
+  pub ready : IsInside s
+  pub first : slice_get s.unread 0 ≡ Some char
   pub is : kind_at char ≡ k
 
 -- an opening bracket was taken

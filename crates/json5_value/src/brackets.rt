@@ -3,7 +3,7 @@
 ghost use Rattle.std.specs.Prelude.{◌≡◌, Some, slice_get};
 ghost use Rattle.json5_grammar.specs.Faults.Fronts.{opening};
 ghost use Rattle.json5_value.specs.Brackets.{bracket_of, brackets_of};
-ghost use Rattle.json5_value.specs.Opening.{OpensBracket};
+ghost use Rattle.json5_value.specs.Opening.{OpensBracket, OpensKind};
 ghost use Rattle.json5_value.specs.ModelSteps.{IsInside};
 
 use json5_text::ErrorCode;
@@ -64,6 +64,18 @@ pub struct OpenBracket {
     pub kind: BracketKind,
     /// The count of bytes before it.
     pub start: usize,
+}
+
+/// Returns the kind of the brackets that the character opens, if it opens any.
+#[inline(always)]
+pub(crate) fn kind_opened(c: char) -> Option<BracketKind>
+    ensures { OpensKind c result }
+{
+    match c {
+        '[' => Some(BracketKind::Array),
+        '{' => Some(BracketKind::Object),
+        _ => None,
+    }
 }
 
 /// What fills the unused entries of a table.

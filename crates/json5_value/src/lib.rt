@@ -6,6 +6,7 @@
 pub mod brackets;
 pub mod entries;
 pub mod faults;
+mod growth;
 pub mod kinds;
 pub mod owned_tokens;
 pub mod read;

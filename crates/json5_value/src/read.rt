@@ -4,7 +4,7 @@ ghost use Rattle.json5_value.specs.BuildSteps.{PositionedIn, TurnsBuilding};
 ghost use Rattle.json5_value.specs.OwnedReads.{ReadsDatum, ReadsOrOpens};
 ghost use Rattle.json5_value.specs.ModelSteps.{IsInside};
 
-use crate::brackets::{BracketKind, OpenBracket, open_bracket};
+use crate::brackets::{BracketKind, OpenBracket, kind_opened, open_bracket};
 use crate::faults::with_position_at;
 use crate::owned_tokens::read_scalar;
 use crate::unfinished::{Unfinished, attach_value, resume_array, resume_object};
@@ -29,12 +29,8 @@ fn read_or_open<I: Input>(scanner: &mut Scanner<I>, room: usize) -> Result<Value
     let Some(c) = scanner.peek() else {
         return Err(Error::new(ErrorCode::EofParsingValue));
     };
-    if c == '[' {
-        let bracket = open_bracket(scanner, room, BracketKind::Array)?;
-        return Ok(ValueStart::Bracket(bracket));
-    }
-    if c == '{' {
-        let bracket = open_bracket(scanner, room, BracketKind::Object)?;
+    if let Some(kind) = kind_opened(c) {
+        let bracket = open_bracket(scanner, room, kind)?;
         return Ok(ValueStart::Bracket(bracket));
     }
     let value = read_scalar(scanner, c)?;

@@ -1,10 +1,10 @@
 //! Short ways: the members of an object that are read at once where no fault can come. They return small values, so that the
 //! frame of a loop over them holds no fault. Where they stop, the longer ways say what is there.
 
-ghost use Rattle.std.specs.Prelude.{◌≡◌, ◌<◌, [], ◌∷◌, ◌++◌, IsTrue, vec_len, vec_capacity};
 ghost use Rattle.json5_value.specs.ShortMembers.{AddsMember, EntersMember, TakesMembers};
 ghost use Rattle.json5_value.specs.ModelSteps.{IsInside};
 
+use crate::growth::add_entry;
 use crate::short_values::{ShortValue, short_value};
 use crate::short_ways::{NameLeft, short_colon};
 use json5_text::input::Input;
@@ -59,34 +59,6 @@ fn short_member<I: Input>(scanner: &mut Scanner<I>, comma_due: bool) -> ShortMem
     };
     let left = short_colon(scanner);
     ShortMember::Named { key, left }
-}
-
-/// Makes room for one more entry, and says whether there was memory for it. The first gets room for itself alone, so that an array or
-/// an object of one entry takes the memory of one; with more entries it grows as `push` lets it.
-#[inline(always)]
-fn make_room<T>(entries: &mut Vec<T>) -> bool
-    ensures items { entries.new.items ≡ entries.old.items }
-    ensures room { IsTrue result → vec_len entries.new < vec_capacity entries.new }
-{
-    if entries.len() < entries.capacity() {
-        return true;
-    }
-    if entries.is_empty() {
-        return entries.reserve_exact(1).is_ok();
-    }
-    entries.reserve(1).is_ok()
-}
-
-/// Adds an entry, and says whether there was memory for it.
-#[inline(always)]
-pub(crate) fn add_entry<T: Drop>(entries: &mut Vec<T>, entry: T) -> bool
-    ensures { IsTrue result → entries.new.items ≡ entries.old.items ++ entry ∷ [] }
-{
-    if !make_room(entries) {
-        return false;
-    }
-    entries.push_reserved(entry);
-    true
 }
 
 /// Adds a member whose key has the text at the span, and says whether there was memory for it.

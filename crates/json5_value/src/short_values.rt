@@ -39,7 +39,22 @@ pub(crate) enum ShortElements {
     NoMemory,
 }
 
-/// Takes a string without an escape.
+/// Takes a string, with its escapes, if it has no fault. It isn't inlined, since its frame holds a fault: the longer way finds the
+/// fault again.
+#[inline(never)]
+fn escaped_text<I: Input>(scanner: &mut Scanner<I>) -> ShortValue
+    requires { AtKind kind.String scanner.old }
+    ensures { KeepsShort scanner.old scanner.new result }
+{
+    // Goals below need what `offset` promises: what is unread is the end of the input.
+    let _offset = scanner.offset();
+    match scanner.string_owned() {
+        Ok(unescaped) => ShortValue::Value(Value::String(unescaped)),
+        Err(_) => ShortValue::Other,
+    }
+}
+
+/// Takes a string.
 #[inline(always)]
 fn short_text<I: Input>(scanner: &mut Scanner<I>) -> ShortValue
     requires { AtKind kind.String scanner.old }
@@ -48,7 +63,7 @@ fn short_text<I: Input>(scanner: &mut Scanner<I>) -> ShortValue
     // Goals below need what `offset` promises: what is unread is the end of the input.
     let _offset = scanner.offset();
     let Some(span) = scanner.short_string() else {
-        return ShortValue::Other;
+        return escaped_text(scanner);
     };
     match String::from_str(scanner.allocator(), scanner.text_of_span(span)) {
         Ok(text) => ShortValue::Value(Value::String(text)),

@@ -5,8 +5,8 @@ ghost use Rattle.json5_grammar.specs.Language.Blanks.{Solid};
 ghost use Rattle.json5_grammar.specs.Model.ReadSteps.{colon_after};
 ghost use Rattle.json5_text.specs.ShortWords.{TakesShortWord};
 ghost use Rattle.json5_value.specs.Kinds.{word_of};
-ghost use Rattle.json5_value.specs.Opening.{AtScalar};
 ghost use Rattle.json5_value.specs.ShortWays.{EntersShort, PassesShort, PassesTo, name_at};
+ghost use Rattle.json5_value.specs.ModelSteps.{IsInside};
 
 use crate::brackets::BracketKind;
 use crate::kinds::{Literal, ValueKind, kind_at};
@@ -107,10 +107,13 @@ pub(crate) fn short_literal<I: Input>(scanner: &mut Scanner<I>, literal: Literal
 
 /// Passes over a literal, a string without an escape or a number of few digits, and says whether one is in front.
 #[inline(always)]
-pub(crate) fn short_scalar<I: Input>(scanner: &mut Scanner<I>, c: char) -> bool
-    requires { AtScalar c scanner.old }
+pub(crate) fn short_scalar<I: Input>(scanner: &mut Scanner<I>) -> bool
+    requires { IsInside scanner.old }
     ensures { PassesShort scanner.old scanner.new result }
 {
+    let Some(c) = scanner.peek() else {
+        return false;
+    };
     match kind_at(c) {
         ValueKind::Literal(literal) => short_literal(scanner, literal),
         ValueKind::String => scanner.short_string().is_some(),

@@ -1,15 +1,13 @@
 //! Passing over values of any kind (JSON5 sections 2 to 6).
 
-ghost use Rattle.std.specs.Prelude.{◌≡◌, ◌<◌, ◌≤◌, Some, length, slice_get, true};
+ghost use Rattle.std.specs.Prelude.{◌<◌, ◌≤◌, length, true};
 ghost use Rattle.json5_grammar.specs.Language.Documents.{max_depth};
-ghost use Rattle.json5_grammar.specs.Faults.Fronts.{opening};
-ghost use Rattle.json5_value.specs.Brackets.{bracket_of};
 ghost use Rattle.json5_value.specs.Opening.{AtScalar};
 ghost use Rattle.json5_value.specs.ModelSteps.{IsInside, Steps, value_at};
 ghost use Rattle.json5_value.specs.ShortWays.{TurnsMember, ResumesShort, TurnsShort};
 ghost use Rattle.json5_value.specs.SkipSteps.{SkipsOrOpens, TurnsSkipping, TurnsSkippingInside, PositionedWithin, SkipsValue};
 
-use crate::brackets::{BracketKind, OpenBracket, open_bracket};
+use crate::brackets::{OpenBracket, kind_opened, open_bracket};
 use crate::entries::{skip_name, skip_to_value};
 use crate::faults::{fault_here, with_position_at};
 use crate::kinds::{ValueKind, kind_at, skip_literal};
@@ -47,12 +45,8 @@ fn skip_or_open<I: Input>(scanner: &mut Scanner<I>, room: usize) -> Result<Optio
     let Some(c) = scanner.peek() else {
         return Err(Error::new(ErrorCode::EofParsingValue));
     };
-    if c == '[' {
-        let bracket = open_bracket(scanner, room, BracketKind::Array)?;
-        return Ok(Some(bracket));
-    }
-    if c == '{' {
-        let bracket = open_bracket(scanner, room, BracketKind::Object)?;
+    if let Some(kind) = kind_opened(c) {
+        let bracket = open_bracket(scanner, room, kind)?;
         return Ok(Some(bracket));
     }
     skip_scalar(scanner, room, c)?;
@@ -166,7 +160,7 @@ enum ShortTurn {
     Whole,
 }
 
-/// Continues a bracket that isn't among the open ones.
+/// Continues a bracket that isn't among the open ones, over its values as far as they have short ways.
 #[inline(always)]
 fn short_resume<I: Input>(
     scanner: &mut Scanner<I>,
@@ -174,42 +168,30 @@ fn short_resume<I: Input>(
     bracket: OpenBracket,
     comma_due: bool,
 ) -> ShortTurn
-    requires { length brackets.old.items < 128 }
+    requires ready { IsInside scanner.old }
+    requires place { length brackets.old.items < 128 }
     ensures { ResumesShort bracket comma_due brackets.old.items brackets.new.items scanner.old scanner.new result }
 {
-    match short_entry(scanner, bracket.kind, comma_due) {
-        ShortEntry::Value => {
-            brackets.push(bracket);
-            ShortTurn::Value
+    let mut due = comma_due;
+    loop {
+        match short_entry(scanner, bracket.kind, due) {
+            ShortEntry::Value => {}
+            ShortEntry::Member(left) => return ShortTurn::Member { bracket, left },
+            ShortEntry::Closed => return ShortTurn::Ended,
+            ShortEntry::Other => return ShortTurn::Within {
+                bracket,
+                comma_due: due,
+            },
         }
-        ShortEntry::Member(left) => ShortTurn::Member { bracket, left },
-        ShortEntry::Closed => ShortTurn::Ended,
-        ShortEntry::Other => ShortTurn::Within { bracket, comma_due },
+        if !short_scalar(scanner) {
+            brackets.push(bracket);
+            return ShortTurn::Value;
+        }
+        due = true;
     }
 }
 
-/// Opens the bracket in front, where there is room for one more.
-#[inline(always)]
-fn short_open<I: Input>(
-    scanner: &mut Scanner<I>,
-    room: usize,
-    brackets: &mut OpenBrackets,
-    kind: BracketKind,
-) -> ShortTurn
-    requires ready { IsInside scanner.old }
-    requires sign { slice_get scanner.old.unread 0 ≡ Some (opening (bracket_of kind)) }
-    requires room { room ≤ max_depth }
-    ensures { TurnsShort room true brackets.old.items brackets.new.items scanner.old scanner.new result }
-{
-    if room <= brackets.len() {
-        return ShortTurn::Begins;
-    }
-    let start = scanner.offset();
-    let _ = scanner.eat(kind.brackets().opening);
-    short_resume(scanner, brackets, OpenBracket { kind, start }, false)
-}
-
-/// Begins the value in front within the open brackets.
+/// Opens the bracket in front within the open brackets, where there is room for one more, and continues it.
 #[inline(always)]
 fn short_begin<I: Input>(
     scanner: &mut Scanner<I>,
@@ -223,17 +205,15 @@ fn short_begin<I: Input>(
     let Some(c) = scanner.peek() else {
         return ShortTurn::Begins;
     };
-    if c == '[' {
-        return short_open(scanner, room, brackets, BracketKind::Array);
+    let Some(kind) = kind_opened(c) else {
+        return ShortTurn::Begins;
+    };
+    if room <= brackets.len() {
+        return ShortTurn::Begins;
     }
-    if c == '{' {
-        return short_open(scanner, room, brackets, BracketKind::Object);
-    }
-    if short_scalar(scanner, c) {
-        ShortTurn::Ended
-    } else {
-        ShortTurn::Begins
-    }
+    let start = scanner.offset();
+    let _ = scanner.eat(c);
+    short_resume(scanner, brackets, OpenBracket { kind, start }, false)
 }
 
 /// Begins the value in front, or continues the innermost bracket after a value.
@@ -270,6 +250,9 @@ pub fn skip_value<I: Input>(scanner: &mut Scanner<I>, room: usize) -> Result<()>
 {
     // Goals below need what `offset` promises: what is unread is the end of the input.
     let _offset = scanner.offset();
+    if short_scalar(scanner) {
+        return Ok(());
+    }
     let mut brackets = OpenBrackets::new();
     let mut at_value = true;
     loop {

@@ -1,0 +1,9 @@
+use Rattle.json5_text.specs.declared.value.Value as value
+use Rattle.json5_value.proofs.BuildScalars.{text_taken}
+use Rattle.json5_value.proofs.ShortValues.{datum_kept}
+use Rattle.json5_value.proofs.short_values.escaped_text.Goals as goal
+
+pub returns-in-Ok : goal.returns-in-Ok
+returns-in-Ok g c room =
+    datum_kept room c.args.scanner.now c.string_owned.new.self (value.String c.in-Ok.unescaped)
+    (text_taken room c.args.scanner.now c.string_owned.new.self c.in-Ok.unescaped c.offset-offset.ensures.scalars c.in-Ok.ensures.taken)
