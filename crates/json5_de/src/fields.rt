@@ -83,7 +83,7 @@ impl<I: Input> Deserializer<I> {
         }
     }
 
-    /// The same of any key.
+    /// Does the same where the key has no short way, or where there is no key.
     #[inline(never)]
     fn entry_name_slowly(&mut self, name: &mut String) -> Result<bool>
         ensures { ReadsKeyAtEntry string_bytes every_text (RefusedAsKey string_key) self.old self.new (filled_if_given name.new result) }

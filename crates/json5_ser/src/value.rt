@@ -36,14 +36,14 @@ fn put_value<W: Write + Drop>(value: &Value, ser: &mut Serializer<W>) -> Put
         Value::Whole(number) => put_whole_number(*number, ser),
         Value::Decimal(number) => ser.put_decimal(number),
         Value::String(text) => ser.put_str(text.as_str()),
-        Value::Array(items) => put_items(items, ser),
-        Value::Object(fields) => put_fields(fields, ser),
+        Value::Array(items) => put_elements(items, ser),
+        Value::Object(fields) => put_members(fields, ser),
     }
 }
 
 /// Writes an array of the values.
 #[cycle(tree)]
-fn put_items<W: Write + Drop>(items: &[Value], ser: &mut Serializer<W>) -> Put
+fn put_elements<W: Write + Drop>(items: &[Value], ser: &mut Serializer<W>) -> Put
     ensures { PutsTree (array (elements_of value_tree items.now)) ser.old result ser.new }
 {
     ser.open_short(Brackets::Square)?;
@@ -66,7 +66,7 @@ fn put_element<W: Write + Drop>(comma_due: bool, value: &Value, ser: &mut Serial
 
 /// Writes an object of the members, in their order.
 #[cycle(tree)]
-fn put_fields<W: Write + Drop>(fields: &[(String, Value)], ser: &mut Serializer<W>) -> Put
+fn put_members<W: Write + Drop>(fields: &[(String, Value)], ser: &mut Serializer<W>) -> Put
     ensures { PutsTree (object (fields_of key_of_string value_tree fields.now)) ser.old result ser.new }
 {
     ser.open_short(Brackets::Curly)?;

@@ -26,35 +26,35 @@ put_value-returns-in-String g t c =
     (ap (λ b. text (chars b)) c.as_str.ensures.value ∙ sym (ap value_tree c.in-String.is ∙ tree-String c.in-String.text)) c.put_str.ensures
 
 pub put_value-returns-in-Array : goal.put_value-returns-in-Array
-put_value-returns-in-Array g t c = rw (c.in-Array.is, tree-Array c.in-Array.items, ← c.deref.ensures.value) c.put_items.ensures
+put_value-returns-in-Array g t c = rw (c.in-Array.is, tree-Array c.in-Array.items, ← c.deref.ensures.value) c.put_elements.ensures
 
 pub put_value-returns-in-Object : goal.put_value-returns-in-Object
-put_value-returns-in-Object g t c = rw (c.in-Object.is, tree-Object c.in-Object.fields, ← c.deref-in-Object.ensures.value) c.put_fields.ensures
+put_value-returns-in-Object g t c = rw (c.in-Object.is, tree-Object c.in-Object.fields, ← c.deref-in-Object.ensures.value) c.put_members.ensures
 
 -- ---- arrays
 
-pub put_items-returns-in_err-open_short : goal.put_items-returns-in_err-open_short
-put_items-returns-in_err-open_short g t c =
+pub put_elements-returns-in_err-open_short : goal.put_elements-returns-in_err-open_short
+put_elements-returns-in_err-open_short g t c =
     let at = c.args.ser.now in
     open_stop left_bracket (elements_out at.limit (elements_of value_tree c.args.items.now) at.depth false) at _ _ _ c.in_err-open_short.ensures.opens c.from_residual.ensures.1
 
-pub put_items-loop-item-init : goal.put_items-loop-item-init
-put_items-loop-item-init g t c = record { left = left_first left_bracket _ _ _ c.in_ok-open_short.ensures.opens c.in_ok-open_short.ensures.deeper }
+pub put_elements-loop-item-init : goal.put_elements-loop-item-init
+put_elements-loop-item-init g t c = record { left = left_first left_bracket _ _ _ c.in_ok-open_short.ensures.opens c.in_ok-open_short.ensures.deeper }
 
-pub put_items-returns-in_err-put_element : goal.put_items-returns-in_err-put_element
-put_items-returns-in_err-put_element g t c =
+pub put_elements-returns-in_err-put_element : goal.put_elements-returns-in_err-put_element
+put_elements-returns-in_err-put_element g t c =
     let left : c.loop-item.item-index < length c.args.items.now = search rules in
     let next = elements_as c.loop-item.comma_due (ap (elements_of value_tree) (item_first c.args.items.now c.loop-item.item-index c.item-item.result left c.item-item.is)) c.loop-item.invariant.left in
     element_stop _ _ _ _ _ c.loop-item.comma_due next c.in_err-put_element.ensures c.from_residual-in_err-put_element.ensures.1
 
-pub put_items-loop-item-preserved : goal.put_items-loop-item-preserved
-put_items-loop-item-preserved g t c =
+pub put_elements-loop-item-preserved : goal.put_elements-loop-item-preserved
+put_elements-loop-item-preserved g t c =
     let left : c.loop-item.item-index < length c.args.items.now = search rules in
     let next = elements_as c.loop-item.comma_due (ap (elements_of value_tree) (item_first c.args.items.now c.loop-item.item-index c.item-item.result left c.item-item.is)) c.loop-item.invariant.left in
     record { left = element_line_on _ _ c.loop-item.comma_due next c.in_ok-put_element.ensures }
 
-pub put_items-returns : goal.put_items-returns
-put_items-returns g t c =
+pub put_elements-returns : goal.put_elements-returns
+put_elements-returns g t c =
     let none : length c.args.items.now ≤ c.loop-item.item-index = search rules in
     let last = elements_as c.loop-item.comma_due (ap (elements_of value_tree) (drop_of_length-le c.args.items.now none)) c.loop-item.invariant.left in
     left_closed right_bracket _ _ c.loop-item.comma_due last c.close_short.ensures
@@ -75,28 +75,28 @@ put_element-returns g t c =
 
 -- ---- objects
 
-pub put_fields-returns-in_err-open_short : goal.put_fields-returns-in_err-open_short
-put_fields-returns-in_err-open_short g t c =
+pub put_members-returns-in_err-open_short : goal.put_members-returns-in_err-open_short
+put_members-returns-in_err-open_short g t c =
     let at = c.args.ser.now in
     open_stop left_brace (fields_out at.limit (fields_of key_of_string value_tree c.args.fields.now) at.depth false) at _ _ _ c.in_err-open_short.ensures.opens c.from_residual.ensures.1
 
-pub put_fields-loop-key-init : goal.put_fields-loop-key-init
-put_fields-loop-key-init g t c = record { left = left_first left_brace _ _ _ c.in_ok-open_short.ensures.opens c.in_ok-open_short.ensures.deeper }
+pub put_members-loop-key-init : goal.put_members-loop-key-init
+put_members-loop-key-init g t c = record { left = left_first left_brace _ _ _ c.in_ok-open_short.ensures.opens c.in_ok-open_short.ensures.deeper }
 
-pub put_fields-returns-in_err-put_member : goal.put_fields-returns-in_err-put_member
-put_fields-returns-in_err-put_member g t c =
+pub put_members-returns-in_err-put_member : goal.put_members-returns-in_err-put_member
+put_members-returns-in_err-put_member g t c =
     let left : c.loop-key.key-index < length c.args.fields.now = search rules in
     let next = fields_as c.loop-key.comma_due (ap (fields_of key_of_string value_tree) (from_here c.args.fields.now c.loop-key.key-index c.loop-key-item.result left c.loop-key-item.is)) c.loop-key.invariant.left in
     member_stop _ _ (key_of_string c.loop-key-item.result.0) (value_tree c.loop-key-item.result.1) (fields_of key_of_string value_tree (drop (c.loop-key.key-index + 1) c.args.fields.now)) _ c.loop-key.comma_due next (subst (λ b. RefusesBy (comma_before c.loop-key.comma_due (member_line c.loop-key.ser.limit c.loop-key.ser.depth (named (chars b)) (value_tree c.loop-key-item.result.1))) c.loop-key.ser (refusal_by c.in_err-put_member.field-0.0) c.put_member.new.ser) c.deref.ensures c.in_err-put_member.ensures) c.from_residual-in_err-put_member.ensures.1
 
-pub put_fields-loop-key-preserved : goal.put_fields-loop-key-preserved
-put_fields-loop-key-preserved g t c =
+pub put_members-loop-key-preserved : goal.put_members-loop-key-preserved
+put_members-loop-key-preserved g t c =
     let left : c.loop-key.key-index < length c.args.fields.now = search rules in
     let next = fields_as c.loop-key.comma_due (ap (fields_of key_of_string value_tree) (from_here c.args.fields.now c.loop-key.key-index c.loop-key-item.result left c.loop-key-item.is)) c.loop-key.invariant.left in
     record { left = member_line_on (key_of_string c.loop-key-item.result.0) (value_tree c.loop-key-item.result.1) (fields_of key_of_string value_tree (drop (c.loop-key.key-index + 1) c.args.fields.now)) c.loop-key.comma_due next (subst (λ b. Wrote (comma_before c.loop-key.comma_due (member_line c.loop-key.ser.limit c.loop-key.ser.depth (named (chars b)) (value_tree c.loop-key-item.result.1))) c.loop-key.ser c.put_member.new.ser) c.deref.ensures c.in_ok-put_member.ensures) }
 
-pub put_fields-returns : goal.put_fields-returns
-put_fields-returns g t c =
+pub put_members-returns : goal.put_members-returns
+put_members-returns g t c =
     let none : drop c.loop-key.key-index c.args.fields.now ≡ [] = drop_of_length-le c.args.fields.now (search rules) in
     let last = fields_as c.loop-key.comma_due (ap (fields_of key_of_string value_tree) none) c.loop-key.invariant.left in
     left_closed right_brace _ _ c.loop-key.comma_due last c.close_short.ensures
