@@ -9,6 +9,7 @@ use crate::brackets::BracketKind;
 use crate::entries::{skip_name, skip_to_value};
 use crate::faults::with_position_at;
 use crate::growth::add_entry;
+use crate::owned_tokens::{next_member_key, own_text};
 use crate::short_members::{ShortMembers, short_members};
 use crate::short_values::{ShortElements, short_elements};
 use crate::short_ways::NameLeft;
