@@ -1,5 +1,5 @@
 use Rattle.json5_de.proofs.Refinement.{reads_content}
-use Rattle.json5_de.proofs.read.read.Goals as goal
+use Rattle.json5_de.proofs.read_content.read.Goals as goal
 
 pub returns : goal.returns
 returns g c = record {
