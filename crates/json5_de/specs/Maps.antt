@@ -72,8 +72,8 @@ module _ {K V C D : Type 0} (key : K → C) (value : V → D) where
   HoldsInKeyOrder cmp keys values content convert = Holds key cmp keys values content convert (λ m. map (pair_content key value) m.entries) (λ test ps. in_key_order test ps)
 
   -- by the order in which keys first came
-  abbrev pub HoldsInInsertionOrder : {S : Type 0} (eq : K → K → Bool) → KeyConversion C → (Tree → Option D) → (IndexMap K V S → Told key eq (List (C × D))) → (Tree → Option (Told key eq (List (C × D)))) → Type 0
-  HoldsInInsertionOrder eq keys values content convert = Holds key eq keys values content convert (λ m. map (pair_content key value) m.entries) (λ test ps. in_insertion_order test ps)
+  abbrev pub HoldsAsInserted : {S : Type 0} (eq : K → K → Bool) → KeyConversion C → (Tree → Option D) → (IndexMap K V S → Told key eq (List (C × D))) → (Tree → Option (Told key eq (List (C × D)))) → Type 0
+  HoldsAsInserted eq keys values content convert = Holds key eq keys values content convert (λ m. map (pair_content key value) m.entries) (λ test ps. in_insertion_order test ps)
 
   -- in no order: what is found at each key
   abbrev pub HoldsAtKeys : {S : Type 0} (eq : K → K → Bool) → KeyConversion C → (Tree → Option D) → (HashMap K V S → Told key eq (K → Option (C × D))) → (Tree → Option (Told key eq (K → Option (C × D)))) → Type 0

@@ -9,7 +9,7 @@ ghost use Rattle.json5_de.specs.Convert.{every_datum, unit_of, bool_of, unsigned
 ghost use Rattle.json5_de.specs.DeserializeLaw.{OneAnswer};
 ghost use Rattle.json5_de.specs.Keys.{OneKeyAnswer};
 ghost use Rattle.json5_de.specs.KeyKinds.{ConvertsDocuments};
-ghost use Rattle.json5_de.specs.Maps.{HoldsInKeyOrder, HoldsInInsertionOrder, HoldsAtKeys};
+ghost use Rattle.json5_de.specs.Maps.{HoldsInKeyOrder, HoldsAsInserted, HoldsAtKeys};
 ghost use Rattle.json5_de.specs.TokenKinds.{TellsApart, no_tree, null_kind, bool_kind, natural_kind, integer_kind, decimal_kind, string_kind, char_kind, escape_free_kind, variant_kind, cow_kind, bytes_kind, text_bytes, slice_bytes};
 
 use crate::de::Deserialize;
@@ -59,6 +59,6 @@ pub fn document_keys()
 /// the first, with the last value.
 pub fn map_contents<I: Input, K: DeserializeKey<I> + Ord + Hash, V: Deserialize<I>>()
     ensures ordered { HoldsInKeyOrder K.content V.content K.cmp K.convert V.convert ⟦<BTreeMap<K, V> as Deserialize<I>>⟧.content ⟦<BTreeMap<K, V> as Deserialize<I>>⟧.convert }
-    ensures indexed { HoldsInInsertionOrder K.content V.content K.eq K.convert V.convert ⟦<IndexMap<K, V> as Deserialize<I>>⟧.content ⟦<IndexMap<K, V> as Deserialize<I>>⟧.convert }
+    ensures indexed { HoldsAsInserted K.content V.content K.eq K.convert V.convert ⟦<IndexMap<K, V> as Deserialize<I>>⟧.content ⟦<IndexMap<K, V> as Deserialize<I>>⟧.convert }
     ensures hashed { HoldsAtKeys K.content V.content K.eq K.convert V.convert ⟦<HashMap<K, V> as Deserialize<I>>⟧.content ⟦<HashMap<K, V> as Deserialize<I>>⟧.convert }
 {}

@@ -19,9 +19,9 @@ use Rattle.json5_value.specs.ShortWays.{ReachesMember, PassesShort, name_left, m
 use Rattle.json5_value.specs.SkipSteps.{start_of, rest_in, rest_at, Skipping, SkippingInside, SkipsValue}
 use Rattle.json5_value.specs.ModelSteps.{IsInside, SameText, RefusesRead, Gave, value_at}
 use Rattle.json5_value.proofs.Nesting.{value_reached, inside_blamed, moved}
-use Rattle.json5_value.proofs.SkipInvariant.{room_within, no_more_left, value_is, inside_goes, inside_closed, inside_of, ended_inside, begins}
-use Rattle.json5_value.proofs.SkipScalars.{value_shorter}
-use Rattle.json5_value.proofs.ModelSteps.{blames_as, ready_after, ready_next, took_both, same_of}
+use Rattle.json5_value.proofs.SkipInvariant.{room_within, no_more_left, value_is, inside_goes, inside_closed, inside_of, ended_inside, first_scalar}
+use Rattle.json5_value.proofs.SkipScalars.{value_shorter, scalar_passed}
+use Rattle.json5_value.proofs.ModelSteps.{blames_as, ready_after, ready_next, took_both}
 
 -- ---- members
 
@@ -87,7 +87,7 @@ member_resumed f comma_due left bs old new m = record {
   no_longer = no_more_left old new m.taken m.took;
 }
 
--- ---- values that are passed over within a bracket
+-- ---- values that are passed over within a bracket, each after another
 
 further : (t : ShortTurn) (old mid new : Cursor) → length mid.unread ≤ length old.unread → Advanced t mid new → Advanced t old new
 further short.Value old mid new l a = omega (arith, l, a)
@@ -97,40 +97,39 @@ further (short.Within f comma_due) old mid new l a = let less = a.1 in ((λ e. (
 further (short.Member f left) old mid new l a = omega (arith, l, a)
 further short.Whole old mid new l a = tt
 
--- values of a bracket were passed over since the start; a comma is due as at the start, or since
-pub record PassesWithin (f : OpenBracket) (bs : List OpenBracket) (at_start comma_due : Bool) (start now : Cursor) : Type 0 where
-  pub goes : (room : ℕ) (w : Read (Unit {0})) (q : List ℕ) → SkippingInside room w bs f at_start q start → SkippingInside room w bs f comma_due q now
-  pub due : at_start ≡ true → comma_due ≡ true
+-- values of a bracket were passed over since the start, and a comma is due before the next
+pub record PassesWithin (f : OpenBracket) (bs : List OpenBracket) (start now : Cursor) : Type 0 where
+  pub goes : (room : ℕ) (w : Read (Unit {0})) (q : List ℕ) → SkippingInside room w bs f true q start → SkippingInside room w bs f true q now
   pub ready : IsInside now
   pub same_text : SameText start now
   pub no_longer : length now.unread ≤ length start.unread
 
-pub none_passed : (f : OpenBracket) (bs : List OpenBracket) (b : Bool) (start : Cursor) → IsInside start → PassesWithin f bs b b start start
-none_passed f bs b start r = record { goes = λ room w q h. h; due = λ e. e; ready = r; same_text = refl; no_longer = omega arith }
+pub none_passed : (f : OpenBracket) (bs : List OpenBracket) (start : Cursor) → IsInside start → PassesWithin f bs start start
+none_passed f bs start r = record { goes = λ room w q h. h; ready = r; same_text = refl; no_longer = omega arith }
 
-module _ (f : OpenBracket) (bs : List OpenBracket) (b comma_due : Bool) (start now : Cursor) (p : PassesWithin f bs b comma_due start now) where
+module _ (f : OpenBracket) (bs : List OpenBracket) (start now : Cursor) (p : PassesWithin f bs start now) where
   -- what continues it from here continues it from the start
-  pub resumed_from : (after : List OpenBracket) (new : Cursor) (t : ShortTurn) → ResumesShort f comma_due bs after now new t → ResumesShort f b bs after start new t
+  pub resumed_from : (after : List OpenBracket) (new : Cursor) (t : ShortTurn) → ResumesShort f true bs after now new t → ResumesShort f true bs after start new t
   resumed_from after new t r = record {
     goes = λ room w q h. r.goes room w q (p.goes room w q h);
     same_text = r.same_text ∙ p.same_text;
-    advanced = λ e. further t start now new p.no_longer (r.advanced (p.due e));
+    advanced = λ e. further t start now new p.no_longer (r.advanced refl);
     no_longer = let k = p.no_longer in let l = r.no_longer in omega (arith, k, l);
   }
 
-  pub within_left : (new : Cursor) → new ≡ now → ResumesShort f b bs bs start new (short.Within f comma_due)
-  within_left new same = subst (λ (s : Cursor). ResumesShort f b bs bs start s (short.Within f comma_due)) (sym same) (resumed_from bs now (short.Within f comma_due) (record {
+  pub within_left : (new : Cursor) → new ≡ now → ResumesShort f true bs bs start new (short.Within f true)
+  within_left new same = subst (λ (s : Cursor). ResumesShort f true bs bs start s (short.Within f true)) (sym same) (resumed_from bs now (short.Within f true) (record {
     goes = λ room w q h. (q, h);
     same_text = refl;
-    advanced = λ e. ((λ no. absurd (cc (e, no))), omega arith);
+    advanced = λ e. ((λ no. absurd (cc no)), omega arith);
     no_longer = omega arith;
   }))
 
   -- the value has no short way
-  pub value_left : (after : List OpenBracket) (mid new : Cursor) → Gave (next_value (bracket_of f.kind) comma_due now.unread) true now mid → PassesShort mid new false → after ≡ bs ++ f ∷ [] → ResumesShort f b bs after start new short.Value
-  value_left after mid new g same grown = subst (λ (s : Cursor). ResumesShort f b bs after start s short.Value) (sym same) (resumed_from after mid short.Value (value_resumed f comma_due bs after now mid g grown))
+  pub value_left : (after : List OpenBracket) (mid new : Cursor) → Gave (next_value (bracket_of f.kind) true now.unread) true now mid → PassesShort mid new false → after ≡ bs ++ f ∷ [] → ResumesShort f true bs after start new short.Value
+  value_left after mid new g same grown = subst (λ (s : Cursor). ResumesShort f true bs after start s short.Value) (sym same) (resumed_from after mid short.Value (value_resumed f true bs after now mid g grown))
 
-  pub value_passed : (mid new : Cursor) → Gave (next_value (bracket_of f.kind) comma_due now.unread) true now mid → PassesShort mid new true → PassesWithin f bs b true start new
+  pub value_passed : (mid new : Cursor) → Gave (next_value (bracket_of f.kind) true now.unread) true now mid → PassesShort mid new true → PassesWithin f bs start new
   value_passed mid new g k =
       let before = p.no_longer in
       let to_value = no_more_left now mid g.taken g.took in
@@ -138,16 +137,15 @@ module _ (f : OpenBracket) (bs : List OpenBracket) (b comma_due : Bool) (start n
       record {
         goes = λ room w q h.
             let deep : ℕ = room - length bs - 1 in
-            moved start_of rest_in room now w (rest_at room bs f comma_due now) bs f.start q (p.goes room w q h) new (rest_at room bs f true new) (g.taken ++ (k deep).taken)
+            moved start_of rest_in room now w (rest_at room bs f true now) bs f.start q (p.goes room w q h) new (rest_at room bs f true new) (g.taken ++ (k deep).taken)
             (took_both now mid new g.taken (k deep).taken g.took (k deep).took)
-            (value_is room bs f comma_due now true mid refl g ∙ ap (λ m. and_then m (rest_in f deep)) (k deep).reads);
-        due = λ e. refl;
+            (value_is room bs f true now true mid refl g ∙ ap (λ m. and_then m (rest_in f deep)) (k deep).reads);
         ready = ready_after mid new (k 0).taken (ready_next now mid p.ready g) (k 0).took;
         same_text = (k 0).took.same ∙ g.took.same ∙ p.same_text;
         no_longer = omega (arith, before, to_value, past_value);
       }
 
-  pub goes_down : (mid new : Cursor) → Gave (next_value (bracket_of f.kind) comma_due now.unread) true now mid → PassesShort mid new true → length new.unread < length now.unread
+  pub goes_down : (mid new : Cursor) → Gave (next_value (bracket_of f.kind) true now.unread) true now mid → PassesShort mid new true → length new.unread < length now.unread
   goes_down mid new g k =
       let to_value = no_more_left now mid g.taken g.took in
       let past_value = value_shorter 0 mid.unread new.unread tt (k 0).reads in
@@ -177,6 +175,12 @@ not_begun room bs after old new grown same = record {
   advanced = let l = ap (λ (s : Cursor). length s.unread) same in omega (arith, l);
 }
 
+pub passed_short : (room : ℕ) (bs : List OpenBracket) (old new : Cursor) → PassesShort old new true → TurnsShort room true bs bs old new short.Ended
+passed_short room bs old new passes =
+    let g = passes (room - length bs) in
+    let t = first_scalar room bs bs old new tt g refl (scalar_passed (room - length bs) old new tt g).shorter in
+    record { goes = t.goes; same_text = t.same_text; advanced = t.shorter }
+
 -- ---- the whole of a turn
 
 pub resumed_short : (room : ℕ) (bs fs after : List OpenBracket) (f : OpenBracket) (old new : Cursor) (t : ShortTurn) → bs ≡ fs ++ f ∷ [] → ResumesShort f true fs after old new t → TurnsShort room false bs after old new t
@@ -191,7 +195,3 @@ resumed_short room bs fs after f old new t is r = record {
 -- it is passed over at once
 pub passed_whole : (room : ℕ) (old new : Cursor) → PassesShort old new true → SkipsValue room old new (Ok tt)
 passed_whole room old new k = record { given = k room; refused = tt; same_text = (k room).took.same }
-
--- it is begun
-pub whole_begun : (room : ℕ) (old new : Cursor) → IsInside old → PassesShort old new false → Skipping room (value_at room old) [] true new × SameText old new
-whole_begun room old new ready same = (subst (λ (s : Cursor). Skipping room (value_at room old) [] true s) (sym same) (begins room old ready), same_of same)

@@ -1,6 +1,6 @@
 //! Passing over values of any kind (JSON5 sections 2 to 6).
 
-ghost use Rattle.std.specs.Prelude.{◌<◌, ◌≤◌, length, true};
+ghost use Rattle.std.specs.Prelude.{◌<◌, ◌≤◌, false, length, true};
 ghost use Rattle.json5_grammar.specs.Language.Documents.{max_depth};
 ghost use Rattle.json5_value.specs.Opening.{AtScalar};
 ghost use Rattle.json5_value.specs.ModelSteps.{IsInside, Steps, value_at};
@@ -160,38 +160,60 @@ enum ShortTurn {
     Whole,
 }
 
-/// Continues a bracket that isn't among the open ones, over its values as far as they have short ways.
+/// Continues a bracket that was just opened: goes to its first value, and puts it among the open ones.
 #[inline(always)]
-fn short_resume<I: Input>(
+fn short_first<I: Input>(
     scanner: &mut Scanner<I>,
     brackets: &mut OpenBrackets,
     bracket: OpenBracket,
-    comma_due: bool,
+) -> ShortTurn
+    requires { length brackets.old.items < 128 }
+    ensures { ResumesShort bracket false brackets.old.items brackets.new.items scanner.old scanner.new result }
+{
+    match short_entry(scanner, bracket.kind, false) {
+        ShortEntry::Value => {
+            brackets.push(bracket);
+            ShortTurn::Value
+        }
+        ShortEntry::Member(left) => ShortTurn::Member { bracket, left },
+        ShortEntry::Closed => ShortTurn::Ended,
+        ShortEntry::Other => ShortTurn::Within {
+            bracket,
+            comma_due: false,
+        },
+    }
+}
+
+/// Continues a bracket that isn't among the open ones after a value, over the next values as far as they have short ways.
+#[inline(always)]
+fn short_rest<I: Input>(
+    scanner: &mut Scanner<I>,
+    brackets: &mut OpenBrackets,
+    bracket: OpenBracket,
 ) -> ShortTurn
     requires ready { IsInside scanner.old }
     requires place { length brackets.old.items < 128 }
-    ensures { ResumesShort bracket comma_due brackets.old.items brackets.new.items scanner.old scanner.new result }
+    ensures { ResumesShort bracket true brackets.old.items brackets.new.items scanner.old scanner.new result }
 {
-    let mut due = comma_due;
     loop {
-        match short_entry(scanner, bracket.kind, due) {
+        match short_entry(scanner, bracket.kind, true) {
             ShortEntry::Value => {}
             ShortEntry::Member(left) => return ShortTurn::Member { bracket, left },
             ShortEntry::Closed => return ShortTurn::Ended,
             ShortEntry::Other => return ShortTurn::Within {
                 bracket,
-                comma_due: due,
+                comma_due: true,
             },
         }
         if !short_scalar(scanner) {
             brackets.push(bracket);
             return ShortTurn::Value;
         }
-        due = true;
     }
 }
 
-/// Opens the bracket in front within the open brackets, where there is room for one more, and continues it.
+/// Opens the bracket in front within the open brackets, where there is room for one more, and continues it; or passes over the
+/// scalar in front.
 #[inline(always)]
 fn short_begin<I: Input>(
     scanner: &mut Scanner<I>,
@@ -206,14 +228,15 @@ fn short_begin<I: Input>(
         return ShortTurn::Begins;
     };
     let Some(kind) = kind_opened(c) else {
-        return ShortTurn::Begins;
+        let passed = short_scalar(scanner);
+        return if passed { ShortTurn::Ended } else { ShortTurn::Begins };
     };
     if room <= brackets.len() {
         return ShortTurn::Begins;
     }
     let start = scanner.offset();
     let _ = scanner.eat(c);
-    short_resume(scanner, brackets, OpenBracket { kind, start }, false)
+    short_first(scanner, brackets, OpenBracket { kind, start })
 }
 
 /// Begins the value in front, or continues the innermost bracket after a value.
@@ -233,8 +256,33 @@ fn short_turn<I: Input>(
         return short_begin(scanner, room, brackets);
     }
     match brackets.pop() {
-        Some(bracket) => short_resume(scanner, brackets, bracket, true),
+        Some(bracket) => short_rest(scanner, brackets, bracket),
         None => ShortTurn::Whole,
+    }
+}
+
+/// Passes over the value in front, turn by turn.
+#[inline(never)]
+fn skip_in_turns<I: Input>(scanner: &mut Scanner<I>, room: usize) -> Result<()>
+    requires ready { IsInside scanner.old }
+    requires room { room ≤ max_depth }
+    ensures { SkipsValue room scanner.old scanner.new result }
+{
+    let mut brackets = OpenBrackets::new();
+    let mut at_value = true;
+    loop {
+        at_value = match short_turn(scanner, room, &mut brackets, at_value) {
+            ShortTurn::Value => true,
+            ShortTurn::Ended => false,
+            ShortTurn::Begins => begin_value(scanner, room, &mut brackets)?,
+            ShortTurn::Within { bracket, comma_due } => {
+                resume_bracket(scanner, &mut brackets, bracket, comma_due)?
+            }
+            ShortTurn::Member { bracket, left } => {
+                resume_member(scanner, &mut brackets, bracket, left)?
+            }
+            ShortTurn::Whole => return Ok(()),
+        };
     }
 }
 
@@ -253,20 +301,5 @@ pub fn skip_value<I: Input>(scanner: &mut Scanner<I>, room: usize) -> Result<()>
     if short_scalar(scanner) {
         return Ok(());
     }
-    let mut brackets = OpenBrackets::new();
-    let mut at_value = true;
-    loop {
-        at_value = match short_turn(scanner, room, &mut brackets, at_value) {
-            ShortTurn::Value => true,
-            ShortTurn::Ended => false,
-            ShortTurn::Begins => begin_value(scanner, room, &mut brackets)?,
-            ShortTurn::Within { bracket, comma_due } => {
-                resume_bracket(scanner, &mut brackets, bracket, comma_due)?
-            }
-            ShortTurn::Member { bracket, left } => {
-                resume_member(scanner, &mut brackets, bracket, left)?
-            }
-            ShortTurn::Whole => return Ok(()),
-        };
-    }
+    skip_in_turns(scanner, room)
 }
