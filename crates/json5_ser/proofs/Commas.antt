@@ -163,3 +163,9 @@ left_closed {all} {at} {s} sign n x due h p =
 
 pub tree_put : {a : Out} {o m : SerializerState} (s n : SerializerState) (x : Result ⊤ Refused) (t : Written) → Wrote a o m → Puts (out m.limit t m.depth) s x n → Puts (out o.limit t o.depth) s x n
 tree_put {a} {o} {m} s n x t w p = subst (λ l. Puts (out l t o.depth) s x n) w.limit (subst (λ d. Puts (out m.limit t d) s x n) w.depth p)
+
+pub tree_wrote : {a : Out} {o m : SerializerState} (s n : SerializerState) (t : Written) → Wrote a o m → Wrote (out m.limit t m.depth) s n → Wrote (out o.limit t o.depth) s n
+tree_wrote s n t w p = tree_put s n (Ok tt) t w p
+
+pub tree_refused : {a : Out} {o m : SerializerState} (s n : SerializerState) (r : Refused) (t : Written) → Wrote a o m → RefusesBy (out m.limit t m.depth) s (refusal_by r) n → RefusesBy (out o.limit t o.depth) s (refusal_by r) n
+tree_refused s n r t w p = tree_put s n (Err r) t w p

@@ -17,6 +17,7 @@ pub refused_as : (w : Out) (o n : SerializerState) (r : Refused) (e : Error) →
 refused_as w o n refused.Before e h p = refused_so w o n e (code codes.Failed) h.kind h.place p
 refused_as w o n refused.ByWriter e h p = refused_so w o n e failed_write h.kind h.place p
 refused_as w o n refused.TooDeep e h p = refused_so w o n e (code codes.TooDeep) h.kind h.place p
+refused_as w o n refused.Key e h p = refused_so w o n e (code codes.InvalidKey) h.kind h.place p
 
 -- what a `?` makes of it: of the whole, of a first part, and after what was written
 pub Puts-handed : {A : Type 0} (w : Out) (o n : SerializerState) (r : Refused) (x : Result A Error) → IsErrAnd x (MakesError r) → RefusesBy w o (refusal_by r) n → Writes w o x n

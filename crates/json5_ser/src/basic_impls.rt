@@ -8,6 +8,8 @@ ghost use Rattle.json5_text.specs.Cows.{cow_bytes};
 ghost use Rattle.json5_grammar.specs.Language.Numbers.{decimal};
 ghost use Rattle.json5_ser.specs.WrittenTrees.{null, boolean, number, natural, integer, text, option_tree};
 
+use crate::key::bool_name;
+use crate::refusal::Put;
 use crate::{Serialize, Serializer};
 use json5_text::byte_buf::ByteBuf;
 use json5_text::cow_str::CowStr;
@@ -31,6 +33,10 @@ impl Serialize for bool {
     fn serialize<W: Write + Drop>(&self, ser: &mut Serializer<W>) -> Result<()> {
         ser.serialize_bool(*self)
     }
+
+    fn put<W: Write + Drop>(&self, ser: &mut Serializer<W>) -> Put {
+        ser.put_short(bool_name(*self))
+    }
 }
 
 /// Writes the decimal digits. So do the integers below, after a minus where they are negative.
@@ -40,6 +46,10 @@ impl Serialize for u8 {
     fn serialize<W: Write + Drop>(&self, ser: &mut Serializer<W>) -> Result<()> {
         ser.serialize_u8(*self)
     }
+
+    fn put<W: Write + Drop>(&self, ser: &mut Serializer<W>) -> Put {
+        ser.put_u64(u64::from(*self))
+    }
 }
 
 impl Serialize for u16 {
@@ -47,6 +57,10 @@ impl Serialize for u16 {
 
     fn serialize<W: Write + Drop>(&self, ser: &mut Serializer<W>) -> Result<()> {
         ser.serialize_u16(*self)
+    }
+
+    fn put<W: Write + Drop>(&self, ser: &mut Serializer<W>) -> Put {
+        ser.put_u64(u64::from(*self))
     }
 }
 
@@ -56,6 +70,10 @@ impl Serialize for u32 {
     fn serialize<W: Write + Drop>(&self, ser: &mut Serializer<W>) -> Result<()> {
         ser.serialize_u32(*self)
     }
+
+    fn put<W: Write + Drop>(&self, ser: &mut Serializer<W>) -> Put {
+        ser.put_u64(u64::from(*self))
+    }
 }
 
 impl Serialize for u64 {
@@ -63,6 +81,10 @@ impl Serialize for u64 {
 
     fn serialize<W: Write + Drop>(&self, ser: &mut Serializer<W>) -> Result<()> {
         ser.serialize_u64(*self)
+    }
+
+    fn put<W: Write + Drop>(&self, ser: &mut Serializer<W>) -> Put {
+        ser.put_u64(*self)
     }
 }
 
@@ -72,6 +94,10 @@ impl Serialize for u128 {
     fn serialize<W: Write + Drop>(&self, ser: &mut Serializer<W>) -> Result<()> {
         ser.serialize_u128(*self)
     }
+
+    fn put<W: Write + Drop>(&self, ser: &mut Serializer<W>) -> Put {
+        ser.put_u128(*self)
+    }
 }
 
 impl Serialize for i8 {
@@ -79,6 +105,10 @@ impl Serialize for i8 {
 
     fn serialize<W: Write + Drop>(&self, ser: &mut Serializer<W>) -> Result<()> {
         ser.serialize_i8(*self)
+    }
+
+    fn put<W: Write + Drop>(&self, ser: &mut Serializer<W>) -> Put {
+        ser.put_i64(i64::from(*self))
     }
 }
 
@@ -88,6 +118,10 @@ impl Serialize for i16 {
     fn serialize<W: Write + Drop>(&self, ser: &mut Serializer<W>) -> Result<()> {
         ser.serialize_i16(*self)
     }
+
+    fn put<W: Write + Drop>(&self, ser: &mut Serializer<W>) -> Put {
+        ser.put_i64(i64::from(*self))
+    }
 }
 
 impl Serialize for i32 {
@@ -95,6 +129,10 @@ impl Serialize for i32 {
 
     fn serialize<W: Write + Drop>(&self, ser: &mut Serializer<W>) -> Result<()> {
         ser.serialize_i32(*self)
+    }
+
+    fn put<W: Write + Drop>(&self, ser: &mut Serializer<W>) -> Put {
+        ser.put_i64(i64::from(*self))
     }
 }
 
@@ -104,6 +142,10 @@ impl Serialize for i64 {
     fn serialize<W: Write + Drop>(&self, ser: &mut Serializer<W>) -> Result<()> {
         ser.serialize_i64(*self)
     }
+
+    fn put<W: Write + Drop>(&self, ser: &mut Serializer<W>) -> Put {
+        ser.put_i64(*self)
+    }
 }
 
 impl Serialize for i128 {
@@ -111,6 +153,10 @@ impl Serialize for i128 {
 
     fn serialize<W: Write + Drop>(&self, ser: &mut Serializer<W>) -> Result<()> {
         ser.serialize_i128(*self)
+    }
+
+    fn put<W: Write + Drop>(&self, ser: &mut Serializer<W>) -> Put {
+        ser.put_i128(*self)
     }
 }
 
@@ -130,6 +176,10 @@ impl Serialize for &str {
     fn serialize<W: Write + Drop>(&self, ser: &mut Serializer<W>) -> Result<()> {
         ser.serialize_str(*self)
     }
+
+    fn put<W: Write + Drop>(&self, ser: &mut Serializer<W>) -> Put {
+        ser.put_str(*self)
+    }
 }
 
 /// Writes a string, as `serialize_str` does.
@@ -139,6 +189,10 @@ impl Serialize for String {
     fn serialize<W: Write + Drop>(&self, ser: &mut Serializer<W>) -> Result<()> {
         ser.serialize_str(self)
     }
+
+    fn put<W: Write + Drop>(&self, ser: &mut Serializer<W>) -> Put {
+        ser.put_str(self)
+    }
 }
 
 /// Writes a string, as `serialize_str` does.
@@ -147,6 +201,10 @@ impl Serialize for CowStr<'_> {
 
     fn serialize<W: Write + Drop>(&self, ser: &mut Serializer<W>) -> Result<()> {
         ser.serialize_str(self.as_str())
+    }
+
+    fn put<W: Write + Drop>(&self, ser: &mut Serializer<W>) -> Put {
+        ser.put_str(self.as_str())
     }
 }
 
@@ -166,6 +224,10 @@ impl Serialize for Decimal {
     fn serialize<W: Write + Drop>(&self, ser: &mut Serializer<W>) -> Result<()> {
         ser.serialize_decimal(self)
     }
+
+    fn put<W: Write + Drop>(&self, ser: &mut Serializer<W>) -> Put {
+        ser.put_decimal(self)
+    }
 }
 
 /// Writes the value that it refers to.
@@ -174,6 +236,10 @@ impl<T: Serialize> Serialize for &T {
 
     fn serialize<W: Write + Drop>(&self, ser: &mut Serializer<W>) -> Result<()> {
         Serialize::serialize(*self, ser)
+    }
+
+    fn put<W: Write + Drop>(&self, ser: &mut Serializer<W>) -> Put {
+        Serialize::put(*self, ser)
     }
 }
 
@@ -185,6 +251,13 @@ impl<T: Serialize> Serialize for Option<T> {
         match self {
             Some(value) => ser.serialize_some(value),
             None => ser.serialize_none(),
+        }
+    }
+
+    fn put<W: Write + Drop>(&self, ser: &mut Serializer<W>) -> Put {
+        match self {
+            Some(value) => value.put(ser),
+            None => ser.put_short("null"),
         }
     }
 }

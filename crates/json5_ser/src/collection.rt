@@ -63,11 +63,8 @@ impl<W: Write + Drop> Serializer<W> {
         ensures { Writes (element_out self.old.depth (out self.old.limit (T.tree value.now) self.old.depth)) self.old result self.new }
     {
         self.start_line(false)?;
-        let written = value.serialize(self);
-        if written.is_err() {
-            return written;
-        }
-        self.put(",")
+        value.put(self)?;
+        Ok(self.put_short(",")?)
     }
 }
 

@@ -17,7 +17,7 @@ mod lists;
 mod maps;
 mod options_and_variants;
 mod quoting;
-mod refusal;
+pub mod refusal;
 mod serialize;
 mod serializer;
 mod stage;

@@ -1,25 +1,29 @@
-//! Why a piece wasn't written, or a bracket not opened, as a small value.
+//! Why a value wasn't written, as a small value.
 
-ghost use Rattle.std.specs.Prelude.{IsErrAnd};
-ghost use Rattle.json5_ser.specs.ShortWrites.{MakesError};
+ghost use Rattle.std.specs.Prelude.{◌≡◌, IsErrAnd};
+ghost use Rattle.json5_text.specs.Errors.{kind_of};
+ghost use Rattle.json5_ser.specs.Writes.{refusal_of};
+ghost use Rattle.json5_ser.specs.ShortWrites.{MakesError, IsOfWriting, refusal_by};
 
 use json5_text::ErrorCode;
 use json5_text::error::{Error, Result};
 use std::io::{self, ErrorKind};
 
-/// Why a piece wasn't written whole, or a bracket not opened. It is small, so that the frame of a call that writes pieces holds no `Error`.
+/// Why a value wasn't written whole. It is small, so that the frame of a call that writes values holds no `Error`.
 #[derive(Clone, Copy)]
-pub(crate) enum Refused {
+pub enum Refused {
     /// A call was refused before.
     Before,
     /// The writer failed, or took no bytes.
     ByWriter,
     /// It was a bracket past the limit.
     TooDeep,
+    /// It was a key that can't be written.
+    Key,
 }
 
-/// What a call returns that writes pieces alone.
-pub(crate) type Put = std::result::Result<(), Refused>;
+/// What a call returns that writes a value and makes no `Error`.
+pub type Put = std::result::Result<(), Refused>;
 
 impl From<Refused> for Error {
     ghost from_gives = { MakesError };
@@ -31,6 +35,24 @@ impl From<Refused> for Error {
             Refused::Before => Error::new(ErrorCode::Failed),
             Refused::ByWriter => Error::from(io::Error::from(ErrorKind::WriteZero)),
             Refused::TooDeep => Error::new(ErrorCode::TooDeep),
+            Refused::Key => Error::new(ErrorCode::InvalidKey),
+        }
+    }
+}
+
+impl Refused {
+    /// Why a call of a serializer returned this error.
+    #[cold]
+    #[inline(never)]
+    pub(crate) fn of(error: &Error) -> Refused
+        requires { IsOfWriting error.now }
+        ensures { refusal_by result ≡ refusal_of (kind_of error.now) }
+    {
+        match error.code() {
+            Some(ErrorCode::InvalidKey) => Refused::Key,
+            Some(ErrorCode::TooDeep) => Refused::TooDeep,
+            Some(_) => Refused::Before,
+            None => Refused::ByWriter,
         }
     }
 }

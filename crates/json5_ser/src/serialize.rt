@@ -2,8 +2,10 @@
 
 ghost use Rattle.json5_ser.specs.WrittenTrees.{Written};
 ghost use Rattle.json5_ser.specs.Writes.{WritesTree};
+ghost use Rattle.json5_ser.specs.ShortWrites.{PutsTree};
 
 use crate::Serializer;
+use crate::refusal::{Put, Refused};
 use json5_text::error::Result;
 use std::io::Write;
 
@@ -31,4 +33,15 @@ pub trait Serialize {
     /// As every call of a [`Serializer`].
     fn serialize<W: Write + Drop>(&self, ser: &mut Serializer<W>) -> Result<()>
         ensures { WritesTree (tree self.now) ser.old result ser.new };
+
+    /// Does what `serialize` does, and returns why it was refused as a small value. Lists and collections call it. A type has it
+    /// by `serialize`; the impls of this crate write it for speed.
+    fn put<W: Write + Drop>(&self, ser: &mut Serializer<W>) -> Put
+        ensures { PutsTree (tree self.now) ser.old result ser.new }
+    {
+        match self.serialize(ser) {
+            Ok(()) => Ok(()),
+            Err(error) => Err(Refused::of(&error)),
+        }
+    }
 }

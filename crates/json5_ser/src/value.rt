@@ -23,6 +23,10 @@ impl Serialize for Value {
     fn serialize<W: Write + Drop>(&self, ser: &mut Serializer<W>) -> Result<()> {
         Ok(put_value(self, ser)?)
     }
+
+    fn put<W: Write + Drop>(&self, ser: &mut Serializer<W>) -> Put {
+        put_value(self, ser)
+    }
 }
 
 /// Writes a value of any kind.
@@ -110,7 +114,7 @@ fn put_natural<W: Write + Drop>(value: u128, ser: &mut Serializer<W>) -> Put
     ensures { PutsTree (natural value) ser.old result ser.new }
 {
     match u64::try_from(value) {
-        Ok(short) => ser.put_integer(short),
-        Err(_) => ser.put_integer(value),
+        Ok(short) => ser.put_u64(short),
+        Err(_) => ser.put_u128(value),
     }
 }

@@ -125,9 +125,15 @@ module _ (f : OpenBracket) (bs : List OpenBracket) (start now : Cursor) (p : Pas
     no_longer = omega arith;
   }))
 
+  -- the value begins with a bracket
+  pub value_next : (after : List OpenBracket) (mid : Cursor) → Gave (next_value (bracket_of f.kind) true now.unread) true now mid → after ≡ bs ++ f ∷ [] → ResumesShort f true bs after start mid short.Value
+  value_next after mid g grown = resumed_from after mid short.Value (value_resumed f true bs after now mid g grown)
+
   -- the value has no short way
-  pub value_left : (after : List OpenBracket) (mid new : Cursor) → Gave (next_value (bracket_of f.kind) true now.unread) true now mid → PassesShort mid new false → after ≡ bs ++ f ∷ [] → ResumesShort f true bs after start new short.Value
-  value_left after mid new g same grown = subst (λ (s : Cursor). ResumesShort f true bs after start s short.Value) (sym same) (resumed_from after mid short.Value (value_resumed f true bs after now mid g grown))
+  pub value_left : (after : List OpenBracket) (mid new : Cursor) → Gave (next_value (bracket_of f.kind) true now.unread) true now mid → PassesShort mid new false → after ≡ bs ++ f ∷ [] → ResumesShort f true bs after start new short.Begins
+  value_left after mid new g same grown = subst (λ (s : Cursor). ResumesShort f true bs after start s short.Begins) (sym same) (
+    let r = value_next after mid g grown in
+    record { goes = r.goes; same_text = r.same_text; advanced = λ e. let l = r.advanced e in omega (arith, l); no_longer = r.no_longer })
 
   pub value_passed : (mid new : Cursor) → Gave (next_value (bracket_of f.kind) true now.unread) true now mid → PassesShort mid new true → PassesWithin f bs start new
   value_passed mid new g k =

@@ -205,9 +205,13 @@ fn short_rest<I: Input>(
                 comma_due: true,
             },
         }
-        if !short_scalar(scanner) {
+        if matches!(scanner.peek(), Some('[' | '{')) {
             brackets.push(bracket);
             return ShortTurn::Value;
+        }
+        if !short_scalar(scanner) {
+            brackets.push(bracket);
+            return ShortTurn::Begins;
         }
     }
 }

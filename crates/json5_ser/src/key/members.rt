@@ -59,7 +59,7 @@ impl<W: Write + Drop> Serializer<W> {
             return written;
         }
         self.put_short(": ")?;
-        value.serialize(self)
+        Ok(value.put(self)?)
     }
 
     /// The value after a key.
@@ -67,10 +67,7 @@ impl<W: Write + Drop> Serializer<W> {
         ensures { Writes (value_part (out self.old.limit (T.tree value.now) self.old.depth)) self.old result self.new }
     {
         self.put_short(": ")?;
-        let written = value.serialize(self);
-        if written.is_err() {
-            return written;
-        }
-        self.put(",")
+        value.put(self)?;
+        Ok(self.put_short(",")?)
     }
 }

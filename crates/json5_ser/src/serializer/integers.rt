@@ -2,7 +2,7 @@
 
 ghost use Rattle.json5_ser.specs.Out.{piece};
 ghost use Rattle.json5_ser.specs.ShortWrites.{Puts, PutsTree};
-ghost use Rattle.json5_ser.specs.WrittenTrees.{integer};
+ghost use Rattle.json5_ser.specs.WrittenTrees.{integer, natural};
 ghost use Rattle.json5_ser.specs.Writes.{WritesTree};
 
 use crate::refusal::Put;
@@ -20,6 +20,29 @@ impl<W: Write + Drop> Serializer<W> {
         let mut buffer = Buffer::new();
         let digits = buffer.format(value);
         self.put_short(digits)
+    }
+
+    /// Writes the decimal digits of a `u64`.
+    #[inline(always)]
+    pub(crate) fn put_u64(&mut self, value: u64) -> Put
+        ensures { PutsTree (natural value) self.old result self.new }
+    {
+        self.put_integer(value)
+    }
+
+    /// Writes the decimal digits of an `i64`, after a minus where it is negative.
+    #[inline(always)]
+    pub(crate) fn put_i64(&mut self, value: i64) -> Put
+        ensures { PutsTree (integer value) self.old result self.new }
+    {
+        self.put_integer(value)
+    }
+
+    /// Writes the decimal digits of a `u128`.
+    pub(crate) fn put_u128(&mut self, value: u128) -> Put
+        ensures { PutsTree (natural value) self.old result self.new }
+    {
+        self.put_integer(value)
     }
 
     /// Writes the decimal digits of an `i128`, after a minus where it is negative.
@@ -86,7 +109,7 @@ impl<W: Write + Drop> Serializer<W> {
     pub fn serialize_u64(&mut self, value: u64) -> Result<()>
         ensures { WritesTree (⟦<u64 as Serialize>⟧.tree value) self.old result self.new }
     {
-        Ok(self.put_integer(value)?)
+        Ok(self.put_u64(value)?)
     }
 
     /// Writes the decimal digits of a `u128`.
@@ -101,7 +124,7 @@ impl<W: Write + Drop> Serializer<W> {
     pub fn serialize_u128(&mut self, value: u128) -> Result<()>
         ensures { WritesTree (⟦<u128 as Serialize>⟧.tree value) self.old result self.new }
     {
-        Ok(self.put_integer(value)?)
+        Ok(self.put_u128(value)?)
     }
 
     /// Writes the decimal digits of a `i8`, after a minus where it is negative (JSON5 section 6).
@@ -161,7 +184,7 @@ impl<W: Write + Drop> Serializer<W> {
     pub fn serialize_i64(&mut self, value: i64) -> Result<()>
         ensures { WritesTree (⟦<i64 as Serialize>⟧.tree value) self.old result self.new }
     {
-        Ok(self.put_integer(value)?)
+        Ok(self.put_i64(value)?)
     }
 
     /// Writes the decimal digits of a `i128`, after a minus where it is negative.

@@ -1,5 +1,5 @@
 use Rattle.std.proofs.Common.{◌∷◌, [], ◌++◌, ◌∙◌, ap, length, true, arith}
-use Rattle.json5_value.proofs.ShortTurns.{resumed_from, within_left, value_left, value_passed, goes_down, member_resumed, bracket_closed}
+use Rattle.json5_value.proofs.ShortTurns.{resumed_from, within_left, value_next, value_left, value_passed, goes_down, member_resumed, bracket_closed}
 use Rattle.json5_value.proofs.ModelSteps.{ready_next}
 use Rattle.json5_value.proofs.skip.short_rest.Goals as goal
 
@@ -28,11 +28,21 @@ push-requires g c =
     let place = c.requires.place in
     omega (arith, place, ap length c.loop-left.invariant.1)
 
+pub push-requires-then-not-short_scalar : goal.push-requires-then-not-short_scalar
+push-requires-then-not-short_scalar g c =
+    let place = c.requires.place in
+    omega (arith, place, ap length c.loop-left.invariant.1)
+
+pub returns-then-matches : goal.returns-then-matches
+returns-then-matches g c =
+    let l = c.loop-left in
+    value_next c.args.bracket c.args.brackets.now.items c.args.scanner.now l.scanner l.invariant.0 c.push.new.self.items c.short_entry.new.scanner (rw c.in-Value.is at c.short_entry.ensures) (c.push.ensures.items ∙ ap (λ z. z ++ c.args.bracket ∷ []) l.invariant.1)
+
 pub returns-then-not-short_scalar : goal.returns-then-not-short_scalar
 returns-then-not-short_scalar g c =
     let l = c.loop-left in
-    value_left c.args.bracket c.args.brackets.now.items c.args.scanner.now l.scanner l.invariant.0 c.push.new.self.items c.short_entry.new.scanner c.short_scalar.new.scanner (rw c.in-Value.is at c.short_entry.ensures)
-    (rw c.if-not-short_scalar.true at c.short_scalar.ensures) (c.push.ensures.items ∙ ap (λ z. z ++ c.args.bracket ∷ []) l.invariant.1)
+    value_left c.args.bracket c.args.brackets.now.items c.args.scanner.now l.scanner l.invariant.0 c.push-then-not-short_scalar.new.self.items c.short_entry.new.scanner c.short_scalar.new.scanner (rw c.in-Value.is at c.short_entry.ensures)
+    (rw c.if-not-short_scalar.true at c.short_scalar.ensures) (c.push-then-not-short_scalar.ensures.items ∙ ap (λ z. z ++ c.args.bracket ∷ []) l.invariant.1)
 
 pub loop-left-smaller : goal.loop-left-smaller
 loop-left-smaller g c =
