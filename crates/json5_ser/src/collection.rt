@@ -206,7 +206,9 @@ impl<W: Write + Drop> SerializeCollection<'_, W> {
         requires { ExpectsKey self.old }
         ensures { Steps (entry_out (state_of self.old).limit (state_of self.old).depth (named (chars key.now)) (T.tree value.now)) false self.old result self.new }
     {
-        self.serialize_entry(&key, value)
+        self.ser.set_failed(self.failed);
+        let written = self.ser.field(key, value);
+        self.settle(written, Stage::Started)
     }
 
     /// Closes the array or the object, and a variant's object around it. The serializer continues after it. No key may wait for

@@ -9,7 +9,8 @@ use json5_text::ErrorCode;
 use json5_text::error::{Error, Result};
 use std::io::{self, ErrorKind};
 
-/// Why a value wasn't written whole. It is small, so that the frame of a call that writes values holds no `Error`.
+/// Why a value wasn't written whole. It is small, so that the frame of a call that writes values holds no `Error`; `?` makes it the
+/// `Error` that says the same, without a position.
 #[derive(Clone, Copy)]
 pub enum Refused {
     /// A call was refused before.
@@ -22,7 +23,7 @@ pub enum Refused {
     Key,
 }
 
-/// What a call returns that writes a value and makes no `Error`.
+/// What a call returns that writes a piece or a value and makes no `Error`.
 pub type Put = std::result::Result<(), Refused>;
 
 impl From<Refused> for Error {

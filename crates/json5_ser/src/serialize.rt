@@ -34,8 +34,18 @@ pub trait Serialize {
     fn serialize<W: Write + Drop>(&self, ser: &mut Serializer<W>) -> Result<()>
         ensures { WritesTree (tree self.now) ser.old result ser.new };
 
-    /// Does what `serialize` does, and returns why it was refused as a small value. Lists and collections call it. A type has it
-    /// by `serialize`; the impls of this crate write it for speed.
+    /// Does what `serialize` does, and returns why it was refused as one byte, so that no `Error` is moved. Lists, maps and
+    /// collections call it. A type need not write it: the body calls `serialize`.
+    ///
+    /// ```text
+    /// port.put(&mut ser)?;    // writes 8080, as port.serialize(&mut ser)? does
+    /// ```
+    ///
+    /// # Errors
+    ///
+    /// - `Refused::Before` after a call that was refused: nothing is written.
+    /// - `Refused::Key` at a key that can't be written, `Refused::TooDeep` at a bracket past the limit: the text before it is written.
+    /// - `Refused::ByWriter` where the writer failed or took no bytes: a prefix of the text is written.
     fn put<W: Write + Drop>(&self, ser: &mut Serializer<W>) -> Put
         ensures { PutsTree (tree self.now) ser.old result ser.new }
     {

@@ -5,9 +5,12 @@ ghost use Rattle.std.specs.Str.{chars};
 ghost use Rattle.json5_ser.specs.Out.{out, key_part, value_part, entry_out};
 ghost use Rattle.json5_ser.specs.Brackets.{variant_of};
 ghost use Rattle.json5_ser.specs.Commas.{comma_before, member_line};
+ghost use Rattle.json5_ser.specs.ShortWrites.{Puts};
+ghost use Rattle.json5_ser.specs.WrittenTrees.{named};
 ghost use Rattle.json5_ser.specs.Writes.{Writes, at_depth};
 
 use crate::brackets::Brackets;
+use crate::refusal::Put;
 use crate::{MapKey, Serialize, SerializeKey, Serializer};
 use json5_text::error::Result;
 use std::io::Write;
@@ -29,6 +32,22 @@ impl<W: Write + Drop> Serializer<W> {
         if written.is_err() {
             return written;
         }
+        self.value(value)
+    }
+
+    /// The name of a field on a line of its own.
+    fn field_name(&mut self, name: &str) -> Put
+        ensures { Puts (key_part self.old.depth (named (chars name.now))) self.old result self.new }
+    {
+        self.start_line(false)?;
+        self.put_key(name)
+    }
+
+    /// The name of a field, and its value.
+    pub(crate) fn field<T: Serialize>(&mut self, name: &str, value: &T) -> Result<()>
+        ensures { Writes (entry_out self.old.limit self.old.depth (named (chars name.now)) (T.tree value.now)) self.old result self.new }
+    {
+        self.field_name(name)?;
         self.value(value)
     }
 
