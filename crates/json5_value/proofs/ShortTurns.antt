@@ -132,8 +132,8 @@ module _ (f : OpenBracket) (bs : List OpenBracket) (start now : Cursor) (p : Pas
   -- the value has no short way
   pub value_left : (after : List OpenBracket) (mid new : Cursor) → Gave (next_value (bracket_of f.kind) true now.unread) true now mid → PassesShort mid new false → after ≡ bs ++ f ∷ [] → ResumesShort f true bs after start new short.Begins
   value_left after mid new g same grown = subst (λ (s : Cursor). ResumesShort f true bs after start s short.Begins) (sym same) (
-    let r = value_next after mid g grown in
-    record { goes = r.goes; same_text = r.same_text; advanced = λ e. let l = r.advanced e in omega (arith, l); no_longer = r.no_longer })
+      let r = value_next after mid g grown in
+      record { goes = r.goes; same_text = r.same_text; advanced = λ e. let l = r.advanced e in omega (arith, l); no_longer = r.no_longer })
 
   pub value_passed : (mid new : Cursor) → Gave (next_value (bracket_of f.kind) true now.unread) true now mid → PassesShort mid new true → PassesWithin f bs start new
   value_passed mid new g k =

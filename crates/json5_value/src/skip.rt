@@ -232,8 +232,10 @@ fn short_begin<I: Input>(
         return ShortTurn::Begins;
     };
     let Some(kind) = kind_opened(c) else {
-        let passed = short_scalar(scanner);
-        return if passed { ShortTurn::Ended } else { ShortTurn::Begins };
+        if short_scalar(scanner) {
+            return ShortTurn::Ended;
+        }
+        return ShortTurn::Begins;
     };
     if room <= brackets.len() {
         return ShortTurn::Begins;

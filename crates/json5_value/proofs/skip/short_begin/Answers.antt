@@ -16,5 +16,5 @@ returns g c =
     c.in-Some-kind_opened.ensures c.eat.ensures.taken c.eat.ensures.kept).opened
     c.short_first.ensures
 
-pub returns-then-passed : goal.returns-then-passed
-returns-then-passed g c = passed_short c.args.room c.args.brackets.now.items c.args.scanner.now c.short_scalar-passed.new.scanner (rw c.if-passed.true at c.short_scalar-passed.ensures)
+pub returns-then-short_scalar : goal.returns-then-short_scalar
+returns-then-short_scalar g c = passed_short c.args.room c.args.brackets.now.items c.args.scanner.now c.short_scalar.new.scanner (rw c.if-short_scalar.true at c.short_scalar.ensures)
