@@ -48,7 +48,7 @@ impl Serialize for u8 {
     }
 
     fn put<W: Write + Drop>(&self, ser: &mut Serializer<W>) -> Put {
-        ser.put_u64(u64::from(*self))
+        ser.put_unsigned(u128::from(*self))
     }
 }
 
@@ -60,7 +60,7 @@ impl Serialize for u16 {
     }
 
     fn put<W: Write + Drop>(&self, ser: &mut Serializer<W>) -> Put {
-        ser.put_u64(u64::from(*self))
+        ser.put_unsigned(u128::from(*self))
     }
 }
 
@@ -72,7 +72,7 @@ impl Serialize for u32 {
     }
 
     fn put<W: Write + Drop>(&self, ser: &mut Serializer<W>) -> Put {
-        ser.put_u64(u64::from(*self))
+        ser.put_unsigned(u128::from(*self))
     }
 }
 
@@ -84,7 +84,7 @@ impl Serialize for u64 {
     }
 
     fn put<W: Write + Drop>(&self, ser: &mut Serializer<W>) -> Put {
-        ser.put_u64(*self)
+        ser.put_unsigned(u128::from(*self))
     }
 }
 
@@ -96,7 +96,7 @@ impl Serialize for u128 {
     }
 
     fn put<W: Write + Drop>(&self, ser: &mut Serializer<W>) -> Put {
-        ser.put_u128(*self)
+        ser.put_unsigned(*self)
     }
 }
 
@@ -108,7 +108,7 @@ impl Serialize for i8 {
     }
 
     fn put<W: Write + Drop>(&self, ser: &mut Serializer<W>) -> Put {
-        ser.put_i64(i64::from(*self))
+        ser.put_signed(i128::from(*self))
     }
 }
 
@@ -120,7 +120,7 @@ impl Serialize for i16 {
     }
 
     fn put<W: Write + Drop>(&self, ser: &mut Serializer<W>) -> Put {
-        ser.put_i64(i64::from(*self))
+        ser.put_signed(i128::from(*self))
     }
 }
 
@@ -132,7 +132,7 @@ impl Serialize for i32 {
     }
 
     fn put<W: Write + Drop>(&self, ser: &mut Serializer<W>) -> Put {
-        ser.put_i64(i64::from(*self))
+        ser.put_signed(i128::from(*self))
     }
 }
 
@@ -144,7 +144,7 @@ impl Serialize for i64 {
     }
 
     fn put<W: Write + Drop>(&self, ser: &mut Serializer<W>) -> Put {
-        ser.put_i64(*self)
+        ser.put_signed(i128::from(*self))
     }
 }
 
@@ -156,7 +156,7 @@ impl Serialize for i128 {
     }
 
     fn put<W: Write + Drop>(&self, ser: &mut Serializer<W>) -> Put {
-        ser.put_i128(*self)
+        ser.put_signed(*self)
     }
 }
 

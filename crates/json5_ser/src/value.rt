@@ -2,7 +2,7 @@
 
 ghost use Rattle.std.specs.Str.{chars};
 ghost use Rattle.std.specs.Prelude.{string_bytes};
-ghost use Rattle.json5_ser.specs.WrittenTrees.{integer, natural, named, array, object, elements_of, fields_of};
+ghost use Rattle.json5_ser.specs.WrittenTrees.{integer, named, array, object, elements_of, fields_of};
 ghost use Rattle.json5_ser.specs.ValueTrees.{value_tree, key_of_string};
 ghost use Rattle.json5_ser.specs.Commas.{comma_before, element_line, member_line};
 ghost use Rattle.json5_ser.specs.ShortWrites.{Puts, PutsTree};
@@ -103,18 +103,8 @@ fn put_whole_number<W: Write + Drop>(value: Whole, ser: &mut Serializer<W>) -> P
     ensures { PutsTree (integer value) ser.old result ser.new }
 {
     if let Some(positive) = value.as_u128() {
-        return put_natural(positive, ser);
+        return ser.put_unsigned(positive);
     }
     let negative = value.as_i128();
-    ser.put_i128(negative.unwrap())
-}
-
-/// Writes the decimal digits of a number that isn't negative, by the digits of 64 bits where it has no more.
-fn put_natural<W: Write + Drop>(value: u128, ser: &mut Serializer<W>) -> Put
-    ensures { PutsTree (natural value) ser.old result ser.new }
-{
-    match u64::try_from(value) {
-        Ok(short) => ser.put_u64(short),
-        Err(_) => ser.put_u128(value),
-    }
+    ser.put_signed(negative.unwrap())
 }

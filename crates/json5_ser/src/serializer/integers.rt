@@ -22,34 +22,26 @@ impl<W: Write + Drop> Serializer<W> {
         self.put_short(digits)
     }
 
-    /// Writes the decimal digits of a `u64`.
+    /// Writes the decimal digits of a number that isn't negative, by 64 bits where it has no more.
     #[inline(always)]
-    pub(crate) fn put_u64(&mut self, value: u64) -> Put
+    pub(crate) fn put_unsigned(&mut self, value: u128) -> Put
         ensures { PutsTree (natural value) self.old result self.new }
     {
-        self.put_integer(value)
+        match u64::try_from(value) {
+            Ok(short) => self.put_integer(short),
+            Err(_) => self.put_integer(value),
+        }
     }
 
-    /// Writes the decimal digits of an `i64`, after a minus where it is negative.
+    /// Writes the decimal digits of a number, after a minus where it is negative, by 64 bits where it has no more.
     #[inline(always)]
-    pub(crate) fn put_i64(&mut self, value: i64) -> Put
+    pub(crate) fn put_signed(&mut self, value: i128) -> Put
         ensures { PutsTree (integer value) self.old result self.new }
     {
-        self.put_integer(value)
-    }
-
-    /// Writes the decimal digits of a `u128`.
-    pub(crate) fn put_u128(&mut self, value: u128) -> Put
-        ensures { PutsTree (natural value) self.old result self.new }
-    {
-        self.put_integer(value)
-    }
-
-    /// Writes the decimal digits of an `i128`, after a minus where it is negative.
-    pub(crate) fn put_i128(&mut self, value: i128) -> Put
-        ensures { PutsTree (integer value) self.old result self.new }
-    {
-        self.put_integer(value)
+        match i64::try_from(value) {
+            Ok(short) => self.put_integer(short),
+            Err(_) => self.put_integer(value),
+        }
     }
 
     /// Writes the decimal digits of a `u8` (JSON5 section 6).
@@ -64,7 +56,7 @@ impl<W: Write + Drop> Serializer<W> {
     pub fn serialize_u8(&mut self, value: u8) -> Result<()>
         ensures { WritesTree (⟦<u8 as Serialize>⟧.tree value) self.old result self.new }
     {
-        self.serialize_u64(u64::from(value))
+        self.serialize_u128(u128::from(value))
     }
 
     /// Writes the decimal digits of a `u16`.
@@ -79,7 +71,7 @@ impl<W: Write + Drop> Serializer<W> {
     pub fn serialize_u16(&mut self, value: u16) -> Result<()>
         ensures { WritesTree (⟦<u16 as Serialize>⟧.tree value) self.old result self.new }
     {
-        self.serialize_u64(u64::from(value))
+        self.serialize_u128(u128::from(value))
     }
 
     /// Writes the decimal digits of a `u32`.
@@ -94,7 +86,7 @@ impl<W: Write + Drop> Serializer<W> {
     pub fn serialize_u32(&mut self, value: u32) -> Result<()>
         ensures { WritesTree (⟦<u32 as Serialize>⟧.tree value) self.old result self.new }
     {
-        self.serialize_u64(u64::from(value))
+        self.serialize_u128(u128::from(value))
     }
 
     /// Writes the decimal digits of a `u64`.
@@ -109,7 +101,7 @@ impl<W: Write + Drop> Serializer<W> {
     pub fn serialize_u64(&mut self, value: u64) -> Result<()>
         ensures { WritesTree (⟦<u64 as Serialize>⟧.tree value) self.old result self.new }
     {
-        Ok(self.put_u64(value)?)
+        self.serialize_u128(u128::from(value))
     }
 
     /// Writes the decimal digits of a `u128`.
@@ -124,7 +116,7 @@ impl<W: Write + Drop> Serializer<W> {
     pub fn serialize_u128(&mut self, value: u128) -> Result<()>
         ensures { WritesTree (⟦<u128 as Serialize>⟧.tree value) self.old result self.new }
     {
-        Ok(self.put_u128(value)?)
+        Ok(self.put_unsigned(value)?)
     }
 
     /// Writes the decimal digits of a `i8`, after a minus where it is negative (JSON5 section 6).
@@ -139,7 +131,7 @@ impl<W: Write + Drop> Serializer<W> {
     pub fn serialize_i8(&mut self, value: i8) -> Result<()>
         ensures { WritesTree (⟦<i8 as Serialize>⟧.tree value) self.old result self.new }
     {
-        self.serialize_i64(i64::from(value))
+        self.serialize_i128(i128::from(value))
     }
 
     /// Writes the decimal digits of a `i16`, after a minus where it is negative.
@@ -154,7 +146,7 @@ impl<W: Write + Drop> Serializer<W> {
     pub fn serialize_i16(&mut self, value: i16) -> Result<()>
         ensures { WritesTree (⟦<i16 as Serialize>⟧.tree value) self.old result self.new }
     {
-        self.serialize_i64(i64::from(value))
+        self.serialize_i128(i128::from(value))
     }
 
     /// Writes the decimal digits of a `i32`, after a minus where it is negative.
@@ -169,7 +161,7 @@ impl<W: Write + Drop> Serializer<W> {
     pub fn serialize_i32(&mut self, value: i32) -> Result<()>
         ensures { WritesTree (⟦<i32 as Serialize>⟧.tree value) self.old result self.new }
     {
-        self.serialize_i64(i64::from(value))
+        self.serialize_i128(i128::from(value))
     }
 
     /// Writes the decimal digits of a `i64`, after a minus where it is negative.
@@ -184,7 +176,7 @@ impl<W: Write + Drop> Serializer<W> {
     pub fn serialize_i64(&mut self, value: i64) -> Result<()>
         ensures { WritesTree (⟦<i64 as Serialize>⟧.tree value) self.old result self.new }
     {
-        Ok(self.put_i64(value)?)
+        self.serialize_i128(i128::from(value))
     }
 
     /// Writes the decimal digits of a `i128`, after a minus where it is negative.
@@ -199,6 +191,6 @@ impl<W: Write + Drop> Serializer<W> {
     pub fn serialize_i128(&mut self, value: i128) -> Result<()>
         ensures { WritesTree (⟦<i128 as Serialize>⟧.tree value) self.old result self.new }
     {
-        Ok(self.put_i128(value)?)
+        Ok(self.put_signed(value)?)
     }
 }

@@ -1,5 +1,0 @@
-use Rattle.json5_ser.proofs.ShortWritesJoined.{Puts-handed}
-use Rattle.json5_ser.proofs.serializer.Serializer.serialize_u64.Goals as goal
-
-pub returns-in_err-put_u64 : goal.returns-in_err-put_u64
-returns-in_err-put_u64 g c = Puts-handed _ _ _ _ _ c.from_residual.ensures.1 c.in_err-put_u64.ensures
