@@ -2,6 +2,7 @@
 
 ghost use Rattle.std.specs.Prelude.{◌≡◌};
 ghost use Rattle.json5_formatter.specs.Failures.{failure_at};
+ghost use Rattle.json5_formatter.specs.Reports.{status_of};
 
 use json5_text::ErrorCode;
 use json5_text::error::Error;
@@ -29,6 +30,16 @@ impl Failure {
         match error.code() {
             Some(ErrorCode::OutOfMemory) => Failure::NoMemory,
             _ => Failure::Text(error),
+        }
+    }
+
+    /// Returns the status that the program ends with: 1 if the fault is one of the input, else 2.
+    pub fn status(&self) -> u8
+        ensures { result ≡ status_of self.now }
+    {
+        match self {
+            Failure::NotUtf8 | Failure::Text(_) => 1,
+            Failure::NoMemory | Failure::Read | Failure::Write => 2,
         }
     }
 }

@@ -22,12 +22,13 @@ pub fn report<E: Write>(name: &str, failure: &Failure, e: &mut E) -> u8
     ensures line { AppendsFront (E.contents e.old) (E.contents e.new) (report_line name.now failure.now) }
 {
     match failure {
-        Failure::NotUtf8 => say(e, 1, &[name, ": not UTF-8\n"]),
-        Failure::Text(error) => say_fault(e, 1, name, error),
-        Failure::NoMemory => say(e, 2, &[name, ": out of memory\n"]),
-        Failure::Read => say(e, 2, &[name, ": cannot be read\n"]),
-        Failure::Write => say(e, 2, &["output: cannot be written\n"]),
+        Failure::NotUtf8 => say(e, &[name, ": not UTF-8\n"]),
+        Failure::Text(error) => say_fault(e, name, error),
+        Failure::NoMemory => say(e, &[name, ": out of memory\n"]),
+        Failure::Read => say(e, &[name, ": cannot be read\n"]),
+        Failure::Write => say(e, &["output: cannot be written\n"]),
     }
+    failure.status()
 }
 
 /// Writes how the program is called, as one line, and returns the status 2, after a failed write too.
@@ -35,30 +36,24 @@ pub fn usage<E: Write>(e: &mut E) -> u8
     ensures status { result ≡ 2 }
     ensures line { AppendsFront (E.contents e.old) (E.contents e.new) usage_line }
 {
-    say(
-        e,
-        2,
-        &["usage: json5_fmt [check FILE... or print FILE...]\n"],
-    )
+    say(e, &["usage: json5_fmt [check FILE... or print FILE...]\n"]);
+    2
 }
 
-/// Writes the strings, and returns the status, after a failed write too.
-fn say<E: Write>(e: &mut E, status: u8, texts: &[&str]) -> u8
-    ensures status { result ≡ status }
-    ensures line { AppendsFront (E.contents e.old) (E.contents e.new) (joined_texts texts.now) }
+/// Writes the strings. A failed write changes nothing else.
+fn say<E: Write>(e: &mut E, texts: &[&str])
+    ensures { AppendsFront (E.contents e.old) (E.contents e.new) (joined_texts texts.now) }
 {
     let _ = write_texts(e, texts);
-    status
 }
 
-/// Writes what the fault prints, without memory, and returns the status.
-fn say_fault<E: Write>(e: &mut E, status: u8, name: &str, error: &Error) -> u8
-    ensures status { result ≡ status }
-    ensures line { AppendsFront (E.contents e.old) (E.contents e.new) (fault_line name.now error.now) }
+/// Writes what the fault prints, without memory.
+fn say_fault<E: Write>(e: &mut E, name: &str, error: &Error)
+    ensures { AppendsFront (E.contents e.old) (E.contents e.new) (fault_line name.now error.now) }
 {
     let message = error.message();
     let Some(position) = error.position() else {
-        return say(e, status, &[name, ": ", message, "\n"]);
+        return say(e, &[name, ": ", message, "\n"]);
     };
     let mut line = Buffer::new();
     let mut column = Buffer::new();
@@ -66,7 +61,6 @@ fn say_fault<E: Write>(e: &mut E, status: u8, name: &str, error: &Error) -> u8
     let column = column.format(position.column as u128 + 1);
     say(
         e,
-        status,
         &[
             name,
             ": ",

@@ -1,14 +1,12 @@
-use Rattle.std.proofs.Common.{rules}
 use Rattle.json5_formatter.proofs.reports.report.Goals as goal
+use Rattle.json5_formatter.proofs.reports.report.Goals.{in-NotUtf8, in-Text, in-NoMemory, in-Read, in-Write}
 
-pub returns-in-NotUtf8-clause-status : goal.returns-in-NotUtf8-clause-status
-returns-in-NotUtf8-clause-status g c = search rules
-
-pub returns-in-NotUtf8-clause-line : goal.returns-in-NotUtf8-clause-line
-returns-in-NotUtf8-clause-line g c = rw c.in-NotUtf8.is c.say.ensures.line
-
-pub returns-in-NoMemory-clause-line : goal.returns-in-NoMemory-clause-line
-returns-in-NoMemory-clause-line g c = rw c.in-NoMemory.is c.say-in-NoMemory.ensures.line
-
-pub returns-in-Read-clause-line : goal.returns-in-Read-clause-line
-returns-in-Read-clause-line g c = rw c.in-Read.is c.say-in-Read.ensures.line
+pub returns-clause-line : goal.returns-clause-line
+returns-clause-line g c =
+    elim c.match-failure.branch [
+        in-NotUtf8 w ↦ rw (w.in-NotUtf8.is, w.e-is) w.say.ensures
+      | in-Text w ↦ rw (w.in-Text.is, w.e-is) w.say_fault.ensures
+      | in-NoMemory w ↦ rw (w.in-NoMemory.is, w.e-is) w.say-in-NoMemory.ensures
+      | in-Read w ↦ rw (w.in-Read.is, w.e-is) w.say-in-Read.ensures
+      | in-Write w ↦ rw (w.in-Write.is, w.e-is) w.say-in-Write.ensures
+    ]
