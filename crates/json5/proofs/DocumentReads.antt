@@ -12,10 +12,10 @@ use Rattle.json5_grammar.proofs.BlanksSound.{blank_refused}
 use Rattle.json5_grammar.proofs.Refusals.{Refuses, one_refusal}
 use Rattle.json5_grammar.proofs.OneFault.{blames_text, text_refuses, no_blame}
 use Rattle.json5_de.specs.Faults.{FaultRelation}
-use Rattle.json5_text.specs.declared.error.Error.{Error}
-use Rattle.json5_text.specs.declared.value.Value.{Value}
+use Rattle.json5_types.specs.declared.error.Error.{Error}
+use Rattle.json5_types.specs.declared.value.Value.{Value}
 use Rattle.json5_text.specs.Cursor.{Refused, IsOutOfMemory}
-use Rattle.json5_text.specs.ValueMeanings.{value_of}
+use Rattle.json5_types.specs.ValueMeanings.{value_of}
 use Rattle.json5_de.specs.AnyTree.{RefusesTree, ReadingRefuses, RefusedInReading}
 use Rattle.json5_de.specs.Convert.{datum_of, every_datum}
 use Rattle.json5_de.specs.Faults.{AfterBlanks, in_blanks, after_gap, Trailing, trailing, RefusedBy}

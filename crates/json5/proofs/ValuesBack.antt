@@ -1,7 +1,7 @@
 -- What is written of a value of any kind reads back as the same.
 use Rattle.std.proofs.Common.{◌≡◌, refl, ap, Some}
-use Rattle.json5_text.specs.ValueMeanings as datum
-use Rattle.json5_text.specs.ValueMeanings.{Datum, Items, no_item, item, Fields}
+use Rattle.json5_types.specs.ValueMeanings as datum
+use Rattle.json5_types.specs.ValueMeanings.{Datum, Items, no_item, item, Fields}
 use Rattle.json5_de.specs.Convert.{datum_of, items_of, fields_of, every_datum}
 use Rattle.json5_ser.specs.EscapeFreeMarks.{marks, element_marks, field_marks}
 use Rattle.json5_ser.specs.ValueTrees.{datum_tree, items_tree, fields_tree}

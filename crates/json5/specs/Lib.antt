@@ -11,13 +11,13 @@ pub use Rattle.json5_grammar.specs.Language.Characters
 pub use Rattle.json5_grammar.specs.Faults.Positions
 pub use Rattle.json5_grammar.specs.declared.position.Position
 pub use Rattle.json5_grammar.specs.declared.error_code.ErrorCode
-pub use Rattle.json5_text.specs.Cows
-pub use Rattle.json5_text.specs.ValueMeanings
-pub use Rattle.json5_text.specs.ValueEquality
+pub use Rattle.json5_types.specs.Cows
+pub use Rattle.json5_types.specs.ValueMeanings
+pub use Rattle.json5_types.specs.ValueEquality
 pub use Rattle.json5_text.specs.Cursor
-pub use Rattle.json5_text.specs.Errors
-pub use Rattle.json5_text.specs.declared.error.Error
-pub use Rattle.json5_text.specs.declared.value.Value
+pub use Rattle.json5_types.specs.Errors
+pub use Rattle.json5_types.specs.declared.error.Error
+pub use Rattle.json5_types.specs.declared.value.Value
 -- Formatting.
 pub use Rattle.json5_format.specs.Formatted
 -- Reading.

@@ -6,7 +6,7 @@ ghost use Rattle.std.specs.List.{All};
 ghost use Rattle.std.specs.Str.{chars, encode_utf8_all};
 ghost use Rattle.std.specs.declared.alloc.Global as heap;
 ghost use Rattle.json5_grammar.specs.Language.Numbers as numbers;
-ghost use Rattle.json5_text.specs.ValueMeanings.{Datum};
+ghost use Rattle.json5_types.specs.ValueMeanings.{Datum};
 ghost use Rattle.json5_grammar.specs.Language.Numbers.{InWhole};
 ghost use Rattle.json5_grammar.specs.Written.NumberText.{Normal};
 ghost use Rattle.json5_de.specs.KeyKinds.{document_of};
@@ -21,9 +21,9 @@ ghost use Rattle.json5.specs.ReadsBack.{ReadsBack, KeyReadsBack, MembersReadBack
 
 use json5_de::{Deserialize, DeserializeKey};
 use json5_ser::{Serialize, SerializeKey};
-use json5_text::decimal::Decimal;
 use json5_text::input::Input;
-use json5_text::value::Value;
+use json5_types::decimal::Decimal;
+use json5_types::value::Value;
 use std::hash::Hash;
 
 /// Null, booleans, numbers in range and strings read back. As a slice a string reads back exactly when it is written without a

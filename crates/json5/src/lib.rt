@@ -32,12 +32,12 @@ pub use json5_ser::{
     Serialize, SerializeCollection, SerializeKey, Serializer, to_string, to_string_within,
     to_writer, to_writer_within,
 };
-pub use json5_text::byte_buf::ByteBuf;
 pub use json5_text::char;
-pub use json5_text::cow_str::CowStr;
-pub use json5_text::decimal::Decimal;
-pub use json5_text::error::{Error, Result};
 pub use json5_text::input::{Borrows, Input};
-pub use json5_text::nesting::Limit;
-pub use json5_text::value::Value;
-pub use json5_text::whole::Whole;
+pub use json5_types::byte_buf::ByteBuf;
+pub use json5_types::cow_str::CowStr;
+pub use json5_types::decimal::Decimal;
+pub use json5_types::error::{Error, Result};
+pub use json5_types::nesting::Limit;
+pub use json5_types::value::Value;
+pub use json5_types::whole::Whole;

@@ -7,8 +7,8 @@ use Rattle.json5_grammar.specs.declared.position.Position.{Position}
 use Rattle.json5_grammar.specs.Model.Collections.{IsElement}
 use Rattle.json5_grammar.specs.Language.Trees.{Tree}
 use Rattle.json5_grammar.proofs.ArraysRead.{comma_solid}
-use Rattle.json5_text.specs.declared.error.Error.{Error}
-use Rattle.json5_text.specs.Errors.{code, kind_of, error_position, or_position}
+use Rattle.json5_types.specs.declared.error.Error.{Error}
+use Rattle.json5_types.specs.Errors.{code, kind_of, error_position, or_position}
 use Rattle.json5_de.specs.State.{State, OnlyRead}
 use Rattle.json5_de.specs.Faults.{AtEnd, AtOther, IsPositionless, IsAfter}
 use Rattle.json5_de.specs.Arrays.{AccessState, bare, Opened, TookElement, AtClose, GivesElement, PositionedAtBracket, IsAtBracket, is_comma_or_closing}

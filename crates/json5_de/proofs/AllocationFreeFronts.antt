@@ -9,7 +9,7 @@ use Rattle.json5_grammar.proofs.BlanksSound.{one_gap}
 use Rattle.json5_grammar.proofs.NumberFaultsRefused.{one_number}
 use Rattle.json5_grammar.proofs.StringsRead.{one_string}
 use Rattle.json5_grammar.proofs.ValueHeads.{val_head, value_solid}
-use Rattle.json5_text.specs.NumberMeanings.{keeps_digits}
+use Rattle.json5_types.specs.NumberMeanings.{keeps_digits}
 use Rattle.json5_de.specs.Convert.{as_number, as_whole, as_text, if_escape_free}
 use Rattle.json5_de.specs.State.{State}
 use Rattle.json5_de.specs.ReaderSteps.{PassedGap, TookText}

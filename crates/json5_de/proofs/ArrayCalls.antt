@@ -5,7 +5,7 @@ use Rattle.json5_value.specs.Offsets.{StartsAfter, PositionedAt}
 use Rattle.std.specs.Prelude.{◌||◌, is_some, IfSome}
 use Rattle.json5_grammar.specs.Language.Trees.{Tree}
 use Rattle.json5_grammar.proofs.ArraysPartlyRead.{element_shorter}
-use Rattle.json5_text.specs.declared.error.Error.{Error}
+use Rattle.json5_types.specs.declared.error.Error.{Error}
 use Rattle.json5_de.specs.State.{State, SameText}
 use Rattle.json5_de.specs.DeserializeLaw.{Steady}
 use Rattle.json5_de.specs.Arrays.{AccessState, bare, GivesElement, CompletesElement, CompletesClose, PositionedAtBracket}

@@ -7,7 +7,7 @@ use Rattle.json5_grammar.specs.Language.Documents.{max_depth}
 use Rattle.json5_grammar.specs.Model.Collections.{Opens, IsElement, IsClose, Passed, Tail, snoc}
 use Rattle.json5_grammar.proofs.ArraysRead.{array_front}
 use Rattle.json5_grammar.proofs.ArraysPartlyRead.{one_opening, one_close, bracket_closes, element_left, element_or_close, one_element, passed_more, shallow_snoc, array_closed, found_closes, close_found}
-use Rattle.json5_text.specs.declared.error.Error.{Error}
+use Rattle.json5_types.specs.declared.error.Error.{Error}
 use Rattle.json5_de.specs.State.{State, OnlyRead, GivesUp}
 use Rattle.json5_de.proofs.ReadSteps.{input_of}
 use Rattle.json5_de.specs.DeserializeLaw.{TookValue}

@@ -15,10 +15,10 @@ use Rattle.json5_grammar.specs.Model.Collections.{IsSign, IsEnd, IsElement}
 use Rattle.json5_grammar.proofs.ArraysRead.{comma_solid, bracket_solid, opening_solid, sign_here, sign_found, reads_found}
 use Rattle.json5_grammar.proofs.ArraysPartlyRead.{after_same_comma, no_comma_end}
 use Rattle.json5_grammar.proofs.EntriesAfterGaps.{reads_here, no_sign, no_sign_in_blanks}
-use Rattle.json5_text.specs.declared.error.Error.{Error}
+use Rattle.json5_types.specs.declared.error.Error.{Error}
 use Rattle.json5_text.specs.Cursor.{Refused}
 use Rattle.json5_text.specs.TokenFaults.{FaultyBlanks}
-use Rattle.json5_text.specs.Errors.{code, kind_of, error_position}
+use Rattle.json5_types.specs.Errors.{code, kind_of, error_position}
 use Rattle.json5_grammar.specs.declared.position.Position.{Position}
 use Rattle.json5_grammar.specs.Faults.Positions.{position_after}
 use Rattle.std.proofs.lemmas.List.{append-nil}

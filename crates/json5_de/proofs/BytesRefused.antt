@@ -6,10 +6,10 @@ use Rattle.hex.specs.Hex.{decode_of}
 use Rattle.hex.specs.declared.error.FromHexError.{FromHexError}
 use Rattle.hex.specs.declared.error.FromHexError.TheVariants as hex
 use Rattle.json5_grammar.specs.declared.error_code.ErrorCode.TheVariants.{InvalidBytes}
-use Rattle.json5_text.specs.ByteBufs.{bytes_of}
-use Rattle.json5_text.specs.declared.byte_buf.ByteBuf.{ByteBuf}
-use Rattle.json5_text.specs.declared.error.Error.{Error}
-use Rattle.json5_text.specs.Errors.{LacksMemory}
+use Rattle.json5_types.specs.ByteBufs.{bytes_of}
+use Rattle.json5_types.specs.declared.byte_buf.ByteBuf.{ByteBuf}
+use Rattle.json5_types.specs.declared.error.Error.{Error}
+use Rattle.json5_types.specs.Errors.{LacksMemory}
 use Rattle.json5_de.specs.declared.found_text.FoundText.{FoundText}
 use Rattle.json5_de.specs.State.{State, GivesUp}
 use Rattle.json5_de.specs.ReaderSteps.{IsMismatchOf, IsUndecoded}

@@ -11,7 +11,7 @@ use Rattle.json5_grammar.specs.Language.Trees.{Tree, Trees, array, no_more, more
 use Rattle.json5_grammar.specs.Language.Values.{Reads}
 use Rattle.json5_grammar.specs.Model.Collections.{contents, array_of, snoc}
 use Rattle.json5_grammar.proofs.ElementsConverted.{both_parts, contents_snoc}
-use Rattle.json5_text.specs.declared.error.Error.{Error}
+use Rattle.json5_types.specs.declared.error.Error.{Error}
 use Rattle.json5_text.specs.Cursor.{IsOutOfMemory}
 use Rattle.json5_de.specs.State.{State}
 use Rattle.json5_de.specs.DeserializeLaw.{TookValue, Completes}

@@ -10,7 +10,7 @@ use Rattle.json5_grammar.specs.Model.Collections.{IsSign, IsEnd}
 use Rattle.json5_grammar.proofs.BlanksRead.{begins_solid}
 use Rattle.json5_grammar.proofs.ArraysRead.{comma_solid}
 use Rattle.json5_grammar.proofs.EntriesAfterGaps.{no_sign}
-use Rattle.json5_text.specs.declared.error.Error.{Error}
+use Rattle.json5_types.specs.declared.error.Error.{Error}
 use Rattle.json5_de.specs.State.{State}
 use Rattle.json5_value.specs.declared.brackets.Brackets.{Brackets}
 use Rattle.json5_de.specs.BracketSigns.{AreSigns}

@@ -11,7 +11,7 @@ use Rattle.json5_grammar.specs.Language.Values.{Val, Stops, Reads}
 use Rattle.json5_grammar.proofs.BlanksRead.{begins_solid}
 use Rattle.json5_grammar.proofs.BlanksSound.{one_gap, no_blank_fault, gap_last, gap_before}
 use Rattle.json5_grammar.proofs.ValueHeads.{val_head, value_solid}
-use Rattle.json5_text.specs.declared.error.Error.{Error}
+use Rattle.json5_types.specs.declared.error.Error.{Error}
 use Rattle.json5_text.specs.Cursor.{Says, IsPositioned}
 use Rattle.json5_text.specs.TokenFaults.{FaultyBlanks}
 use Rattle.json5_de.specs.State.{State, cursor_of}

@@ -19,8 +19,8 @@ use Rattle.json5_grammar.proofs.CommonLemmas.{none_some, true_false}
 use Rattle.json5_grammar.proofs.BlanksSound.{gap_blanks, no_blank_fault, one_gap}
 use Rattle.json5_grammar.proofs.ObjectsRead.{one_reads_key}
 use Rattle.json5_grammar.proofs.ValueHeads.{key_head, key_solid}
-use Rattle.json5_text.specs.declared.error.Error.{Error}
-use Rattle.json5_text.specs.Errors.{LacksMemory, code, custom, kind_of, error_position}
+use Rattle.json5_types.specs.declared.error.Error.{Error}
+use Rattle.json5_types.specs.Errors.{LacksMemory, code, custom, kind_of, error_position}
 use Rattle.json5_text.specs.Cursor.{Refused, Says, IsOutOfMemory}
 use Rattle.json5_text.specs.TokenFaults.{FaultyBlanks, FaultyKey}
 use Rattle.json5_de.specs.declared.found_text.FoundText.{FoundText}

@@ -5,7 +5,7 @@ use Rattle.json5_grammar.specs.Language.Trees.{Tree, Trees, no_more, more}
 use Rattle.json5_grammar.specs.Model.Collections.{snoc, contents, IsClose}
 use Rattle.json5_grammar.proofs.ElementsConverted.{both_parts}
 use Rattle.json5_grammar.proofs.ArraysPartlyRead.{bracket_closes}
-use Rattle.json5_text.specs.declared.error.Error.{Error}
+use Rattle.json5_types.specs.declared.error.Error.{Error}
 use Rattle.json5_de.specs.State.{State}
 use Rattle.json5_value.specs.Brackets.{square}
 use Rattle.json5_de.specs.Arrays.{AccessState, OpensArray, ClosesArray, AtClose, ElementsRead, ReadsMore}

@@ -13,7 +13,7 @@ use Rattle.json5_grammar.proofs.CommonLemmas.{true_false}
 use Rattle.json5_grammar.proofs.ElementsConverted.{both_parts}
 use Rattle.json5_grammar.proofs.ObjectsRead.{brace_closes}
 use Rattle.json5_grammar.proofs.MembersConverted.{pair_contents_snoc, pair_contents_at, object_only}
-use Rattle.json5_text.specs.declared.error.Error.{Error}
+use Rattle.json5_types.specs.declared.error.Error.{Error}
 use Rattle.json5_text.specs.Cursor.{IsOutOfMemory}
 use Rattle.json5_de.specs.State.{State}
 use Rattle.json5_value.specs.Brackets.{curly}

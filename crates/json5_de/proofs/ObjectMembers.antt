@@ -6,7 +6,7 @@ use Rattle.json5_grammar.specs.Language.Values.{Reads}
 use Rattle.json5_grammar.specs.Language.Documents.{max_depth}
 use Rattle.json5_grammar.specs.Model.Collections.{OpensObject, IsKey, IsKeyValue, IsBrace, MembersPassed, MembersTail, snoc_member}
 use Rattle.json5_grammar.proofs.ObjectsRead.{brace_solid, opening_brace_solid, one_opening_brace, one_brace, one_key, one_key_value, key_or_brace, brace_closes, found_brace, brace_found, pairs_more, object_front, object_closed, shallow_snoc_pair}
-use Rattle.json5_text.specs.declared.error.Error.{Error}
+use Rattle.json5_types.specs.declared.error.Error.{Error}
 use Rattle.json5_de.specs.State.{State, GivesUp}
 use Rattle.json5_de.specs.DeserializeLaw.{TookValue}
 use Rattle.json5_de.specs.Keys.{KeyConversion}

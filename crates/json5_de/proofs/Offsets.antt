@@ -4,7 +4,7 @@ use Rattle.std.specs.Str.{all_scalars, encode_utf8_all}
 use Rattle.json5_text.specs.Cursor.{Cursor, IsOffset, offset_of}
 use Rattle.json5_de.specs.State.{State}
 use Rattle.json5_value.specs.Offsets.{PositionedAt}
-use Rattle.json5_text.specs.declared.error.Error.{Error}
+use Rattle.json5_types.specs.declared.error.Error.{Error}
 use Rattle.json5_de.specs.ReaderSteps.{IsCount}
 use Rattle.json5_value.proofs.ModelSteps.{counted_before}
 

@@ -14,8 +14,8 @@ use Rattle.json5_grammar.proofs.CharacterClasses.{number_others, quote_others}
 use Rattle.json5_grammar.proofs.ValueHeads.{val_head, number_head}
 use Rattle.json5_grammar.proofs.ArraysRead.{phrase_found, reads_found}
 use Rattle.json5_grammar.proofs.EntriesAfterGaps.{reads_here, no_reads_in_blanks}
-use Rattle.json5_text.specs.declared.error.Error.{Error}
-use Rattle.json5_text.specs.Errors.{code, kind_of, error_position}
+use Rattle.json5_types.specs.declared.error.Error.{Error}
+use Rattle.json5_types.specs.Errors.{code, kind_of, error_position}
 use Rattle.json5_text.specs.Cursor.{Refused}
 use Rattle.json5_text.specs.TokenFaults.{FaultyBlanks}
 use Rattle.json5_de.specs.State.{State, SameText, GivesUp, cursor_of}

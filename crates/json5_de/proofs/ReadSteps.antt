@@ -11,10 +11,10 @@ use Rattle.std.specs.Option.{option_eq}
 use Rattle.json5_grammar.specs.declared.error_code.ErrorCode.TheVariants as codes_of
 use Rattle.json5_grammar.proofs.BlanksSound.{gap_blanks}
 use Rattle.json5_grammar.proofs.ValueHeads.{val_head}
-use Rattle.json5_text.specs.declared.error.Error.{Error}
-use Rattle.json5_text.specs.Errors.{error_position}
+use Rattle.json5_types.specs.declared.error.Error.{Error}
+use Rattle.json5_types.specs.Errors.{error_position}
 use Rattle.json5_text.specs.Cursor.{IsPositioned, Refused}
-use Rattle.json5_text.specs.Errors.{LacksMemory}
+use Rattle.json5_types.specs.Errors.{LacksMemory}
 use Rattle.json5_text.specs.TokenFaults.{FaultyBlanks, FaultyWord}
 use Rattle.json5_de.specs.State.{State, cursor_of}
 use Rattle.json5_de.specs.DeserializeLaw.{TookValue}

@@ -7,9 +7,9 @@ use Rattle.json5_grammar.specs.Faults.Positions.{position_after}
 use Rattle.json5_grammar.specs.Language.Trees.{Tree}
 use Rattle.json5_grammar.proofs.ArraysRead.{phrase_found}
 use Rattle.json5_grammar.proofs.OneTree.{one_phrase}
-use Rattle.json5_text.specs.declared.error.Error.{Error}
+use Rattle.json5_types.specs.declared.error.Error.{Error}
 use Rattle.json5_text.specs.Cursor.{IsPositionOf}
-use Rattle.json5_text.specs.Errors.{IsCustomAt}
+use Rattle.json5_types.specs.Errors.{IsCustomAt}
 use Rattle.json5_de.specs.State.{State}
 use Rattle.json5_de.specs.Faults.{RefusedBy}
 use Rattle.json5_de.specs.DeserializeLaw.{Gives, Completes, TookValue}

@@ -1,6 +1,6 @@
 -- An element that has to be there.
 use Rattle.std.proofs.Common.{◌≡◌, ◌∙◌, Option, None, List, ℕ, Ok, Err}
-use Rattle.json5_text.specs.declared.error.Error.{Error}
+use Rattle.json5_types.specs.declared.error.Error.{Error}
 use Rattle.json5_de.specs.State.{SameText}
 use Rattle.json5_de.specs.Arrays.{AccessState, IsAtBracket}
 use Rattle.json5_grammar.specs.Language.Trees.{Tree, Trees, no_more, more}

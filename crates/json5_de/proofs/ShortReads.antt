@@ -31,7 +31,7 @@ use Rattle.json5_de.proofs.ReadSteps.{value_gap, input_of}
 use Rattle.json5_de.proofs.FoundKeys.{key_ok}
 use Rattle.json5_grammar.proofs.CommonLemmas.{true_false}
 use Rattle.json5_value.proofs.NoFailedCode.{memory_other}
-use Rattle.json5_text.specs.declared.error.Error.{Error}
+use Rattle.json5_types.specs.declared.error.Error.{Error}
 
 -- a reader whose scanner is there
 abbrev pub reader_at : Cursor → ℕ → Bool → State

@@ -6,8 +6,8 @@ use Rattle.json5_grammar.specs.Model.Collections.{IsBrace}
 use Rattle.json5_grammar.specs.Language.Trees.{Tree}
 use Rattle.json5_grammar.proofs.CommonLemmas.{true_false}
 use Rattle.json5_grammar.proofs.ObjectsRead.{brace_closes}
-use Rattle.json5_text.specs.declared.error.Error.{Error}
-use Rattle.json5_text.specs.Errors.{code, kind_of}
+use Rattle.json5_types.specs.declared.error.Error.{Error}
+use Rattle.json5_types.specs.Errors.{code, kind_of}
 use Rattle.json5_de.specs.State.{State, SameText}
 use Rattle.json5_de.specs.ConvertLists.{if_some}
 use Rattle.json5_de.specs.Faults.{RefusedBy}

@@ -10,7 +10,7 @@ use Rattle.json5_grammar.specs.Language.Trees.{Tree, Members, object, no_member,
 use Rattle.json5_grammar.specs.Language.Values.{Reads}
 use Rattle.json5_grammar.specs.Model.Collections.{joint, snoc_member, object_of}
 use Rattle.json5_grammar.proofs.MembersConverted.{object_only}
-use Rattle.json5_text.specs.declared.error.Error.{Error}
+use Rattle.json5_types.specs.declared.error.Error.{Error}
 use Rattle.json5_text.specs.Cursor.{IsOutOfMemory}
 use Rattle.json5_de.specs.State.{State}
 use Rattle.json5_de.specs.ConvertLists.{if_some}

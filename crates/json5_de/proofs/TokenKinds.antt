@@ -3,10 +3,10 @@ use Rattle.std.proofs.Common.{◌≡◌, ◌≢◌, ℕ, ℤ, Bool, false, List,
 use Rattle.std.specs.Prelude.{true, Result, Ok, Err, IsOk, IfOk, IfErr, OnErr, IsErrAnd, if◌then◌else◌}
 use Rattle.json5_grammar.specs.declared.error_code.ErrorCode.{ErrorCode}
 use Rattle.json5_grammar.specs.declared.error_code.ErrorCode.TheVariants as codes
-use Rattle.json5_text.specs.declared.error.Error.{Error}
-use Rattle.json5_text.specs.Errors.{code, kind_of}
+use Rattle.json5_types.specs.declared.error.Error.{Error}
+use Rattle.json5_types.specs.Errors.{code, kind_of}
 use Rattle.json5_text.specs.Cursor.{Cursor}
-use Rattle.json5_text.specs.Errors.{LacksMemory}
+use Rattle.json5_types.specs.Errors.{LacksMemory}
 use Rattle.json5_grammar.specs.Language.Values.{null_text, true_text, false_text, Stops, is_null, is_number}
 use Rattle.json5_de.specs.State.{State, GivesUp}
 use Rattle.json5_text.specs.Cursor.{Refused}
@@ -29,7 +29,7 @@ use Rattle.json5_de.proofs.ReadSteps.{input_of, refused_blanks, refused_token, t
 use Rattle.json5_de.proofs.Mismatches.{StartsAt, refused_number, refused_text}
 use Rattle.json5_de.proofs.AllocationFreeFronts.{whole_there, no_other_number, escape_free_there, no_other_text}
 use Rattle.json5_grammar.specs.Language.Characters.{NotBegun}
-use Rattle.json5_text.specs.NumberMeanings.{keeps_digits}
+use Rattle.json5_types.specs.NumberMeanings.{keeps_digits}
 use Rattle.std.proofs.lemmas.Bool.{false≢true}
 use Rattle.json5_de.proofs.NoFailedCode.{after_lacks, number_lacks, text_lacks}
 use Rattle.json5_value.proofs.NoFailedCode.{Lacks, in_blanks_other, word_lacks, other_says, memory_other}

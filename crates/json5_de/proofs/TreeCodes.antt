@@ -13,7 +13,7 @@ use Rattle.json5_grammar.specs.Language.Values.{Val, Stops}
 use Rattle.json5_grammar.proofs.ValueHeads.{val_head}
 use Rattle.json5_grammar.proofs.ValuesRead.{read_complete}
 use Rattle.json5_grammar.proofs.ValueSteps.{read_missing, read_nothing}
-use Rattle.json5_text.specs.declared.error.Error.{Error}
+use Rattle.json5_types.specs.declared.error.Error.{Error}
 use Rattle.json5_de.proofs.TreeFaults.{as_reading}
 use Rattle.json5_text.specs.Cursor.{IsOutOfMemory}
 use Rattle.json5_de.specs.AnyTree.{ReadingRefuses, RefusedInReading, ReadsTree, TellsTreesApart}

@@ -13,7 +13,7 @@ use Rattle.json5_grammar.proofs.Refusals.{Refuses, refuses_after, same_place}
 use Rattle.json5_grammar.proofs.OneFault.{blames_value, value_refuses}
 use Rattle.json5_grammar.proofs.OneTree.{phrase_reader}
 use Rattle.json5_grammar.proofs.ValuesSound.{read_place}
-use Rattle.json5_text.specs.declared.error.Error.{Error}
+use Rattle.json5_types.specs.declared.error.Error.{Error}
 use Rattle.json5_de.specs.AnyTree.{RefusesTree, ReadingRefuses, RefusedInReading}
 use Rattle.json5_de.specs.Faults.{AfterBlanks, in_blanks, after_gap}
 use Rattle.json5_de.specs.State.{State}

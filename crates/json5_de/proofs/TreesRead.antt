@@ -16,12 +16,12 @@ use Rattle.json5_grammar.proofs.FoundPlaces.{IsIn}
 use Rattle.json5_grammar.proofs.ArraysRead.{phrase_found}
 use Rattle.json5_grammar.proofs.ValuesRead.{read_complete}
 use Rattle.json5_grammar.proofs.ValuesSound.{read_sound, read_place}
-use Rattle.json5_text.specs.declared.error.Error.{Error}
+use Rattle.json5_types.specs.declared.error.Error.{Error}
 use Rattle.json5_text.specs.Cursor.{Refused, Says, IsOutOfMemory}
 use Rattle.json5_text.specs.TokenFaults.{FaultyBlanks}
 use Rattle.json5_de.proofs.TreeFaults.{as_fault}
-use Rattle.json5_text.specs.declared.value.Value.{Value}
-use Rattle.json5_text.specs.ValueMeanings.{value_of}
+use Rattle.json5_types.specs.declared.value.Value.{Value}
+use Rattle.json5_types.specs.ValueMeanings.{value_of}
 use Rattle.json5_value.specs.OwnedReads.{ReadsDatum, BlamesOrMemory, as_datum, datum_at}
 use Rattle.json5_value.specs.SkipSteps.{SkipsValue}
 use Rattle.json5_value.specs.ModelSteps.{HasPositionAt, RefusesRead, value_at}

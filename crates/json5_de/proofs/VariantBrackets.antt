@@ -4,7 +4,7 @@ use Rattle.json5_grammar.specs.Language.Trees.{array, object, no_member}
 use Rattle.json5_grammar.specs.Model.Collections.{IsBrace}
 use Rattle.json5_grammar.proofs.CommonLemmas.{true_false}
 use Rattle.json5_grammar.proofs.ArraysPartlyRead.{one_end}
-use Rattle.json5_text.specs.declared.error.Error.{Error}
+use Rattle.json5_types.specs.declared.error.Error.{Error}
 use Rattle.json5_value.specs.Offsets.{StartsAfter, PositionedAt}
 use Rattle.json5_de.specs.State.{State, GivesUp}
 use Rattle.json5_de.specs.ReaderSteps.{IsMismatch}

@@ -6,7 +6,7 @@ use Rattle.json5_grammar.specs.Language.Values.{Reads}
 use Rattle.json5_grammar.specs.Model.Collections.{IsBrace}
 use Rattle.json5_grammar.proofs.CommonLemmas.{true_false}
 use Rattle.json5_grammar.proofs.OneTree.{one_phrase}
-use Rattle.json5_text.specs.declared.error.Error.{Error}
+use Rattle.json5_types.specs.declared.error.Error.{Error}
 use Rattle.json5_de.specs.State.{State, SameText, GivesUp}
 use Rattle.json5_de.specs.DeserializeLaw.{Gives, Completes, CompletesFree, Unprompted}
 use Rattle.json5_de.specs.ReaderSteps.{IsMismatch}

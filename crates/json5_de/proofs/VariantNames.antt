@@ -20,7 +20,7 @@ use Rattle.json5_grammar.proofs.EntriesAfterGaps.{reads_here}
 use Rattle.json5_grammar.proofs.ArraysPartlyRead.{same_sign}
 use Rattle.json5_grammar.proofs.ObjectsRead.{opening_brace_solid, colon_solid, one_opening_brace, one_key, one_reads_key, object_front}
 use Rattle.json5_grammar.proofs.OneTree.{one_phrase}
-use Rattle.json5_text.specs.declared.error.Error.{Error}
+use Rattle.json5_types.specs.declared.error.Error.{Error}
 use Rattle.json5_text.specs.Cursor.{Refused, IsOutOfMemory}
 use Rattle.json5_value.specs.Offsets.{StartsAfter, PositionedAt}
 use Rattle.json5_text.specs.TokenFaults.{FaultyBlanks}

@@ -1,7 +1,7 @@
 -- A whole input is a document.
 use Rattle.std.proofs.Common.{◌≡◌, ℕ, ◌+◌, ◌≤◌, false, List, ap, sym, ◌∙◌, subst, arith, ◌⊎◌, inl, inr, Option, Some}
 use Rattle.std.specs.Prelude.{Err}
-use Rattle.json5_text.specs.declared.error.Error.{Error}
+use Rattle.json5_types.specs.declared.error.Error.{Error}
 use Rattle.json5_text.specs.Cursor.{Cursor, Refused, IsOutOfMemory}
 use Rattle.json5_grammar.specs.Language.Blanks.{LastBlanks}
 use Rattle.json5_grammar.specs.Language.Trees.{Tree, depth}

@@ -8,8 +8,8 @@ use Rattle.json5_grammar.specs.Language.Blanks.{Gap, Solid}
 use Rattle.json5_grammar.specs.Model.Collections.{IsSign, IsEnd}
 use Rattle.json5_text.specs.Cursor.{Refused}
 use Rattle.json5_text.specs.TokenFaults.{FaultyBlanks}
-use Rattle.json5_text.specs.declared.error.Error.{Error}
-use Rattle.json5_text.specs.Errors.{code, kind_of}
+use Rattle.json5_types.specs.declared.error.Error.{Error}
+use Rattle.json5_types.specs.Errors.{code, kind_of}
 use Rattle.json5_de.specs.State.{State, OnlyRead, SameText, cursor_of, FailsIfErr}
 use Rattle.json5_value.specs.declared.brackets.Brackets.{Brackets}
 use Rattle.json5_value.specs.Brackets.{square}

@@ -7,7 +7,7 @@ use Rattle.json5_grammar.specs.Model.Reading.{Place, bad, IsAt}
 use Rattle.json5_grammar.specs.Model.ReadValues.{read}
 use Rattle.json5_grammar.specs.Faults.Refusals.{BlamesValue}
 use Rattle.json5_grammar.specs.Language.Trees.{Tree}
-use Rattle.json5_text.specs.declared.error.Error.{Error}
+use Rattle.json5_types.specs.declared.error.Error.{Error}
 use Rattle.json5_text.specs.Cursor.{Refused, IsOutOfMemory}
 use Rattle.json5_de.specs.State.{State, cursor_of}
 use Rattle.json5_de.specs.DeserializeLaw.{ReadsValue}

@@ -11,8 +11,8 @@ use Rattle.json5_grammar.specs.Language.Trees.{Tree, Trees, array, more, no_more
 use Rattle.json5_grammar.specs.Language.Documents.{max_depth}
 use Rattle.json5_grammar.specs.Language.Values.{Reads}
 use Rattle.json5_grammar.specs.Model.Collections.{IsSign, IsEnd, Opens, IsElement, IsAtClose, Passed, Tail, snoc}
-use Rattle.json5_text.specs.declared.error.Error.{Error}
-use Rattle.json5_text.specs.Errors.{code, kind_of, error_position}
+use Rattle.json5_types.specs.declared.error.Error.{Error}
+use Rattle.json5_types.specs.Errors.{code, kind_of, error_position}
 use Rattle.json5_de.specs.State.{State, OnlyRead, SameText, FailsIfErr, GivesUpIfErr}
 use Rattle.json5_text.specs.Cursor.{IsOutOfMemory}
 use Rattle.json5_de.specs.DeserializeLaw.{IsOkOrMemory, TookValue, Unprompted, AnswersFailed}

@@ -9,7 +9,7 @@ use Rattle.json5_grammar.specs.Model.Collections.{ReadsKey, IsKeyValue, IsEnd, I
 use Rattle.json5_grammar.specs.Language.Strings.{is_quote}
 use Rattle.json5_grammar.specs.Language.Trees.{Tree, Trees, Members, null, boolean, number, text, array, object, member, no_member, no_more, depth}
 use Rattle.json5_grammar.specs.Language.Values.{Reads}
-use Rattle.json5_text.specs.declared.error.Error.{Error}
+use Rattle.json5_types.specs.declared.error.Error.{Error}
 use Rattle.json5_text.specs.Cursor.{IsOutOfMemory}
 use Rattle.json5_de.specs.State.{State, SameText, GivesUp, GivesUpIfErr, FailsIfErr}
 use Rattle.json5_de.specs.DeserializeLaw.{IsOkOrMemory, TookValue, Unprompted, AnswersFailed}

@@ -8,8 +8,8 @@ use Rattle.json5_grammar.specs.Language.Blanks.{Blanks, LastBlanks, Gap, Solid, 
 use Rattle.json5_grammar.specs.Language.Numbers.{Number, Num}
 use Rattle.json5_grammar.specs.Language.Strings.{Str}
 use Rattle.json5_grammar.specs.Language.Values.{Stops, null_text, true_text, false_text}
-use Rattle.json5_text.specs.declared.error.Error.{Error}
-use Rattle.json5_text.specs.Errors.{LacksMemory, code, kind_of, error_position}
+use Rattle.json5_types.specs.declared.error.Error.{Error}
+use Rattle.json5_types.specs.Errors.{LacksMemory, code, kind_of, error_position}
 use Rattle.json5_text.specs.Cursor.{IsPositioned, Refused}
 use Rattle.json5_text.specs.TokenFaults.{FaultyBlanks, FaultyWord, FaultyNumber, FaultyString}
 use Rattle.json5_de.specs.State.{State, cursor_of}

@@ -5,10 +5,10 @@ use Rattle.json5_grammar.specs.declared.error_code.ErrorCode.{ErrorCode}
 use Rattle.json5_grammar.specs.Language.Names.{Key}
 use Rattle.json5_grammar.specs.Language.Strings.{Str}
 use Rattle.json5_text.specs.declared.text_token.TextToken.{TextToken}
-use Rattle.json5_text.specs.declared.cow_str.CowStr.{CowStr}
-use Rattle.json5_text.specs.declared.error.Error.{Error}
+use Rattle.json5_types.specs.declared.cow_str.CowStr.{CowStr}
+use Rattle.json5_types.specs.declared.error.Error.{Error}
 use Rattle.json5_text.specs.Cursor.{IsOffset}
-use Rattle.json5_text.specs.Errors.{LacksMemory}
+use Rattle.json5_types.specs.Errors.{LacksMemory}
 use Rattle.json5_text.specs.TextTokens.{Spells, IsTextOf, IsCowOf}
 use Rattle.json5_text.specs.TokenFaults.{FaultyKey, FaultyString}
 use Rattle.json5_de.specs.declared.found_text.FoundText.{FoundText}

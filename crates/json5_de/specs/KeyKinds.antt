@@ -8,7 +8,7 @@ use Rattle.json5_grammar.specs.Model.Reading.{Read, got, bad}
 use Rattle.json5_grammar.specs.Model.ReadValues.{document}
 use Rattle.json5_grammar.specs.Language.Trees.{Tree, depth}
 use Rattle.json5_grammar.specs.Language.Values.{Reads}
-use Rattle.json5_text.specs.declared.error.Error.{Error}
+use Rattle.json5_types.specs.declared.error.Error.{Error}
 use Rattle.json5_text.specs.TokenFaults.{FaultyKey}
 use Rattle.json5_de.specs.State.{State}
 use Rattle.json5_de.specs.Convert.{every_text, if_escape_free, every_cow, one_character, index_of, digits_bytes}

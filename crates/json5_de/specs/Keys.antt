@@ -2,7 +2,7 @@
 -- JSON5 section 3 (a key is a string or an identifier).
 use Rattle.std.specs.Prelude.{◌≡◌, ℕ, Bool, false, List, Option, Some, Result, IfOk, IfErr}
 use Rattle.json5_grammar.specs.Model.Collections.{ReadsKey}
-use Rattle.json5_text.specs.declared.error.Error.{Error}
+use Rattle.json5_types.specs.declared.error.Error.{Error}
 use Rattle.json5_de.specs.State.{State, OnlyRead, SameText, FailsIfErr}
 use Rattle.json5_de.specs.DeserializeLaw.{IsOkOrMemory, StaysFailed, Unprompted}
 

@@ -2,12 +2,12 @@
 use Rattle.std.specs.Prelude.{◌≡◌, ◌<◌, ℕ, Bool, true, false, List, length, Option, None, is_some, Result, IfOk, IfSome}
 use Rattle.json5_value.specs.Brackets.{square, curly}
 use Rattle.std.specs.Borrow.{Fml, GName, RattleType, MutBor, RestsIfErr}
-use Rattle.json5_text.specs.declared.error.Error.{Error}
-use Rattle.json5_text.specs.declared.byte_buf.ByteBuf.{ByteBuf}
-use Rattle.json5_text.specs.declared.cow_str.CowStr.{CowStr}
+use Rattle.json5_types.specs.declared.error.Error.{Error}
+use Rattle.json5_types.specs.declared.byte_buf.ByteBuf.{ByteBuf}
+use Rattle.json5_types.specs.declared.cow_str.CowStr.{CowStr}
 use Rattle.json5_text.specs.declared.input.Input as input
-use Rattle.json5_text.specs.ByteBufs.{bytes_of}
-use Rattle.json5_text.specs.Cows.{cow_bytes, is_borrowed}
+use Rattle.json5_types.specs.ByteBufs.{bytes_of}
+use Rattle.json5_types.specs.Cows.{cow_bytes, is_borrowed}
 use Rattle.json5_de.specs.State.{State, SameText, GivesUp}
 use Rattle.json5_grammar.specs.Language.Trees.{Tree, Trees, Members}
 use Rattle.json5_de.specs.Arrays.{AccessState, OpensArray, PositionedAtBracket, GivesElement, ReadsElement, CompletesClose, ReadsMore, ElementsLeft, LeavesFewer}

@@ -4,9 +4,9 @@ use Rattle.std.specs.Str.{encode_utf8_all}
 use Rattle.json5_grammar.specs.declared.error_code.ErrorCode.TheVariants as codes
 use Rattle.json5_grammar.specs.Language.Characters.{left_bracket}
 use Rattle.json5_grammar.specs.Language.Trees.{Tree, Trees, no_more, more}
-use Rattle.json5_text.specs.declared.error.Error.{Error}
+use Rattle.json5_types.specs.declared.error.Error.{Error}
 use Rattle.json5_text.specs.Cursor.{Says, IsOutOfMemory}
-use Rattle.json5_text.specs.Errors.{LacksMemory}
+use Rattle.json5_types.specs.Errors.{LacksMemory}
 use Rattle.json5_de.specs.State.{State}
 use Rattle.json5_value.specs.Brackets.{square}
 use Rattle.json5_de.specs.Faults.{RefusedBy, IsPositionless}

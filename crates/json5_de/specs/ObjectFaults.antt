@@ -5,8 +5,8 @@ use Rattle.json5_grammar.specs.declared.error_code.ErrorCode.TheVariants as code
 use Rattle.json5_grammar.specs.Faults.Codes.{after_text}
 use Rattle.json5_grammar.specs.Language.Characters.{comma_sign, colon_sign, right_brace, backslash, is_identifier_start}
 use Rattle.json5_grammar.specs.Language.Strings.{is_quote}
-use Rattle.json5_text.specs.declared.error.Error.{Error}
-use Rattle.json5_text.specs.Errors.{FaultKind, code, custom, failed_write, kind_of, error_position}
+use Rattle.json5_types.specs.declared.error.Error.{Error}
+use Rattle.json5_types.specs.Errors.{FaultKind, code, custom, failed_write, kind_of, error_position}
 use Rattle.json5_grammar.specs.Model.Collections.{IsKeyValue}
 use Rattle.json5_grammar.specs.Language.Trees.{Tree}
 use Rattle.json5_de.specs.State.{State, GivesUp}

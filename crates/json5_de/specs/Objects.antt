@@ -5,7 +5,7 @@ use Rattle.json5_grammar.specs.Language.Trees.{Tree, Members, object, member, no
 use Rattle.json5_grammar.specs.Language.Documents.{max_depth}
 use Rattle.json5_grammar.specs.Language.Values.{Reads}
 use Rattle.json5_grammar.specs.Model.Collections.{IsSign, OpensObject, IsKey, IsKeyValue, IsAtBrace, MembersPassed, MembersTail, snoc_member}
-use Rattle.json5_text.specs.declared.error.Error.{Error}
+use Rattle.json5_types.specs.declared.error.Error.{Error}
 use Rattle.json5_text.specs.Cursor.{IsOutOfMemory}
 use Rattle.json5_de.specs.State.{State, OnlyRead, SameText, FailsIfErr}
 use Rattle.json5_de.specs.DeserializeLaw.{IsOkOrMemory, TookValue}

@@ -8,13 +8,13 @@ use Rattle.json5_grammar.specs.declared.error_code.ErrorCode.{ErrorCode}
 use Rattle.json5_grammar.specs.declared.error_code.ErrorCode.TheVariants.{InvalidBytes}
 use Rattle.json5_grammar.specs.Language.Numbers.{lengthens, Num, whole}
 use Rattle.json5_grammar.specs.Language.Strings.{Str}
-use Rattle.json5_text.specs.declared.cow_str.CowStr.{CowStr}
-use Rattle.json5_text.specs.declared.number.Number as token
-use Rattle.json5_text.specs.Cows.{cow_bytes, is_borrowed}
-use Rattle.json5_text.specs.NumberMeanings.{number_of}
+use Rattle.json5_types.specs.declared.cow_str.CowStr.{CowStr}
+use Rattle.json5_types.specs.declared.number.Number as token
+use Rattle.json5_types.specs.Cows.{cow_bytes, is_borrowed}
+use Rattle.json5_types.specs.NumberMeanings.{number_of}
 use Rattle.json5_grammar.specs.Faults.Positions.{position_after}
-use Rattle.json5_text.specs.declared.error.Error.{Error}
-use Rattle.json5_text.specs.Errors.{LacksMemory, error_position}
+use Rattle.json5_types.specs.declared.error.Error.{Error}
+use Rattle.json5_types.specs.Errors.{LacksMemory, error_position}
 use Rattle.json5_text.specs.Cursor.{Says, Refused, IsOffset}
 use Rattle.json5_grammar.specs.Language.Blanks.{Gap, Solid}
 use Rattle.json5_grammar.specs.Language.Documents.{max_depth}

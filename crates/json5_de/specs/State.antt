@@ -1,7 +1,7 @@
 -- What contracts see of a reader.
 use Rattle.std.specs.Prelude.{◌≡◌, ℕ, ◌-◌, List, Bool, true, false, Option, Result, slice_get, OnOk, OnErr, IsErrAnd}
 use Rattle.json5_grammar.specs.Language.Documents.{max_depth}
-use Rattle.json5_text.specs.declared.error.Error.{Error}
+use Rattle.json5_types.specs.declared.error.Error.{Error}
 use Rattle.json5_text.specs.Cursor.{Cursor}
 
 -- the whole input, its unread part, how many of 128 brackets are taken (those that are open, and those past the reader's limit, which is 128 by default),

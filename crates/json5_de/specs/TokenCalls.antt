@@ -5,13 +5,13 @@ use Rattle.json5_grammar.specs.Language.Characters.{NotBegun}
 use Rattle.json5_grammar.specs.Language.Names.{Key}
 use Rattle.json5_grammar.specs.Language.Numbers.{Number, Num, lengthens}
 use Rattle.json5_grammar.specs.Language.Strings.{Str}
-use Rattle.json5_text.specs.declared.cow_str.CowStr.{CowStr}
-use Rattle.json5_text.specs.declared.error.Error.{Error}
+use Rattle.json5_types.specs.declared.cow_str.CowStr.{CowStr}
+use Rattle.json5_types.specs.declared.error.Error.{Error}
 use Rattle.json5_text.specs.declared.text_token.TextToken.{TextToken}
-use Rattle.json5_text.specs.declared.number.Number as token
+use Rattle.json5_types.specs.declared.number.Number as token
 use Rattle.json5_text.specs.Cursor.{Refused}
-use Rattle.json5_text.specs.Errors.{LacksMemory}
-use Rattle.json5_text.specs.NumberMeanings.{keeps_digits}
+use Rattle.json5_types.specs.Errors.{LacksMemory}
+use Rattle.json5_types.specs.NumberMeanings.{keeps_digits}
 use Rattle.json5_text.specs.TokenFaults.{FaultyBlanks, FaultyWord, FaultyNumber, FaultyString, FaultyKey}
 use Rattle.json5_de.specs.State.{State, GivesUp, cursor_of}
 use Rattle.json5_de.specs.Faults.{FaultRelation}

@@ -11,9 +11,9 @@ use Rattle.json5_grammar.specs.Faults.Tokens.{is_sign, begins_number}
 use Rattle.json5_grammar.specs.Language.Numbers.{Decimal}
 use Rattle.json5_grammar.specs.Language.Strings.{is_quote}
 use Rattle.json5_grammar.specs.Language.Trees.{Tree, text}
-use Rattle.json5_text.specs.declared.byte_buf.ByteBuf.{ByteBuf}
-use Rattle.json5_text.specs.declared.error.Error.{Error}
-use Rattle.json5_text.specs.ByteBufs.{bytes_of}
+use Rattle.json5_types.specs.declared.byte_buf.ByteBuf.{ByteBuf}
+use Rattle.json5_types.specs.declared.error.Error.{Error}
+use Rattle.json5_types.specs.ByteBufs.{bytes_of}
 use Rattle.json5_de.specs.State.{State}
 use Rattle.json5_de.specs.DeserializeLaw.{ReadsValue}
 use Rattle.json5_de.specs.Convert.{unit_of, bool_of, as_number, as_whole, natural_below, integer_below, every_decimal, as_text, every_text, if_escape_free, every_cow, one_character, index_of, digits_bytes}

@@ -1,7 +1,7 @@
 -- An enum by its variants, one plan: the name of each, and what is made of its content.
 use Rattle.std.specs.Prelude.{◌≡◌, ◌==◌, ◌+◌, if◌then◌else◌, ℕ, List, [], ◌∷◌, map, Option, Some, None, Result, IfOk}
 use Rattle.json5_grammar.specs.Language.Trees.{Tree}
-use Rattle.json5_text.specs.declared.error.Error.{Error}
+use Rattle.json5_types.specs.declared.error.Error.{Error}
 use Rattle.json5_de.specs.State.{State, SameText}
 use Rattle.json5_de.specs.DeserializeLaw.{IsOkOrMemory, Unprompted}
 use Rattle.json5_de.specs.ConvertLists.{if_some}

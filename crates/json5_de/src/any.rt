@@ -1,14 +1,14 @@
 //! Values of any kind: read, or passed over.
 
-ghost use Rattle.json5_text.specs.ValueMeanings.{value_of};
+ghost use Rattle.json5_types.specs.ValueMeanings.{value_of};
 ghost use Rattle.json5_de.specs.AnyTree.{ReadsTree, every_value, nothing};
 ghost use Rattle.json5_de.specs.Convert.{every_datum};
 ghost use Rattle.json5_de.specs.TokenKinds.{every_tree, no_tree};
 
 use crate::de::{Deserialize, Deserializer};
-use json5_text::error::Result;
 use json5_text::input::Input;
-use json5_text::value::Value;
+use json5_types::error::Result;
+use json5_types::value::Value;
 
 impl<I: Input> Deserializer<I> {
     /// Reads a value of any kind, nested or not (JSON5 sections 2 to 6): null, a boolean, a number, a string, an array or an

@@ -1,18 +1,18 @@
 //! `Deserialize` for literals, decimals, strings, bytes and values of any kind.
 
 ghost use Rattle.std.specs.Prelude.{string_bytes};
-ghost use Rattle.json5_text.specs.ByteBufs.{bytes_of};
-ghost use Rattle.json5_text.specs.Cows.{cow_bytes, is_borrowed};
-ghost use Rattle.json5_text.specs.ValueMeanings.{value_of};
+ghost use Rattle.json5_types.specs.ByteBufs.{bytes_of};
+ghost use Rattle.json5_types.specs.Cows.{cow_bytes, is_borrowed};
+ghost use Rattle.json5_types.specs.ValueMeanings.{value_of};
 ghost use Rattle.json5_de.specs.TokenKinds.{ReadsAs, null_kind, bool_kind, decimal_kind, string_kind, char_kind, escape_free_kind, cow_kind, bytes_kind};
 
 use crate::de::{Deserialize, Deserializer};
-use json5_text::byte_buf::ByteBuf;
-use json5_text::cow_str::CowStr;
-use json5_text::decimal::Decimal;
-use json5_text::error::Result;
 use json5_text::input::{Borrows, Input};
-use json5_text::value::Value;
+use json5_types::byte_buf::ByteBuf;
+use json5_types::cow_str::CowStr;
+use json5_types::decimal::Decimal;
+use json5_types::error::Result;
+use json5_types::value::Value;
 
 /// Reads `null`, as `deserialize_unit`.
 impl<I: Input> Deserialize<I> for () {
@@ -152,7 +152,7 @@ impl<'de, I: Borrows<'de>> Deserialize<I> for &'de str {
 /// Reads a string, borrowed from the input where it has no escape, as `deserialize_identifier`.
 impl<'de, I: Borrows<'de>> Deserialize<I> for CowStr<'de> {
     ghost use Rattle.std.specs.Prelude.{ℕ, List, Bool};
-    ghost use Rattle.json5_text.specs.Cows.{cow_bytes, is_borrowed};
+    ghost use Rattle.json5_types.specs.Cows.{cow_bytes, is_borrowed};
     ghost use Rattle.json5_de.specs.Convert.{cow_of};
     ghost use Rattle.json5_de.specs.TokenKinds.{cow_kind, escape_free_text, RefusedAs};
 
@@ -177,7 +177,7 @@ impl<'de, I: Borrows<'de>> Deserialize<I> for CowStr<'de> {
 /// Reads a string of hexadecimal digits, two a byte, as `deserialize_byte_buf`.
 impl<I: Input> Deserialize<I> for ByteBuf {
     ghost use Rattle.std.specs.Prelude.{ℕ, List};
-    ghost use Rattle.json5_text.specs.ByteBufs.{bytes_of};
+    ghost use Rattle.json5_types.specs.ByteBufs.{bytes_of};
     ghost use Rattle.json5_de.specs.Convert.{byte_buf_of};
     ghost use Rattle.json5_de.specs.TokenKinds.{bytes_kind, RefusedAs};
 
@@ -198,7 +198,7 @@ impl<I: Input> Deserialize<I> for ByteBuf {
 
 /// Reads a value of any kind, as `deserialize_any`.
 impl<I: Input> Deserialize<I> for Value {
-    ghost use Rattle.json5_text.specs.ValueMeanings.{Datum, value_of};
+    ghost use Rattle.json5_types.specs.ValueMeanings.{Datum, value_of};
     ghost use Rattle.json5_de.specs.AnyTree.{RefusesTree, ReadsTree};
     ghost use Rattle.json5_de.specs.Convert.{every_datum};
     ghost use Rattle.json5_de.specs.TokenKinds.{no_tree};

@@ -10,10 +10,10 @@ ghost use Rattle.json5_de.specs.DeserializeLaw.{AnswersFailed};
 ghost use Rattle.json5_value.specs.Brackets.{brackets_of};
 
 use crate::de::Deserializer;
-use json5_text::ErrorCode;
-use json5_text::error::{Error, Result};
 use json5_text::input::Input;
 use json5_text::short_ways::ShortStep;
+use json5_types::ErrorCode;
+use json5_types::error::{Error, Result};
 use json5_value::brackets::BracketKind;
 
 impl<I: Input> Deserializer<I> {

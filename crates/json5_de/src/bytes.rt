@@ -2,7 +2,7 @@
 
 ghost use Rattle.std.specs.Prelude.{true, Some};
 ghost use Rattle.json5_grammar.specs.declared.error_code.ErrorCode.TheVariants as codes;
-ghost use Rattle.json5_text.specs.ByteBufs.{bytes_of};
+ghost use Rattle.json5_types.specs.ByteBufs.{bytes_of};
 ghost use Rattle.json5_de.specs.Convert.{digits_bytes};
 ghost use Rattle.json5_de.specs.FoundTexts.{JudgesText};
 ghost use Rattle.json5_de.specs.TokenKinds.{ReadsBytes};
@@ -12,10 +12,10 @@ ghost use Rattle.json5_de.specs.ReaderSteps.{IsFaultAt, IsUndecoded};
 use crate::de::Deserializer;
 use crate::found_text::FoundText;
 use hex::FromHexError;
-use json5_text::ErrorCode;
-use json5_text::byte_buf::ByteBuf;
-use json5_text::error::{Error, Result};
 use json5_text::input::Input;
+use json5_types::ErrorCode;
+use json5_types::byte_buf::ByteBuf;
+use json5_types::error::{Error, Result};
 
 impl<I: Input> Deserializer<I> {
     /// Reads bytes: a string of an even number of ASCII hexadecimal digits, in either case, two a byte.

@@ -20,15 +20,15 @@ ghost use Rattle.json5_de.specs.TokenCalls.{PassesGap, Takes, TakesOwnString, Pa
 ghost use Rattle.json5_de.specs.WholeInputs.{ReadsEnd};
 
 use crate::mismatch::Mismatch;
-use json5_text::cow_str::CowStr;
-use json5_text::error::{Error, Result};
 use json5_text::input::{Borrows, Input};
-use json5_text::nesting::Limit;
-use json5_text::number::Number;
 use json5_text::scanner::Scanner;
 use json5_text::text_token::TextToken;
-use json5_text::value::Value;
-use json5_text::{ErrorCode, Position};
+use json5_types::cow_str::CowStr;
+use json5_types::error::{Error, Result};
+use json5_types::nesting::Limit;
+use json5_types::number::Number;
+use json5_types::value::Value;
+use json5_types::{ErrorCode, Position};
 use json5_value::faults::{fault_here, unexpected_here, with_position_at};
 use json5_value::kinds::{Literal, skip_literal};
 use json5_value::owned_tokens::key_owned;
@@ -57,7 +57,7 @@ use std::marker::Model;
 pub trait Deserialize<I: Input>: Sized + Drop {
     ghost use Rattle.std.specs.Prelude.{Bool, false, Option, ⊤};
     ghost use Rattle.json5_grammar.specs.Language.Trees.{Tree};
-    ghost use Rattle.json5_text.specs.declared.error.Error.{Error};
+    ghost use Rattle.json5_types.specs.declared.error.Error.{Error};
     ghost use Rattle.json5_de.specs.State.{State};
 
     // What of a value counts.

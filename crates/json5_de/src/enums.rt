@@ -13,8 +13,8 @@ use crate::mismatch::Mismatch;
 use crate::seq::SeqAccess;
 use crate::stage::Stage;
 use crate::variant_names::Named;
-use json5_text::error::Result;
 use json5_text::input::Input;
+use json5_types::error::Result;
 use json5_value::brackets::BracketKind;
 
 /// The variant of an enum: its name was read, and one of four calls reads its content. The caller chooses the call by

@@ -2,7 +2,7 @@
 
 ghost use Rattle.std.specs.Prelude.{◌≡◌, true, false, Some, IfOk, OnOk, string_bytes};
 ghost use Rattle.json5_grammar.specs.declared.error_code.ErrorCode.TheVariants as codes;
-ghost use Rattle.json5_text.specs.Errors.{code};
+ghost use Rattle.json5_types.specs.Errors.{code};
 ghost use Rattle.json5_de.specs.Arrays.{IsFailedAtBracket};
 ghost use Rattle.json5_de.specs.Convert.{every_text};
 ghost use Rattle.json5_de.specs.KeyKinds.{RefusedAsKey, string_key};
@@ -18,9 +18,9 @@ ghost use Rattle.json5_de.specs.Lending.{map_state_of, KeepsMap, KeyPending, NoK
 use crate::any::IgnoredAny;
 use crate::de::{Deserialize, Deserializer};
 use crate::map::MapAccess;
-use json5_text::ErrorCode;
-use json5_text::error::{Error, Result};
 use json5_text::input::Input;
+use json5_types::ErrorCode;
+use json5_types::error::{Error, Result};
 use json5_value::brackets::BracketKind;
 use std::fmt;
 

@@ -3,9 +3,9 @@
 ghost use Rattle.json5_de.specs.FoundTexts.{FindsKey, FindsString};
 
 use crate::de::Deserializer;
-use json5_text::error::Result;
 use json5_text::input::Input;
 use json5_text::text_token::TextToken;
+use json5_types::error::Result;
 
 /// A string or a key that was taken, and its offset.
 #[derive(Drop)]

@@ -1,7 +1,7 @@
 //! Gathering the members of an object into a map.
 
 ghost use Rattle.std.specs.Prelude.{◌≡◌, List, [], ◌∷◌, ◌++◌, OnOk, IfOk, IfErr};
-ghost use Rattle.json5_text.specs.Errors.{LacksMemory};
+ghost use Rattle.json5_types.specs.Errors.{LacksMemory};
 ghost use Rattle.json5_de.specs.State.{SameText};
 ghost use Rattle.json5_de.specs.DeserializeLaw.{Completes, Unprompted};
 ghost use Rattle.json5_de.specs.Maps.{pairs_of, GivesMembers};
@@ -9,8 +9,8 @@ ghost use Rattle.json5_de.specs.MapFaults.{sides, RefusesMap};
 
 use crate::de::{Deserialize, Deserializer};
 use crate::key::DeserializeKey;
-use json5_text::error::Result;
 use json5_text::input::Input;
+use json5_types::error::Result;
 
 /// A map that members are inserted into, one after another.
 pub(crate) trait Gathers<K, V>: Sized + Drop {

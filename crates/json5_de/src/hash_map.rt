@@ -3,8 +3,8 @@
 use crate::de::{Deserialize, Deserializer};
 use crate::gather::{Gathers, gather};
 use crate::key::DeserializeKey;
-use json5_text::error::Result;
 use json5_text::input::Input;
+use json5_types::error::Result;
 use std::collections::HashMap;
 use std::hash::Hash;
 

@@ -4,8 +4,8 @@ use crate::de::{Deserialize, Deserializer};
 use crate::gather::{Gathers, gather};
 use crate::key::DeserializeKey;
 use indexmap::IndexMap;
-use json5_text::error::Result;
 use json5_text::input::Input;
+use json5_types::error::Result;
 use std::hash::Hash;
 
 impl<K: Eq + Hash + Drop, V: Drop> Gathers<K, V> for IndexMap<K, V> {

@@ -4,8 +4,8 @@ ghost use Rattle.std.specs.Prelude.{◌^◌};
 ghost use Rattle.json5_de.specs.TokenKinds.{ReadsAs, natural_kind, integer_kind};
 
 use crate::de::{Deserialize, Deserializer};
-use json5_text::error::Result;
 use json5_text::input::Input;
+use json5_types::error::Result;
 
 /// Reads a whole number in the type's range, as `deserialize_u8`. So do the integers below, each by its call.
 impl<I: Input> Deserialize<I> for u8 {

@@ -9,8 +9,8 @@ ghost use Rattle.json5_de.specs.Keys.{GivesKey, CompletesKey, ReadsKeyOf};
 ghost use Rattle.json5_de.specs.KeyKinds.{some_of};
 
 use crate::de::Deserializer;
-use json5_text::error::Result;
 use json5_text::input::Input;
+use json5_types::error::Result;
 use std::alloc::Global;
 
 /// A key that is to be read, a string or an identifier (JSON5 section 3). Each of its methods reads it whole, and a type calls
@@ -73,7 +73,7 @@ impl<I: Input> Drop for MapKey<'_, I> {
 /// ```
 pub trait DeserializeKey<I: Input>: Sized + Drop {
     ghost use Rattle.std.specs.Prelude.{⊤};
-    ghost use Rattle.json5_text.specs.declared.error.Error.{Error};
+    ghost use Rattle.json5_types.specs.declared.error.Error.{Error};
     ghost use Rattle.json5_de.specs.State.{State};
     ghost use Rattle.json5_de.specs.Keys.{KeyConversion};
     ghost use Rattle.json5_de.specs.Lending.{reader_of_key, HoldsTheSameKey};

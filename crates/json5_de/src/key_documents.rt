@@ -1,7 +1,7 @@
 //! Keys that are read as a document of their own: the key is a string or an identifier, and its text a value.
 
 ghost use Rattle.std.specs.Prelude.{◌≡◌, ◌^◌};
-ghost use Rattle.json5_text.specs.Errors.{kind_of};
+ghost use Rattle.json5_types.specs.Errors.{kind_of};
 ghost use Rattle.json5_de.specs.TokenKinds.{bool_kind, natural_kind, integer_kind, decimal_kind};
 ghost use Rattle.json5_de.specs.KeyKinds.{ReadsKeyAs, document_key};
 ghost use Rattle.json5_de.specs.KeySteps.{IsTextFault, is_out_of_memory};
@@ -9,10 +9,10 @@ ghost use Rattle.json5_de.specs.KeySteps.{IsTextFault, is_out_of_memory};
 use crate::de::Deserializer;
 use crate::key::MapKey;
 use crate::key_types::FromText;
-use json5_text::ErrorCode;
-use json5_text::decimal::Decimal;
-use json5_text::error::{Error, Result};
 use json5_text::input::Input;
+use json5_types::ErrorCode;
+use json5_types::decimal::Decimal;
+use json5_types::error::{Error, Result};
 
 impl<I: Input> MapKey<'_, I> {
     ghost use Rattle.json5_de.specs.Lending.{KeyReads, ReadsNullKey};

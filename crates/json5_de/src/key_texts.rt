@@ -1,17 +1,17 @@
 //! Keys that are read as their text, or as what it spells (JSON5 section 3).
 
 ghost use Rattle.std.specs.Prelude.{◌≡◌, string_bytes};
-ghost use Rattle.json5_text.specs.Cows.{cow_bytes, is_borrowed};
+ghost use Rattle.json5_types.specs.Cows.{cow_bytes, is_borrowed};
 ghost use Rattle.json5_de.specs.Convert.{names_bytes};
 ghost use Rattle.json5_de.specs.KeyKinds.{ReadsKeyAs, string_key, char_key, escape_free_key, cow_key, variant_key, ignored_key};
 
 use crate::de::Deserializer;
 use crate::key::MapKey;
 use crate::mismatch::Mismatch;
-use json5_text::byte_buf::ByteBuf;
-use json5_text::cow_str::CowStr;
-use json5_text::error::Result;
 use json5_text::input::{Borrows, Input};
+use json5_types::byte_buf::ByteBuf;
+use json5_types::cow_str::CowStr;
+use json5_types::error::Result;
 
 impl<I: Input> MapKey<'_, I> {
     ghost use Rattle.json5_de.specs.Lending.{KeyReads, ReadsBytesKey};

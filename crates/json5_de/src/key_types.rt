@@ -1,7 +1,7 @@
 //! The types that can be read from a key: from its text itself, or from its text as a document.
 
 ghost use Rattle.std.specs.Prelude.{string_bytes};
-ghost use Rattle.json5_text.specs.Cows.{cow_bytes, is_borrowed};
+ghost use Rattle.json5_types.specs.Cows.{cow_bytes, is_borrowed};
 ghost use Rattle.json5_de.specs.ConvertLists.{if_some};
 ghost use Rattle.json5_de.specs.OptionFaults.{RefusesLive};
 ghost use Rattle.json5_de.specs.KeyKinds.{string_key, char_key, escape_free_key, cow_key, some_of};
@@ -9,11 +9,11 @@ ghost use Rattle.json5_de.specs.KeyKinds.{string_key, char_key, escape_free_key,
 use crate::any::IgnoredAny;
 use crate::key::{DeserializeKey, MapKey};
 use crate::whole_input::from_str;
-use json5_text::byte_buf::ByteBuf;
-use json5_text::cow_str::CowStr;
-use json5_text::decimal::Decimal;
-use json5_text::error::Result;
 use json5_text::input::{Borrows, Input};
+use json5_types::byte_buf::ByteBuf;
+use json5_types::cow_str::CowStr;
+use json5_types::decimal::Decimal;
+use json5_types::error::Result;
 use std::alloc::Global;
 
 impl<I: Input> DeserializeKey<I> for char {
@@ -55,7 +55,7 @@ impl<I: Input> DeserializeKey<I> for String {
 
 impl<I: Input> DeserializeKey<I> for ByteBuf {
     ghost use Rattle.std.specs.Prelude.{ℕ, List};
-    ghost use Rattle.json5_text.specs.ByteBufs.{bytes_of};
+    ghost use Rattle.json5_types.specs.ByteBufs.{bytes_of};
     ghost use Rattle.json5_de.specs.Convert.{digits_bytes};
     ghost use Rattle.json5_de.specs.KeyKinds.{bytes_key, RefusedAsKey};
 
@@ -93,7 +93,7 @@ impl<'de, I: Borrows<'de>> DeserializeKey<I> for &'de str {
 
 impl<'de, I: Borrows<'de>> DeserializeKey<I> for CowStr<'de> {
     ghost use Rattle.std.specs.Prelude.{ℕ, List, Bool};
-    ghost use Rattle.json5_text.specs.Cows.{cow_bytes, is_borrowed};
+    ghost use Rattle.json5_types.specs.Cows.{cow_bytes, is_borrowed};
     ghost use Rattle.json5_de.specs.Convert.{every_cow};
     ghost use Rattle.json5_de.specs.KeyKinds.{cow_key, RefusedAsKey};
 

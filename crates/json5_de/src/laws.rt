@@ -1,9 +1,9 @@
 //! What follows from the law of a read, for every type at once.
 
 ghost use Rattle.std.specs.Prelude.{ℕ, List};
-ghost use Rattle.json5_text.specs.ByteBufs.{bytes_of};
-ghost use Rattle.json5_text.specs.Cows.{cow_bytes, is_borrowed};
-ghost use Rattle.json5_text.specs.ValueMeanings.{value_of};
+ghost use Rattle.json5_types.specs.ByteBufs.{bytes_of};
+ghost use Rattle.json5_types.specs.Cows.{cow_bytes, is_borrowed};
+ghost use Rattle.json5_types.specs.ValueMeanings.{value_of};
 ghost use Rattle.json5_de.specs.AnyTree.{TellsTreesApart};
 ghost use Rattle.json5_de.specs.Convert.{every_datum, unit_of, bool_of, unsigned_below, signed_below, decimal_of};
 ghost use Rattle.json5_de.specs.DeserializeLaw.{OneAnswer};

@@ -1,8 +1,8 @@
 //! Lists of elements of one type.
 
 use crate::de::{Deserialize, Deserializer};
-use json5_text::error::Result;
 use json5_text::input::Input;
+use json5_types::error::Result;
 
 /// Reads an array (JSON5 section 4), each element as a `T`. The faults are those of its brackets and commas, as a `SeqAccess`
 /// lists them, those of the first element that is refused, and `OutOfMemory`.

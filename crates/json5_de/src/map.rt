@@ -10,9 +10,9 @@ ghost use Rattle.json5_de.specs.ObjectFaults.{PassesColon, ReadsValueOfMember};
 use crate::de::{Deserialize, Deserializer};
 use crate::key::DeserializeKey;
 use crate::stage::Stage;
-use json5_text::error::{Error, Result};
 use json5_text::input::Input;
-use json5_text::{ErrorCode, Position};
+use json5_types::error::{Error, Result};
+use json5_types::{ErrorCode, Position};
 use json5_value::brackets::BracketKind;
 
 /// The members of an object, one after another: a key, then its value.

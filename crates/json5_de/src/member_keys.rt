@@ -2,17 +2,17 @@
 
 ghost use Rattle.std.specs.Prelude.{◌≡◌, true, false};
 ghost use Rattle.json5_grammar.specs.Language.Characters.{NotBegun};
-ghost use Rattle.json5_text.specs.Errors.{kind_of};
+ghost use Rattle.json5_types.specs.Errors.{kind_of};
 ghost use Rattle.json5_value.specs.Offsets.{StartsAfter};
 ghost use Rattle.json5_de.specs.ObjectFaults as faults;
 ghost use Rattle.json5_de.specs.ObjectFaults.{BeginsKey, PositionsKey, ReadsKeyAtEntry, ReadsKeyOfMember, is_positionless};
 
 use crate::de::Deserializer;
 use crate::key::DeserializeKey;
-use json5_text::ErrorCode;
 use json5_text::char::is_json5_identifier_start;
-use json5_text::error::{Error, Result};
 use json5_text::input::Input;
+use json5_types::ErrorCode;
+use json5_types::error::{Error, Result};
 use json5_value::brackets::BracketKind;
 
 /// Whether a key may begin with this character: a quote, a backslash or an identifier start.

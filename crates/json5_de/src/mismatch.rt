@@ -1,6 +1,6 @@
 //! The messages of custom faults at a value that isn't of the type that is expected.
 
-use json5_text::whole::Whole;
+use json5_types::whole::Whole;
 use std::fmt;
 
 /// What was found instead of what is expected.

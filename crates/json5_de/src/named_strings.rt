@@ -11,8 +11,8 @@ ghost use Rattle.json5_de.specs.ReaderSteps.{IsMismatch};
 use crate::de::Deserializer;
 use crate::found_text::FoundText;
 use crate::mismatch::Mismatch;
-use json5_text::error::{Error, Result};
 use json5_text::input::Input;
+use json5_types::error::{Error, Result};
 
 /// Returns the first index of the name among these, counted from 0.
 pub(crate) fn index_of(names: &[&str], name: &str) -> Option<usize>

@@ -8,9 +8,9 @@ ghost use Rattle.json5_de.specs.OptionFaults.{option_free, RefusesOption, Refuse
 ghost use Rattle.json5_de.specs.Faults.{EndsWith};
 
 use crate::de::{Deserialize, Deserializer};
-use json5_text::ErrorCode;
-use json5_text::error::{Error, Result};
 use json5_text::input::Input;
+use json5_types::ErrorCode;
+use json5_types::error::{Error, Result};
 use json5_value::kinds::Literal;
 
 impl<I: Input> Deserializer<I> {

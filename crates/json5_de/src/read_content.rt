@@ -3,8 +3,8 @@
 ghost use Rattle.json5_de.specs.Refinement.{ReadsExactly};
 
 use crate::de::{Deserialize, Deserializer};
-use json5_text::error::Result;
 use json5_text::input::Input;
+use json5_types::error::Result;
 
 /// Reads one `T` from the front, as `T::deserialize` does. Its contract also fixes the result: if the value in front
 /// converts, it is Ok of what that value converts to, unless memory runs out.

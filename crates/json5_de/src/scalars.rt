@@ -9,11 +9,11 @@ use crate::de::Deserializer;
 use crate::integer_ranges::{signed, unsigned};
 use crate::mismatch::Mismatch;
 use crate::whole_decimals::same_decimal;
-use json5_text::decimal::Decimal;
-use json5_text::error::Result;
 use json5_text::input::Input;
-use json5_text::number::Number;
-use json5_text::whole::Whole;
+use json5_types::decimal::Decimal;
+use json5_types::error::Result;
+use json5_types::number::Number;
+use json5_types::whole::Whole;
 use json5_value::kinds::Literal;
 
 impl<I: Input> Deserializer<I> {

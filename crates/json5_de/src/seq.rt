@@ -14,9 +14,9 @@ ghost use Rattle.json5_de.specs.AccessCalls.{RefusesElement};
 
 use crate::de::{Deserialize, Deserializer};
 use crate::stage::Stage;
-use json5_text::error::{Error, Result};
 use json5_text::input::Input;
-use json5_text::{ErrorCode, Position};
+use json5_types::error::{Error, Result};
+use json5_types::{ErrorCode, Position};
 use json5_value::brackets::BracketKind;
 use std::alloc::Global;
 

@@ -8,12 +8,12 @@ ghost use Rattle.json5_de.specs.TokenKinds.{natural_kind, integer_kind, decimal_
 ghost use Rattle.json5_de.specs.ShortWays.{ReadsShort, StepsShort, ReadsShortText, ReadsShortKey, ReadsEscapeFreeText, TakesEscapeFreeKey, PassesShortColon, OpensShort, ClosesShort, OwnsTextAt, filled};
 
 use crate::de::Deserializer;
-use json5_text::ErrorCode;
-use json5_text::decimal::Decimal;
-use json5_text::error::{Error, Result};
 use json5_text::input::{Borrows, Input};
 use json5_text::short_texts::Span;
 use json5_text::short_ways::ShortStep;
+use json5_types::ErrorCode;
+use json5_types::decimal::Decimal;
+use json5_types::error::{Error, Result};
 use json5_value::brackets::BracketKind;
 
 impl<I: Input> Deserializer<I> {

@@ -5,8 +5,8 @@ ghost use Rattle.json5_de.specs.Refinement.{ReadsExactly};
 ghost use Rattle.json5_de.specs.Spans.{SpansValue, RefusesSpanned};
 
 use crate::de::{Deserialize, Deserializer};
-use json5_text::error::Result;
 use json5_text::input::Input;
+use json5_types::error::Result;
 
 /// A value and where it is in the text, for your own fault at its position.
 ///

@@ -2,7 +2,7 @@
 
 ghost use Rattle.std.specs.Prelude.{◌≡◌, string_bytes, Some, None, MatchOption, false};
 ghost use Rattle.std.specs.Str.{chars};
-ghost use Rattle.json5_text.specs.Cows.{cow_bytes, is_borrowed};
+ghost use Rattle.json5_types.specs.Cows.{cow_bytes, is_borrowed};
 ghost use Rattle.json5_de.specs.Convert.{one_character};
 ghost use Rattle.json5_de.specs.FoundTexts.{JudgesText};
 ghost use Rattle.json5_de.specs.TokenKinds.{ReadsAs, string_kind, char_kind, escape_free_kind, cow_kind};
@@ -10,9 +10,9 @@ ghost use Rattle.json5_de.specs.TokenKinds.{ReadsAs, string_kind, char_kind, esc
 use crate::de::Deserializer;
 use crate::found_text::FoundText;
 use crate::mismatch::Mismatch;
-use json5_text::cow_str::CowStr;
-use json5_text::error::Result;
 use json5_text::input::{Borrows, Input};
+use json5_types::cow_str::CowStr;
+use json5_types::error::Result;
 
 /// The text's character, if it has just one.
 pub(crate) fn only_character(text: &str) -> Option<char>

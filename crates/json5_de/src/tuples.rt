@@ -1,8 +1,8 @@
 //! Tuples, which are arrays of a fixed length.
 
 use crate::de::{Deserialize, Deserializer};
-use json5_text::error::Result;
 use json5_text::input::Input;
+use json5_types::error::Result;
 
 /// Reads an array of one element. The faults are those of a tuple of two.
 impl<I: Input, A: Deserialize<I>> Deserialize<I> for (A,) {

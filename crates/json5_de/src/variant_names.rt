@@ -9,10 +9,10 @@ ghost use Rattle.json5_de.specs.Lending.{named_state_of};
 ghost use Rattle.json5_de.specs.State.{GivesUpIfErr};
 
 use crate::de::Deserializer;
-use json5_text::ErrorCode;
-use json5_text::error::Result;
 use json5_text::input::Input;
 use json5_text::strings::is_quote;
+use json5_types::ErrorCode;
+use json5_types::error::Result;
 use json5_value::brackets::BracketKind;
 
 /// The name of a variant that was read.

@@ -2,13 +2,13 @@
 
 ghost use Rattle.std.specs.Prelude.{◌≡◌, nat_abs, IfOk, IfErr};
 ghost use Rattle.json5_grammar.specs.Language.Numbers as numbers;
-ghost use Rattle.json5_text.specs.Errors.{LacksMemory};
+ghost use Rattle.json5_types.specs.Errors.{LacksMemory};
 ghost use Rattle.json5_de.specs.Convert.{same_decimal};
 
 use itoa::Buffer;
-use json5_text::decimal::Decimal;
-use json5_text::error::Result;
-use json5_text::whole::Whole;
+use json5_types::decimal::Decimal;
+use json5_types::error::Result;
+use json5_types::whole::Whole;
 use std::alloc::Global;
 
 /// How far the number is from zero.

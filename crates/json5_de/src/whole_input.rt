@@ -8,8 +8,8 @@ ghost use Rattle.json5_de.specs.DeserializeLaw.{IsUnprompted};
 ghost use Rattle.json5_de.specs.WholeInputs.{ReadsDocument, RefusesReading, BlamesRest};
 
 use crate::de::{Deserialize, Deserializer};
-use json5_text::error::Result;
-use json5_text::nesting::Limit;
+use json5_types::error::Result;
+use json5_types::nesting::Limit;
 use std::alloc::Global;
 
 /// Reads a whole text as a `T`: one value with blanks and comments around it (JSON5 section 2), nested at most 128 deep.

@@ -16,12 +16,12 @@ use Rattle.json5_grammar.proofs.DocumentOrFault.{document_sound}
 use Rattle.json5_grammar.proofs.DocumentsRead.{to_end, document_complete, blanks_refused, comment_refused}
 use Rattle.json5_grammar.proofs.Refusals.{got_same}
 use Rattle.json5_grammar.proofs.OneFault.{blames_text}
-use Rattle.json5_text.specs.declared.error.Error.{Error}
-use Rattle.json5_text.specs.declared.value.Value.{Value}
+use Rattle.json5_types.specs.declared.error.Error.{Error}
+use Rattle.json5_types.specs.declared.value.Value.{Value}
 use Rattle.json5_text.specs.Cursor.{Cursor, Took, Says, IsPositioned, Refused, IsOutOfMemory}
-use Rattle.json5_text.specs.Errors.{code, kind_of}
+use Rattle.json5_types.specs.Errors.{code, kind_of}
 use Rattle.json5_text.specs.TokenFaults.{FaultyBlanks}
-use Rattle.json5_text.specs.ValueMeanings.{value_of}
+use Rattle.json5_types.specs.ValueMeanings.{value_of}
 use Rattle.json5_value.specs.TreeMeanings.{datum_of}
 use Rattle.json5_value.specs.OwnedReads.{BlamesOrMemory, as_datum, datum_at}
 use Rattle.json5_value.specs.ModelSteps.{IsInside, HasPositionAt, RefusesRead, Gave}

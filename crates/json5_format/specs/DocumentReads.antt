@@ -4,10 +4,10 @@ use Rattle.json5_grammar.specs.declared.error_code.ErrorCode.{ErrorCode}
 use Rattle.json5_grammar.specs.Language.Documents.{Doc, max_depth}
 use Rattle.json5_grammar.specs.Faults.Refusals.{BlamesText}
 use Rattle.json5_grammar.specs.Language.Trees.{Tree}
-use Rattle.json5_text.specs.declared.error.Error.{Error}
-use Rattle.json5_text.specs.declared.value.Value.{Value}
+use Rattle.json5_types.specs.declared.error.Error.{Error}
+use Rattle.json5_types.specs.declared.value.Value.{Value}
 use Rattle.json5_text.specs.Cursor.{Cursor, Refused, IsOutOfMemory}
-use Rattle.json5_text.specs.ValueMeanings.{value_of}
+use Rattle.json5_types.specs.ValueMeanings.{value_of}
 use Rattle.json5_value.specs.TreeMeanings.{datum_of}
 use Rattle.json5_value.specs.ModelSteps.{IsUnprompted}
 

@@ -12,11 +12,11 @@ ghost use Rattle.json5_format.specs.DocumentReads.{IsRefused, IsRefusedWithin, R
 ghost use Rattle.json5_format.specs.Formatted.{WritesUnmarked, IsFormatted, IsFormattedWithin};
 
 use json5_ser::to_string_within;
-use json5_text::ErrorCode;
-use json5_text::error::Result;
-use json5_text::nesting::Limit;
 use json5_text::scanner::Scanner;
-use json5_text::value::Value;
+use json5_types::ErrorCode;
+use json5_types::error::Result;
+use json5_types::nesting::Limit;
+use json5_types::value::Value;
 use json5_value::faults::fault_here;
 use json5_value::read::read_value;
 use std::alloc::Global;

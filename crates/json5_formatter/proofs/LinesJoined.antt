@@ -2,8 +2,8 @@
 use Rattle.std.proofs.Common.{◌≡◌, ℕ, List, ◌++◌, ◌+◌, Option, Some, decimal, sym, ap, ◌∙◌, append_assoc}
 use lib.Chars.{codes}
 use Rattle.json5_grammar.specs.declared.position.Position.{Position}
-use Rattle.json5_text.specs.declared.error.Error.{Error}
-use Rattle.json5_text.specs.Errors.{kind_of, kind_text, error_position, error_text, positioned_text}
+use Rattle.json5_types.specs.declared.error.Error.{Error}
+use Rattle.json5_types.specs.Errors.{kind_of, kind_text, error_position, error_text, positioned_text}
 use Rattle.json5_formatter.specs.Reports.{named_report, fault_line}
 
 pub line_joined : (name m l k : List ℕ) → name ++ (codes ": " ++ (m ++ (codes " at line " ++ (l ++ (codes " column " ++ (k ++ codes "\n")))))) ≡ named_report name (m ++ (codes " at " ++ (codes "line " ++ l ++ codes " column " ++ k)))

@@ -7,9 +7,9 @@ use Rattle.std.proofs.KnownBytes.{Appends-trans}
 use Rattle.std.proofs.lemmas.Str.{chars-encodes}
 use Rattle.json5_ser.specs.Out.{whole, written_text}
 use Rattle.json5_ser.specs.Pieces.{AppendsFront}
-use Rattle.json5_text.specs.declared.value.Value.{Value}
+use Rattle.json5_types.specs.declared.value.Value.{Value}
 use Rattle.json5_ser.specs.ValueTrees.{value_tree}
-use Rattle.json5_text.specs.ValueMeanings.{value_of}
+use Rattle.json5_types.specs.ValueMeanings.{value_of}
 use Rattle.json5_ser.specs.WholeOutputs.{IsText}
 use Rattle.json5_ser.specs.WrittenTrees.{Written}
 use Rattle.json5_format.proofs.Formats.{written_tree, value_whole, formatted}

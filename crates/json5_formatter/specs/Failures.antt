@@ -1,8 +1,8 @@
 -- How a fault of the input ends the program.
 use Rattle.std.specs.Prelude.{⊤}
 use Rattle.json5_grammar.specs.declared.error_code.ErrorCode.TheVariants as codes
-use Rattle.json5_text.specs.declared.error.Error.{Error}
-use Rattle.json5_text.specs.Errors.{FaultKind, code, custom, failed_write, kind_of}
+use Rattle.json5_types.specs.declared.error.Error.{Error}
+use Rattle.json5_types.specs.Errors.{FaultKind, code, custom, failed_write, kind_of}
 use Rattle.json5_text.specs.Cursor.{IsOutOfMemory}
 use Rattle.json5_formatter.specs.declared.failure.Failure.{Failure}
 use Rattle.json5_formatter.specs.declared.failure.Failure.TheVariants as failure

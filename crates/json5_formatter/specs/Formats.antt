@@ -1,7 +1,7 @@
 -- What the formatter promises of the bytes of an input.
 use Rattle.std.specs.Prelude.{ℕ, List}
 use Rattle.std.specs.Str.{chars}
-use Rattle.json5_text.specs.declared.error.Error.{Error}
+use Rattle.json5_types.specs.declared.error.Error.{Error}
 use Rattle.json5_format.specs.DocumentReads.{IsRefused}
 use Rattle.json5_format.specs.Formatted.{IsFormatted}
 

@@ -2,8 +2,8 @@
 use Rattle.std.specs.Prelude.{ℕ, List, [], ◌∷◌, ◌++◌}
 use lib.Chars.{codes}
 use Rattle.json5_grammar.specs.Language.Characters.{line_feed}
-use Rattle.json5_text.specs.declared.error.Error.{Error}
-use Rattle.json5_text.specs.Errors.{error_text}
+use Rattle.json5_types.specs.declared.error.Error.{Error}
+use Rattle.json5_types.specs.Errors.{error_text}
 use Rattle.json5_formatter.specs.declared.failure.Failure.{Failure}
 use Rattle.json5_formatter.specs.declared.failure.Failure.TheVariants as failure
 

@@ -4,8 +4,8 @@ ghost use Rattle.std.specs.Prelude.{◌≡◌};
 ghost use Rattle.json5_formatter.specs.Failures.{failure_at};
 ghost use Rattle.json5_formatter.specs.Reports.{status_of};
 
-use json5_text::ErrorCode;
-use json5_text::error::Error;
+use json5_types::ErrorCode;
+use json5_types::error::Error;
 
 /// Why the work ended.
 #[derive(Debug, Drop)]

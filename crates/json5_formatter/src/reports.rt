@@ -8,7 +8,7 @@ ghost use Rattle.json5_formatter.specs.Reports.{fault_line, report_line, status_
 use crate::failure::Failure;
 use crate::write_texts::write_texts;
 use itoa::Buffer;
-use json5_text::error::Error;
+use json5_types::error::Error;
 use std::io::Write;
 
 /// Writes why the work on this input ended, as one line, and returns the status that the program ends with. A failed write

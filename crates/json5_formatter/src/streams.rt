@@ -10,7 +10,7 @@ use crate::input::read_whole;
 use json5_format::read_document;
 use json5_ser::to_writer;
 use json5_ser::write_whole::write_whole;
-use json5_text::value::Value;
+use json5_types::value::Value;
 use std::alloc::Global;
 use std::io::{Read, Write};
 
@@ -77,7 +77,7 @@ fn read_text<R: Read>(alloc: Global, r: &mut R) -> Result<String, Failure>
 }
 
 /// Writes a value and one LF.
-fn write_value<W: Write>(w: &mut W, value: &Value) -> json5_text::error::Result<()>
+fn write_value<W: Write>(w: &mut W, value: &Value) -> json5_types::error::Result<()>
     ensures { WritesLine (value_tree value.now) (W.contents w.old) (W.contents w.new) result }
 {
     to_writer(w, value)?;

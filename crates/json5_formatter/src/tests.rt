@@ -1,7 +1,7 @@
 //! What is written on standard error, and runs over readers and writers that fail.
 use crate::{Failure, report, run, usage};
-use json5_text::error::Error;
-use json5_text::{ErrorCode, Position};
+use json5_types::error::Error;
+use json5_types::{ErrorCode, Position};
 use std::alloc::Global;
 use std::io::{self, ErrorKind, Read, Write};
 use std::test::Fail;

@@ -72,7 +72,7 @@ pub struct ByBytes(ByteBuf);
 
 impl<I: Input> DeserializeKey<I> for ByBytes {
     ghost use Rattle.std.specs.Prelude.{ℕ, List};
-    ghost use Rattle.json5_text.specs.ByteBufs.{bytes_of};
+    ghost use Rattle.json5_types.specs.ByteBufs.{bytes_of};
     ghost use Rattle.json5.specs.Convert.{digits_bytes};
 
     ghost Content = { List ℕ };

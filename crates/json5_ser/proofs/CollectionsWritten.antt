@@ -3,7 +3,7 @@ use Rattle.std.proofs.Common.{◌≡◌, ◌<◌, ◌≤◌, ℕ, suc, ◌+◌, 
 use Rattle.std.specs.Prelude.{⊤}
 use Rattle.std.specs.Result.{IsErrAnd}
 use Rattle.std.specs.Borrow.{GName, MutBor}
-use Rattle.json5_text.specs.declared.error.Error.{Error}
+use Rattle.json5_types.specs.declared.error.Error.{Error}
 use Rattle.json5_grammar.specs.Language.Characters.{comma_sign, colon_sign, space, left_bracket, right_bracket, left_brace, right_brace}
 use Rattle.json5_ser.specs.WrittenTrees.{Written, array, object, tuple_variant, struct_variant, Elements, no_element, element, elements_of, Fields, no_field, field, fields_of, WrittenKey, named}
 use Rattle.json5_ser.specs.Out.{Out, piece, ◌then◌, opened_by, closed_by, out, elements_out, fields_out, element_out, key_part, value_part, entry_out, variant_opening}

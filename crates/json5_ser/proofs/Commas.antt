@@ -2,7 +2,7 @@
 use Rattle.std.proofs.Common.{◌≡◌, ℕ, ◌+◌, ◌-◌, [], ◌∷◌, Bool, true, false, Result, Ok, Err, refl, sym, ap, ◌∙◌, subst, arith}
 use Rattle.std.specs.Prelude.{⊤}
 use Rattle.std.specs.Result.{is_err, IsErrAnd}
-use Rattle.json5_text.specs.declared.error.Error.{Error}
+use Rattle.json5_types.specs.declared.error.Error.{Error}
 use Rattle.json5_grammar.specs.Language.Characters.{comma_sign, colon_sign, space}
 use Rattle.json5_ser.specs.WrittenTrees.{WrittenKey, Written, Elements, element, Fields, field}
 use Rattle.json5_ser.specs.Out.{Out, piece, ◌then◌, line, opened_by, closed_by, out, elements_out, fields_out, key_part, key_out}

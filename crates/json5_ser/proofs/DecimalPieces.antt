@@ -10,7 +10,7 @@ use lib.Chars.{codes}
 use Rattle.json5_grammar.specs.Language.Characters.{is_digit, Each, no_char, char}
 use Rattle.json5_grammar.specs.Language.Numbers.{Decimal, infinite, nan, finite}
 use Rattle.json5_grammar.specs.Written.NumberText.{zeros, pointed, digits_text, decimal_text, Normal}
-use Rattle.json5_text.specs.DecimalPieces.{BeginsWithPiece}
+use Rattle.json5_types.specs.DecimalPieces.{BeginsWithPiece}
 use Rattle.json5_ser.specs.Out.{piece, ◌then◌}
 use Rattle.std.specs.Result.{IsErrAnd}
 use Rattle.json5_ser.specs.Writes.{SerializerState, Wrote, RefusesBy}

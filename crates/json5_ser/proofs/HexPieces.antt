@@ -15,7 +15,7 @@ use Rattle.hex.specs.Hex.{IsBytes, encode_with, encode_lower, lower_digits}
 use Rattle.hex.proofs.HexLemmas.{IsAscii-encode_with}
 use Rattle.json5_grammar.specs.Language.Characters.{is_identifier_start, is_identifier_part}
 use Rattle.json5_grammar.specs.Written.Quoting.{quoted_text, is_name}
-use Rattle.json5_text.specs.declared.error.Error.{Error}
+use Rattle.json5_types.specs.declared.error.Error.{Error}
 use Rattle.json5_ser.specs.Out.{Out, piece, ◌then◌}
 use Rattle.json5_ser.specs.Writes.{SerializerState, Wrote, RefusesWrite, Writes}
 use Rattle.json5_ser.proofs.DecimalPieces.{is_spelling, IsAscii-text, first, second, both}

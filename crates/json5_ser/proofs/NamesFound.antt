@@ -9,7 +9,7 @@ use Rattle.std.proofs.lemmas.Str.{chars-nil, chars_past_char}
 use Rattle.json5_grammar.specs.Language.Characters.{is_identifier_start, is_identifier_part, Each, no_char, char}
 use Rattle.json5_grammar.specs.Model.ReadNumbers.{rest_of}
 use Rattle.json5_grammar.proofs.CharacterTests.{front_each}
-use Rattle.json5_text.proofs.AsciiRuns.{PassesAscii, chars_split, rest_cut}
+use Rattle.json5_types.proofs.AsciiRuns.{PassesAscii, chars_split, rest_cut}
 use Rattle.json5_ser.specs.NameBytes.{is_name_byte}
 use Rattle.json5_grammar.specs.Written.Quoting.{is_name}
 use Rattle.json5_ser.specs.Escaping.{StartsWithScalar}

@@ -5,8 +5,8 @@ use Rattle.std.specs.Str.{encode_utf8_all, all_scalars}
 use Rattle.std.proofs.lemmas.Str.{encodes-append}
 use Rattle.std.specs.Io.KnownBytes.{Appends}
 use Rattle.std.proofs.KnownBytes.{Appends-trans}
-use Rattle.json5_text.specs.declared.error.Error.{Error}
-use Rattle.json5_text.specs.Errors.{FaultKind, kind_of, error_position}
+use Rattle.json5_types.specs.declared.error.Error.{Error}
+use Rattle.json5_types.specs.Errors.{FaultKind, kind_of, error_position}
 use Rattle.json5_ser.specs.Out.{Out, Stop, whole, invalid_key, too_deep, no_number, followed_by, ◌then◌}
 use Rattle.json5_ser.specs.Writes.{SerializerState, Wrote, Stopped, Broke, Refusal, by_key, by_depth, by_writer, by_refusal, by_none, refusal_of, RefusesBy, RefusesWrite, Writes}
 

@@ -3,12 +3,12 @@ use Rattle.std.proofs.Common.{◌≡◌, ℕ, ◌+◌, ◌-◌, List, [], ◌∷
 use Rattle.std.specs.Prelude.{⊤}
 use Rattle.std.specs.Result.{IsErrAnd}
 use Rattle.std.specs.Borrow.{GName, MutBor}
-use Rattle.json5_text.specs.declared.error.Error.{Error}
+use Rattle.json5_types.specs.declared.error.Error.{Error}
 use Rattle.json5_grammar.specs.Language.Characters.{comma_sign, right_bracket, right_brace}
 use Rattle.json5_ser.specs.WrittenTrees.{Written, Elements, Fields}
 use Rattle.json5_ser.specs.Out.{Out, Stop, whole, invalid_key, too_deep, no_number, followed_by, piece, ◌then◌, closed_by, out, elements_out, fields_out, value_part}
 use Rattle.json5_ser.specs.Writes.{SerializerState, Wrote, Refusal, by_key, by_depth, by_writer, by_refusal, by_none, refusal_of, RefusesBy, RefusesWrite, Writes, WritesTree, at_depth}
-use Rattle.json5_text.specs.Errors.{kind_of}
+use Rattle.json5_types.specs.Errors.{kind_of}
 use Rattle.json5_grammar.specs.Faults.Fronts.{closing}
 use Rattle.json5_ser.specs.Brackets.{bracket_of, is_square}
 use Rattle.json5_ser.specs.WrittenCollections.{within_variant, inner, serializer_of, reference_of, state_of, is_list, key_pending, has_member, in_variant, Opened, Steps}

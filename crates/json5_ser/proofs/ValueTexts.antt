@@ -1,8 +1,8 @@
 -- Equal outputs are written of equal values, and each key of a value can be written.
 use Rattle.std.proofs.Common.{◌≡◌, ◌≢◌, ◌↔◌, ℕ, ◌+◌, Bool, true, false, cond, nat_lt, List, [], ◌∷◌, refl, ap, sym, ◌∙◌}
-use Rattle.json5_text.specs.declared.value.Value.{Value}
-use Rattle.json5_text.specs.ValueMeanings as datum
-use Rattle.json5_text.specs.ValueMeanings.{Datum, Items, no_item, item, value_of}
+use Rattle.json5_types.specs.declared.value.Value.{Value}
+use Rattle.json5_types.specs.ValueMeanings as datum
+use Rattle.json5_types.specs.ValueMeanings.{Datum, Items, no_item, item, value_of}
 use Rattle.json5_ser.specs.WrittenTrees.{Written, null, boolean, number, text, array, object, Elements, no_element, element, Fields, no_field, field, named, bad}
 use Rattle.json5_ser.specs.Out.{Out, Stop, whole, invalid_key, too_deep, no_number, piece, stopped, followed_by, ◌then◌, out, elements_out, fields_out, opened_by, closed_by, element_out, value_part, text_within}
 use Rattle.json5_ser.specs.WritableNumbers.{is_writable}

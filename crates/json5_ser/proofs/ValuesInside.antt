@@ -1,10 +1,10 @@
 -- The trees of the values inside a value.
 use Rattle.std.proofs.Common.{◌≡◌, ◌∙◌, List, [], ◌∷◌, refl, ap, Vec, Global, String, string_bytes}
 use Rattle.std.specs.Str.{chars}
-use Rattle.json5_text.specs.declared.value.Value.{Value, Array, Object}
-use Rattle.json5_text.specs.declared.value.Value as value
-use Rattle.json5_text.specs.ValueMeanings.{items_view, fields_view}
-use Rattle.json5_text.proofs.ValuesCompared.{view-String, view-Array, view-Object}
+use Rattle.json5_types.specs.declared.value.Value.{Value, Array, Object}
+use Rattle.json5_types.specs.declared.value.Value as value
+use Rattle.json5_types.specs.ValueMeanings.{items_view, fields_view}
+use Rattle.json5_types.proofs.ValuesCompared.{view-String, view-Array, view-Object}
 use Rattle.json5_ser.specs.WrittenTrees.{text, array, object, element, field, elements_of, fields_of}
 use Rattle.json5_ser.specs.ValueTrees.{value_tree, datum_tree, items_tree, fields_tree, key_of_string}
 

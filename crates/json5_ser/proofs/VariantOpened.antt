@@ -1,7 +1,7 @@
 -- The opening of a variant's object, and of what the variant holds.
 use Rattle.std.proofs.Common.{◌≡◌, ℕ, ◌+◌, List, [], ◌∷◌, Result, ◌∙◌, subst}
 use Rattle.std.specs.Result.{IsErrAnd}
-use Rattle.json5_text.specs.declared.error.Error.{Error}
+use Rattle.json5_types.specs.declared.error.Error.{Error}
 use Rattle.json5_grammar.specs.Language.Characters.{colon_sign, space, left_brace}
 use Rattle.json5_ser.specs.WrittenTrees.{named}
 use Rattle.json5_ser.specs.Out.{piece, ◌then◌, opened_by, key_part, variant_opening}

@@ -10,7 +10,7 @@ use lib.Signed.{le_z, mag}
 use Rattle.json5_grammar.specs.Language.Characters.{is_digit, Each, no_char, char}
 use Rattle.json5_grammar.specs.Language.Numbers.{Number, Decimal, infinite, nan, finite, whole, decimal, without_zeros, is_empty, InWhole}
 use Rattle.json5_grammar.specs.Written.NumberText.{IsNumber, IsNormal, number_text, decimal_text}
-use Rattle.json5_text.specs.declared.error.Error.{Error}
+use Rattle.json5_types.specs.declared.error.Error.{Error}
 use Rattle.json5_ser.specs.WritableNumbers.{is_within, is_normal, is_writable}
 use Rattle.json5_ser.specs.Out.{Out, whole as ended_whole, no_number, piece, stopped, number_out}
 use Rattle.json5_ser.specs.Writes.{SerializerState, Wrote, RefusesWrite, Writes}

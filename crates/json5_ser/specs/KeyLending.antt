@@ -1,7 +1,7 @@
 -- The serializer that is lent to a key.
 use Rattle.std.specs.Prelude.{Result}
 use Rattle.json5_grammar.specs.Language.Values.{null_text}
-use Rattle.json5_text.specs.declared.error.Error.{Error}
+use Rattle.json5_types.specs.declared.error.Error.{Error}
 use Rattle.json5_ser.specs.WrittenTrees.{named, bad}
 use Rattle.json5_ser.specs.Writes.{SerializerState}
 use Rattle.json5_ser.specs.WrittenKeys.{WritesKey}

@@ -1,8 +1,8 @@
 -- What a call does that writes pieces or a value, and returns a small value.
 use Rattle.std.specs.Prelude.{◌≡◌, None, Result, Ok, Err, ⊤}
 use Rattle.json5_grammar.specs.declared.error_code.ErrorCode.TheVariants as codes
-use Rattle.json5_text.specs.declared.error.Error.{Error}
-use Rattle.json5_text.specs.Errors.{FaultKind, code, failed_write, kind_of, SaysAt}
+use Rattle.json5_types.specs.declared.error.Error.{Error}
+use Rattle.json5_types.specs.Errors.{FaultKind, code, failed_write, kind_of, SaysAt}
 use Rattle.json5_ser.specs.WrittenTrees.{Written}
 use Rattle.json5_ser.specs.Out.{Out, out}
 use Rattle.json5_ser.specs.Writes.{SerializerState, Wrote, Refusal, by_key, by_writer, by_refusal, by_depth, by_none, refusal_of, RefusesBy}

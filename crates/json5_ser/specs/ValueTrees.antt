@@ -2,9 +2,9 @@
 use Rattle.std.specs.Prelude.{ℕ, String, string_bytes}
 use Rattle.std.specs.declared.alloc.Global.{Global}
 use Rattle.std.specs.Str.{chars}
-use Rattle.json5_text.specs.declared.value.Value.{Value}
-use Rattle.json5_text.specs.ValueMeanings as datum
-use Rattle.json5_text.specs.ValueMeanings.{Datum, Items, no_item, item, no_field, field, value_of}
+use Rattle.json5_types.specs.declared.value.Value.{Value}
+use Rattle.json5_types.specs.ValueMeanings as datum
+use Rattle.json5_types.specs.ValueMeanings.{Datum, Items, no_item, item, no_field, field, value_of}
 use Rattle.json5_ser.specs.Out.{Out, text_within}
 use Rattle.json5_ser.specs.WrittenTrees as written
 use Rattle.json5_ser.specs.WrittenTrees.{WrittenKey, Written, Elements, Fields, named, null, boolean, number, text, array, object, no_element, element}

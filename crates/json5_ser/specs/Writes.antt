@@ -3,8 +3,8 @@ use Rattle.std.specs.Prelude.{◌≡◌, ℕ, ◌-◌, List, ◌++◌, Bool, tru
 use Rattle.std.specs.Str.{encode_utf8_all, all_scalars}
 use Rattle.std.specs.Io.KnownBytes.{Appends, Keeps}
 use Rattle.json5_grammar.specs.declared.error_code.ErrorCode.TheVariants as codes
-use Rattle.json5_text.specs.declared.error.Error.{Error}
-use Rattle.json5_text.specs.Errors.{FaultKind, code, custom, failed_write, kind_of, error_position}
+use Rattle.json5_types.specs.declared.error.Error.{Error}
+use Rattle.json5_types.specs.Errors.{FaultKind, code, custom, failed_write, kind_of, error_position}
 use Rattle.json5_grammar.specs.Language.Documents.{max_depth}
 use Rattle.json5_ser.specs.WrittenTrees.{Written}
 use Rattle.json5_ser.specs.Out.{Out, Stop, whole, invalid_key, too_deep, out}

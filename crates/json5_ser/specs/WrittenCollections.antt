@@ -3,7 +3,7 @@ use Rattle.std.specs.Prelude.{◌≡◌, ℕ, ◌+◌, ◌-◌, List, [], ◌∷
 use Rattle.std.specs.Borrow.{Fml, GName, RattleType, MutBor, RestsIfErr}
 use Rattle.std.specs.declared.io.Write as write
 use Rattle.json5_grammar.specs.Language.Characters.{comma_sign, left_bracket, left_brace, right_brace}
-use Rattle.json5_text.specs.declared.error.Error.{Error}
+use Rattle.json5_types.specs.declared.error.Error.{Error}
 use Rattle.json5_ser.specs.Out.{Out, piece, ◌then◌, opened_by, closed_by, variant_opening}
 use Rattle.json5_ser.specs.Writes.{SerializerState, Wrote, RefusesWrite, Writes, at_depth}
 use Rattle.json5_grammar.specs.Faults.Fronts.{closing}

@@ -1,6 +1,6 @@
 -- What a call does that writes a key.
 use Rattle.std.specs.Prelude.{Result}
-use Rattle.json5_text.specs.declared.error.Error.{Error}
+use Rattle.json5_types.specs.declared.error.Error.{Error}
 use Rattle.json5_ser.specs.WrittenTrees.{WrittenKey}
 use Rattle.json5_ser.specs.Out.{key_out}
 use Rattle.json5_ser.specs.Writes.{SerializerState, Writes}

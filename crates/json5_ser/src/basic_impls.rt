@@ -3,18 +3,18 @@
 ghost use Rattle.std.specs.Prelude.{[], ◌∷◌, string_bytes};
 ghost use Rattle.std.specs.Str.{chars};
 ghost use Rattle.hex.specs.Hex.{encode_lower};
-ghost use Rattle.json5_text.specs.ByteBufs.{bytes_of};
-ghost use Rattle.json5_text.specs.Cows.{cow_bytes};
+ghost use Rattle.json5_types.specs.ByteBufs.{bytes_of};
+ghost use Rattle.json5_types.specs.Cows.{cow_bytes};
 ghost use Rattle.json5_grammar.specs.Language.Numbers.{decimal};
 ghost use Rattle.json5_ser.specs.WrittenTrees.{null, boolean, number, natural, integer, text, option_tree};
 
 use crate::key::bool_name;
 use crate::refusal::Put;
 use crate::{Serialize, Serializer};
-use json5_text::byte_buf::ByteBuf;
-use json5_text::cow_str::CowStr;
-use json5_text::decimal::Decimal;
-use json5_text::error::Result;
+use json5_types::byte_buf::ByteBuf;
+use json5_types::cow_str::CowStr;
+use json5_types::decimal::Decimal;
+use json5_types::error::Result;
 use std::io::Write;
 
 /// Writes `null`.

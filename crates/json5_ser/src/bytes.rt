@@ -9,7 +9,7 @@ ghost use Rattle.json5_ser.specs.WrittenKeys.{WritesKey};
 ghost use Rattle.json5_ser.specs.Out.{piece};
 
 use crate::Serializer;
-use json5_text::error::Result;
+use json5_types::error::Result;
 use std::io::Write;
 
 /// Whether the digits are an identifier: they begin with a letter.

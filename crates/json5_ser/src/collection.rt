@@ -11,7 +11,7 @@ mod opening;
 use crate::brackets::Brackets;
 use crate::stage::Stage;
 use crate::{Serialize, SerializeKey, Serializer};
-use json5_text::error::Result;
+use json5_types::error::Result;
 use std::io::Write;
 
 /// An array or an object that is written one element or member after another, each on a line of its own with a comma after it.

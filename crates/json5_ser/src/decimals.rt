@@ -11,8 +11,8 @@ ghost use Rattle.json5_ser.specs.WrittenKeys.{WritesKey};
 
 use crate::Serializer;
 use crate::refusal::Put;
-use json5_text::decimal::Decimal;
-use json5_text::error::Result;
+use json5_types::decimal::Decimal;
+use json5_types::error::Result;
 use std::io::Write;
 
 /// Whether the number's spelling is an identifier: infinity and not-a-number without a minus.

@@ -15,7 +15,7 @@ mod refusals;
 use crate::Serializer;
 use crate::identifiers::is_identifier;
 use crate::refusal::Put;
-use json5_text::error::Result;
+use json5_types::error::Result;
 use std::io::Write;
 
 /// A key that is to be written. Each of its methods takes it and writes it whole: bare where its text is an identifier

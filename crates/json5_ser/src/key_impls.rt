@@ -5,16 +5,16 @@ ghost use Rattle.std.specs.Str.{chars};
 ghost use Rattle.json5_grammar.specs.Language.Values.{null_text};
 ghost use Rattle.json5_grammar.specs.Written.NumberText.{decimal_text};
 ghost use Rattle.hex.specs.Hex.{encode_lower};
-ghost use Rattle.json5_text.specs.ByteBufs.{bytes_of};
-ghost use Rattle.json5_text.specs.Cows.{cow_bytes};
+ghost use Rattle.json5_types.specs.ByteBufs.{bytes_of};
+ghost use Rattle.json5_types.specs.Cows.{cow_bytes};
 ghost use Rattle.json5_ser.specs.WrittenTrees.{named, natural_key, integer_key, option_key};
 ghost use Rattle.json5_ser.specs.Out.{bool_text};
 
 use crate::{MapKey, SerializeKey};
-use json5_text::byte_buf::ByteBuf;
-use json5_text::cow_str::CowStr;
-use json5_text::decimal::Decimal;
-use json5_text::error::Result;
+use json5_types::byte_buf::ByteBuf;
+use json5_types::cow_str::CowStr;
+use json5_types::decimal::Decimal;
+use json5_types::error::Result;
 use std::io::Write;
 
 /// Writes `null`.

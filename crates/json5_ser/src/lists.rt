@@ -7,7 +7,7 @@ ghost use Rattle.json5_ser.specs.ShortWrites.{Puts, PutsTree};
 use crate::brackets::Brackets;
 use crate::refusal::Put;
 use crate::{Serialize, Serializer};
-use json5_text::error::Result;
+use json5_types::error::Result;
 use std::io::Write;
 
 /// Writes the line of an element, without the comma after it.

@@ -3,7 +3,7 @@
 use crate::brackets::Brackets;
 use crate::{Serialize, SerializeKey, Serializer};
 use indexmap::IndexMap;
-use json5_text::error::Result;
+use json5_types::error::Result;
 use std::collections::BTreeMap;
 use std::hash::Hash;
 use std::io::Write;

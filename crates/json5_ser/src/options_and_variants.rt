@@ -6,7 +6,7 @@ ghost use Rattle.json5_ser.specs.WrittenTrees.{null, text, option_tree, newtype_
 ghost use Rattle.json5_ser.specs.Writes.{WritesTree};
 
 use crate::{Serialize, Serializer};
-use json5_text::error::Result;
+use json5_types::error::Result;
 use std::io::Write;
 
 impl<W: Write + Drop> Serializer<W> {

@@ -1,12 +1,12 @@
 //! Why a value wasn't written, as a small value.
 
 ghost use Rattle.std.specs.Prelude.{◌≡◌, IsErrAnd};
-ghost use Rattle.json5_text.specs.Errors.{kind_of};
+ghost use Rattle.json5_types.specs.Errors.{kind_of};
 ghost use Rattle.json5_ser.specs.Writes.{refusal_of};
 ghost use Rattle.json5_ser.specs.ShortWrites.{MakesError, IsOfWriting, refusal_by};
 
-use json5_text::ErrorCode;
-use json5_text::error::{Error, Result};
+use json5_types::ErrorCode;
+use json5_types::error::{Error, Result};
 use std::io::{self, ErrorKind};
 
 /// Why a value wasn't written whole. It is small, so that the frame of a call that writes values holds no `Error`; `?` makes it the

@@ -6,7 +6,7 @@ ghost use Rattle.json5_ser.specs.ShortWrites.{PutsTree};
 
 use crate::Serializer;
 use crate::refusal::{Put, Refused};
-use json5_text::error::Result;
+use json5_types::error::Result;
 use std::io::Write;
 
 /// A value that can be written. Each type says by `tree` what is written of its values. An impl passes on what the methods of

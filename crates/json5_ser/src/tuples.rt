@@ -1,7 +1,7 @@
 //! Tuples, written as arrays of a fixed length.
 
 use crate::{Serialize, Serializer};
-use json5_text::error::Result;
+use json5_types::error::Result;
 use std::io::Write;
 
 /// Writes an array of one element.

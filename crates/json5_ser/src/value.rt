@@ -11,9 +11,9 @@ use crate::brackets::Brackets;
 use crate::key::bool_name;
 use crate::refusal::Put;
 use crate::{Serialize, Serializer};
-use json5_text::error::Result;
-use json5_text::value::Value;
-use json5_text::whole::Whole;
+use json5_types::error::Result;
+use json5_types::value::Value;
+use json5_types::whole::Whole;
 use std::io::Write;
 
 /// Writes a value of any kind; equal keys are kept.

@@ -11,9 +11,9 @@ ghost use Rattle.json5_ser.specs.ReferencedWriters.{named};
 
 use crate::string_writer::StringWriter;
 use crate::{Serialize, Serializer};
-use json5_text::ErrorCode;
-use json5_text::error::{Error, Result};
-use json5_text::nesting::Limit;
+use json5_types::ErrorCode;
+use json5_types::error::{Error, Result};
+use json5_types::nesting::Limit;
 use std::alloc::Global;
 use std::io;
 use std::io::Write;

@@ -14,7 +14,7 @@ use Rattle.json5_grammar.specs.Model.ReadBlanks.{skip, between, Mode}
 use Rattle.json5_grammar.specs.Model.ReadNumbers.{front_of, rest_of}
 use Rattle.json5_grammar.proofs.CharacterTests.{front_each}
 use Rattle.json5_text.specs.ByteRuns.{is_ascii_blank, is_in_line, is_line_part, is_no_star, BeginsSolid}
-use Rattle.json5_text.proofs.AsciiRuns.{PassesAscii, chars_split, rest_cut, rest_shorter}
+use Rattle.json5_types.proofs.AsciiRuns.{PassesAscii, chars_split, rest_cut, rest_shorter}
 use Rattle.json5_text.proofs.BlankSteps.{blank_more, line_more, block_more}
 use Rattle.json5_text.proofs.RunBoundaries.{stop_skips, line_chars, star_chars}
 

@@ -16,7 +16,7 @@ use Rattle.json5_grammar.proofs.CharacterTests.{front_each}
 use Rattle.json5_text.specs.ByteRuns.{is_ascii_start, is_ascii_part}
 use Rattle.json5_text.specs.Scan.{SkipsSome}
 use Rattle.json5_text.specs.ScanTexts.{is_raw_part}
-use Rattle.json5_text.proofs.AsciiRuns.{PassesAscii, chars_split, rest_cut, rest_shorter}
+use Rattle.json5_types.proofs.AsciiRuns.{PassesAscii, chars_split, rest_cut, rest_shorter}
 
 -- ---- the classes of the first 128 characters, computed
 

@@ -16,7 +16,7 @@ use Rattle.json5_grammar.proofs.FixedWidthLaws.{IsChecked, checked_is, capped_ra
 use Rattle.json5_text.specs.declared.decimal_literals.Exponent.{Exponent}
 use Rattle.json5_text.specs.declared.decimal_literals.Literal.{Literal}
 use Rattle.json5_text.specs.NumberParts.{raised_of, parts_of, limited_exponent, is_whole_literal, MeansDecimal}
-use Rattle.json5_text.specs.NumberDecimals.{IsFiniteIfInRange}
+use Rattle.json5_types.specs.NumberDecimals.{IsFiniteIfInRange}
 use mathlib.Core.Bool.{true≢false}
 use Rattle.json5_grammar.proofs.DecimalsWritten.{length-front}
 

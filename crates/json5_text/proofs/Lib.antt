@@ -1,25 +1,14 @@
 -- Lists the lemmas about the scanner, errors and values.
-pub mod AsciiRuns
-pub mod NumberZeros
-pub mod ZeroPieces
-pub mod DecimalPieces
 pub mod BlankSteps
 pub mod TextCuts
 pub mod UnicodeScalars
 pub mod ScanFaults
 pub mod ScanTokens
 pub mod EscapesSpelled
-pub mod ErrorsCompared
-pub mod TextsCompared
 pub mod ScanEscapes
 pub mod ScanRuns
 pub mod ScanTexts
 pub mod ShortEscapes
-pub mod ValuesCopied
-pub mod DeepestInside
-pub mod InlineDigits
-pub mod LookedUp
-pub mod ValuesCompared
 pub mod NumberSteps
 pub mod DecimalLiteralParts
 pub mod DigitValues

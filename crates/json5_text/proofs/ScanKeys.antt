@@ -7,12 +7,12 @@ use Rattle.json5_grammar.specs.Model.Reading.{Read, inner, got, bad}
 use Rattle.json5_grammar.specs.Model.ReadTexts.{identifier, key}
 use Rattle.json5_grammar.specs.Language.Strings.{is_quote}
 use Rattle.json5_grammar.proofs.KeysRead.{key_complete}
-use Rattle.json5_text.specs.declared.error.Error.{Error}
+use Rattle.json5_types.specs.declared.error.Error.{Error}
 use Rattle.json5_text.specs.declared.refusal.Refusal.{Refusal}
 use Rattle.json5_text.specs.declared.refusal.Refusal.TheVariants as refusal
 use Rattle.json5_text.specs.TokenResults.{SparesEscapeFree}
 use Rattle.json5_text.specs.Cursor.{Cursor}
-use Rattle.json5_text.specs.Errors.{LacksMemory}
+use Rattle.json5_types.specs.Errors.{LacksMemory}
 use Rattle.json5_text.specs.Outcome.{outcome}
 use Rattle.json5_text.specs.RefusalOutcomes.{Refuses}
 use Rattle.json5_text.specs.Scan.{MadeOf}

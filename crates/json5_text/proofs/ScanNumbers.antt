@@ -13,7 +13,7 @@ use Rattle.json5_grammar.proofs.NumbersRead.{complete}
 use Rattle.json5_grammar.proofs.NumbersSound.{PlaceIs, SoundNumber, sound}
 use Rattle.json5_text.specs.TokenFaults.{FaultyNumber, no_number, number_missing}
 use Rattle.json5_text.specs.declared.refusal.Refusal.{Refusal}
-use Rattle.json5_text.specs.NumberMeanings.{keeps_digits}
+use Rattle.json5_types.specs.NumberMeanings.{keeps_digits}
 use Rattle.json5_text.specs.Outcome.{outcome}
 use Rattle.json5_text.specs.RefusalOutcomes.{Refuses, WantsForDigits}
 use Rattle.json5_text.specs.Scan.{HasFault}

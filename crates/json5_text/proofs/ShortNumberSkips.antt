@@ -18,7 +18,7 @@ use Rattle.json5_grammar.proofs.NumbersRead.{complete, head_bare, lengthens_bare
 use Rattle.json5_grammar.proofs.NumbersSound.{whole_true, whole_num}
 use Rattle.json5_grammar.proofs.CharacterTests.{front_rest}
 use Rattle.json5_text.specs.ByteRuns.{lengthens_digits}
-use Rattle.json5_text.specs.NumberParts.{SplitsDigits}
+use Rattle.json5_types.specs.DigitRuns.{SplitsDigits}
 use Rattle.json5_text.specs.ShortWays.{IsInFront}
 use Rattle.json5_text.specs.ShortNumberSkips.{FollowsSign, FollowsMantissa, FollowsPower, FollowsExponent}
 use Rattle.json5_text.specs.TokenResults.{GivesRest}

@@ -17,7 +17,7 @@ use Rattle.json5_text.specs.Cursor.{Cursor}
 use Rattle.json5_text.specs.Scan.{Leaves, LeavesAt}
 use Rattle.json5_text.specs.ShortWays.{IsStep, FindsStep, IsInFront, Stepped, FindsSign, TakesShortSign}
 use Rattle.json5_text.specs.declared.short_ways.Step.{Step}
-use Rattle.json5_text.proofs.AsciiRuns.{PassesAscii}
+use Rattle.json5_types.proofs.AsciiRuns.{PassesAscii}
 use Rattle.json5_text.proofs.ScanTokens.{left_counted, blanks_passed}
 use Rattle.json5_text.proofs.ShortWholes.{ends_chars}
 

@@ -29,7 +29,7 @@ use Rattle.json5_text.specs.declared.short_texts.FoundText.{FoundText}
 use Rattle.json5_text.specs.declared.strings_and_names.Quote.{Quote}
 use Rattle.json5_text.specs.declared.strings_and_names.Quote.TheVariants as quotes
 use Rattle.json5_text.proofs.AsciiNames.{ascii_start, ascii_part, parts_ascii, parts_counted}
-use Rattle.json5_text.proofs.AsciiRuns.{chars_split, rest_cut, rest_utf8}
+use Rattle.json5_types.proofs.AsciiRuns.{chars_split, rest_cut, rest_utf8}
 use Rattle.json5_text.proofs.TextCuts.{fits_left, whole_split, bytes_append}
 use Rattle.json5_text.proofs.ScanRuns.{quote_is}
 use Rattle.json5_text.proofs.ScanTokens.{left_counted, blanks_passed}

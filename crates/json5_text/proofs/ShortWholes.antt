@@ -21,7 +21,7 @@ use Rattle.json5_grammar.proofs.CharacterTests.{front_each, digit_nonzero, nonze
 use Rattle.json5_grammar.proofs.CommonLemmas.{eq_from}
 use Rattle.json5_text.specs.declared.byte_runs.FewDigits.{FewDigits}
 use Rattle.json5_text.specs.ByteRuns.{lengthens_digits, IsFewDigits, IsShort}
-use Rattle.json5_text.proofs.AsciiRuns.{PassesAscii, digit_is_ascii, not_begun, rest_utf8, rest_cut, chars_split}
+use Rattle.json5_types.proofs.AsciiRuns.{PassesAscii, digit_is_ascii, not_begun, rest_utf8, rest_cut, chars_split}
 
 pub len_counted : (s : List ℕ) (found : FewDigits) → IsFewDigits s found → found.len ≡ length (take_while is_digit s)
 len_counted s found k = let a = length-take (prefix_len is_digit s) s in let l = prefix_len-le-length is_digit s in omega (arith, k.counted, a, l)

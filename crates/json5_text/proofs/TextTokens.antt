@@ -7,11 +7,11 @@ use denote.Ref.{Bor}
 use Rattle.json5_grammar.specs.Model.Reading.{Read, got}
 use Rattle.json5_grammar.specs.Model.ReadTexts.{identifier}
 use Rattle.json5_grammar.proofs.TextsWritten.{string_slice, name_slice}
-use Rattle.json5_text.specs.declared.cow_str.CowStr.{CowStr}
-use Rattle.json5_text.specs.declared.cow_str.CowStr.TheVariants as cow
+use Rattle.json5_types.specs.declared.cow_str.CowStr.{CowStr}
+use Rattle.json5_types.specs.declared.cow_str.CowStr.TheVariants as cow
 use Rattle.json5_text.specs.declared.text_token.TextToken.{TextToken}
 use Rattle.json5_text.specs.TokenResults.{GivesText, IsCow}
-use Rattle.json5_text.specs.Cows.{cow_bytes, is_borrowed}
+use Rattle.json5_types.specs.Cows.{cow_bytes, is_borrowed}
 use Rattle.json5_text.specs.Cursor.{Cursor}
 use Rattle.json5_text.specs.TextTokens.{IsSliceAt, Spells}
 use Rattle.json5_text.specs.Outcome.{bytes_in}

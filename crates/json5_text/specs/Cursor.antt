@@ -5,8 +5,8 @@ use Rattle.json5_grammar.specs.declared.error_code.ErrorCode.{ErrorCode}
 use Rattle.json5_grammar.specs.declared.error_code.ErrorCode.TheVariants as codes
 use Rattle.json5_grammar.specs.Faults.Positions.{position_after}
 use Rattle.json5_grammar.specs.declared.position.Position.{Position}
-use Rattle.json5_text.specs.declared.error.Error.{Error}
-use Rattle.json5_text.specs.Errors.{code, custom, kind_of, error_position}
+use Rattle.json5_types.specs.declared.error.Error.{Error}
+use Rattle.json5_types.specs.Errors.{code, custom, kind_of, error_position}
 
 pub record Cursor : Type 0 where
   pub input : List ℕ

@@ -65,15 +65,6 @@ abbrev pub after_sign : List ℕ → Bool × List ℕ
 after_sign [] = (false, [])
 after_sign (c ∷ x) = cond (c == plus_sign) (false, x) (cond (c == minus_sign) (true, x) (false, c ∷ x))
 
--- the digits in front and what follows them, of the characters and of the bytes
-pub record SplitsDigits (whole start after : List ℕ) : Type 0 where
-  pub front : start ≡ front_of is_digit (chars whole)
-  pub digits : Each is_digit start
-  pub rest : chars after ≡ rest_of is_digit (chars whole)
-  pub front_bytes : start ≡ front_of is_digit whole
-  pub rest_bytes : after ≡ rest_of is_digit whole
-  pub text : IsUtf8 after
-
 -- an unsigned number in front of the text is a decimal run
 abbrev pub IsAtRun : List ℕ → Type 0
 IsAtRun x = (start : List ℕ) (negative : Bool) → unsigned start negative x ≡ decimal_run start negative x

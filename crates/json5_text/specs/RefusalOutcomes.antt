@@ -5,7 +5,7 @@ use Rattle.json5_grammar.specs.Model.Reading.{Read, got, bad}
 use Rattle.json5_text.specs.Outcome.{Outcome, failed}
 use Rattle.json5_text.specs.declared.refusal.Refusal.{Refusal}
 use Rattle.json5_text.specs.declared.refusal.Refusal.TheVariants as refusal
-use Rattle.json5_text.specs.NumberMeanings.{keeps_digits}
+use Rattle.json5_types.specs.NumberMeanings.{keeps_digits}
 
 -- that memory ran out says nothing of the input
 abbrev pub Refuses : {A : Type 0} → Refusal → Outcome A → Type 0

@@ -2,8 +2,8 @@
 use Rattle.std.specs.Prelude.{◌≡◌, ℕ, ◌+◌, Bool, List, ◌++◌, length, Result, Ok, Err}
 use denote.Ref.{Bor}
 use Rattle.json5_grammar.specs.Model.Reading.{Read}
-use Rattle.json5_text.specs.declared.cow_str.CowStr.{CowStr}
-use Rattle.json5_text.specs.declared.cow_str.CowStr.TheVariants as cow
+use Rattle.json5_types.specs.declared.cow_str.CowStr.{CowStr}
+use Rattle.json5_types.specs.declared.cow_str.CowStr.TheVariants as cow
 use Rattle.json5_text.specs.declared.text_token.TextToken.{TextToken}
 use Rattle.json5_text.specs.declared.text_token.TextToken.TheVariants as token
 use Rattle.json5_text.specs.declared.refusal.Refusal.{Refusal}

@@ -1,10 +1,10 @@
 -- What contracts see of the token of a string or a key.
 use Rattle.std.specs.Prelude.{◌≡◌, ℕ, ◌+◌, Bool, true, false, List, ◌++◌, length, string_bytes}
 use Rattle.std.specs.Str.{encode_utf8_all}
-use Rattle.json5_text.specs.declared.cow_str.CowStr.{CowStr}
+use Rattle.json5_types.specs.declared.cow_str.CowStr.{CowStr}
 use Rattle.json5_text.specs.declared.text_token.TextToken.{TextToken}
 use Rattle.json5_text.specs.declared.text_token.TextToken.TheVariants as token
-use Rattle.json5_text.specs.Cows.{cow_bytes, is_borrowed}
+use Rattle.json5_types.specs.Cows.{cow_bytes, is_borrowed}
 
 -- u is the part of the input between these offsets
 pub record IsSliceAt (input u : List ℕ) (start end : ℕ) : Type 0 where

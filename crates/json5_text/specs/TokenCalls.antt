@@ -8,15 +8,15 @@ use Rattle.json5_grammar.specs.Language.Names.{Ident, Key, goes_on_name}
 use Rattle.json5_grammar.specs.Language.Numbers as numbers
 use Rattle.json5_grammar.specs.Language.Numbers.{Num, lengthens}
 use Rattle.json5_grammar.specs.Language.Strings.{Str}
-use Rattle.json5_text.specs.declared.cow_str.CowStr.{CowStr}
-use Rattle.json5_text.specs.declared.error.Error.{Error}
+use Rattle.json5_types.specs.declared.cow_str.CowStr.{CowStr}
+use Rattle.json5_types.specs.declared.error.Error.{Error}
 use Rattle.json5_text.specs.declared.text_token.TextToken.{TextToken}
-use Rattle.json5_text.specs.declared.number.Number.{Number}
-use Rattle.json5_text.specs.Cows.{cow_bytes, is_borrowed}
+use Rattle.json5_types.specs.declared.number.Number.{Number}
+use Rattle.json5_types.specs.Cows.{cow_bytes, is_borrowed}
 use Rattle.json5_text.specs.Cursor.{Cursor, Refused, Took}
-use Rattle.json5_text.specs.Errors.{LacksMemory}
+use Rattle.json5_types.specs.Errors.{LacksMemory}
 use Rattle.json5_text.specs.TextTokens.{Spells}
-use Rattle.json5_text.specs.NumberMeanings.{number_of, keeps_digits, whole_in}
+use Rattle.json5_types.specs.NumberMeanings.{number_of, keeps_digits, whole_in}
 use Rattle.json5_text.specs.TokenFaults.{FaultyBlanks, FaultyWord, FaultyNumber, FaultyString, FaultyName, FaultyKey}
 
 -- blanks are passed over, up to what is no blank

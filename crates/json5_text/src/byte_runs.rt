@@ -7,6 +7,7 @@ ghost use Rattle.std.specs.Simd.Lanes.{mask_l};
 ghost use Rattle.json5_grammar.specs.Language.Strings.{is_raw};
 ghost use Rattle.json5_text.specs.ByteRuns.{ends_raw, is_ascii_blank, is_ascii_start, is_ascii_part, is_plain_ascii, IsAsciiName, is_in_line, is_no_star, lengthens_digits, SpellsFront, IsUnpadded, IsShort, BeginsSolid};
 
+use json5_types::digit_runs::is_digit;
 use memchr::{memchr, memchr3};
 use std::simd::prelude::*;
 
@@ -147,14 +148,6 @@ pub(crate) fn raw_end(quote: u8, bytes: &[u8]) -> usize
 pub(crate) struct FewDigits {
     pub(crate) value: u64,
     pub(crate) len: usize,
-}
-
-/// Whether the byte is a digit.
-#[inline(always)]
-pub(crate) fn is_digit(byte: u8) -> bool
-    ensures { result ≡ is_digit byte }
-{
-    byte >= b'0' && byte <= b'9'
 }
 
 /// Whether the byte may continue a number after its digits.

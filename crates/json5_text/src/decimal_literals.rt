@@ -7,8 +7,8 @@ ghost use Rattle.json5_grammar.specs.Language.Numbers as numbers;
 ghost use Rattle.json5_grammar.specs.Model.ReadNumbers as model;
 ghost use Rattle.json5_text.specs.NumberParts.{begun, run_of, after_sign, ReadsTail, ReadsLiteral};
 
-use crate::digit_runs::split_digits;
 use crate::first_char::front;
+use json5_types::digit_runs::split_digits;
 
 /// The exponent of a literal: its sign and its digits.
 #[derive(Clone, Copy)]

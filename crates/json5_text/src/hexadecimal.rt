@@ -11,8 +11,8 @@ use crate::digit_values::one_more;
 use crate::first_char::front;
 use crate::number_slices::Scanned;
 use crate::refusal::Refusal;
-use crate::whole::Whole;
 use json5_grammar::error_code::ErrorCode;
+use json5_types::whole::Whole;
 
 /// The value of a first hexadecimal digit and those in front, and what follows them; or what begins with the digit that takes it
 /// past `u128`.

@@ -9,12 +9,12 @@ ghost use Rattle.json5_text.specs.ScanTexts.{fits_name, is_raw_part, item_of_nam
 
 use crate::byte_runs::name_len;
 use crate::char::{is_json5_identifier, is_json5_identifier_start};
-use crate::cow_str::CowStr;
 use crate::escapes::unicode_escape;
 use crate::first_char::front;
 use crate::refusal::Refusal;
 use crate::strings_and_names::{Kind, read_text, skip_text};
 use json5_grammar::error_code::ErrorCode;
+use json5_types::cow_str::CowStr;
 use std::alloc::Global;
 
 /// The name in front, and what follows it (JSON5 section 3, ECMAScript 5.1 section 7.6). It is borrowed where the name holds no

@@ -6,17 +6,17 @@ ghost use Rattle.json5_grammar.specs.Language.Characters.{is_digit, Each};
 ghost use Rattle.json5_grammar.specs.Language.Numbers as numbers;
 ghost use Rattle.json5_grammar.specs.Model.ReadNumbers as model;
 ghost use Rattle.json5_text.specs.TokenResults.{JudgesNumber};
-ghost use Rattle.json5_text.specs.NumberMeanings.{number_of, keeps_digits, whole_in};
+ghost use Rattle.json5_types.specs.NumberMeanings.{number_of, keeps_digits, whole_in};
 ghost use Rattle.json5_text.specs.NumberParts.{scanned_of, parts_of, signed_limited, limited_exponent, is_whole_literal, HasExponentDigits, HasDigits, MeansDecimal};
-ghost use Rattle.json5_text.specs.Exponents.{IsSmallExponent};
+ghost use Rattle.json5_types.specs.Exponents.{IsSmallExponent};
 
-use crate::decimal::{Decimal, DecimalRef};
 use crate::decimal_literals::{Exponent, Literal};
 use crate::digit_values::{EXPONENT_LIMIT, decimal_value, limited_value};
-use crate::number::Number;
 use crate::refusal::Refusal;
-use crate::whole::Whole;
 use json5_grammar::error_code::ErrorCode;
+use json5_types::decimal::{Decimal, DecimalRef};
+use json5_types::number::Number;
+use json5_types::whole::Whole;
 use std::alloc::{AllocError, Global};
 
 /// A number as it is read from the input; a finite decimal's digits are slices of the input.

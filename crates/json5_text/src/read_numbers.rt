@@ -8,19 +8,19 @@ ghost use Rattle.json5_grammar.specs.Language.Numbers as numbers;
 ghost use Rattle.json5_grammar.specs.Model.ReadNumbers as model;
 ghost use Rattle.json5_grammar.specs.Model.Reading.{word_at};
 ghost use Rattle.json5_text.specs.TokenResults.{GivesValue, AnswersAs, AnswersNumber, AnswersWhole};
-ghost use Rattle.json5_text.specs.NumberMeanings.{number_of};
+ghost use Rattle.json5_types.specs.NumberMeanings.{number_of};
 ghost use Rattle.json5_text.specs.NumberParts.{scanned_of};
 
 use crate::byte_runs::{begins_minus, short_digits};
 use crate::decimal_literals::{after_sign, read_literal};
 use crate::first_char::front;
 use crate::hexadecimal::hexadecimal;
-use crate::number::Number;
 use crate::number_slices::{Scanned, judge};
 use crate::refusal::Refusal;
-use crate::whole::Whole;
 use crate::words::skip_word;
 use json5_grammar::error_code::ErrorCode;
+use json5_types::number::Number;
+use json5_types::whole::Whole;
 use std::alloc::Global;
 
 /// The decimal run in front, which begins a number, and what follows it.

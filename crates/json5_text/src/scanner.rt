@@ -9,18 +9,18 @@ ghost use Rattle.json5_text.specs.TokenCalls.{PassesBlanks, TakesWord, TakesNumb
 
 use crate::blanks::skip_blank;
 use crate::byte_runs::begins_solid;
-use crate::error::Result;
 use crate::first_char::front;
 use crate::input::Input;
 use crate::keys::read_key;
 use crate::names::skip_name;
-use crate::number::Number;
 use crate::read_numbers::{number, skip_number};
 use crate::strings::{read_string_owned, read_string_token, skip_string};
 use crate::text_token::TextToken;
-use crate::whole::Whole;
 use crate::words::skip_word;
 use json5_grammar::error_code::ErrorCode;
+use json5_types::error::Result;
+use json5_types::number::Number;
+use json5_types::whole::Whole;
 use std::alloc::Global;
 use std::marker::Model;
 

@@ -10,12 +10,12 @@ ghost use Rattle.json5_text.specs.NumberParts.{IsAtRun, is_whole_literal};
 ghost use Rattle.json5_text.specs.ShortWays.{TakesShortDecimal};
 
 use crate::blanks::skip_ascii;
-use crate::decimal::Decimal;
 use crate::decimal_literals::{Literal, after_sign, read_literal};
 use crate::first_char::front;
 use crate::input::Input;
 use crate::number_slices::finite_decimal;
 use crate::scanner::Scanner;
+use json5_types::decimal::Decimal;
 
 /// Whether a digit or a point is in front that begins a decimal run; after a first `0` goes a point or an exponent.
 #[inline(always)]

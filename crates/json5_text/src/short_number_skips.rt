@@ -10,10 +10,10 @@ ghost use Rattle.json5_text.specs.TokenResults.{GivesRest};
 use crate::blanks::skip_ascii;
 use crate::byte_runs::goes_on;
 use crate::decimal_literals::is_integer;
-use crate::digit_runs::split_digits;
 use crate::input::Input;
 use crate::scanner::Scanner;
 use crate::short_ways::is_in_front;
+use json5_types::digit_runs::split_digits;
 
 /// How many digits there may be before the point, and how many after it: so few keep the exponent in range.
 const FEW: usize = 1000;

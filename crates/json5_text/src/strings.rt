@@ -9,12 +9,12 @@ ghost use Rattle.json5_text.specs.ScanTextTokens.{AnswersToken};
 ghost use Rattle.json5_text.specs.ScanTexts.{quote_of, string_at, AnswersQuote};
 
 use crate::byte_runs::raw_end;
-use crate::cow_str::CowStr;
 use crate::first_char::front;
 use crate::refusal::Refusal;
 use crate::strings_and_names::{Kind, Quote, read_text, read_text_owned, skip_text};
 use crate::text_token::TextToken;
 use json5_grammar::error_code::ErrorCode;
+use json5_types::cow_str::CowStr;
 use std::alloc::Global;
 
 /// What the string in front spells, and what follows the string (JSON5 section 5, ECMAScript 5.1 section 7.8.4). It is borrowed

@@ -7,13 +7,13 @@ ghost use Rattle.json5_text.specs.TokenResults.{AnswersAs, AnswersCow, AnswersMo
 ghost use Rattle.json5_text.specs.Scan.{AtEscape, in_list};
 ghost use Rattle.json5_text.specs.ScanTexts.{quote_of, after_first_char, past, ends_early, text_at, item, is_raw_in, SkipsRaw, AnswersStop, AnswersRun, AnswersStep, IsReadTo, AddsUpTo, PassesSteps, AddsSteps};
 
-use crate::cow_str::CowStr;
 use crate::escapes::{front_escape, read_escape};
 use crate::first_char::front;
 use crate::names::{self, skip_parts, skip_start};
 use crate::refusal::Refusal;
 use crate::strings::skip_raw;
 use json5_grammar::error_code::ErrorCode;
+use json5_types::cow_str::CowStr;
 use std::alloc::{AllocError, Global};
 
 /// How many bytes a string with an escape has room for after the run before its first escape.

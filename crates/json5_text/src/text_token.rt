@@ -1,11 +1,11 @@
 //! Tokens of strings and keys, whose text a scanner finds again.
 
 ghost use Rattle.std.specs.Prelude.{◌≡◌, ◌≤◌, ◌-◌, true, length};
-ghost use Rattle.json5_text.specs.Cows.{cow_bytes, is_borrowed};
+ghost use Rattle.json5_types.specs.Cows.{cow_bytes, is_borrowed};
 ghost use Rattle.json5_text.specs.ScanTextTokens.{IsTokenOf};
 
-use crate::cow_str::CowStr;
 use crate::short_texts::Span;
+use json5_types::cow_str::CowStr;
 
 /// The text of a string or a key that a `Scanner` took. `Scanner::text_of` finds it, also after more was read.
 #[derive(Debug, Drop)]

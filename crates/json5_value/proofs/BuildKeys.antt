@@ -18,10 +18,10 @@ use Rattle.json5_grammar.proofs.FoundPlaces.{Found}
 use Rattle.json5_grammar.proofs.KeysRead.{key_complete}
 use Rattle.json5_grammar.proofs.Refusals.{Refuses}
 use Rattle.json5_grammar.proofs.ValuesSound.{IsGap, gap_found}
-use Rattle.json5_text.specs.declared.error.Error.{Error}
+use Rattle.json5_types.specs.declared.error.Error.{Error}
 use Rattle.json5_text.specs.declared.text_token.TextToken.{TextToken}
 use Rattle.json5_text.specs.Cursor.{Cursor}
-use Rattle.json5_text.specs.Errors.{code, kind_of, error_position}
+use Rattle.json5_types.specs.Errors.{code, kind_of, error_position}
 use Rattle.json5_text.specs.TextTokens.{Spells}
 use Rattle.json5_text.specs.TokenCalls.{TakesKey}
 use Rattle.json5_text.specs.TokenFaults.{FaultyKey, at_quote, at_name}

@@ -8,9 +8,9 @@ use Rattle.json5_grammar.specs.Model.ReadSteps.{entry_at, separator, next_value,
 use Rattle.json5_grammar.specs.Model.ReadValues.{read}
 use Rattle.json5_grammar.specs.Language.Trees.{Tree, Trees, Members, array, object, no_more, more, no_member, member}
 use Rattle.json5_grammar.proofs.TreeSteps.{trees_step, trees_later, pairs_step, pairs_later, read_array, read_object}
-use Rattle.json5_text.specs.declared.value.Value.{Value}
-use Rattle.json5_text.specs.ValueMeanings as views
-use Rattle.json5_text.specs.ValueMeanings.{Datum, Items, Fields, no_item, item, no_field, field, value_of, items_view, fields_view}
+use Rattle.json5_types.specs.declared.value.Value.{Value}
+use Rattle.json5_types.specs.ValueMeanings as views
+use Rattle.json5_types.specs.ValueMeanings.{Datum, Items, Fields, no_item, item, no_field, field, value_of, items_view, fields_view}
 use Rattle.json5_value.specs.BuildSteps.{elements_before, members_before, array_with, object_with, rest_of_array, rest_of_object}
 use Rattle.json5_value.specs.OwnedReads.{as_datum, next_key}
 use Rattle.json5_value.specs.TreeMeanings.{datum_of, items_of, fields_of}

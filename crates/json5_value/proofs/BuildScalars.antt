@@ -18,16 +18,16 @@ use Rattle.json5_grammar.proofs.Refusals.{Refuses}
 use Rattle.json5_grammar.proofs.ValuesRead.{read_complete}
 use Rattle.json5_grammar.proofs.ValuesSound.{text_stops}
 use Rattle.json5_grammar.proofs.ValueSteps.{read_quote, read_numeral, read_missing}
-use Rattle.json5_text.specs.declared.error.Error.{Error}
-use Rattle.json5_text.specs.declared.value.Value.{Value}
+use Rattle.json5_types.specs.declared.error.Error.{Error}
+use Rattle.json5_types.specs.declared.value.Value.{Value}
 use Rattle.json5_text.specs.Cursor.{Cursor, Took}
-use Rattle.json5_text.specs.Errors.{code, kind_of, error_position}
+use Rattle.json5_types.specs.Errors.{code, kind_of, error_position}
 use Rattle.json5_text.specs.TokenFaults.{FaultyNumber, FaultyString}
-use Rattle.json5_text.specs.declared.value.Value as value
-use Rattle.json5_text.specs.ValueMeanings.{value_of, Datum}
-use Rattle.json5_text.specs.ValueMeanings as datum
+use Rattle.json5_types.specs.declared.value.Value as value
+use Rattle.json5_types.specs.ValueMeanings.{value_of, Datum}
+use Rattle.json5_types.specs.ValueMeanings as datum
 use Rattle.json5_text.proofs.UnicodeScalars.{text_characters}
-use Rattle.json5_text.proofs.ValuesCompared.{view-String}
+use Rattle.json5_types.proofs.ValuesCompared.{view-String}
 use Rattle.json5_value.specs.declared.kinds.Literal.{Literal}
 use Rattle.json5_value.specs.declared.kinds.Literal.TheVariants as literal
 use Rattle.json5_value.specs.declared.kinds.ValueKind.{ValueKind}

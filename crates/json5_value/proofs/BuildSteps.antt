@@ -2,7 +2,7 @@
 use Rattle.std.proofs.Common.{◌≡◌, ℕ, List, ap, sym, ◌∙◌, subst, inl, inr}
 use Rattle.std.specs.Prelude.{Result, Ok, Err}
 use Rattle.json5_grammar.specs.Model.Reading.{Read, got, and_then}
-use Rattle.json5_text.specs.declared.error.Error.{Error}
+use Rattle.json5_types.specs.declared.error.Error.{Error}
 use Rattle.json5_text.specs.Cursor.{Cursor, Took}
 use Rattle.json5_value.specs.OwnedReads.{BlamesOrMemory, Keeps}
 use Rattle.json5_value.specs.ModelSteps.{SameText, RefusesRead, Gave}

@@ -5,13 +5,13 @@ use Rattle.std.specs.declared.alloc.Global.{Global}
 use Rattle.json5_grammar.specs.Faults.Fronts.{of_array}
 use Rattle.json5_grammar.specs.Model.Reading.{Read, got, and_then}
 use Rattle.json5_grammar.specs.Model.ReadSteps.{next_value, pairs_after}
-use Rattle.json5_text.specs.declared.error.Error.{Error}
+use Rattle.json5_types.specs.declared.error.Error.{Error}
 use Rattle.json5_text.specs.Cursor.{Cursor, Took, IsOutOfMemory}
-use Rattle.json5_text.specs.declared.value.Value.{Value}
-use Rattle.json5_text.specs.declared.value.Value as value
-use Rattle.json5_text.specs.ValueMeanings.{Datum, value_of}
-use Rattle.json5_text.specs.ValueMeanings as views
-use Rattle.json5_text.proofs.ValuesCompared.{view-Array, view-Object}
+use Rattle.json5_types.specs.declared.value.Value.{Value}
+use Rattle.json5_types.specs.declared.value.Value as value
+use Rattle.json5_types.specs.ValueMeanings.{Datum, value_of}
+use Rattle.json5_types.specs.ValueMeanings as views
+use Rattle.json5_types.proofs.ValuesCompared.{view-Array, view-Object}
 use Rattle.json5_value.specs.declared.unfinished.Unfinished.{Unfinished}
 use Rattle.json5_value.specs.declared.unfinished.Unfinished.TheVariants as unfinished
 use Rattle.json5_value.specs.BuildSteps.{elements_before, members_before, object_with, array_at, object_at, value_in_at, start_of, value_in, Building, BuildingInside, TurnsBuildingInside}

@@ -7,11 +7,11 @@ use Rattle.json5_grammar.specs.Faults.Fronts.{opening}
 use Rattle.json5_grammar.specs.Model.Reading.{Read, got, placed}
 use Rattle.json5_grammar.specs.Model.ReadValues.{read}
 use Rattle.json5_grammar.proofs.ValuesSound.{read_sound}
-use Rattle.json5_text.specs.declared.error.Error.{Error}
+use Rattle.json5_types.specs.declared.error.Error.{Error}
 use Rattle.json5_text.specs.Cursor.{Cursor, IsOutOfMemory}
-use Rattle.json5_text.specs.Errors.{kind_of}
-use Rattle.json5_text.specs.declared.value.Value.{Value}
-use Rattle.json5_text.specs.ValueMeanings.{Datum, value_of}
+use Rattle.json5_types.specs.Errors.{kind_of}
+use Rattle.json5_types.specs.declared.value.Value.{Value}
+use Rattle.json5_types.specs.ValueMeanings.{Datum, value_of}
 use Rattle.json5_value.specs.declared.brackets.BracketKind.TheVariants as bracket
 use Rattle.json5_value.specs.declared.brackets.OpenBracket.{OpenBracket}
 use Rattle.json5_value.specs.declared.unfinished.Unfinished.{Unfinished}

@@ -8,7 +8,7 @@ use Rattle.json5_grammar.specs.Model.Reading.{Read, got, and_then}
 use Rattle.json5_grammar.specs.Model.ReadBlanks.{skip, between}
 use Rattle.json5_grammar.specs.Model.ReadSteps.{eof_in, colon_after, comma_at, separator}
 use Rattle.json5_grammar.specs.Model.ReadValues.{colon_at}
-use Rattle.json5_text.specs.declared.error.Error.{Error}
+use Rattle.json5_types.specs.declared.error.Error.{Error}
 use Rattle.json5_text.specs.Cursor.{Cursor, Took, Refused}
 use Rattle.json5_value.specs.Entries.{entry_front, entry_start, due_comma, next_entry}
 use Rattle.json5_value.specs.ModelSteps.{IsInside, SameText, RefusesRead, Gave, Steps, Unexpected}

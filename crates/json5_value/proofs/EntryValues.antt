@@ -8,8 +8,8 @@ use Rattle.json5_grammar.specs.Model.ReadBlanks.{skip, between}
 use Rattle.json5_grammar.specs.Model.ReadSteps.{forget, colon_after, member_head, entry_head, entry_at, separator, next_value}
 use Rattle.json5_grammar.specs.Model.ReadTexts.{key, string, identifier}
 use Rattle.json5_grammar.specs.Language.Strings.{is_quote}
-use Rattle.json5_text.specs.declared.error.Error.{Error}
-use Rattle.json5_text.specs.Errors.{code, kind_of, error_position}
+use Rattle.json5_types.specs.declared.error.Error.{Error}
+use Rattle.json5_types.specs.Errors.{code, kind_of, error_position}
 use Rattle.json5_text.specs.Cursor.{Cursor}
 use Rattle.json5_value.specs.Entries.{entry_front, entry_start, next_entry}
 use Rattle.json5_value.specs.ShortWays.{name_at}

@@ -8,9 +8,9 @@ use Rattle.json5_grammar.specs.declared.error_code.ErrorCode.TheVariants as code
 use Rattle.json5_grammar.specs.Model.Reading.{Read, Place, here, inner, got, bad, and_then, IsAt}
 use Rattle.json5_grammar.specs.Model.ReadSteps.{forget}
 use Rattle.json5_grammar.proofs.Refusals.{Refuses}
-use Rattle.json5_text.specs.declared.error.Error.{Error}
+use Rattle.json5_types.specs.declared.error.Error.{Error}
 use Rattle.json5_text.specs.Cursor.{Cursor, Took, IsPositioned, Refused, IsOutOfMemory, Says, offset_of}
-use Rattle.json5_text.specs.Errors.{code, kind_of}
+use Rattle.json5_types.specs.Errors.{code, kind_of}
 use Rattle.json5_value.specs.ModelSteps.{IsInside, SameText, HasPositionAt, RefusesRead, Gave, Steps, RefusesToken}
 use Rattle.json5_value.proofs.NoFailedCode.{Lacks, other_says, memory_other}
 

@@ -2,8 +2,8 @@
 use Rattle.std.proofs.Common.{◌≡◌, ℕ, ◌-◌, ◌<◌, List, [], ◌∷◌, ◌++◌, length, refl, ap, sym, ◌∙◌, subst, arith, length-append, ◌⊎◌, inl, inr, Option, Some, None}
 use Rattle.json5_grammar.specs.declared.error_code.ErrorCode.{ErrorCode}
 use Rattle.json5_grammar.specs.Model.Reading.{Read, Place, here, inner, got, bad, and_then, placed}
-use Rattle.json5_text.specs.declared.error.Error.{Error}
-use Rattle.json5_text.specs.Errors.{kind_of, or_position}
+use Rattle.json5_types.specs.declared.error.Error.{Error}
+use Rattle.json5_types.specs.Errors.{kind_of, or_position}
 use Rattle.json5_text.specs.Cursor.{Cursor, Took, Says, IsOutOfMemory}
 use Rattle.json5_value.specs.Nesting.{Nested, Within, WithinInner}
 use Rattle.json5_value.specs.Offsets.{StartsAfter, PositionedAt, CountsTo}

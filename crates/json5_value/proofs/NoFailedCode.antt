@@ -5,8 +5,8 @@ use Rattle.json5_grammar.specs.declared.error_code.ErrorCode.TheVariants as code
 use Rattle.json5_grammar.specs.Faults.Tokens.{BlankFault, CommentFault, in_comment, no_comment, slash_ends, block_ends, NumberFault, number_word_differs, number_word_ends, sign_without_number, sign_ends, no_hexadecimal_digit, hexadecimal_ends, hexadecimal_overflows, negative_too_large, not_a_literal, literal_overflows, leading_zero, NameFault, no_unicode_escape, escaped_no_start, escaped_no_part, name_ends, backslash_ends, StringFault, EscapeFault, raw_terminator, string_ends, in_string_escape, digit_after_nul, escaped_digit, no_escape_digit, no_second_escape, unpaired, escape_ends}
 use Rattle.json5_grammar.specs.Faults.Codes.{Shown}
 use Rattle.json5_text.specs.TokenFaults.{FaultyString, no_quote, string_missing, FaultyName, no_name, name_missing, FaultyKey, at_quote, at_name, FaultyWord, word_differs, word_ends, FaultyNumber, faulty, no_number, number_missing}
-use Rattle.json5_text.specs.declared.error.Error.{Error}
-use Rattle.json5_text.specs.Errors.{code, custom, kind_of}
+use Rattle.json5_types.specs.declared.error.Error.{Error}
+use Rattle.json5_types.specs.Errors.{code, custom, kind_of}
 use Rattle.json5_text.specs.Cursor.{Says, IsOutOfMemory}
 
 -- no fault of the relation has this code

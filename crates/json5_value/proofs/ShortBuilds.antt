@@ -4,14 +4,14 @@ use Rattle.std.specs.Prelude.{Result, Ok, Err}
 use Rattle.std.specs.declared.alloc.Global.{Global}
 use Rattle.std.specs.Str.{chars}
 use Rattle.json5_grammar.specs.Model.Reading.{Read, got, and_then}
-use Rattle.json5_text.specs.declared.error.Error.{Error}
+use Rattle.json5_types.specs.declared.error.Error.{Error}
 use Rattle.json5_text.specs.declared.short_texts.Span.{Span}
 use Rattle.json5_text.specs.Cursor.{Cursor, IsOutOfMemory}
-use Rattle.json5_text.specs.Errors.{LacksMemory}
-use Rattle.json5_text.specs.declared.value.Value.{Value}
-use Rattle.json5_text.specs.declared.value.Value as value
-use Rattle.json5_text.specs.ValueMeanings.{Datum}
-use Rattle.json5_text.proofs.ValuesCompared.{view-Array, view-Object}
+use Rattle.json5_types.specs.Errors.{LacksMemory}
+use Rattle.json5_types.specs.declared.value.Value.{Value}
+use Rattle.json5_types.specs.declared.value.Value as value
+use Rattle.json5_types.specs.ValueMeanings.{Datum}
+use Rattle.json5_types.proofs.ValuesCompared.{view-Array, view-Object}
 use Rattle.json5_value.specs.declared.unfinished.Unfinished.{Unfinished}
 use Rattle.json5_value.specs.declared.unfinished.Unfinished.TheVariants as unfinished
 use Rattle.json5_value.specs.declared.short_ways.NameLeft.{NameLeft}

@@ -27,11 +27,11 @@ use Rattle.json5_grammar.proofs.ArraysRead.{comma_solid, bracket_solid, phrase_f
 use Rattle.json5_grammar.proofs.KeysRead.{key_complete}
 use Rattle.json5_grammar.proofs.ValueHeads.{val_head, value_solid, begins_value_solid, key_head, key_solid}
 use Rattle.json5_grammar.proofs.ValuesRead.{read_complete}
-use Rattle.json5_text.specs.declared.value.Value.{Value}
-use Rattle.json5_text.specs.declared.value.Value as value
-use Rattle.json5_text.specs.NumberMeanings.{whole_in}
-use Rattle.json5_text.specs.ValueMeanings.{value_of}
-use Rattle.json5_text.specs.ValueMeanings as datum
+use Rattle.json5_types.specs.declared.value.Value.{Value}
+use Rattle.json5_types.specs.declared.value.Value as value
+use Rattle.json5_types.specs.NumberMeanings.{whole_in}
+use Rattle.json5_types.specs.ValueMeanings.{value_of}
+use Rattle.json5_types.specs.ValueMeanings as datum
 use Rattle.json5_text.specs.Cursor.{Cursor, Took}
 use Rattle.json5_text.specs.declared.short_ways.ShortStep.{ShortStep}
 use Rattle.json5_text.specs.declared.short_ways.ShortStep.TheVariants as steps

@@ -12,12 +12,12 @@ use Rattle.json5_grammar.specs.Model.ReadSteps.{colon_after, pairs_after}
 use Rattle.json5_grammar.specs.Model.ReadTexts.{key}
 use Rattle.json5_grammar.proofs.KeysRead.{key_complete}
 use Rattle.json5_text.specs.declared.short_texts.Span.{Span}
-use Rattle.json5_text.specs.declared.value.Value.{Value}
+use Rattle.json5_types.specs.declared.value.Value.{Value}
 use Rattle.json5_text.specs.Cursor.{Cursor, Took}
 use Rattle.json5_text.specs.ShortWays.{Stepped}
 use Rattle.json5_text.specs.ShortTexts.{TakesShortKey, IsTextAt}
 use Rattle.json5_text.specs.TextTokens.{IsSliceAt}
-use Rattle.json5_text.specs.ValueMeanings.{Datum, object, field, fields_view, value_of}
+use Rattle.json5_types.specs.ValueMeanings.{Datum, object, field, fields_view, value_of}
 use Rattle.json5_text.proofs.UnicodeScalars.{key_scalars}
 use Rattle.json5_value.specs.declared.brackets.BracketKind.TheVariants as kind
 use Rattle.json5_value.specs.declared.short_ways.NameLeft.{NameLeft}

@@ -5,7 +5,7 @@ use Rattle.json5_grammar.specs.Faults.Fronts.{BracketKind}
 use Rattle.json5_grammar.specs.Model.Reading.{Read, got, bad, and_then}
 use Rattle.json5_grammar.specs.Model.ReadSteps.{next_value, value_and_rest}
 use Rattle.json5_grammar.proofs.ValueSteps.{turn, rest_step}
-use Rattle.json5_text.specs.declared.error.Error.{Error}
+use Rattle.json5_types.specs.declared.error.Error.{Error}
 use Rattle.json5_text.specs.Cursor.{Cursor}
 use Rattle.json5_value.specs.declared.brackets.OpenBracket.{OpenBracket}
 use Rattle.json5_value.specs.declared.short_ways.NameLeft.{NameLeft}

@@ -6,11 +6,11 @@ use Rattle.json5_grammar.specs.Model.Reading.{Read, got, and_then}
 use Rattle.json5_grammar.specs.Model.ReadSteps.{forget, next_value, trees_after}
 use Rattle.json5_grammar.specs.Model.ReadValues.{read}
 use Rattle.json5_grammar.specs.Language.Numbers.{Decimal, whole, decimal}
-use Rattle.json5_text.specs.declared.value.Value.{Value, the_lemmas}
-use Rattle.json5_text.specs.declared.value.Value as value
+use Rattle.json5_types.specs.declared.value.Value.{Value, the_lemmas}
+use Rattle.json5_types.specs.declared.value.Value as value
 use Rattle.json5_text.specs.Cursor.{Cursor}
-use Rattle.json5_text.specs.ValueMeanings.{Datum, array, item, items_view, value_of}
-use Rattle.json5_text.specs.ValueMeanings as datum
+use Rattle.json5_types.specs.ValueMeanings.{Datum, array, item, items_view, value_of}
+use Rattle.json5_types.specs.ValueMeanings as datum
 use Rattle.json5_value.specs.BuildSteps.{elements_before, array_with, array_at}
 use Rattle.json5_value.specs.OwnedReads.{Keeps, IsOfTree, as_datum, tree_at, datum_at}
 use Rattle.json5_value.specs.declared.short_values.ShortElements.TheVariants as reached

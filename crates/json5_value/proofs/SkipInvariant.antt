@@ -7,7 +7,7 @@ use Rattle.json5_grammar.specs.Model.ReadSteps.{forget, next_value, rest_of_brac
 use Rattle.json5_grammar.specs.Model.ReadValues.{read}
 use Rattle.json5_grammar.proofs.ValuesSound.{read_sound}
 use Rattle.json5_grammar.proofs.ValueSteps.{turn, rest_step, read_opened}
-use Rattle.json5_text.specs.declared.error.Error.{Error}
+use Rattle.json5_types.specs.declared.error.Error.{Error}
 use Rattle.json5_text.specs.Cursor.{Cursor, Took}
 use Rattle.json5_value.specs.declared.brackets.OpenBracket.{OpenBracket}
 use Rattle.json5_value.specs.Brackets.{bracket_of}

@@ -21,8 +21,8 @@ use Rattle.json5_grammar.proofs.ValuesSound.{IsValue, read_sound}
 use Rattle.json5_grammar.proofs.ValueSteps.{read_too_deep, read_missing, read_word_null, read_word_true, read_word_false, read_quote, read_numeral, read_nothing}
 use Rattle.std.proofs.lemmas.Bool.{or_parts, both_ways}
 use Rattle.std.proofs.lemmas.List.{append-nil}
-use Rattle.json5_text.specs.declared.error.Error.{Error}
-use Rattle.json5_text.specs.Errors.{code, kind_of, error_position}
+use Rattle.json5_types.specs.declared.error.Error.{Error}
+use Rattle.json5_types.specs.Errors.{code, kind_of, error_position}
 use Rattle.json5_text.specs.Cursor.{IsPositioned}
 use Rattle.json5_text.specs.TokenCalls.{TakesWord, PassesString, PassesNumber}
 use Rattle.json5_text.specs.Cursor.{Cursor, Took, offset_of}

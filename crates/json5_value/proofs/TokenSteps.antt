@@ -25,10 +25,10 @@ use Rattle.json5_grammar.proofs.Refusals.{Refuses}
 use Rattle.json5_grammar.proofs.StringsRead.{string_complete, string_refused}
 use Rattle.json5_grammar.proofs.StringsSound.{StringSound, string_sound}
 use Rattle.json5_grammar.proofs.WordsRead.{differs_at, ends_in, word_complete}
-use Rattle.json5_text.specs.declared.error.Error.{Error}
+use Rattle.json5_types.specs.declared.error.Error.{Error}
 use Rattle.json5_text.specs.Cursor.{Cursor, Took}
 use Rattle.json5_text.specs.TokenCalls.{PassesBlanks, PassesString, PassesName, PassesNumber, TakesWord}
-use Rattle.json5_text.specs.NumberMeanings.{whole_in}
+use Rattle.json5_types.specs.NumberMeanings.{whole_in}
 use Rattle.json5_text.specs.TokenFaults.{FaultyBlanks, FaultyWord, word_differs, word_ends, FaultyNumber, no_number, number_missing, FaultyString, no_quote, string_missing, FaultyName, no_name, name_missing}
 use Rattle.json5_text.specs.TokenFaults as tokens
 use Rattle.json5_value.specs.ModelSteps.{IsInside, RefusesRead, Gave, Steps, RefusesToken}

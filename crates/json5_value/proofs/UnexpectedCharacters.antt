@@ -12,9 +12,9 @@ use Rattle.json5_grammar.specs.Model.Reading.{here, inner}
 use Rattle.json5_grammar.specs.Model.ReadSteps.{eof_in, comma_at}
 use Rattle.json5_grammar.specs.Model.ReadValues.{colon_at}
 use Rattle.json5_grammar.proofs.Refusals.{Refuses}
-use Rattle.json5_text.specs.declared.error.Error.{Error}
+use Rattle.json5_types.specs.declared.error.Error.{Error}
 use Rattle.json5_text.specs.Cursor.{Cursor, Refused}
-use Rattle.json5_text.specs.Errors.{code, kind_of, error_position}
+use Rattle.json5_types.specs.Errors.{code, kind_of, error_position}
 use Rattle.json5_value.specs.declared.brackets.Brackets.{Brackets}
 use Rattle.json5_value.specs.declared.brackets.BracketKind.{BracketKind as OwnKind}
 use Rattle.json5_value.specs.declared.brackets.BracketKind.TheVariants as kind

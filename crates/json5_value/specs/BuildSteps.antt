@@ -5,10 +5,10 @@ use Rattle.std.specs.Str.{chars}
 use Rattle.json5_grammar.specs.Model.Reading.{Read, got, and_then}
 use Rattle.json5_grammar.specs.Model.ReadSteps.{trees_of, trees_after, read_pairs, pairs_after}
 use Rattle.json5_grammar.specs.Language.Trees.{Trees, Members}
-use Rattle.json5_text.specs.declared.error.Error.{Error}
-use Rattle.json5_text.specs.declared.value.Value.{Value}
+use Rattle.json5_types.specs.declared.error.Error.{Error}
+use Rattle.json5_types.specs.declared.value.Value.{Value}
 use Rattle.json5_text.specs.Cursor.{Cursor, IsOutOfMemory}
-use Rattle.json5_text.specs.ValueMeanings.{Datum, Items, Fields, array, object, item, field, value_of}
+use Rattle.json5_types.specs.ValueMeanings.{Datum, Items, Fields, array, object, item, field, value_of}
 use Rattle.json5_value.specs.declared.unfinished.Unfinished.{Unfinished}
 use Rattle.json5_value.specs.declared.unfinished.Unfinished.TheVariants as unfinished
 use Rattle.json5_value.specs.TreeMeanings.{items_of, fields_of}

@@ -6,9 +6,9 @@ use Rattle.json5_grammar.specs.Faults.Positions.{position_after}
 use Rattle.json5_grammar.specs.Model.Reading.{Read, Place, here, inner, got, bad}
 use Rattle.json5_grammar.specs.Model.ReadSteps.{forget}
 use Rattle.json5_grammar.specs.Model.ReadValues.{read}
-use Rattle.json5_text.specs.declared.error.Error.{Error}
+use Rattle.json5_types.specs.declared.error.Error.{Error}
 use Rattle.json5_text.specs.Cursor.{Cursor, Took, Says, Refused, IsOutOfMemory}
-use Rattle.json5_text.specs.Errors.{LacksMemory, code, kind_of, error_position}
+use Rattle.json5_types.specs.Errors.{LacksMemory, code, kind_of, error_position}
 
 -- the unread part is the end of the input
 pub record IsInside (s : Cursor) : Type 0 where

@@ -3,8 +3,8 @@ use Rattle.std.specs.Prelude.{◌≡◌, ℕ, List, ◌++◌, length}
 use Rattle.std.specs.Str.{encode_utf8_all}
 use Rattle.json5_grammar.specs.declared.position.Position.{Position}
 use Rattle.json5_grammar.specs.Faults.Positions.{position_after}
-use Rattle.json5_text.specs.declared.error.Error.{Error}
-use Rattle.json5_text.specs.Errors.{kind_of, error_position, or_position}
+use Rattle.json5_types.specs.declared.error.Error.{Error}
+use Rattle.json5_types.specs.Errors.{kind_of, error_position, or_position}
 
 -- so many bytes come before this rest of the input
 abbrev pub CountsTo : List ℕ → ℕ → List ℕ → Type 0

@@ -1,7 +1,7 @@
 -- How a value begins: with the first character of a scalar, or with an opening bracket.
 use Rattle.std.specs.Prelude.{◌≡◌, ℕ, ◌<◌, false, ◌∷◌, Option, Some, None, Result, IfOk, IfErr, OnErr, ◌==◌, ◌||◌, slice_get}
 use Rattle.json5_grammar.specs.Faults.Fronts.{of_array, of_object, opening}
-use Rattle.json5_text.specs.declared.error.Error.{Error}
+use Rattle.json5_types.specs.declared.error.Error.{Error}
 use Rattle.json5_text.specs.Cursor.{Cursor}
 use Rattle.json5_value.specs.declared.brackets.BracketKind.{BracketKind}
 use Rattle.json5_value.specs.declared.brackets.OpenBracket.{OpenBracket}

@@ -7,16 +7,16 @@ use Rattle.json5_grammar.specs.Model.Reading.{Read, got, and_then}
 use Rattle.json5_grammar.specs.Model.ReadSteps.{separator, key_at}
 use Rattle.json5_grammar.specs.Model.ReadValues.{read}
 use Rattle.json5_grammar.specs.Language.Trees.{Tree}
-use Rattle.json5_text.specs.declared.error.Error.{Error}
+use Rattle.json5_types.specs.declared.error.Error.{Error}
 use Rattle.json5_text.specs.declared.short_texts.Span.{Span}
 use Rattle.json5_text.specs.declared.text_token.TextToken.{TextToken}
-use Rattle.json5_text.specs.declared.value.Value.{Value}
+use Rattle.json5_types.specs.declared.value.Value.{Value}
 use Rattle.json5_text.specs.Cursor.{Cursor, IsOutOfMemory}
-use Rattle.json5_text.specs.Errors.{LacksMemory}
+use Rattle.json5_types.specs.Errors.{LacksMemory}
 use Rattle.json5_text.specs.ShortTexts.{IsTextAt}
 use Rattle.json5_text.specs.TextTokens.{Spells}
-use Rattle.json5_text.specs.ValueMeanings.{Datum, value_of}
-use Rattle.json5_text.specs.ValueMeanings as datum
+use Rattle.json5_types.specs.ValueMeanings.{Datum, value_of}
+use Rattle.json5_types.specs.ValueMeanings as datum
 use Rattle.json5_value.specs.declared.kinds.Literal.{Literal}
 use Rattle.json5_value.specs.declared.kinds.Literal.TheVariants as literal
 use Rattle.json5_value.specs.declared.read.ValueStart.{ValueStart}

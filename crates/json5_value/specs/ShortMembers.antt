@@ -6,17 +6,17 @@ use Rattle.json5_grammar.specs.Model.Reading.{Read, got, and_then}
 use Rattle.json5_grammar.specs.Model.ReadSteps.{pairs_after}
 use Rattle.json5_grammar.specs.Model.ReadValues.{read}
 use Rattle.json5_text.specs.declared.short_texts.Span.{Span}
-use Rattle.json5_text.specs.declared.value.Value.{Value}
+use Rattle.json5_types.specs.declared.value.Value.{Value}
 use Rattle.json5_text.specs.Cursor.{Cursor, Took}
 use Rattle.json5_text.specs.ShortTexts.{IsTextAt}
 use Rattle.json5_text.specs.TextTokens.{IsSliceAt}
-use Rattle.json5_text.specs.ValueMeanings.{Datum, object, field, fields_view}
+use Rattle.json5_types.specs.ValueMeanings.{Datum, object, field, fields_view}
 use Rattle.json5_value.specs.declared.short_ways.NameLeft.{NameLeft}
 use Rattle.json5_value.specs.declared.short_members.ShortMember.{ShortMember}
 use Rattle.json5_value.specs.declared.short_members.ShortMember.TheVariants as entered
 use Rattle.json5_value.specs.declared.short_members.ShortMembers.{ShortMembers}
 use Rattle.json5_value.specs.declared.short_members.ShortMembers.TheVariants as reached
-use Rattle.json5_text.specs.declared.error.Error.{Error}
+use Rattle.json5_types.specs.declared.error.Error.{Error}
 use Rattle.json5_value.specs.declared.unfinished.Unfinished.{Unfinished}
 use Rattle.json5_value.specs.BuildSteps.{TurnsBuildingInside, members_before, object_with, object_at}
 use Rattle.json5_value.specs.OwnedReads.{as_datum, next_key}

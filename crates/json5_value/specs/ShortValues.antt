@@ -5,9 +5,9 @@ use Rattle.json5_grammar.specs.Model.Reading.{Read, got, and_then}
 use Rattle.json5_grammar.specs.Model.ReadSteps.{next_value, trees_after}
 use Rattle.json5_text.specs.declared.short_ways.ShortStep.{ShortStep}
 use Rattle.json5_text.specs.declared.short_ways.ShortStep.TheVariants as step
-use Rattle.json5_text.specs.declared.value.Value.{Value}
+use Rattle.json5_types.specs.declared.value.Value.{Value}
 use Rattle.json5_text.specs.Cursor.{Cursor, Took}
-use Rattle.json5_text.specs.ValueMeanings.{Datum, array, item, items_view, value_of}
+use Rattle.json5_types.specs.ValueMeanings.{Datum, array, item, items_view, value_of}
 use Rattle.json5_value.specs.declared.short_values.ShortElements.{ShortElements}
 use Rattle.json5_value.specs.declared.short_values.ShortElements.TheVariants as reached
 use Rattle.json5_value.specs.declared.short_values.ShortValue.{ShortValue}

@@ -1,7 +1,7 @@
 -- What a tree means, without the marks.
 use Rattle.json5_grammar.specs.Language.Trees.{Tree, Trees, Members, null, boolean, number, text, array, object, no_more, more, no_member, member}
-use Rattle.json5_text.specs.ValueMeanings.{Datum, Items, Fields, no_item, item, no_field, field}
-use Rattle.json5_text.specs.ValueMeanings as datum
+use Rattle.json5_types.specs.ValueMeanings.{Datum, Items, Fields, no_item, item, no_field, field}
+use Rattle.json5_types.specs.ValueMeanings as datum
 
 abbrev mutual
   pub datum_of : Tree → Datum

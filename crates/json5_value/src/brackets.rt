@@ -6,10 +6,10 @@ ghost use Rattle.json5_value.specs.Brackets.{bracket_of, brackets_of};
 ghost use Rattle.json5_value.specs.Opening.{OpensBracket, OpensKind};
 ghost use Rattle.json5_value.specs.ModelSteps.{IsInside};
 
-use json5_text::ErrorCode;
-use json5_text::error::{Error, Result};
 use json5_text::input::Input;
 use json5_text::scanner::Scanner;
+use json5_types::ErrorCode;
+use json5_types::error::{Error, Result};
 
 /// A kind of brackets: of arrays or of objects.
 #[derive(Clone, Copy, Drop)]

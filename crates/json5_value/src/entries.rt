@@ -10,11 +10,11 @@ ghost use Rattle.json5_value.specs.ModelSteps.{IsInside, Steps};
 use crate::brackets::BracketKind;
 use crate::faults::unexpected_here;
 use crate::short_ways::NameLeft;
-use json5_text::ErrorCode;
-use json5_text::error::{Error, Result};
 use json5_text::input::Input;
 use json5_text::scanner::Scanner;
 use json5_text::strings::is_quote;
+use json5_types::ErrorCode;
+use json5_types::error::{Error, Result};
 
 /// Passes over a key.
 fn skip_key<I: Input>(scanner: &mut Scanner<I>) -> Result<()>

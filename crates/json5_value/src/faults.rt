@@ -2,14 +2,14 @@
 
 ghost use Rattle.std.specs.Prelude.{◌≡◌, [], Some};
 ghost use Rattle.json5_text.specs.Cursor.{Refused, IsPositioned};
-ghost use Rattle.json5_text.specs.Errors.{FaultKind, kind_of};
+ghost use Rattle.json5_types.specs.Errors.{FaultKind, kind_of};
 ghost use Rattle.json5_value.specs.Offsets.{PositionedAt, StartsAfter};
 ghost use Rattle.json5_value.specs.ModelSteps.{Unexpected};
 
-use json5_text::ErrorCode;
-use json5_text::error::Error;
 use json5_text::input::Input;
 use json5_text::scanner::Scanner;
+use json5_types::ErrorCode;
+use json5_types::error::Error;
 
 /// Makes the fault of what is next and isn't expected: `differs` at the character, or `ends` at the end of the input, without a
 /// position.

@@ -4,10 +4,10 @@ ghost use Rattle.std.specs.Prelude.{◌≡◌};
 ghost use Rattle.json5_text.specs.TokenCalls.{TakesWord};
 ghost use Rattle.json5_value.specs.Kinds.{kind_at, word_of, ends_of, differs_of};
 
-use json5_text::ErrorCode;
-use json5_text::error::Result;
 use json5_text::input::Input;
 use json5_text::scanner::Scanner;
+use json5_types::ErrorCode;
+use json5_types::error::Result;
 
 /// A literal: null or a boolean.
 #[derive(Clone, Copy, Drop)]

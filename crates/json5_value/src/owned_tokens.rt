@@ -2,9 +2,9 @@
 
 ghost use Rattle.std.specs.Prelude.{◌≡◌};
 ghost use Rattle.json5_grammar.specs.Model.ReadTexts.{key};
-ghost use Rattle.json5_text.specs.NumberMeanings.{number_of};
-ghost use Rattle.json5_text.specs.ValueMeanings as datum;
-ghost use Rattle.json5_text.specs.ValueMeanings.{value_of};
+ghost use Rattle.json5_types.specs.NumberMeanings.{number_of};
+ghost use Rattle.json5_types.specs.ValueMeanings as datum;
+ghost use Rattle.json5_types.specs.ValueMeanings.{value_of};
 ghost use Rattle.json5_value.specs.OwnedReads.{Keeps, OwnsKey, OwnsText, IsKeyText, IsNextKey, ReadsScalar, datum_of_literal, next_key};
 ghost use Rattle.json5_value.specs.Opening.{AtScalar};
 ghost use Rattle.json5_value.specs.ModelSteps.{IsInside};
@@ -13,14 +13,14 @@ use crate::brackets::BracketKind;
 use crate::entries::{skip_colon, skip_to_entry};
 use crate::faults::fault_here;
 use crate::kinds::{Literal, ValueKind, kind_at, skip_literal};
-use json5_text::ErrorCode;
-use json5_text::error::{Error, Result};
 use json5_text::input::Input;
-use json5_text::number::Number;
 use json5_text::scanner::Scanner;
 use json5_text::short_texts::Span;
 use json5_text::text_token::TextToken;
-use json5_text::value::Value;
+use json5_types::ErrorCode;
+use json5_types::error::{Error, Result};
+use json5_types::number::Number;
+use json5_types::value::Value;
 
 /// Returns the text of a key that the scanner took, as a `String`.
 ///

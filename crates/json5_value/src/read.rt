@@ -8,11 +8,11 @@ use crate::brackets::{BracketKind, OpenBracket, kind_opened, open_bracket};
 use crate::faults::with_position_at;
 use crate::owned_tokens::read_scalar;
 use crate::unfinished::{Unfinished, attach_value, resume_array, resume_object};
-use json5_text::ErrorCode;
-use json5_text::error::{Error, Result};
 use json5_text::input::Input;
 use json5_text::scanner::Scanner;
-use json5_text::value::Value;
+use json5_types::ErrorCode;
+use json5_types::error::{Error, Result};
+use json5_types::value::Value;
 
 /// How a value begins: it is a whole scalar, or a bracket is open.
 #[derive(Drop)]

@@ -11,7 +11,7 @@ use json5_text::input::Input;
 use json5_text::scanner::Scanner;
 use json5_text::short_texts::Span;
 use json5_text::short_ways::ShortStep;
-use json5_text::value::Value;
+use json5_types::value::Value;
 
 /// What a short way to the value of a member came to.
 #[derive(Clone, Copy)]

@@ -12,8 +12,8 @@ use crate::short_ways::short_literal;
 use json5_text::input::Input;
 use json5_text::scanner::Scanner;
 use json5_text::short_ways::ShortStep;
-use json5_text::value::Value;
-use json5_text::whole::Whole;
+use json5_types::value::Value;
+use json5_types::whole::Whole;
 
 /// What a short way to a value came to.
 #[derive(Drop)]

@@ -13,10 +13,10 @@ use crate::faults::{fault_here, with_position_at};
 use crate::kinds::{ValueKind, kind_at, skip_literal};
 use crate::short_ways::{NameLeft, ShortEntry, short_entry, short_scalar};
 use arrayvec::ArrayVec;
-use json5_text::ErrorCode;
-use json5_text::error::{Error, Result};
 use json5_text::input::Input;
 use json5_text::scanner::Scanner;
+use json5_types::ErrorCode;
+use json5_types::error::{Error, Result};
 
 /// The open brackets, the outermost first.
 type OpenBrackets = ArrayVec<OpenBracket, 128>;

@@ -13,12 +13,12 @@ use crate::owned_tokens::{next_member_key, own_text};
 use crate::short_members::{ShortMembers, short_members};
 use crate::short_values::{ShortElements, short_elements};
 use crate::short_ways::NameLeft;
-use json5_text::ErrorCode;
-use json5_text::error::{Error, Result};
 use json5_text::input::Input;
 use json5_text::scanner::Scanner;
 use json5_text::short_texts::Span;
-use json5_text::value::Value;
+use json5_types::ErrorCode;
+use json5_types::error::{Error, Result};
+use json5_types::value::Value;
 
 /// An array or an object in which a value is being read. `start` is the count of bytes before its bracket.
 #[derive(Drop)]

@@ -3,7 +3,7 @@ use Rattle.std.specs.Str.{chars}
 use Rattle.std.proofs.lemmas.Result.{err_from_is_err_and}
 use Rattle.json5_text.specs.Cursor.{Refused}
 use Rattle.json5_text.specs.TokenFaults.{FaultyBlanks}
-use Rattle.json5_text.specs.ValueMeanings.{value_of}
+use Rattle.json5_types.specs.ValueMeanings.{value_of}
 use Rattle.json5_value.specs.OwnedReads.{BlamesOrMemory, datum_at}
 use Rattle.json5_value.specs.ModelSteps.{Gave}
 use Rattle.json5_format.proofs.DocumentReads.{SkippedGap, front_refused, value_refused, rest_refused, all_read, character_refused}

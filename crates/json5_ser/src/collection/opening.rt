@@ -8,7 +8,7 @@ ghost use Rattle.json5_grammar.specs.Language.Characters.{left_bracket, left_bra
 use crate::brackets::Brackets;
 use crate::stage::Stage;
 use crate::{SerializeCollection, Serializer};
-use json5_text::error::Result;
+use json5_types::error::Result;
 use std::io::Write;
 
 impl<W: Write + Drop> Serializer<W> {

@@ -12,7 +12,7 @@ ghost use Rattle.json5_ser.specs.Writes.{Writes, at_depth};
 use crate::brackets::Brackets;
 use crate::refusal::Put;
 use crate::{MapKey, Serialize, SerializeKey, Serializer};
-use json5_text::error::Result;
+use json5_types::error::Result;
 use std::io::Write;
 
 impl<W: Write + Drop> Serializer<W> {

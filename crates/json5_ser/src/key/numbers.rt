@@ -6,8 +6,8 @@ ghost use Rattle.json5_ser.specs.WrittenKeys.{WritesKey};
 
 use crate::{MapKey, SerializeKey, Serializer};
 use itoa::{Buffer, Integer};
-use json5_text::decimal::Decimal;
-use json5_text::error::Result;
+use json5_types::decimal::Decimal;
+use json5_types::error::Result;
 use std::io::Write;
 
 impl<W: Write + Drop> Serializer<W> {

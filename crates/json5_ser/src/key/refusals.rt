@@ -1,7 +1,7 @@
 //! What can't be a key is refused.
 
 use crate::MapKey;
-use json5_text::error::Result;
+use json5_types::error::Result;
 use std::io::Write;
 
 impl<W: Write + Drop> MapKey<'_, W> {

@@ -8,7 +8,7 @@ ghost use Rattle.json5_ser.specs.Writes.{WritesTree};
 use crate::refusal::Put;
 use crate::{Serialize, Serializer};
 use itoa::{Buffer, Integer};
-use json5_text::error::Result;
+use json5_types::error::Result;
 use std::io::Write;
 
 impl<W: Write + Drop> Serializer<W> {

@@ -4,7 +4,7 @@ ghost use Rattle.json5_ser.specs.WrittenTrees.{null, boolean};
 ghost use Rattle.json5_ser.specs.Writes.{WritesTree};
 
 use crate::Serializer;
-use json5_text::error::Result;
+use json5_types::error::Result;
 use std::io::Write;
 
 impl<W: Write + Drop> Serializer<W> {

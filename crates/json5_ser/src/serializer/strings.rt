@@ -14,7 +14,7 @@ use crate::Serializer;
 use crate::escape_free::is_escape_free;
 use crate::quoting::{Quote, split_at_escape};
 use crate::refusal::Put;
-use json5_text::error::Result;
+use json5_types::error::Result;
 use std::io::Write;
 
 impl<W: Write + Drop> Serializer<W> {

@@ -6,14 +6,14 @@ ghost use Rattle.json5_text.specs.TextTokens.{IsSliceAt, IsTextOf, IsCowOf};
 ghost use Rattle.json5_text.specs.ShortTexts.{IsTextAt};
 ghost use Rattle.json5_text.specs.TokenCalls.{TakesString, TakesName};
 
-use crate::cow_str::CowStr;
-use crate::error::Result;
 use crate::input::{Borrows, Input};
 use crate::names::read_name;
 use crate::scanner::Scanner;
 use crate::short_texts::Span;
 use crate::strings::read_string;
 use crate::text_token::TextToken;
+use json5_types::cow_str::CowStr;
+use json5_types::error::Result;
 
 impl<'de, I: Borrows<'de>> Scanner<I> {
     /// Takes a string and returns its text, borrowed where the string has no escape, which then takes no memory (JSON5 section

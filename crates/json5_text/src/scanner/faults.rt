@@ -2,15 +2,15 @@
 
 ghost use Rattle.std.specs.Prelude.{◌⊎◌, Some};
 ghost use Rattle.json5_text.specs.Cursor.{Locates};
-ghost use Rattle.json5_text.specs.Errors.{IsCustomAt, LacksMemory};
+ghost use Rattle.json5_types.specs.Errors.{IsCustomAt, LacksMemory};
 ghost use Rattle.json5_text.specs.Scan.{Leaves, InUnread, IsWhere, MadeOf};
 
-use crate::error::Error;
 use crate::input::Input;
 use crate::refusal::Refusal;
 use crate::scanner::Scanner;
 use json5_grammar::error_code::ErrorCode;
 use json5_grammar::position::Position;
+use json5_types::error::Error;
 use std::fmt::Display;
 
 impl<I: Input> Scanner<I> {

@@ -1,6 +1,6 @@
-use Rattle.json5_text.specs.ByteBufs.{bytes_of}
-use Rattle.json5_text.specs.Cows.{cow_bytes, is_borrowed}
-use Rattle.json5_text.specs.ValueMeanings.{value_of}
+use Rattle.json5_types.specs.ByteBufs.{bytes_of}
+use Rattle.json5_types.specs.Cows.{cow_bytes, is_borrowed}
+use Rattle.json5_types.specs.ValueMeanings.{value_of}
 use Rattle.json5_de.specs.Convert.{every_datum, natural_below, integer_below, every_text, one_character, if_escape_free, index_of, every_cow}
 use Rattle.json5_de.specs.TokenKinds.{every_tree, no_tree, escape_free_text, text_bytes, slice_bytes}
 use Rattle.json5_de.proofs.TokenKinds.{tells_apart, lawful_null, lawful_bool, lawful_whole, lawful_decimal, lawful_text, lawful_bytes}

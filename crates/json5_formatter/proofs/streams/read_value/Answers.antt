@@ -1,5 +1,5 @@
 use Rattle.std.proofs.Common.{refl}
-use Rattle.json5_text.specs.Errors.{kind_of}
+use Rattle.json5_types.specs.Errors.{kind_of}
 use Rattle.json5_formatter.proofs.Refusals.{refused_input, refused_read}
 use Rattle.json5_formatter.proofs.streams.read_value.Goals as goal
 

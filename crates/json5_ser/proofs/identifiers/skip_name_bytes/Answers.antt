@@ -1,7 +1,7 @@
 use Rattle.std.proofs.Common.{◌∙◌, ap, rules}
 use Rattle.std.specs.List.{prefix_len}
 use Rattle.json5_ser.specs.NameBytes.{is_name_byte}
-use Rattle.json5_text.proofs.AsciiRuns.{counted, front_boundary}
+use Rattle.json5_types.proofs.AsciiRuns.{counted, front_boundary}
 use Rattle.json5_ser.proofs.NamesFound.{name_ascii, name_bytes}
 use Rattle.json5_ser.proofs.identifiers.skip_name_bytes.Goals as goal
 

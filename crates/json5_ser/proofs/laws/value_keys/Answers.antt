@@ -1,4 +1,4 @@
-use Rattle.json5_text.specs.ValueMeanings.{value_of}
+use Rattle.json5_types.specs.ValueMeanings.{value_of}
 use Rattle.json5_ser.proofs.ValueTexts.{datum_named}
 use Rattle.json5_ser.proofs.laws.value_keys.Goals as goal
 

@@ -1,7 +1,7 @@
 use Rattle.std.proofs.Common.{rules, false, ◌+◌, sym, ap, subst, ◌∙◌, ◌≡◌, ◌<◌, ◌≤◌, length, drop, [], ◌∷◌, drop_of_length-le}
 use Rattle.std.specs.Str.{chars}
-use Rattle.json5_text.proofs.LookedUp.{from_here}
-use Rattle.json5_text.proofs.ValuesCompared.{view-Null}
+use Rattle.json5_types.proofs.LookedUp.{from_here}
+use Rattle.json5_types.proofs.ValuesCompared.{view-Null}
 use Rattle.json5_grammar.specs.Language.Characters.{left_bracket, right_bracket, left_brace, right_brace, colon_sign, space}
 use Rattle.json5_ser.specs.WrittenTrees.{named, text, elements_of, fields_of}
 use Rattle.json5_ser.specs.ValueTrees.{value_tree, key_of_string}

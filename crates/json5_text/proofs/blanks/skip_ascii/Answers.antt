@@ -2,7 +2,7 @@ use Rattle.std.proofs.Common.{◌∙◌, ap}
 use Rattle.std.specs.List.{prefix_len}
 use Rattle.json5_text.specs.ByteRuns.{is_ascii_blank}
 use Rattle.json5_text.proofs.AsciiBlanks.{blank_is_ascii, blanks_passed, blanks_shorter}
-use Rattle.json5_text.proofs.AsciiRuns.{counted, front_boundary}
+use Rattle.json5_types.proofs.AsciiRuns.{counted, front_boundary}
 use Rattle.json5_text.proofs.blanks.skip_ascii.Goals as goal
 
 pub split_at-requires : goal.split_at-requires

@@ -2,7 +2,7 @@ use Rattle.json5_grammar.specs.Language.Characters.{is_digit}
 use Rattle.std.proofs.Common.{subst}
 use Rattle.json5_text.specs.ByteRuns.{IsFewDigits}
 use Rattle.json5_text.proofs.FewDigits.{few_found}
-use Rattle.json5_text.proofs.AsciiRuns.{front_boundary, digit_is_ascii}
+use Rattle.json5_types.proofs.AsciiRuns.{front_boundary, digit_is_ascii}
 use Rattle.json5_text.proofs.ShortWholes.{len_counted, short_found}
 use Rattle.json5_text.proofs.byte_runs.short_digits.Goals as goal
 

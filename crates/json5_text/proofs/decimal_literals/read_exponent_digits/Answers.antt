@@ -1,6 +1,6 @@
 use Rattle.std.proofs.Common.{◌∙◌, sym}
 use Rattle.std.specs.Str.{chars}
-use Rattle.json5_text.proofs.NumberZeros.{is_none, is_some}
+use Rattle.json5_types.proofs.NumberZeros.{is_none, is_some}
 use Rattle.json5_text.proofs.DecimalLiteralParts.{exponent_no_digit, exponent_more, exponent_found}
 use Rattle.json5_text.proofs.DecimalRuns.{front_is, more_follows, none_follows, ends_after}
 use Rattle.json5_text.specs.NumberParts.{run_of}

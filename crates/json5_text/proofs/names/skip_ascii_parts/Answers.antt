@@ -2,7 +2,7 @@ use Rattle.std.proofs.Common.{◌∙◌, ap}
 use Rattle.std.specs.List.{prefix_len}
 use Rattle.json5_text.specs.ByteRuns.{is_ascii_part}
 use Rattle.json5_text.proofs.AsciiNames.{parts_counted, parts_ascii, parts_passed}
-use Rattle.json5_text.proofs.AsciiRuns.{front_boundary}
+use Rattle.json5_types.proofs.AsciiRuns.{front_boundary}
 use Rattle.json5_text.proofs.names.skip_ascii_parts.Goals as goal
 
 pub split_at-requires : goal.split_at-requires

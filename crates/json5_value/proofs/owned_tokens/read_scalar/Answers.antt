@@ -2,7 +2,7 @@ use Rattle.std.proofs.Common.{refl, Err}
 use Rattle.std.proofs.lemmas.Result.{err_from_is_err_and}
 use Rattle.json5_grammar.specs.Language.Trees as trees
 use Rattle.json5_grammar.specs.Language.Values.{is_number}
-use Rattle.json5_text.specs.NumberMeanings.{number_of}
+use Rattle.json5_types.specs.NumberMeanings.{number_of}
 use Rattle.json5_value.proofs.BuildScalars.{literal_taken, scalar_refused, scalar_taken, text_taken, text_refused, number_refused}
 use Rattle.json5_value.proofs.SkipScalars.{literal_value, other_value}
 use Rattle.json5_value.proofs.owned_tokens.read_scalar.Goals as goal

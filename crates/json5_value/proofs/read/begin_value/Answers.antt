@@ -1,5 +1,5 @@
 use Rattle.std.proofs.Common.{refl, subst}
-use Rattle.json5_text.specs.ValueMeanings.{value_of}
+use Rattle.json5_types.specs.ValueMeanings.{value_of}
 use Rattle.json5_value.specs.OwnedReads.{BlamesOrMemory, datum_at}
 use Rattle.json5_value.specs.Opening.{OpenedAt}
 use Rattle.json5_value.specs.ModelSteps.{Gave}

@@ -1,4 +1,4 @@
-use Rattle.json5_text.specs.declared.value.Value as value
+use Rattle.json5_types.specs.declared.value.Value as value
 use Rattle.json5_value.proofs.BuildScalars.{text_taken}
 use Rattle.json5_value.proofs.ShortValues.{datum_kept}
 use Rattle.json5_value.proofs.short_values.escaped_text.Goals as goal

@@ -1,5 +1,5 @@
 use Rattle.json5_grammar.specs.Language.Numbers.{decimal}
-use Rattle.json5_text.specs.declared.value.Value as value
+use Rattle.json5_types.specs.declared.value.Value as value
 use Rattle.json5_value.proofs.ShortEntries.{number_kept}
 use Rattle.json5_value.proofs.ShortValues.{datum_kept, view_decimal}
 use Rattle.json5_value.proofs.short_values.short_decimal.Goals as goal

@@ -3,8 +3,8 @@ use Rattle.std.proofs.lemmas.Int.{ints, to_z-of_z}
 use mir.Syntax.{w128}
 use mir.Val.{to_z, of_z}
 use Rattle.json5_grammar.specs.Language.Numbers.{whole}
-use Rattle.json5_text.specs.declared.value.Value as value
-use Rattle.json5_text.specs.ValueMeanings as datum
+use Rattle.json5_types.specs.declared.value.Value as value
+use Rattle.json5_types.specs.ValueMeanings as datum
 use Rattle.json5_value.specs.declared.kinds.ValueKind.TheVariants as kind
 use Rattle.json5_value.proofs.ShortEntries.{kind_front, number_kept}
 use Rattle.json5_value.proofs.ShortValues.{datum_kept, short_front, view_whole}

@@ -1,5 +1,5 @@
 use Rattle.std.proofs.Common.{◌∙◌}
-use Rattle.json5_text.specs.declared.value.Value as value
+use Rattle.json5_types.specs.declared.value.Value as value
 use Rattle.json5_value.specs.declared.kinds.ValueKind.TheVariants as kind
 use Rattle.json5_value.proofs.ShortEntries.{kind_front, string_kept}
 use Rattle.json5_value.proofs.ShortValues.{datum_kept, short_front}

@@ -2,7 +2,7 @@ use Rattle.std.proofs.Common.{rules, Some, refl, ap, sym, ◌∙◌, inl}
 use Rattle.std.proofs.lemmas.Result.{err_from_is_err_and}
 use Rattle.json5_grammar.specs.Language.Trees as trees
 use Rattle.json5_grammar.specs.Language.Values.{is_number}
-use Rattle.json5_text.specs.NumberMeanings.{number_of}
+use Rattle.json5_types.specs.NumberMeanings.{number_of}
 use Rattle.json5_de.specs.Convert.{every_decimal}
 use Rattle.json5_de.specs.Faults.{faulty_number}
 use Rattle.json5_de.proofs.ReadSteps.{took_leaf, refused_or_memory}

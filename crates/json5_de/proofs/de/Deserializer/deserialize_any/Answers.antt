@@ -1,5 +1,5 @@
 use Rattle.std.proofs.lemmas.Result.{err_from_is_err_and}
-use Rattle.json5_text.specs.ValueMeanings.{value_of}
+use Rattle.json5_types.specs.ValueMeanings.{value_of}
 use Rattle.json5_de.specs.Convert.{every_datum}
 use Rattle.json5_de.specs.TokenKinds.{no_tree}
 use Rattle.json5_de.proofs.TreesRead.{tree_not_begun, datum_result}

@@ -1,7 +1,7 @@
 use Rattle.std.proofs.Common.{refl, true, Some}
 use Rattle.std.proofs.lemmas.Result.{err_from_is_err_and}
 use Rattle.json5_grammar.specs.declared.error_code.ErrorCode.TheVariants.{InvalidBytes}
-use Rattle.json5_text.specs.ByteBufs.{bytes_of}
+use Rattle.json5_types.specs.ByteBufs.{bytes_of}
 use Rattle.json5_de.specs.Convert.{digits_bytes}
 use Rattle.json5_de.specs.TokenKinds.{no_tree}
 use Rattle.json5_de.proofs.FoundStrings.{no_string, string_judged}

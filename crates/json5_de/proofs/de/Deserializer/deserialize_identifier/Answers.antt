@@ -1,5 +1,5 @@
 use Rattle.std.proofs.Common.{Some, ap, sym, true}
-use Rattle.json5_text.specs.Cows.{cow_bytes, is_borrowed}
+use Rattle.json5_types.specs.Cows.{cow_bytes, is_borrowed}
 use Rattle.json5_grammar.specs.Language.Trees.{text}
 use Rattle.json5_de.specs.TokenKinds.{cow_kind}
 use Rattle.json5_de.proofs.TokenKinds.{reads_ok}

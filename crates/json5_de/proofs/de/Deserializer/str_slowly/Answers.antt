@@ -3,7 +3,7 @@ use Rattle.std.specs.Str.{encode_utf8_all}
 use Rattle.std.proofs.lemmas.Result.{err_from_is_err_and}
 use Rattle.json5_grammar.specs.Language.Trees as trees
 use Rattle.json5_grammar.specs.Language.Values.{is_text}
-use Rattle.json5_text.specs.Cows.{cow_bytes, is_borrowed}
+use Rattle.json5_types.specs.Cows.{cow_bytes, is_borrowed}
 use Rattle.json5_de.specs.Convert.{if_escape_free}
 use Rattle.json5_de.specs.TokenKinds.{every_tree, escape_free_kind}
 use Rattle.json5_de.proofs.ReadSteps.{took_leaf}

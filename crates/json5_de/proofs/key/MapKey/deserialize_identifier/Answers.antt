@@ -1,5 +1,5 @@
 use Rattle.std.proofs.Common.{Some, ap, sym, true, refl}
-use Rattle.json5_text.specs.Cows.{cow_bytes, is_borrowed}
+use Rattle.json5_types.specs.Cows.{cow_bytes, is_borrowed}
 use Rattle.json5_de.specs.Convert.{every_cow}
 use Rattle.json5_de.specs.Lending.{reader_of_key}
 use Rattle.json5_de.proofs.FoundKeys.{key_ok}

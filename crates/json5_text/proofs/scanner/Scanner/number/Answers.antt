@@ -3,7 +3,7 @@ use Rattle.std.specs.Str.{chars}
 use Rattle.json5_grammar.specs.Language.Characters.{NotBegun}
 use Rattle.json5_grammar.specs.Language.Numbers.{lengthens}
 use Rattle.json5_grammar.specs.Model.ReadNumbers.{number}
-use Rattle.json5_text.specs.NumberMeanings.{number_of}
+use Rattle.json5_types.specs.NumberMeanings.{number_of}
 use Rattle.json5_text.specs.TokenFaults.{FaultyNumber}
 use Rattle.json5_text.proofs.ScanFaults.{refusal_in, refused}
 use Rattle.json5_text.proofs.ScanNumbers.{number_taken, number_faulty, number_memory}

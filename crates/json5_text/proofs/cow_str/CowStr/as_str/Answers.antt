@@ -1,5 +1,0 @@
-use Rattle.std.proofs.Common.{rules}
-use Rattle.json5_text.proofs.cow_str.CowStr.as_str.Goals as goal
-
-pub returns-in-Borrowed : goal.returns-in-Borrowed
-returns-in-Borrowed c = search rules

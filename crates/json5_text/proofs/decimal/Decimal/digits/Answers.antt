@@ -1,5 +1,0 @@
-use Rattle.std.proofs.Common.{rules}
-use Rattle.json5_text.proofs.decimal.Decimal.digits.Goals as goal
-
-pub returns-in-Finite : goal.returns-in-Finite
-returns-in-Finite c = search rules

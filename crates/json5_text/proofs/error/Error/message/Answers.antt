@@ -1,5 +1,0 @@
-use Rattle.std.proofs.Common.{rules}
-use Rattle.json5_text.proofs.error.Error.message.Goals as goal
-
-pub returns-in-Custom : goal.returns-in-Custom
-returns-in-Custom c = search rules

@@ -1,5 +1,0 @@
-use Rattle.std.proofs.Common.{rules}
-use Rattle.json5_text.proofs.whole.Whole.from_i128.Goals as goal
-
-pub returns : goal.returns
-returns c = search rules

@@ -1,0 +1,5 @@
+use Rattle.std.proofs.Common.{rules}
+use Rattle.json5_types.proofs.error.Error.at.Goals as goal
+
+pub returns : goal.returns
+returns c = search rules

@@ -1,0 +1,14 @@
+-- Decimal digits in front of a text.
+use Rattle.std.specs.Prelude.{◌≡◌, ℕ, List}
+use Rattle.std.specs.Str.{IsUtf8, chars}
+use Rattle.json5_grammar.specs.Language.Characters.{is_digit, Each}
+use Rattle.json5_grammar.specs.Model.ReadNumbers.{front_of, rest_of}
+
+-- the digits in front and what follows them, of the characters and of the bytes
+pub record SplitsDigits (whole start after : List ℕ) : Type 0 where
+  pub front : start ≡ front_of is_digit (chars whole)
+  pub digits : Each is_digit start
+  pub rest : chars after ≡ rest_of is_digit (chars whole)
+  pub front_bytes : start ≡ front_of is_digit whole
+  pub rest_bytes : after ≡ rest_of is_digit whole
+  pub text : IsUtf8 after
