@@ -82,5 +82,25 @@ one_of_four false false true false = refl
 one_of_four false false false true = refl
 one_of_four false false false false = refl
 
+pub byte_lane : (n x : ℕ) → top 7 (hit x n) ≡ (x == n)
+byte_lane n x = one (x == n)
+  where
+    one : (a : Bool) → top 7 (cond a 255 0) ≡ a
+    one true = refl
+    one false = refl
+
+one_of_three : (a b c : Bool) → top 7 (bit_or (bit_or (cond a 255 0) (cond b 255 0)) (cond c 255 0)) ≡ (a || b || c)
+one_of_three true true true = refl
+one_of_three true true false = refl
+one_of_three true false true = refl
+one_of_three true false false = refl
+one_of_three false true true = refl
+one_of_three false true false = refl
+one_of_three false false true = refl
+one_of_three false false false = refl
+
+pub three_lane : (m n o x : ℕ) → top 7 (bit_or (bit_or (hit x m) (hit x n)) (hit x o)) ≡ ((x == m) || (x == n) || (x == o))
+three_lane m n o x = one_of_three (x == m) (x == n) (x == o)
+
 pub raw_lane : (q x : ℕ) → top 7 (bit_or (bit_or (bit_or (hit x q) (hit x 92)) (hit x 10)) (hit x 13)) ≡ ends_raw q x
 raw_lane q x = one_of_four (x == q) (x == 92) (x == 10) (x == 13)

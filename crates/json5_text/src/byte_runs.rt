@@ -4,6 +4,7 @@ ghost use Rattle.std.specs.Prelude.{◌≡◌, ◌≤◌, ◌+◌, ◌<◌, leng
 ghost use Rattle.json5_grammar.specs.Language.Characters.{is_digit, NotBegun};
 ghost use Rattle.std.specs.List.{prefix_len};
 ghost use Rattle.std.specs.Simd.Lanes.{mask_l};
+ghost use Rattle.memchr.specs.Find.{is_byte, is_byte3};
 ghost use Rattle.json5_grammar.specs.Language.Strings.{is_raw};
 ghost use Rattle.json5_text.specs.ByteRuns.{ends_raw, is_ascii_blank, is_ascii_start, is_ascii_part, is_plain_ascii, IsAsciiName, is_in_line, is_no_star, lengthens_digits, SpellsFront, IsUnpadded, IsShort, BeginsSolid};
 
@@ -83,17 +84,48 @@ pub(crate) fn ascii_name_len(bytes: &[u8]) -> Option<usize>
     }
 }
 
+/// Which of the bytes are LF or CR or begin a character from U+2000 to U+2FFF.
+#[inline(always)]
+fn line_ends(bytes: u8x16) -> u64
+    ensures { result ≡ mask_l (map (is_byte3 10 13 226) bytes) }
+{
+    (bytes.simd_eq(u8x16::splat(b'\n'))
+        | bytes.simd_eq(u8x16::splat(b'\r'))
+        | bytes.simd_eq(u8x16::splat(0xE2))).to_bitmask()
+}
+
 /// How many bytes come before the first that is LF or CR or begins a character from U+2000 to U+2FFF, as U+2028 and U+2029.
+/// Most comments end within 16 bytes, and then the call of `memchr3` would take longer than the search.
 pub(crate) fn line_len(bytes: &[u8]) -> usize
     ensures { result ≡ prefix_len is_in_line bytes.now }
 {
+    if bytes.len() >= 16 {
+        let found = line_ends(u8x16::from_slice(bytes));
+        if found != 0 {
+            return found.trailing_zeros() as usize;
+        }
+    }
     memchr3(b'\n', b'\r', 0xE2, bytes).unwrap_or(bytes.len())
 }
 
-/// How many bytes come before the first star.
+/// Which of the bytes are a star.
+#[inline(always)]
+fn stars(bytes: u8x16) -> u64
+    ensures { result ≡ mask_l (map (is_byte 42) bytes) }
+{
+    bytes.simd_eq(u8x16::splat(b'*')).to_bitmask()
+}
+
+/// How many bytes come before the first star. The first 16 bytes are tested as in `line_len`.
 pub(crate) fn star_offset(bytes: &[u8]) -> usize
     ensures { result ≡ prefix_len is_no_star bytes.now }
 {
+    if bytes.len() >= 16 {
+        let found = stars(u8x16::from_slice(bytes));
+        if found != 0 {
+            return found.trailing_zeros() as usize;
+        }
+    }
     memchr(b'*', bytes).unwrap_or(bytes.len())
 }
 
