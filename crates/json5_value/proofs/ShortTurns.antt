@@ -5,6 +5,7 @@ use Rattle.json5_grammar.specs.Faults.Fronts.{BracketKind}
 use Rattle.json5_grammar.specs.Model.Reading.{Read, got, bad, and_then}
 use Rattle.json5_grammar.specs.Model.ReadSteps.{next_value, value_and_rest}
 use Rattle.json5_grammar.proofs.ValueSteps.{turn, rest_step}
+use Rattle.std.proofs.lemmas.Bool.{both_ways}
 use Rattle.json5_types.specs.declared.error.Error.{Error}
 use Rattle.json5_text.specs.Cursor.{Cursor}
 use Rattle.json5_value.specs.declared.brackets.OpenBracket.{OpenBracket}
@@ -97,45 +98,47 @@ further (short.Within f comma_due) old mid new l a = let less = a.1 in ((λ e. (
 further (short.Member f left) old mid new l a = omega (arith, l, a)
 further short.Whole old mid new l a = tt
 
--- values of a bracket were passed over since the start, and a comma is due before the next
-pub record PassesWithin (f : OpenBracket) (bs : List OpenBracket) (start now : Cursor) : Type 0 where
-  pub goes : (room : ℕ) (w : Read (Unit {0})) (q : List ℕ) → SkippingInside room w bs f true q start → SkippingInside room w bs f true q now
+-- values of a bracket were passed over since the start, maybe none; a comma was due then, and is due now, or not
+pub record PassesWithin (f : OpenBracket) (bs : List OpenBracket) (was_due is_due : Bool) (start now : Cursor) : Type 0 where
+  pub goes : (room : ℕ) (w : Read (Unit {0})) (q : List ℕ) → SkippingInside room w bs f was_due q start → SkippingInside room w bs f is_due q now
   pub ready : IsInside now
   pub same_text : SameText start now
   pub no_longer : length now.unread ≤ length start.unread
+  pub still_due : was_due ≡ true → is_due ≡ true
 
-pub none_passed : (f : OpenBracket) (bs : List OpenBracket) (start : Cursor) → IsInside start → PassesWithin f bs start start
-none_passed f bs start r = record { goes = λ room w q h. h; ready = r; same_text = refl; no_longer = omega arith }
+pub none_passed : (f : OpenBracket) (bs : List OpenBracket) (due : Bool) (start : Cursor) → IsInside start → PassesWithin f bs due due start start
+none_passed f bs due start r = record { goes = λ room w q h. h; ready = r; same_text = refl; no_longer = omega arith; still_due = λ e. e }
 
-module _ (f : OpenBracket) (bs : List OpenBracket) (start now : Cursor) (p : PassesWithin f bs start now) where
+module _ (f : OpenBracket) (bs : List OpenBracket) (was_due is_due : Bool) (start now : Cursor) (p : PassesWithin f bs was_due is_due start now) where
   -- what continues it from here continues it from the start
-  pub resumed_from : (after : List OpenBracket) (new : Cursor) (t : ShortTurn) → ResumesShort f true bs after now new t → ResumesShort f true bs after start new t
+  pub resumed_from : (after : List OpenBracket) (new : Cursor) (t : ShortTurn) → ResumesShort f is_due bs after now new t → ResumesShort f was_due bs after start new t
   resumed_from after new t r = record {
     goes = λ room w q h. r.goes room w q (p.goes room w q h);
     same_text = r.same_text ∙ p.same_text;
-    advanced = λ e. further t start now new p.no_longer (r.advanced refl);
+    advanced = λ e. further t start now new p.no_longer (r.advanced (p.still_due e));
     no_longer = let k = p.no_longer in let l = r.no_longer in omega (arith, k, l);
   }
 
-  pub within_left : (new : Cursor) → new ≡ now → ResumesShort f true bs bs start new (short.Within f true)
-  within_left new same = subst (λ (s : Cursor). ResumesShort f true bs bs start s (short.Within f true)) (sym same) (resumed_from bs now (short.Within f true) (record {
+  pub within_left : (new : Cursor) → new ≡ now → ResumesShort f was_due bs bs start new (short.Within f is_due)
+  within_left new same = subst (λ (s : Cursor). ResumesShort f was_due bs bs start s (short.Within f is_due)) (sym same) (resumed_from bs now (short.Within f is_due) (record {
     goes = λ room w q h. (q, h);
     same_text = refl;
-    advanced = λ e. ((λ no. absurd (cc no)), omega arith);
+    advanced = λ e. ((λ no. absurd (both_ways is_due no e)), omega arith);
     no_longer = omega arith;
   }))
 
   -- the value begins with a bracket
-  pub value_next : (after : List OpenBracket) (mid : Cursor) → Gave (next_value (bracket_of f.kind) true now.unread) true now mid → after ≡ bs ++ f ∷ [] → ResumesShort f true bs after start mid short.Value
-  value_next after mid g grown = resumed_from after mid short.Value (value_resumed f true bs after now mid g grown)
+  pub value_next : (after : List OpenBracket) (mid : Cursor) → Gave (next_value (bracket_of f.kind) is_due now.unread) true now mid → after ≡ bs ++ f ∷ [] → ResumesShort f was_due bs after start mid short.Value
+  value_next after mid g grown = resumed_from after mid short.Value (value_resumed f is_due bs after now mid g grown)
 
   -- the value has no short way
-  pub value_left : (after : List OpenBracket) (mid new : Cursor) → Gave (next_value (bracket_of f.kind) true now.unread) true now mid → PassesShort mid new false → after ≡ bs ++ f ∷ [] → ResumesShort f true bs after start new short.Begins
-  value_left after mid new g same grown = subst (λ (s : Cursor). ResumesShort f true bs after start s short.Begins) (sym same) (
+  pub value_left : (after : List OpenBracket) (mid new : Cursor) → Gave (next_value (bracket_of f.kind) is_due now.unread) true now mid → PassesShort mid new false → after ≡ bs ++ f ∷ [] → ResumesShort f was_due bs after start new short.Begins
+  value_left after mid new g same grown = subst (λ (s : Cursor). ResumesShort f was_due bs after start s short.Begins) (sym same) (
       let r = value_next after mid g grown in
       record { goes = r.goes; same_text = r.same_text; advanced = λ e. let l = r.advanced e in omega (arith, l); no_longer = r.no_longer })
 
-  pub value_passed : (mid new : Cursor) → Gave (next_value (bracket_of f.kind) true now.unread) true now mid → PassesShort mid new true → PassesWithin f bs start new
+  -- after a value a comma is due
+  pub value_passed : (mid new : Cursor) → Gave (next_value (bracket_of f.kind) is_due now.unread) true now mid → PassesShort mid new true → PassesWithin f bs was_due true start new
   value_passed mid new g k =
       let before = p.no_longer in
       let to_value = no_more_left now mid g.taken g.took in
@@ -143,15 +146,16 @@ module _ (f : OpenBracket) (bs : List OpenBracket) (start now : Cursor) (p : Pas
       record {
         goes = λ room w q h.
             let deep : ℕ = room - length bs - 1 in
-            moved start_of rest_in room now w (rest_at room bs f true now) bs f.start q (p.goes room w q h) new (rest_at room bs f true new) (g.taken ++ (k deep).taken)
+            moved start_of rest_in room now w (rest_at room bs f is_due now) bs f.start q (p.goes room w q h) new (rest_at room bs f true new) (g.taken ++ (k deep).taken)
             (took_both now mid new g.taken (k deep).taken g.took (k deep).took)
-            (value_is room bs f true now true mid refl g ∙ ap (λ m. and_then m (rest_in f deep)) (k deep).reads);
+            (value_is room bs f is_due now true mid refl g ∙ ap (λ m. and_then m (rest_in f deep)) (k deep).reads);
         ready = ready_after mid new (k 0).taken (ready_next now mid p.ready g) (k 0).took;
         same_text = (k 0).took.same ∙ g.took.same ∙ p.same_text;
         no_longer = omega (arith, before, to_value, past_value);
+        still_due = λ e. refl;
       }
 
-  pub goes_down : (mid new : Cursor) → Gave (next_value (bracket_of f.kind) true now.unread) true now mid → PassesShort mid new true → length new.unread < length now.unread
+  pub goes_down : (mid new : Cursor) → Gave (next_value (bracket_of f.kind) is_due now.unread) true now mid → PassesShort mid new true → length new.unread < length now.unread
   goes_down mid new g k =
       let to_value = no_more_left now mid g.taken g.took in
       let past_value = value_shorter 0 mid.unread new.unread tt (k 0).reads in

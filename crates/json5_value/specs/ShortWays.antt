@@ -12,10 +12,13 @@ use Rattle.json5_value.specs.declared.short_ways.NameLeft.{NameLeft}
 use Rattle.json5_value.specs.declared.short_ways.NameLeft.TheVariants as names
 use Rattle.json5_value.specs.declared.short_ways.ShortEntry.{ShortEntry}
 use Rattle.json5_value.specs.declared.short_ways.ShortEntry.TheVariants as entry
+use Rattle.json5_value.specs.declared.skip.ShortBegin.{ShortBegin}
+use Rattle.json5_value.specs.declared.skip.ShortBegin.TheVariants as begin
 use Rattle.json5_value.specs.declared.skip.ShortTurn.{ShortTurn}
 use Rattle.json5_value.specs.declared.skip.ShortTurn.TheVariants as turn
 use Rattle.json5_value.specs.Brackets.{bracket_of}
 use Rattle.json5_value.specs.Nesting.{WithinInner}
+use Rattle.json5_value.specs.Opening.{OpenedAt}
 use Rattle.json5_value.specs.SkipSteps.{start_of, rest_in, Skipping, SkippingInside}
 use Rattle.json5_value.specs.ModelSteps.{SameText, RefusesRead, Gave, value_at}
 
@@ -77,6 +80,12 @@ pub record TurnsMember (left : NameLeft) (bracket : OpenBracket) (brackets after
   pub no_longer : IfOk result (λ at_value. length new.unread ≤ length old.unread)
 
 -- ---- turns
+
+-- with so many brackets open, one more was opened, for which there was room, or a scalar was passed over, or nothing was taken
+abbrev pub BeginsShort : ℕ → ℕ → Cursor → Cursor → ShortBegin → Type 0
+BeginsShort room depth old new (begin.Opened bracket) = OpenedAt (room - depth) bracket old new
+BeginsShort room depth old new begin.Ended = PassesShort old new true
+BeginsShort room depth old new begin.Begins = new ≡ old
 
 -- after so much of a short turn, what is next makes w of the whole
 abbrev pub Reached : ℕ → Read (Unit {0}) → List OpenBracket → ShortTurn → Cursor → Type 0

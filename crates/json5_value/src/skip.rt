@@ -4,7 +4,7 @@ ghost use Rattle.std.specs.Prelude.{◌<◌, ◌≤◌, false, length, true};
 ghost use Rattle.json5_grammar.specs.Language.Documents.{max_depth};
 ghost use Rattle.json5_value.specs.Opening.{AtScalar};
 ghost use Rattle.json5_value.specs.ModelSteps.{IsInside, Steps, value_at};
-ghost use Rattle.json5_value.specs.ShortWays.{TurnsMember, ResumesShort, TurnsShort};
+ghost use Rattle.json5_value.specs.ShortWays.{BeginsShort, TurnsMember, ResumesShort, TurnsShort};
 ghost use Rattle.json5_value.specs.SkipSteps.{SkipsOrOpens, TurnsSkipping, TurnsSkippingInside, PositionedWithin, SkipsValue};
 
 use crate::brackets::{OpenBracket, kind_opened, open_bracket};
@@ -160,50 +160,26 @@ enum ShortTurn {
     Whole,
 }
 
-/// Continues a bracket that was just opened: goes to its first value, and puts it among the open ones.
+/// Continues a bracket that isn't among the open ones, from its first value on or after a value, over the values as far as they
+/// have short ways.
 #[inline(always)]
-fn short_first<I: Input>(
+fn short_within<I: Input>(
     scanner: &mut Scanner<I>,
     brackets: &mut OpenBrackets,
     bracket: OpenBracket,
-) -> ShortTurn
-    requires { length brackets.old.items < 128 }
-    ensures { ResumesShort bracket false brackets.old.items brackets.new.items scanner.old scanner.new result }
-{
-    match short_entry(scanner, bracket.kind, false) {
-        ShortEntry::Value => {
-            brackets.push(bracket);
-            ShortTurn::Value
-        }
-        ShortEntry::Member(left) => ShortTurn::Member { bracket, left },
-        ShortEntry::Closed => ShortTurn::Ended,
-        ShortEntry::Other => ShortTurn::Within {
-            bracket,
-            comma_due: false,
-        },
-    }
-}
-
-/// Continues a bracket that isn't among the open ones after a value, over the next values as far as they have short ways.
-#[inline(always)]
-fn short_rest<I: Input>(
-    scanner: &mut Scanner<I>,
-    brackets: &mut OpenBrackets,
-    bracket: OpenBracket,
+    comma_due: bool,
 ) -> ShortTurn
     requires ready { IsInside scanner.old }
     requires place { length brackets.old.items < 128 }
-    ensures { ResumesShort bracket true brackets.old.items brackets.new.items scanner.old scanner.new result }
+    ensures { ResumesShort bracket comma_due brackets.old.items brackets.new.items scanner.old scanner.new result }
 {
+    let mut comma_due = comma_due;
     loop {
-        match short_entry(scanner, bracket.kind, true) {
+        match short_entry(scanner, bracket.kind, comma_due) {
             ShortEntry::Value => {}
             ShortEntry::Member(left) => return ShortTurn::Member { bracket, left },
             ShortEntry::Closed => return ShortTurn::Ended,
-            ShortEntry::Other => return ShortTurn::Within {
-                bracket,
-                comma_due: true,
-            },
+            ShortEntry::Other => return ShortTurn::Within { bracket, comma_due },
         }
         if matches!(scanner.peek(), Some('[' | '{')) {
             brackets.push(bracket);
@@ -213,36 +189,42 @@ fn short_rest<I: Input>(
             brackets.push(bracket);
             return ShortTurn::Begins;
         }
+        comma_due = true;
     }
 }
 
-/// Opens the bracket in front within the open brackets, where there is room for one more, and continues it; or passes over the
-/// scalar in front.
+/// How a value begins, by a short way.
+#[derive(Clone, Copy)]
+enum ShortBegin {
+    /// This bracket was opened.
+    Opened(OpenBracket),
+    /// A scalar was passed over.
+    Ended,
+    /// Nothing was taken: the value must be begun the longer way.
+    Begins,
+}
+
+/// While so many brackets are open: opens the one in front, if there is room for one more, or passes over the scalar in front.
 #[inline(always)]
-fn short_begin<I: Input>(
-    scanner: &mut Scanner<I>,
-    room: usize,
-    brackets: &mut OpenBrackets,
-) -> ShortTurn
-    requires ready { IsInside scanner.old }
-    requires room { room ≤ max_depth }
-    ensures { TurnsShort room true brackets.old.items brackets.new.items scanner.old scanner.new result }
+fn short_begin<I: Input>(scanner: &mut Scanner<I>, room: usize, depth: usize) -> ShortBegin
+    requires { IsInside scanner.old }
+    ensures { BeginsShort room depth scanner.old scanner.new result }
 {
     let Some(c) = scanner.peek() else {
-        return ShortTurn::Begins;
+        return ShortBegin::Begins;
     };
     let Some(kind) = kind_opened(c) else {
         if short_scalar(scanner) {
-            return ShortTurn::Ended;
+            return ShortBegin::Ended;
         }
-        return ShortTurn::Begins;
+        return ShortBegin::Begins;
     };
-    if room <= brackets.len() {
-        return ShortTurn::Begins;
+    if room <= depth {
+        return ShortBegin::Begins;
     }
     let start = scanner.offset();
     let _ = scanner.eat(c);
-    short_first(scanner, brackets, OpenBracket { kind, start })
+    ShortBegin::Opened(OpenBracket { kind, start })
 }
 
 /// Begins the value in front, or continues the innermost bracket after a value.
@@ -258,13 +240,20 @@ fn short_turn<I: Input>(
     requires fits { length brackets.old.items ≤ room }
     ensures { TurnsShort room at_value brackets.old.items brackets.new.items scanner.old scanner.new result }
 {
-    if at_value {
-        return short_begin(scanner, room, brackets);
-    }
-    match brackets.pop() {
-        Some(bracket) => short_rest(scanner, brackets, bracket),
-        None => ShortTurn::Whole,
-    }
+    // Both cases share one call of `short_within`, since it is compiled in place.
+    let (bracket, comma_due) = if at_value {
+        match short_begin(scanner, room, brackets.len()) {
+            ShortBegin::Opened(bracket) => (bracket, false),
+            ShortBegin::Ended => return ShortTurn::Ended,
+            ShortBegin::Begins => return ShortTurn::Begins,
+        }
+    } else {
+        match brackets.pop() {
+            Some(bracket) => (bracket, true),
+            None => return ShortTurn::Whole,
+        }
+    };
+    short_within(scanner, brackets, bracket, comma_due)
 }
 
 /// Passes over the value in front, turn by turn.
