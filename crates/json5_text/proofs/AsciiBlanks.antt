@@ -43,12 +43,16 @@ ascii_front : (r : List ℕ) → IsUtf8 r → 0 < length r → slice_index r 0 <
 ascii_front [] u l h = absurd (omega arith)
 ascii_front (b ∷ s) u l h = (chars s, chars_past_char (b ∷ s) s b u (ap (λ z. z ++ s) (sym (encode_ascii b h))))
 
+-- a text that begins with a character from `!` to `~` that is no slash
+pub at_solid_sign : (c : ℕ) (x y : List ℕ) → is_in 33 126 c ≡ true → (c == 47) ≡ false → x ≡ c ∷ y → skip between x ≡ got tt x
+at_solid_sign c x y printable other e = skip_rest x (subst Solid (sym e) (begins_solid c y (printable_solid c printable other)))
+
 pub at_solid_text : (r : List ℕ) → IsUtf8 r → BeginsSolid r → skip between (chars r) ≡ got tt (chars r)
 at_solid_text r u k =
     let front = ascii_front r u k.some (let h = k.high in omega arith) in
     let printable : is_in 33 126 (slice_index r 0) ≡ true = grind (arith, nat_tests, k.low, k.high) in
     let other : (slice_index r 0 == 47) ≡ false = grind (arith, nat_tests, k.no_slash) in
-    skip_rest (chars r) (subst Solid (sym front.1) (begins_solid (slice_index r 0) front.0 (printable_solid (slice_index r 0) printable other)))
+    at_solid_sign (slice_index r 0) (chars r) front.0 printable other front.1
 
 pub drop_shorter : (s r : List ℕ) (n : ℕ) → r ≡ drop n s → length r ≤ length s
 drop_shorter s r n d = let k = length-drop n s in let l = ap length d in omega (arith, k, l)

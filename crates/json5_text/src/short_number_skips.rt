@@ -7,7 +7,6 @@ ghost use Rattle.json5_grammar.specs.Model.ReadNumbers as model;
 ghost use Rattle.json5_text.specs.ShortNumberSkips.{FollowsSign, FollowsMantissa, FollowsPower, FollowsExponent, TakesShortNumber};
 ghost use Rattle.json5_text.specs.TokenResults.{GivesRest};
 
-use crate::blanks::skip_ascii;
 use crate::byte_runs::goes_on;
 use crate::decimal_literals::is_integer;
 use crate::input::Input;
@@ -90,13 +89,13 @@ fn after_number(text: &str) -> Option<&str>
 }
 
 impl<I: Input> Scanner<I> {
-    /// Takes ASCII blanks and a decimal literal of few digits, up to where a number can't go on, and says whether it was in front.
-    /// Else takes nothing.
+    /// Takes a decimal literal of few digits, up to where a number can't go on, and says whether it was in front. Else takes nothing,
+    /// also where blanks are in front.
     #[inline(always)]
     pub fn short_number(&mut self) -> bool
         ensures { TakesShortNumber self.old self.new result }
     {
-        let Some(rest) = after_number(skip_ascii(self.rest(self.input.as_text()))) else {
+        let Some(rest) = after_number(self.rest(self.input.as_text())) else {
             return false;
         };
         let left = rest.len();

@@ -35,6 +35,17 @@ fn skip_to_solid(text: &str) -> Option<&str>
     skip_comments(rest)
 }
 
+/// The same where a comma is expected: most commas follow a value at once, so one in front is tested for before blanks are.
+#[inline(always)]
+fn skip_to_comma(text: &str) -> Option<&str>
+    ensures { IfSome result (FollowsBlanks text.now) }
+{
+    if is_in_front(b',', text) {
+        return Some(text);
+    }
+    skip_to_solid(text)
+}
+
 /// A whole number of few digits, and how many bytes follow it.
 #[derive(Clone, Copy)]
 struct ShortWhole {
@@ -114,7 +125,7 @@ fn comma_step(closing: u8, text: &str) -> Option<Step>
     requires { closing < 128 }
     ensures { IfSome result (FindsStep closing true text.now) }
 {
-    let solid = skip_to_solid(text)?;
+    let solid = skip_to_comma(text)?;
     if is_in_front(closing, solid) {
         return Some(Step {
             at_closing: true,

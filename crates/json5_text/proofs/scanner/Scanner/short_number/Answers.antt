@@ -1,4 +1,4 @@
-use Rattle.std.proofs.Common.{◌++◌, sym, ◌∙◌}
+use Rattle.std.proofs.Common.{◌++◌, refl, sym, ◌∙◌}
 use Rattle.std.specs.Str.{chars}
 use Rattle.std.proofs.lemmas.List.{append_assoc}
 use Rattle.json5_text.proofs.ScanTokens.{left_counted, leaves_rest}
@@ -9,13 +9,13 @@ pub set_remaining-requires : goal.set_remaining-requires
 set_remaining-requires g c =
     let gives = c.in-Some.ensures in
     let r = c.in-Some.rest.now in
-    let k = number_found _ c.args.self.now.unread _ (chars r) gives.value c.rest.ensures c.skip_ascii.ensures.passed gives.read in
+    let k = number_found _ c.args.self.now.unread _ (chars r) gives.value c.rest.ensures refl gives.read in
     leaves_rest (k.gap ++ k.literal) r (k.split ∙ sym (append_assoc k.gap k.literal (chars r))) gives.text
 
 pub returns : goal.returns
 returns g c =
     let gives = c.in-Some.ensures in
     let r = c.in-Some.rest.now in
-    let k = number_found _ c.args.self.now.unread _ (chars r) gives.value c.rest.ensures c.skip_ascii.ensures.passed gives.read in
+    let k = number_found _ c.args.self.now.unread _ (chars r) gives.value c.rest.ensures refl gives.read in
     let l = c.set_remaining.ensures (k.gap ++ k.literal) (chars r) (k.split ∙ sym (append_assoc k.gap k.literal (chars r))) (left_counted r gives.text) in
     (gives.value, number_took c.args.self.now c.set_remaining.new.self (chars r) gives.value k l.1 l.0.same)
