@@ -27,7 +27,7 @@ use Rattle.json5_text.specs.Cursor.{Refused}
 use Rattle.json5_text.specs.TokenFaults.{FaultyBlanks}
 use Rattle.json5_de.specs.Convert.{every_text}
 use Rattle.json5_de.specs.KeyKinds.{RefusedAsKey, string_key}
-use Rattle.json5_de.specs.ShortWays.{OwnsTextAt}
+use Rattle.json5_de.specs.ShortWays.{OwnsTextAt, RunsOut, filled_if_given}
 use Rattle.json5_de.specs.State.{State, OnlyRead, SameText, cursor_of}
 use Rattle.json5_de.specs.DeserializeLaw.{TookValue}
 use Rattle.json5_de.specs.ReaderSteps.{PassedGap, TookText, IsCount}
@@ -398,6 +398,10 @@ module _ {span : Span} (comma_due : Bool) (s mid taken end : State) (at : AtEntr
   pub name_refused : {A : Type 0} (e : Error) → OwnsTextAt {A = A} span taken end (Err e) → ReadsKeyOfMember {K = String A} string_bytes every_text (RefusedAsKey string_key) comma_due s end (Err e)
   name_refused {A = A} e owns =
       read_key_refused (string_bytes {Z = A}) every_text (RefusedAsKey string_key) comma_due s mid end name_begins e e (name_read (Err e) owns) (as_it_is (ap is_positionless owns.0.kind) refl refl)
+
+  pub name_lost : {A : Type 0} (text : String A) (r : Result Bool Error) → RunsOut taken end r → ReadsKeyOfMember {K = String A} string_bytes every_text (RefusedAsKey string_key) comma_due s end (filled_if_given text r)
+  name_lost text (Ok given) lost = absurd lost
+  name_lost {A = A} text (Err e) lost = name_refused {A = A} e lost
 
 -- ---- a colon and a value
 

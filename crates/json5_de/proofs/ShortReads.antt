@@ -24,7 +24,7 @@ use Rattle.json5_de.specs.Keys.{TookKey}
 use Rattle.json5_de.specs.DeserializeLaw.{TookValue}
 use Rattle.json5_de.specs.TokenKinds.{ReadsAs, whole_kind, natural_kind, integer_kind, decimal_kind, string_kind}
 use Rattle.json5_de.specs.AccessCalls.{IsEntryStart}
-use Rattle.json5_de.specs.ShortWays.{ReadsShort, StepsShort, ReadsShortText, ReadsShortKey, PassesShortColon, OwnsTextAt}
+use Rattle.json5_de.specs.ShortWays.{ReadsShort, StepsShort, ReadsShortText, ReadsShortKey, PassesShortColon, OwnsTextAt, RunsOut}
 use Rattle.json5_de.specs.State.{State}
 use Rattle.json5_de.proofs.TokenKinds.{reads_ok}
 use Rattle.json5_de.proofs.ReadSteps.{value_gap, input_of}
@@ -150,6 +150,11 @@ short_key before after level failed old (Some span) e live k = subst (λ s. Read
 -- a part of what the reader reads is that of its scanner
 pub slice_at : {level : ℕ} {failed : Bool} {old : State} {u : List ℕ} {span : Span} (s : Cursor) → reader_at s level failed ≡ old → IsSliceAt old.input u span.start span.end → IsSliceAt s.input u span.start span.end
 slice_at {u = u} {span = span} s e k = subst (λ x. IsSliceAt x u span.start span.end) (sym (ap (λ (r : State). r.input) e)) k
+
+-- a refusal since memory ran out, in place of a copy of a text
+pub own_lost : {A : Type 0} (span : Span) (old new : State) (r : Result (String A) Error) → RunsOut old new r → OwnsTextAt span old new r
+own_lost span old new (Ok t) lost = absurd lost
+own_lost span old new (Err e) lost = lost
 
 -- ---- a colon
 

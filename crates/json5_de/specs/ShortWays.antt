@@ -59,17 +59,17 @@ abbrev pub ClosesShort : Brackets → State → State → Bool → Type 0
 ClosesShort b old new true = Closed b false old new
 ClosesShort b old new false = new ≡ old
 
+-- a refusal since memory ran out
+abbrev pub RunsOut : {V : Type 0} → State → State → Result V Error → Type 0
+RunsOut old new (Ok v) = ⊥
+RunsOut old new (Err e) = LacksMemory e × GivesUp old new
+
 -- an owned copy of the text at the span; or memory ran out
 abbrev pub OwnsTextAt : {A : Type 0} → Span → State → State → Result (String A) Error → Type 0
 OwnsTextAt span old new (Ok t) = (new ≡ old) × IsTextAt old.input span (string_bytes t)
 OwnsTextAt span old new (Err e) = LacksMemory e × GivesUp old new
 
--- what a call that puts something into a variable returns with what it put there
-abbrev pub filled : {A : Type 0} → A → Result (Unit {0}) Error → Result A Error
-filled value (Ok done) = Ok value
-filled value (Err e) = Err e
-
--- the same of a call that says whether it put something there
+-- what a call that may put something into a variable, and says whether it did, returns with what it put there
 abbrev pub if_given : {A : Type 0} → A → Bool → Option A
 if_given value true = Some value
 if_given value false = None

@@ -19,6 +19,7 @@ use crate::any::IgnoredAny;
 use crate::de::{Deserialize, Deserializer};
 use crate::map::MapAccess;
 use json5_text::input::Input;
+use json5_text::short_ways::ShortStep;
 use json5_types::ErrorCode;
 use json5_types::error::{Error, Result};
 use json5_value::brackets::BracketKind;
@@ -77,10 +78,10 @@ impl<I: Input> Deserializer<I> {
         let Some(span) = self.short_key() else {
             return self.entry_name_slowly(name);
         };
-        match self.put_text(span, name) {
-            Ok(()) => Ok(true),
-            Err(e) => Err(e),
+        if self.put_text(span, name) {
+            return Ok(true);
         }
+        self.without_memory()
     }
 
     /// Does the same where the key has no short way, or where there is no key.
@@ -98,6 +99,18 @@ impl<I: Input> Deserializer<I> {
     /// Reads the next key of an object as `member_key::<String>` does, and puts it into a string. Says whether there was one.
     #[inline(always)]
     fn member_name(&mut self, comma_due: bool, name: &mut String) -> Result<bool>
+        ensures { ReadsKeyOfMember string_bytes every_text (RefusedAsKey string_key) comma_due self.old self.new (filled_if_given name.new result) }
+    {
+        match self.short_step(BracketKind::Object, comma_due) {
+            ShortStep::Member => self.entry_name(name),
+            ShortStep::Closing => Ok(false),
+            ShortStep::Other => self.member_name_slowly(comma_due, name),
+        }
+    }
+
+    /// The same for anything in front.
+    #[inline(never)]
+    fn member_name_slowly(&mut self, comma_due: bool, name: &mut String) -> Result<bool>
         ensures { ReadsKeyOfMember string_bytes every_text (RefusedAsKey string_key) comma_due self.old self.new (filled_if_given name.new result) }
     {
         match self.advance_to_entry(BracketKind::Object, comma_due) {

@@ -1,11 +1,12 @@
 //! Short ways: values and steps that are read at once where no fault can come. They return small values, so that the caller's
 //! frame holds no fault. When they return None or `Other`, nothing has changed, and the reader's other calls say what is there.
 
-ghost use Rattle.std.specs.Prelude.{◌+◌, nat_abs, IfSome};
+ghost use Rattle.std.specs.Prelude.{◌≡◌, ◌+◌, nat_abs, true, string_bytes, IfSome};
+ghost use Rattle.json5_text.specs.ShortTexts.{IsTextAt};
 ghost use Rattle.json5_value.specs.Brackets.{brackets_of};
 ghost use Rattle.json5_de.specs.Convert.{IsUpTo, IsWithin};
 ghost use Rattle.json5_de.specs.TokenKinds.{natural_kind, integer_kind, decimal_kind};
-ghost use Rattle.json5_de.specs.ShortWays.{ReadsShort, StepsShort, ReadsShortText, ReadsShortKey, ReadsEscapeFreeText, TakesEscapeFreeKey, PassesShortColon, OpensShort, ClosesShort, OwnsTextAt, filled};
+ghost use Rattle.json5_de.specs.ShortWays.{ReadsShort, StepsShort, ReadsShortText, ReadsShortKey, ReadsEscapeFreeText, TakesEscapeFreeKey, PassesShortColon, OpensShort, ClosesShort, OwnsTextAt, RunsOut};
 
 use crate::de::Deserializer;
 use json5_text::input::{Borrows, Input};
@@ -134,20 +135,26 @@ impl<I: Input> Deserializer<I> {
     {
         match String::from_str(self.allocator(), self.scanner.text_of_span(span)) {
             Ok(text) => Ok(text),
-            Err(_) => self.refuse(Error::new(ErrorCode::OutOfMemory)),
+            Err(_) => self.without_memory(),
         }
     }
 
-    /// Puts a copy of the text of the span into a string, in place of what it holds. If memory runs out, the reader has failed.
+    /// Puts a copy of the text of the span into a string, in place of what it holds, and says whether there was memory for it.
     #[inline(always)]
-    pub(crate) fn put_text(&mut self, span: Span, text: &mut String) -> Result<()>
-        ensures { OwnsTextAt span self.old self.new (filled text.new result) }
+    pub(crate) fn put_text(&self, span: Span, text: &mut String) -> bool
+        ensures { result ≡ true → IsTextAt self.now.input span (string_bytes text.new) }
     {
         text.clear();
-        match text.push_str(self.scanner.text_of_span(span)) {
-            Ok(()) => Ok(()),
-            Err(_) => self.refuse(Error::new(ErrorCode::OutOfMemory)),
-        }
+        text.push_str(self.scanner.text_of_span(span)).is_ok()
+    }
+
+    /// Refuses since memory ran out, now and from now on.
+    #[cold]
+    #[inline(never)]
+    pub(crate) fn without_memory<T>(&mut self) -> Result<T>
+        ensures { RunsOut self.old self.new result }
+    {
+        self.refuse(Error::new(ErrorCode::OutOfMemory))
     }
 }
 
