@@ -1,5 +1,5 @@
 -- Short turns leave what is next as the longer ways would find it.
-use Rattle.std.proofs.Common.{◌≡◌, ℕ, ◌-◌, ◌<◌, ◌≤◌, Bool, true, false, List, [], ◌∷◌, ◌++◌, length, refl, ap, sym, ◌∙◌, subst, arith}
+use Rattle.std.proofs.Common.{◌≡◌, ℕ, ◌-◌, ◌+◌, ◌<◌, ◌≤◌, Bool, true, false, List, [], ◌∷◌, ◌++◌, length, refl, ap, sym, ◌∙◌, subst, arith, length-append}
 use Rattle.std.specs.Prelude.{Ok, Err}
 use Rattle.json5_grammar.specs.Faults.Fronts.{BracketKind}
 use Rattle.json5_grammar.specs.Model.Reading.{Read, got, bad, and_then}
@@ -20,7 +20,7 @@ use Rattle.json5_value.specs.ShortWays.{ReachesMember, PassesShort, name_left, m
 use Rattle.json5_value.specs.SkipSteps.{start_of, rest_in, rest_at, Skipping, SkippingInside, SkipsValue}
 use Rattle.json5_value.specs.ModelSteps.{IsInside, SameText, RefusesRead, Gave, value_at}
 use Rattle.json5_value.proofs.Nesting.{value_reached, inside_blamed, moved}
-use Rattle.json5_value.proofs.SkipInvariant.{room_within, no_more_left, value_is, inside_goes, inside_closed, inside_of, ended_inside, first_scalar}
+use Rattle.json5_value.proofs.SkipInvariant.{room_within, no_more_left, value_is, inside_goes, inside_closed, inside_of, ready_opened, ended_inside, first_scalar}
 use Rattle.json5_value.proofs.SkipScalars.{value_shorter, scalar_passed}
 use Rattle.json5_value.proofs.ModelSteps.{blames_as, ready_after, ready_next, took_both}
 
@@ -68,112 +68,145 @@ member_refused left f bs after old new own e b same k = record {
   no_longer = tt;
 }
 
--- ---- continuing a bracket
-
-pub value_resumed : (f : OpenBracket) (comma_due : Bool) (bs after : List OpenBracket) (old new : Cursor) → Gave (next_value (bracket_of f.kind) comma_due old.unread) true old new → after ≡ bs ++ f ∷ [] → ResumesShort f comma_due bs after old new short.Value
-value_resumed f comma_due bs after old new g grown =
-    let t = inside_goes comma_due true f bs after old new refl g grown in
-    record { goes = t.goes; same_text = t.same_text; advanced = t.shorter; no_longer = t.no_longer }
-
-pub bracket_closed : (f : OpenBracket) (comma_due : Bool) (bs : List OpenBracket) (old new : Cursor) → Gave (next_value (bracket_of f.kind) comma_due old.unread) false old new → ResumesShort f comma_due bs bs old new short.Ended
-bracket_closed f comma_due bs old new g =
-    let t = inside_closed comma_due false f bs old new refl g in
-    record { goes = t.goes; same_text = t.same_text; advanced = t.shorter; no_longer = t.no_longer }
-
-pub member_resumed : (f : OpenBracket) (comma_due : Bool) (left : NameLeft) (bs : List OpenBracket) (old new : Cursor) → ReachesMember f.kind comma_due left old new → ResumesShort f comma_due bs bs old new (short.Member f left)
-member_resumed f comma_due left bs old new m = record {
-  goes = λ room w q h. (q, member_reached room w bs f left q comma_due old new m h);
-  same_text = m.took.same;
-  advanced = m.shorter;
-  no_longer = no_more_left old new m.taken m.took;
-}
-
--- ---- values that are passed over within a bracket, each after another
-
-further : (t : ShortTurn) (old mid new : Cursor) → length mid.unread ≤ length old.unread → Advanced t mid new → Advanced t old new
-further short.Value old mid new l a = omega (arith, l, a)
-further short.Ended old mid new l a = omega (arith, l, a)
-further short.Begins old mid new l a = omega (arith, l, a)
-further (short.Within f comma_due) old mid new l a = let less = a.1 in ((λ e. (let k = a.0 e in omega (arith, l, k))), omega (arith, l, less))
-further (short.Member f left) old mid new l a = omega (arith, l, a)
-further short.Whole old mid new l a = tt
-
--- values of a bracket were passed over since the start, maybe none; a comma was due then, and is due now, or not
-pub record PassesWithin (f : OpenBracket) (bs : List OpenBracket) (was_due is_due : Bool) (start now : Cursor) : Type 0 where
-  pub goes : (room : ℕ) (w : Read (Unit {0})) (q : List ℕ) → SkippingInside room w bs f was_due q start → SkippingInside room w bs f is_due q now
-  pub ready : IsInside now
-  pub same_text : SameText start now
-  pub no_longer : length now.unread ≤ length start.unread
-  pub still_due : was_due ≡ true → is_due ≡ true
-
-pub none_passed : (f : OpenBracket) (bs : List OpenBracket) (due : Bool) (start : Cursor) → IsInside start → PassesWithin f bs due due start start
-none_passed f bs due start r = record { goes = λ room w q h. h; ready = r; same_text = refl; no_longer = omega arith; still_due = λ e. e }
-
-module _ (f : OpenBracket) (bs : List OpenBracket) (was_due is_due : Bool) (start now : Cursor) (p : PassesWithin f bs was_due is_due start now) where
-  -- what continues it from here continues it from the start
-  pub resumed_from : (after : List OpenBracket) (new : Cursor) (t : ShortTurn) → ResumesShort f is_due bs after now new t → ResumesShort f was_due bs after start new t
-  resumed_from after new t r = record {
-    goes = λ room w q h. r.goes room w q (p.goes room w q h);
-    same_text = r.same_text ∙ p.same_text;
-    advanced = λ e. further t start now new p.no_longer (r.advanced (p.still_due e));
-    no_longer = let k = p.no_longer in let l = r.no_longer in omega (arith, k, l);
-  }
-
-  pub within_left : (new : Cursor) → new ≡ now → ResumesShort f was_due bs bs start new (short.Within f is_due)
-  within_left new same = subst (λ (s : Cursor). ResumesShort f was_due bs bs start s (short.Within f is_due)) (sym same) (resumed_from bs now (short.Within f is_due) (record {
-    goes = λ room w q h. (q, h);
-    same_text = refl;
-    advanced = λ e. ((λ no. absurd (both_ways is_due no e)), omega arith);
-    no_longer = omega arith;
-  }))
-
-  -- the value begins with a bracket
-  pub value_next : (after : List OpenBracket) (mid : Cursor) → Gave (next_value (bracket_of f.kind) is_due now.unread) true now mid → after ≡ bs ++ f ∷ [] → ResumesShort f was_due bs after start mid short.Value
-  value_next after mid g grown = resumed_from after mid short.Value (value_resumed f is_due bs after now mid g grown)
-
-  -- the value has no short way
-  pub value_left : (after : List OpenBracket) (mid new : Cursor) → Gave (next_value (bracket_of f.kind) is_due now.unread) true now mid → PassesShort mid new false → after ≡ bs ++ f ∷ [] → ResumesShort f was_due bs after start new short.Begins
-  value_left after mid new g same grown = subst (λ (s : Cursor). ResumesShort f was_due bs after start s short.Begins) (sym same) (
-      let r = value_next after mid g grown in
-      record { goes = r.goes; same_text = r.same_text; advanced = λ e. let l = r.advanced e in omega (arith, l); no_longer = r.no_longer })
-
-  -- after a value a comma is due
-  pub value_passed : (mid new : Cursor) → Gave (next_value (bracket_of f.kind) is_due now.unread) true now mid → PassesShort mid new true → PassesWithin f bs was_due true start new
-  value_passed mid new g k =
-      let before = p.no_longer in
-      let to_value = no_more_left now mid g.taken g.took in
-      let past_value = no_more_left mid new (k 0).taken (k 0).took in
-      record {
-        goes = λ room w q h.
-            let deep : ℕ = room - length bs - 1 in
-            moved start_of rest_in room now w (rest_at room bs f is_due now) bs f.start q (p.goes room w q h) new (rest_at room bs f true new) (g.taken ++ (k deep).taken)
-            (took_both now mid new g.taken (k deep).taken g.took (k deep).took)
-            (value_is room bs f is_due now true mid refl g ∙ ap (λ m. and_then m (rest_in f deep)) (k deep).reads);
-        ready = ready_after mid new (k 0).taken (ready_next now mid p.ready g) (k 0).took;
-        same_text = (k 0).took.same ∙ g.took.same ∙ p.same_text;
-        no_longer = omega (arith, before, to_value, past_value);
-        still_due = λ e. refl;
-      }
-
-  pub goes_down : (mid new : Cursor) → Gave (next_value (bracket_of f.kind) is_due now.unread) true now mid → PassesShort mid new true → length new.unread < length now.unread
-  goes_down mid new g k =
-      let to_value = no_more_left now mid g.taken g.took in
-      let past_value = value_shorter 0 mid.unread new.unread tt (k 0).reads in
-      omega (arith, to_value, past_value)
-
--- ---- how a value begins
+-- ---- values that are passed over within a bracket, and within those opened there
 
 strictly : (t : ShortTurn) (old new : Cursor) → length new.unread < length old.unread → Advanced t old new
-strictly short.Value old new l = l
 strictly short.Ended old new l = l
 strictly short.Begins old new l = omega (arith, l)
 strictly (short.Within f comma_due) old new l = ((λ e. l), omega (arith, l))
 strictly (short.Member f left) old new l = l
 strictly short.Whole old new l = tt
 
-pub opened_short : (room : ℕ) (bs after : List OpenBracket) (f : OpenBracket) (old mid new : Cursor) (t : ShortTurn) → OpenedAt (room - length bs) f old mid → ResumesShort f false bs after mid new t → TurnsShort room true bs after old new t
+further : (t : ShortTurn) (old mid new : Cursor) → length mid.unread ≤ length old.unread → Advanced t mid new → Advanced t old new
+further short.Ended old mid new l a = omega (arith, l, a)
+further short.Begins old mid new l a = omega (arith, l, a)
+further (short.Within f comma_due) old mid new l a = let less = a.1 in ((λ e. (let k = a.0 e in omega (arith, l, k))), omega (arith, l, less))
+further (short.Member f left) old mid new l a = omega (arith, l, a)
+further short.Whole old mid new l a = tt
+
+-- from within the bracket f on, values were passed over and brackets opened, maybe none; now the bracket is g, and other ones are open around it
+pub record PassesWithin (room : ℕ) (f g : OpenBracket) (bs cs : List OpenBracket) (was_due is_due : Bool) (start now : Cursor) : Type 0 where
+  pub goes : (w : Read (Unit {0})) (q : List ℕ) → SkippingInside room w bs f was_due q start → (p : List ℕ) × SkippingInside room w cs g is_due p now
+  pub ready : IsInside now
+  pub place : length cs < room
+  pub same_text : SameText start now
+  pub no_longer : length now.unread ≤ length start.unread
+  pub opened : was_due ≡ true → is_due ≡ false → length now.unread < length start.unread
+
+module _ (room : ℕ) (f g : OpenBracket) (bs cs : List OpenBracket) (was_due is_due : Bool) (start now : Cursor) (p : PassesWithin room f g bs cs was_due is_due start now) where
+  -- what continues it from here continues it from the start
+  resumed_from : (after : List OpenBracket) (new : Cursor) (t : ShortTurn) → ResumesShort room g is_due cs after now new t → ResumesShort room f was_due bs after start new t
+  resumed_from after new t r = record {
+    goes = λ w q h. let (z, inside) = p.goes w q h in r.goes w z inside;
+    same_text = r.same_text ∙ p.same_text;
+    advanced = λ e. by_due is_due refl e;
+    no_longer = let k = p.no_longer in let l = r.no_longer in omega (arith, k, l);
+  }
+    where
+      by_due : (due : Bool) → is_due ≡ due → was_due ≡ true → Advanced t start new
+      by_due true is e = further t start now new p.no_longer (r.advanced is)
+      by_due false is e = let k = p.opened e is in let l = r.no_longer in strictly t start new (omega (arith, k, l))
+
+  -- a member was reached
+  pub member_left_to : (left : NameLeft) (new : Cursor) → ReachesMember g.kind is_due left now new → ResumesShort room f was_due bs cs start new (short.Member g left)
+  member_left_to left new m = resumed_from cs new (short.Member g left) (record {
+    goes = λ w q h. (q, member_reached room w cs g left q is_due now new m h);
+    same_text = m.took.same;
+    advanced = m.shorter;
+    no_longer = no_more_left now new m.taken m.took;
+  })
+
+  -- the bracket was closed, and was the outermost
+  pub whole_closed : (after : List OpenBracket) (new : Cursor) → Gave (next_value (bracket_of g.kind) is_due now.unread) false now new → cs ≡ [] → after ≡ cs → ResumesShort room f was_due bs after start new short.Whole
+  whole_closed after new v none kept =
+      let t = inside_closed is_due false g cs now new refl v in
+      subst (λ z. ResumesShort room f was_due bs z start new short.Whole) (sym kept)
+      (resumed_from cs new short.Whole (record { goes = λ w q h. (none, t.goes room w q h); same_text = t.same_text; advanced = λ e. tt; no_longer = t.no_longer }))
+
+  -- it was closed, and the outer one goes on after a value
+  pub closed_within : (ds : List OpenBracket) (outer : OpenBracket) (new : Cursor) → Gave (next_value (bracket_of g.kind) is_due now.unread) false now new → cs ≡ ds ++ outer ∷ [] → PassesWithin room f outer bs ds was_due true start new
+  closed_within ds outer new v is =
+      let before = p.no_longer in
+      let there = p.place in
+      let t = inside_closed is_due false g cs now new refl v in
+      let past_sign = t.no_longer in
+      record {
+        goes = λ w q h. let (z, inside) = p.goes w q h in ended_inside room new w cs ds outer is (t.goes room w z inside);
+        ready = ready_next now new p.ready v;
+        place = omega (arith, there, ap length is, length-append ds (outer ∷ []));
+        same_text = t.same_text ∙ p.same_text;
+        no_longer = omega (arith, before, past_sign);
+        opened = λ e no. absurd (both_ways true no refl);
+      }
+
+  -- nothing more was taken
+  pub within_left : (new : Cursor) → new ≡ now → ResumesShort room f was_due bs cs start new (short.Within g is_due)
+  within_left new same = subst (λ (s : Cursor). ResumesShort room f was_due bs cs start s (short.Within g is_due)) (sym same) (resumed_from cs now (short.Within g is_due) (record {
+    goes = λ w q h. (q, h);
+    same_text = refl;
+    advanced = λ e. ((λ no. absurd (both_ways is_due no e)), omega arith);
+    no_longer = omega arith;
+  }))
+
+  -- the value has no short way
+  pub value_left : (after : List OpenBracket) (mid new : Cursor) → Gave (next_value (bracket_of g.kind) is_due now.unread) true now mid → new ≡ mid → after ≡ cs ++ g ∷ [] → ResumesShort room f was_due bs after start new short.Begins
+  value_left after mid new v same grown = subst (λ (s : Cursor). ResumesShort room f was_due bs after start s short.Begins) (sym same) (
+      let t = inside_goes is_due true g cs after now mid refl v grown in
+      resumed_from after mid short.Begins (record { goes = λ w q h. t.goes room w q h; same_text = t.same_text; advanced = λ e. t.no_longer; no_longer = t.no_longer }))
+
+  -- after a value a comma is due
+  pub value_passed : (mid new : Cursor) → Gave (next_value (bracket_of g.kind) is_due now.unread) true now mid → PassesShort mid new true → PassesWithin room f g bs cs was_due true start new
+  value_passed mid new v k =
+      let before = p.no_longer in
+      let to_value = no_more_left now mid v.taken v.took in
+      let past_value = no_more_left mid new (k 0).taken (k 0).took in
+      record {
+        goes = λ w q h.
+            let (z, inside) = p.goes w q h in
+            let deep : ℕ = room - length cs - 1 in (
+              z,
+              moved start_of rest_in room now w (rest_at room cs g is_due now) cs g.start z inside new (rest_at room cs g true new) (v.taken ++ (k deep).taken)
+                  (took_both now mid new v.taken (k deep).taken v.took (k deep).took)
+                  (value_is room cs g is_due now true mid refl v ∙ ap (λ m. and_then m (rest_in g deep)) (k deep).reads),
+            );
+        ready = ready_after mid new (k 0).taken (ready_next now mid p.ready v) (k 0).took;
+        place = p.place;
+        same_text = (k 0).took.same ∙ v.took.same ∙ p.same_text;
+        no_longer = omega (arith, before, to_value, past_value);
+        opened = λ e no. absurd (both_ways true no refl);
+      }
+
+  pub passed_less : (mid new : Cursor) → Gave (next_value (bracket_of g.kind) is_due now.unread) true now mid → PassesShort mid new true → length new.unread < length now.unread
+  passed_less mid new v k =
+      let to_value = no_more_left now mid v.taken v.took in
+      let past_value = value_shorter 0 mid.unread new.unread tt (k 0).reads in
+      omega (arith, to_value, past_value)
+
+  -- the value is a bracket, which was opened
+  pub bracket_within : (inner : OpenBracket) (after : List OpenBracket) (mid new : Cursor) → Gave (next_value (bracket_of g.kind) is_due now.unread) true now mid → OpenedAt (room - (length cs + 1)) inner mid new → after ≡ cs ++ g ∷ []
+      → PassesWithin room f inner bs after was_due false start new
+  bracket_within inner after mid new v o grown =
+      let before = p.no_longer in
+      let to_value = no_more_left now mid v.taken v.took in
+      let sign = o.sign in
+      let less : length new.unread < length start.unread = omega (arith, before, to_value, ap length sign) in
+      let more : length after ≡ length cs + 1 = omega (arith, ap length grown, length-append cs (g ∷ [])) in
+      let there = o.room_left in
+      let t = inside_goes is_due true g cs after now mid refl v grown in
+      record {
+        goes = λ w q h. let (z, inside) = p.goes w q h in (mid.unread, inside_of room w after inner mid new (t.goes room w z inside) (subst (λ n. OpenedAt (room - n) inner mid new) (sym more) o));
+        ready = ready_opened (room - (length cs + 1)) inner mid new (ready_next now mid p.ready v) o;
+        place = omega (arith, more, there);
+        same_text = o.same_text ∙ v.took.same ∙ p.same_text;
+        no_longer = omega (arith, less);
+        opened = λ e no. less;
+      }
+
+-- ---- how a value begins
+
+pub opened_short : (room : ℕ) (bs after : List OpenBracket) (f : OpenBracket) (old mid new : Cursor) (t : ShortTurn) → OpenedAt (room - length bs) f old mid → ResumesShort room f false bs after mid new t → TurnsShort room true bs after old new t
 opened_short room bs after f old mid new t o r = record {
-  goes = λ w h. r.goes room w old.unread (inside_of room w bs f old mid h o);
+  goes = λ w h. r.goes w old.unread (inside_of room w bs f old mid h o);
   same_text = r.same_text ∙ o.same_text;
   advanced = let there = o.sign in let l = r.no_longer in strictly t old new (omega (arith, ap length there, l));
 }
@@ -193,9 +226,9 @@ passed_short room bs old new passes =
 
 -- ---- the whole of a turn
 
-pub resumed_short : (room : ℕ) (bs fs after : List OpenBracket) (f : OpenBracket) (old new : Cursor) (t : ShortTurn) → bs ≡ fs ++ f ∷ [] → ResumesShort f true fs after old new t → TurnsShort room false bs after old new t
+pub resumed_short : (room : ℕ) (bs fs after : List OpenBracket) (f : OpenBracket) (old new : Cursor) (t : ShortTurn) → bs ≡ fs ++ f ∷ [] → ResumesShort room f true fs after old new t → TurnsShort room false bs after old new t
 resumed_short room bs fs after f old new t is r = record {
-  goes = λ w h. let (q, inside) = ended_inside room old w bs fs f is h in r.goes room w q inside;
+  goes = λ w h. let (q, inside) = ended_inside room old w bs fs f is h in r.goes w q inside;
   same_text = r.same_text;
   advanced = r.advanced refl;
 }

@@ -89,7 +89,6 @@ BeginsShort room depth old new begin.Begins = new ≡ old
 
 -- after so much of a short turn, what is next makes w of the whole
 abbrev pub Reached : ℕ → Read (Unit {0}) → List OpenBracket → ShortTurn → Cursor → Type 0
-Reached room w brackets turn.Value now = Skipping room w brackets true now
 Reached room w brackets turn.Ended now = Skipping room w brackets false now
 Reached room w brackets turn.Begins now = Skipping room w brackets true now
 Reached room w brackets (turn.Within bracket comma_due) now = (q : List ℕ) × SkippingInside room w brackets bracket comma_due q now
@@ -98,7 +97,6 @@ Reached room w brackets turn.Whole now = (brackets ≡ []) × Skipping room w br
 
 -- less is left than before, or will be after the longer way has done the rest of the turn
 abbrev pub Advanced : ShortTurn → Cursor → Cursor → Type 0
-Advanced turn.Value old new = length new.unread < length old.unread
 Advanced turn.Ended old new = length new.unread < length old.unread
 Advanced turn.Begins old new = length new.unread ≤ length old.unread
 Advanced (turn.Within bracket comma_due) old new = (comma_due ≡ false → length new.unread < length old.unread) × (length new.unread ≤ length old.unread)
@@ -112,8 +110,8 @@ pub record TurnsShort (room : ℕ) (at_value : Bool) (brackets after : List Open
   pub advanced : Advanced result old new
 
 -- the same within a bracket
-pub record ResumesShort (bracket : OpenBracket) (comma_due : Bool) (brackets after : List OpenBracket) (old new : Cursor) (result : ShortTurn) : Type 0 where
-  pub goes : (room : ℕ) (w : Read (Unit {0})) (q : List ℕ) → SkippingInside room w brackets bracket comma_due q old → Reached room w after result new
+pub record ResumesShort (room : ℕ) (bracket : OpenBracket) (comma_due : Bool) (brackets after : List OpenBracket) (old new : Cursor) (result : ShortTurn) : Type 0 where
+  pub goes : (w : Read (Unit {0})) (q : List ℕ) → SkippingInside room w brackets bracket comma_due q old → Reached room w after result new
   pub same_text : SameText old new
   pub advanced : comma_due ≡ true → Advanced result old new
   pub no_longer : length new.unread ≤ length old.unread

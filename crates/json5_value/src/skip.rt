@@ -140,8 +140,6 @@ fn resume_member<I: Input>(
 /// How far a short turn went, and with that what is left of the turn.
 #[derive(Clone, Copy)]
 enum ShortTurn {
-    /// A value is next.
-    Value,
     /// A value has ended.
     Ended,
     /// A value is next that must be begun the longer way.
@@ -158,39 +156,6 @@ enum ShortTurn {
     },
     /// The value that was to be passed over has ended.
     Whole,
-}
-
-/// Continues a bracket that isn't among the open ones, from its first value on or after a value, over the values as far as they
-/// have short ways.
-#[inline(always)]
-fn short_within<I: Input>(
-    scanner: &mut Scanner<I>,
-    brackets: &mut OpenBrackets,
-    bracket: OpenBracket,
-    comma_due: bool,
-) -> ShortTurn
-    requires ready { IsInside scanner.old }
-    requires place { length brackets.old.items < 128 }
-    ensures { ResumesShort bracket comma_due brackets.old.items brackets.new.items scanner.old scanner.new result }
-{
-    let mut comma_due = comma_due;
-    loop {
-        match short_entry(scanner, bracket.kind, comma_due) {
-            ShortEntry::Value => {}
-            ShortEntry::Member(left) => return ShortTurn::Member { bracket, left },
-            ShortEntry::Closed => return ShortTurn::Ended,
-            ShortEntry::Other => return ShortTurn::Within { bracket, comma_due },
-        }
-        if matches!(scanner.peek(), Some('[' | '{')) {
-            brackets.push(bracket);
-            return ShortTurn::Value;
-        }
-        if !short_scalar(scanner) {
-            brackets.push(bracket);
-            return ShortTurn::Begins;
-        }
-        comma_due = true;
-    }
 }
 
 /// How a value begins, by a short way.
@@ -227,6 +192,50 @@ fn short_begin<I: Input>(scanner: &mut Scanner<I>, room: usize, depth: usize) ->
     ShortBegin::Opened(OpenBracket { kind, start })
 }
 
+/// Continues a bracket that isn't among the open ones, from its first value on or after a value, over the values as far as they
+/// have short ways: within the brackets that open there too, and in the outer ones after those that close.
+#[inline(always)]
+fn short_within<I: Input>(
+    scanner: &mut Scanner<I>,
+    room: usize,
+    brackets: &mut OpenBrackets,
+    bracket: OpenBracket,
+    comma_due: bool,
+) -> ShortTurn
+    requires ready { IsInside scanner.old }
+    requires room { room ≤ max_depth }
+    requires place { length brackets.old.items < room }
+    ensures { ResumesShort room bracket comma_due brackets.old.items brackets.new.items scanner.old scanner.new result }
+{
+    let mut bracket = bracket;
+    let mut comma_due = comma_due;
+    loop {
+        match short_entry(scanner, bracket.kind, comma_due) {
+            ShortEntry::Value => match short_begin(scanner, room, brackets.len() + 1) {
+                ShortBegin::Opened(inner) => {
+                    brackets.push(bracket);
+                    bracket = inner;
+                    comma_due = false;
+                }
+                ShortBegin::Ended => comma_due = true,
+                ShortBegin::Begins => {
+                    brackets.push(bracket);
+                    return ShortTurn::Begins;
+                }
+            },
+            ShortEntry::Closed => {
+                let Some(outer) = brackets.pop() else {
+                    return ShortTurn::Whole;
+                };
+                bracket = outer;
+                comma_due = true;
+            }
+            ShortEntry::Member(left) => return ShortTurn::Member { bracket, left },
+            ShortEntry::Other => return ShortTurn::Within { bracket, comma_due },
+        }
+    }
+}
+
 /// Begins the value in front, or continues the innermost bracket after a value.
 #[inline(always)]
 fn short_turn<I: Input>(
@@ -253,7 +262,7 @@ fn short_turn<I: Input>(
             None => return ShortTurn::Whole,
         }
     };
-    short_within(scanner, brackets, bracket, comma_due)
+    short_within(scanner, room, brackets, bracket, comma_due)
 }
 
 /// Passes over the value in front, turn by turn.
@@ -267,7 +276,6 @@ fn skip_in_turns<I: Input>(scanner: &mut Scanner<I>, room: usize) -> Result<()>
     let mut at_value = true;
     loop {
         at_value = match short_turn(scanner, room, &mut brackets, at_value) {
-            ShortTurn::Value => true,
             ShortTurn::Ended => false,
             ShortTurn::Begins => begin_value(scanner, room, &mut brackets)?,
             ShortTurn::Within { bracket, comma_due } => {

@@ -1,59 +1,48 @@
-use Rattle.std.proofs.Common.{◌∷◌, [], ◌++◌, ◌∙◌, ap, length, arith}
-use Rattle.json5_value.proofs.ShortTurns.{resumed_from, within_left, value_next, value_left, value_passed, goes_down, member_resumed, bracket_closed}
-use Rattle.json5_value.proofs.ModelSteps.{ready_next}
+use Rattle.std.proofs.Common.{◌≡◌, [], ap, arith}
+use Rattle.std.proofs.lemmas.List.{nil_from_length}
+use Rattle.json5_value.proofs.ShortTurns.{member_left_to, whole_closed, closed_within, value_left, value_passed, passed_less, bracket_within}
+use Rattle.json5_value.proofs.ModelSteps.{ready_after}
 use Rattle.json5_value.proofs.skip.short_within.Goals as goal
+
+pub short_begin-requires : goal.short_begin-requires
+short_begin-requires g c =
+    let l = c.loop-scanner in
+    let v = rw c.in-Value.is at c.short_entry.ensures in
+    ready_after l.scanner c.short_entry.new.scanner v.taken l.invariant.ready v.took
+
+pub loop-scanner-preserved-in-Opened : goal.loop-scanner-preserved-in-Opened
+loop-scanner-preserved-in-Opened g c =
+    let l = c.loop-scanner in
+    bracket_within c.args.room c.args.bracket l.bracket c.args.brackets.now.items l.brackets.items c.args.comma_due l.comma_due c.args.scanner.now l.scanner l.invariant c.in-Opened.inner c.push.new.self.items c.short_entry.new.scanner c.short_begin.new.scanner (rw c.in-Value.is at c.short_entry.ensures) (rw (c.in-Opened.is, c.len.ensures.value) at c.short_begin.ensures) c.push.ensures.items
+
+pub loop-scanner-smaller-in-Ended : goal.loop-scanner-smaller-in-Ended
+loop-scanner-smaller-in-Ended g c =
+    let l = c.loop-scanner in
+    let less = passed_less c.args.room c.args.bracket l.bracket c.args.brackets.now.items l.brackets.items c.args.comma_due l.comma_due c.args.scanner.now l.scanner l.invariant c.short_entry.new.scanner c.short_begin.new.scanner (rw c.in-Value.is at c.short_entry.ensures) (rw c.in-Ended.is at c.short_begin.ensures) in
+    omega (arith, less)
+
+pub loop-scanner-preserved-in-Ended : goal.loop-scanner-preserved-in-Ended
+loop-scanner-preserved-in-Ended g c =
+    let l = c.loop-scanner in
+    value_passed c.args.room c.args.bracket l.bracket c.args.brackets.now.items l.brackets.items c.args.comma_due l.comma_due c.args.scanner.now l.scanner l.invariant c.short_entry.new.scanner c.short_begin.new.scanner (rw c.in-Value.is at c.short_entry.ensures) (rw c.in-Ended.is at c.short_begin.ensures)
+
+pub returns-in-Begins : goal.returns-in-Begins
+returns-in-Begins g c =
+    let l = c.loop-scanner in
+    value_left c.args.room c.args.bracket l.bracket c.args.brackets.now.items l.brackets.items c.args.comma_due l.comma_due c.args.scanner.now l.scanner l.invariant c.push-in-Begins.new.self.items c.short_entry.new.scanner c.short_begin.new.scanner (rw c.in-Value.is at c.short_entry.ensures) (rw c.in-Begins.is at c.short_begin.ensures) c.push-in-Begins.ensures.items
+
+pub returns-in_default : goal.returns-in_default
+returns-in_default g c =
+    let l = c.loop-scanner in
+    let none : l.brackets.items ≡ [] = nil_from_length l.brackets.items (grind (arith, c.in_default.ensures.variant.1)) in
+    whole_closed c.args.room c.args.bracket l.bracket c.args.brackets.now.items l.brackets.items c.args.comma_due l.comma_due c.args.scanner.now l.scanner l.invariant c.pop.new.self.items c.short_entry.new.scanner (rw c.in-Closed.is at c.short_entry.ensures) none (ap (λ z. z.items) c.in_default.ensures.empty)
+
+pub loop-scanner-preserved : goal.loop-scanner-preserved
+loop-scanner-preserved g c =
+    let l = c.loop-scanner in
+    closed_within c.args.room c.args.bracket l.bracket c.args.brackets.now.items l.brackets.items c.args.comma_due l.comma_due c.args.scanner.now l.scanner l.invariant c.pop.new.self.items c.in-Some.outer c.short_entry.new.scanner (rw c.in-Closed.is at c.short_entry.ensures) c.in-Some.ensures.items
 
 pub returns-in-Member : goal.returns-in-Member
 returns-in-Member g c =
-    let l = c.loop-left in
-    rw l.invariant.1 (resumed_from c.args.bracket c.args.brackets.now.items c.args.comma_due l.comma_due c.args.scanner.now l.scanner l.invariant.0 c.args.brackets.now.items c.short_entry.new.scanner _
-    (member_resumed c.args.bracket l.comma_due c.in-Member.left c.args.brackets.now.items l.scanner c.short_entry.new.scanner (rw c.in-Member.is at c.short_entry.ensures)))
-
-pub returns-in-Closed : goal.returns-in-Closed
-returns-in-Closed g c =
-    let l = c.loop-left in
-    rw l.invariant.1 (resumed_from c.args.bracket c.args.brackets.now.items c.args.comma_due l.comma_due c.args.scanner.now l.scanner l.invariant.0 c.args.brackets.now.items c.short_entry.new.scanner _
-    (bracket_closed c.args.bracket l.comma_due c.args.brackets.now.items l.scanner c.short_entry.new.scanner (rw c.in-Closed.is at c.short_entry.ensures)))
-
-pub returns-in-Other : goal.returns-in-Other
-returns-in-Other g c =
-    let l = c.loop-left in
-    rw l.invariant.1 (within_left c.args.bracket c.args.brackets.now.items c.args.comma_due l.comma_due c.args.scanner.now l.scanner l.invariant.0 c.short_entry.new.scanner (rw c.in-Other.is at c.short_entry.ensures))
-
-pub short_scalar-requires : goal.short_scalar-requires
-short_scalar-requires g c = ready_next c.loop-left.scanner c.short_entry.new.scanner c.loop-left.invariant.0.ready (rw c.in-Value.is at c.short_entry.ensures)
-
-pub push-requires : goal.push-requires
-push-requires g c =
-    let place = c.requires.place in
-    omega (arith, place, ap length c.loop-left.invariant.1)
-
-pub push-requires-then-not-short_scalar : goal.push-requires-then-not-short_scalar
-push-requires-then-not-short_scalar g c =
-    let place = c.requires.place in
-    omega (arith, place, ap length c.loop-left.invariant.1)
-
-pub returns-then-matches : goal.returns-then-matches
-returns-then-matches g c =
-    let l = c.loop-left in
-    value_next c.args.bracket c.args.brackets.now.items c.args.comma_due l.comma_due c.args.scanner.now l.scanner l.invariant.0 c.push.new.self.items c.short_entry.new.scanner (rw c.in-Value.is at c.short_entry.ensures) (c.push.ensures.items ∙ ap (λ z. z ++ c.args.bracket ∷ []) l.invariant.1)
-
-pub returns-then-not-short_scalar : goal.returns-then-not-short_scalar
-returns-then-not-short_scalar g c =
-    let l = c.loop-left in
-    value_left c.args.bracket c.args.brackets.now.items c.args.comma_due l.comma_due c.args.scanner.now l.scanner l.invariant.0 c.push-then-not-short_scalar.new.self.items c.short_entry.new.scanner c.short_scalar.new.scanner (rw c.in-Value.is at c.short_entry.ensures)
-    (rw c.if-not-short_scalar.true at c.short_scalar.ensures) (c.push-then-not-short_scalar.ensures.items ∙ ap (λ z. z ++ c.args.bracket ∷ []) l.invariant.1)
-
-pub loop-left-smaller : goal.loop-left-smaller
-loop-left-smaller g c =
-    let l = c.loop-left in
-    goes_down c.args.bracket c.args.brackets.now.items c.args.comma_due l.comma_due c.args.scanner.now l.scanner l.invariant.0 c.short_entry.new.scanner c.short_scalar.new.scanner (rw c.in-Value.is at c.short_entry.ensures)
-    (rw c.if-not-short_scalar.false at c.short_scalar.ensures)
-
-pub loop-left-preserved : goal.loop-left-preserved
-loop-left-preserved g c =
-    let l = c.loop-left in (
-      value_passed c.args.bracket c.args.brackets.now.items c.args.comma_due l.comma_due c.args.scanner.now l.scanner l.invariant.0 c.short_entry.new.scanner c.short_scalar.new.scanner (rw c.in-Value.is at c.short_entry.ensures)
-          (rw c.if-not-short_scalar.false at c.short_scalar.ensures),
-      l.invariant.1,
-    )
+    let l = c.loop-scanner in
+    member_left_to c.args.room c.args.bracket l.bracket c.args.brackets.now.items l.brackets.items c.args.comma_due l.comma_due c.args.scanner.now l.scanner l.invariant c.in-Member.left c.short_entry.new.scanner (rw c.in-Member.is at c.short_entry.ensures)
