@@ -1,15 +1,18 @@
 -- What the short ways return is what the reader's other calls return.
-use Rattle.std.proofs.Common.{◌≡◌, ℕ, ◌+◌, ◌≤◌, ◌<◌, ◌^◌, Bool, true, false, nat_lt, ℤ, pos, negsuc, nat_abs, ◌-ℤ◌, ◌≤ℤ◌, List, ◌++◌, Option, Some, None, inl, refl, ap, sym, ◌∙◌, subst, arith}
+use Rattle.std.proofs.Common.{◌≡◌, ℕ, ◌+◌, ◌≤◌, ◌<◌, ◌^◌, Bool, true, false, nat_lt, ℤ, pos, negsuc, nat_abs, ◌-ℤ◌, ◌≤ℤ◌, List, [], ◌++◌, Option, Some, None, inl, refl, ap, sym, ◌∙◌, subst, arith}
 use Rattle.std.specs.Prelude.{MatchOption, Result, Ok, Err, String, string_bytes}
 use Rattle.std.proofs.lemmas.Bool.Decides.{nat_tests}
 use Rattle.std.proofs.lemmas.Int.{ints, to_z-of_z}
 use mir.Syntax.{w128}
 use mir.Val.{to_z, of_z, SFits}
+use Rattle.json5_grammar.specs.Language.Blanks.{empty}
 use Rattle.json5_grammar.specs.Language.Documents.{max_depth}
 use Rattle.json5_grammar.specs.Language.Numbers.{Number, Decimal, whole, decimal}
+use Rattle.json5_grammar.specs.Language.Strings.{Str}
 use Rattle.json5_grammar.specs.Language.Trees.{number, text}
-use Rattle.json5_grammar.specs.Language.Values.{is_number}
-use Rattle.json5_text.specs.Cursor.{Cursor}
+use Rattle.json5_grammar.specs.Language.Values.{is_number, is_text}
+use Rattle.json5_text.specs.Cursor.{Cursor, Took}
+use Rattle.json5_text.specs.TokenCalls.{TakesShortOwned}
 use Rattle.json5_text.specs.ShortWays.{TookNumber, TookWhole, TookInRange, TakesShortDecimal, StepsTo, TakesShortStep, TakesShortSign}
 use Rattle.json5_text.specs.ShortTexts.{ReadsEscapeFreeString, TookEscapeFree, TakesShortString, TakesShortKey}
 use Rattle.json5_text.specs.ShortTexts as texts
@@ -28,6 +31,7 @@ use Rattle.json5_de.specs.ShortWays.{ReadsShort, StepsShort, ReadsShortText, Rea
 use Rattle.json5_de.specs.State.{State}
 use Rattle.json5_de.proofs.TokenKinds.{reads_ok}
 use Rattle.json5_de.proofs.ReadSteps.{value_gap, input_of}
+use Rattle.json5_de.proofs.ExpectsStrings.{text_stops}
 use Rattle.json5_de.proofs.FoundKeys.{key_ok}
 use Rattle.json5_grammar.proofs.CommonLemmas.{true_false}
 use Rattle.json5_value.proofs.NoFailedCode.{memory_other}
@@ -120,7 +124,7 @@ short_step b comma_due before after level failed old short.Closing e live k =
     subst (λ s. StepsShort b comma_due s (reader_at after level failed) short.Closing) e
     (record { live = live; close = k.step; rest = ap (λ i. record { input = i; unread = after.unread; level = level; failed = failed }) k.same })
 
--- ---- strings and keys without an escape
+-- ---- strings without an escape
 
 took_text : (before after : Cursor) (level : ℕ) (failed : Bool) (span : Span) → level ≤ max_depth → failed ≡ false → TookEscapeFree ReadsEscapeFreeString before after span
     → (u : List ℕ) × TookValue (reader_at before level failed) (text u true) (reader_at after level failed) × IsSliceAt after.input u span.start span.end
@@ -134,6 +138,26 @@ pub short_text : (before after : Cursor) (level : ℕ) (failed : Bool) (old : St
     → ReadsShortText old (reader_at after level failed) o
 short_text before after level failed old None e room live k = same_reader before after level failed old e k
 short_text before after level failed old (Some span) e room live k = subst (λ s. ReadsShortText s (reader_at after level failed) (Some span)) e (took_text before after level failed span room live k)
+
+-- ---- strings with escapes
+
+took_string : (before after : Cursor) (level : ℕ) (failed : Bool) (s u : List ℕ) (escape_free : Bool) → level ≤ max_depth → failed ≡ false → Took before s after → Str s u escape_free
+    → TookValue (reader_at before level failed) (text u escape_free) (reader_at after level failed)
+took_string before after level failed s u escape_free room live took string = record {
+  live = live;
+  reads = record { front = []; phrase = s; split = took.split; blank = empty; value = is_text string; stops = text_stops after.unread string };
+  shallow = omega (arith, room);
+  rest = ap (λ i. record { input = i; unread = after.unread; level = level; failed = failed }) took.same;
+}
+
+pub short_owned : {A : Type 0} (before after : Cursor) (level : ℕ) (failed : Bool) (old : State) (o : Option (String A)) → reader_at before level failed ≡ old → level ≤ max_depth → failed ≡ false → TakesShortOwned before after o
+    → ReadsShort string_kind string_bytes old (reader_at after level failed) o
+short_owned before after level failed old None e room live k = same_reader before after level failed old e k
+short_owned before after level failed old (Some t) e room live (s, u, escape_free, took, string, bytes) =
+    subst (λ r. ReadsAs string_kind string_bytes r (reader_at after level failed) (Ok t)) e
+    (reads_ok string_kind string_bytes (reader_at before level failed) (reader_at after level failed) t (text u escape_free, took_string before after level failed s u escape_free room live took string, ap Some (sym bytes)))
+
+-- ---- keys without an escape
 
 took_key : (before after : Cursor) (level : ℕ) (failed : Bool) (span : Span) → failed ≡ false → TookEscapeFree texts.ReadsEscapeFreeKey before after span
     → (u : List ℕ) × TookKey (reader_at before level failed) u true (reader_at after level failed) × IsSliceAt after.input u span.start span.end

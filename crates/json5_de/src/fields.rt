@@ -70,42 +70,24 @@ pub trait Fields<I: Input>: Sized + Drop {
 }
 
 impl<I: Input> Deserializer<I> {
-    /// Puts the name of the member that begins here into a string. A key of the short way takes the memory that the string has.
-    #[inline(always)]
-    fn entry_name(&mut self, name: &mut String) -> Result<bool>
-        ensures { ReadsKeyAtEntry string_bytes every_text (RefusedAsKey string_key) self.old self.new (filled_if_given name.new result) }
-    {
-        let Some(span) = self.short_key() else {
-            return self.entry_name_slowly(name);
-        };
-        if self.put_text(span, name) {
-            return Ok(true);
-        }
-        self.without_memory()
-    }
-
-    /// Does the same where the key has no short way, or where there is no key.
-    #[inline(never)]
-    fn entry_name_slowly(&mut self, name: &mut String) -> Result<bool>
-        ensures { ReadsKeyAtEntry string_bytes every_text (RefusedAsKey string_key) self.old self.new (filled_if_given name.new result) }
-    {
-        let Some(key) = self.entry_key::<String>()? else {
-            return Ok(false);
-        };
-        *name = key;
-        Ok(true)
-    }
-
-    /// Reads the next key of an object as `member_key::<String>` does, and puts it into a string. Says whether there was one.
+    /// Reads the next key of an object as `member_key::<String>` does, and puts it into a string. Says whether there was one. A key
+    /// of the short way takes the memory that the string has.
     #[inline(always)]
     fn member_name(&mut self, comma_due: bool, name: &mut String) -> Result<bool>
         ensures { ReadsKeyOfMember string_bytes every_text (RefusedAsKey string_key) comma_due self.old self.new (filled_if_given name.new result) }
     {
         match self.short_step(BracketKind::Object, comma_due) {
-            ShortStep::Member => self.entry_name(name),
-            ShortStep::Closing => Ok(false),
-            ShortStep::Other => self.member_name_slowly(comma_due, name),
+            ShortStep::Member => {}
+            ShortStep::Closing => return Ok(false),
+            ShortStep::Other => return self.member_name_slowly(comma_due, name),
         }
+        let Some(span) = self.short_key() else {
+            return self.entry_name(name);
+        };
+        if self.put_text(span, name) {
+            return Ok(true);
+        }
+        self.without_memory()
     }
 
     /// The same for anything in front.
@@ -118,6 +100,18 @@ impl<I: Input> Deserializer<I> {
             Ok(false) => Ok(false),
             Err(e) => Err(e),
         }
+    }
+
+    /// Puts the name of the member that begins here into a string, if a key begins it.
+    #[inline(never)]
+    fn entry_name(&mut self, name: &mut String) -> Result<bool>
+        ensures { ReadsKeyAtEntry string_bytes every_text (RefusedAsKey string_key) self.old self.new (filled_if_given name.new result) }
+    {
+        let Some(key) = self.entry_key::<String>()? else {
+            return Ok(false);
+        };
+        *name = key;
+        Ok(true)
     }
 }
 

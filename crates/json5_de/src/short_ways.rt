@@ -5,7 +5,7 @@ ghost use Rattle.std.specs.Prelude.{◌≡◌, ◌+◌, nat_abs, true, string_by
 ghost use Rattle.json5_text.specs.ShortTexts.{IsTextAt};
 ghost use Rattle.json5_value.specs.Brackets.{brackets_of};
 ghost use Rattle.json5_de.specs.Convert.{IsUpTo, IsWithin};
-ghost use Rattle.json5_de.specs.TokenKinds.{natural_kind, integer_kind, decimal_kind};
+ghost use Rattle.json5_de.specs.TokenKinds.{natural_kind, integer_kind, decimal_kind, string_kind};
 ghost use Rattle.json5_de.specs.ShortWays.{ReadsShort, StepsShort, ReadsShortText, ReadsShortKey, ReadsEscapeFreeText, TakesEscapeFreeKey, PassesShortColon, OpensShort, ClosesShort, OwnsTextAt, RunsOut};
 
 use crate::de::Deserializer;
@@ -75,6 +75,17 @@ impl<I: Input> Deserializer<I> {
             return None;
         }
         self.scanner.short_string()
+    }
+
+    /// Reads a string in front whose escapes all have short ways and returns its text, or returns None.
+    #[inline(always)]
+    pub(crate) fn short_owned(&mut self) -> Option<String>
+        ensures { ReadsShort string_kind string_bytes self.old self.new result }
+    {
+        if self.failed {
+            return None;
+        }
+        self.scanner.short_owned()
     }
 
     /// Takes a key without an escape and returns the span of its text, or returns None.

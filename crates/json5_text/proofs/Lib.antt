@@ -1,4 +1,4 @@
--- Lists the lemmas about the scanner, errors and values.
+-- Lists the lemmas about the scanner and its tokens.
 pub mod BlankSteps
 pub mod TextCuts
 pub mod UnicodeScalars
@@ -28,4 +28,5 @@ pub mod ShortWholes
 pub mod ShortWays
 pub mod ShortSteps
 pub mod ShortTexts
+pub mod StringsSpelled
 pub mod ShortNumberSkips

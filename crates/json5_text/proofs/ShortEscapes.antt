@@ -102,7 +102,7 @@ backslash_stops (kind.String quotes.Single) x y e = subst (NotBegun (is_raw 39))
 pub none_read : (k : Kind) (x : List ℕ) → IsUtf8 x → IsReadTo k x [] x
 none_read k x u = record { escape_free = true; read = put_none (text_at k (chars x)); stops = λ h. h; fewer = omega arith; text = u }
 
-run_read_past : (q : Quote) (body next : List ℕ) (s : SkipsAll (is_raw (quote_of q)) body next) → text_at (kind.String q) (chars body) ≡ put s.passed true (text_at (kind.String q) (chars next))
+pub run_read_past : (q : Quote) (body next : List ℕ) (s : SkipsAll (is_raw (quote_of q)) body next) → text_at (kind.String q) (chars body) ≡ put s.passed true (text_at (kind.String q) (chars next))
 run_read_past q body next s =
     let k = kind.String q in
     ap (text_at k) s.split ∙ run_read k s.passed (chars next) (run_each k s.passed s.each) ∙ ap (λ j. put s.passed true (text_at j (chars next))) (past_rest k s.passed)

@@ -1,4 +1,4 @@
--- Lists the definitions for the scanner, errors and values.
+-- Lists the definitions for the scanner and its tokens.
 pub mod Outcome
 pub mod RefusalOutcomes
 pub mod Cursor

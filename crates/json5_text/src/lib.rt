@@ -20,6 +20,7 @@ mod read_numbers;
 mod refusal;
 pub mod scanner;
 mod short_decimals;
+mod short_escapes;
 mod short_number_skips;
 pub mod short_texts;
 pub mod short_ways;

@@ -32,7 +32,7 @@ struct FoundText {
 
 /// The quote in front.
 #[inline(always)]
-fn front_quote(text: &str) -> Option<Quote>
+pub(crate) fn front_quote(text: &str) -> Option<Quote>
     ensures { IfSome result (λ quote. IsInFront (quote_of quote) text.now true) }
 {
     if is_in_front(b'"', text) {

@@ -226,7 +226,11 @@ fn push_steps<'t>(
 /// Adds what the escapes in front that have a short way and the runs after them spell, and returns what follows. In a name no
 /// escape has one.
 #[inline(never)]
-fn push_escapes<'t>(text: &mut String, kind: Kind, escape: &'t str) -> Result<&'t str, AllocError>
+pub(crate) fn push_escapes<'t>(
+    text: &mut String,
+    kind: Kind,
+    escape: &'t str,
+) -> Result<&'t str, AllocError>
     ensures { IfOk result (λ rest. AddsUpTo kind escape.now (string_bytes text.old) (string_bytes text.new) rest.now) }
 {
     let Kind::String(quote) = kind else {
@@ -243,7 +247,7 @@ fn push_escapes<'t>(text: &mut String, kind: Kind, escape: &'t str) -> Result<&'
 
 /// An owned copy of the run, with room for what follows it, so that a short string with an escape is allocated once.
 #[inline(always)]
-fn with_room(alloc: Global, run: &str) -> Result<String, AllocError>
+pub(crate) fn with_room(alloc: Global, run: &str) -> Result<String, AllocError>
     ensures { IfOk result (λ text. string_bytes text ≡ run.now) }
 {
     let mut text = String::with_capacity(alloc, run.len() + ROOM)?;

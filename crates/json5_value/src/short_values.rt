@@ -48,6 +48,9 @@ fn escaped_text<I: Input>(scanner: &mut Scanner<I>) -> ShortValue
 {
     // Goals below need what `offset` promises: what is unread is the end of the input.
     let _offset = scanner.offset();
+    if let Some(unescaped) = scanner.short_owned() {
+        return ShortValue::Value(Value::String(unescaped));
+    }
     match scanner.string_owned() {
         Ok(unescaped) => ShortValue::Value(Value::String(unescaped)),
         Err(_) => ShortValue::Other,
