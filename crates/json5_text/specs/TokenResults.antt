@@ -130,6 +130,11 @@ pub record GivesMore (front : List ℕ) (reading : Read (List ℕ × Bool)) (byt
   pub whole : bytes ≡ front ++ encode_utf8_all spelled
   pub text : IsUtf8 rest
 
+-- the rest of a text from an escape on is added to these bytes, and this follows it; or the fault
+abbrev pub AddsRest : List ℕ → Read (List ℕ × Bool) → List ℕ → Result (Bor (List ℕ)) Refusal → Type 0
+AddsRest front reading bytes (Ok rest) = GivesMore front reading bytes rest.now
+AddsRest front reading bytes (Err e) = Refuses e (outcome reading)
+
 -- the rest of a text from an escape on, with the bytes in front, and what follows it; or the fault
 abbrev pub AnswersMore : {A : Type 0} → List ℕ → Read (List ℕ × Bool) → Result (String A × Bor (List ℕ)) Refusal → Type 0
 AnswersMore front reading (Ok p) = GivesMore front reading (string_bytes p.0) p.1.now

@@ -3,7 +3,7 @@
 ghost use Rattle.std.specs.Prelude.{◌≡◌, ◌++◌, ℕ, List, IfOk, OnOk, string_bytes};
 ghost use Rattle.std.specs.Str.{chars, encode_utf8_all};
 ghost use Rattle.json5_grammar.specs.Language.Characters.{NotBegun};
-ghost use Rattle.json5_text.specs.TokenResults.{AnswersAs, AnswersCow, AnswersMore, AnswersOwned, Passes};
+ghost use Rattle.json5_text.specs.TokenResults.{AnswersAs, AnswersCow, AddsRest, AnswersMore, AnswersOwned, Passes};
 ghost use Rattle.json5_text.specs.Scan.{AtEscape, in_list};
 ghost use Rattle.json5_text.specs.ScanTexts.{quote_of, after_first_char, past, ends_early, text_at, item, is_raw_in, SkipsRaw, AnswersStop, AnswersRun, AnswersStep, IsReadTo, AddsUpTo, PassesSteps, AddsSteps};
 
@@ -189,12 +189,26 @@ fn read_escaped<'t>(
     ensures { AnswersMore run.now (text_at kind (chars escape.now)) result }
 {
     let mut text = with_room(alloc, run)?;
+    let rest = push_rest(&mut text, kind, escape, after)?;
+    Ok((text, rest))
+}
+
+/// Adds what is spelled from the escape in front on, and returns what follows the string or name.
+pub(crate) fn push_rest<'t>(
+    text: &mut String,
+    kind: Kind,
+    escape: &'t str,
+    after: &'t str,
+) -> Result<&'t str, Refusal>
+    requires { AtEscape escape.now after.now }
+    ensures { AddsRest (string_bytes text.old) (text_at kind (chars escape.now)) (string_bytes text.new) result }
+{
     let mut stop = Stop::Escape(kind, escape, after);
     loop {
         match stop {
-            Stop::End(rest) => return Ok((text, rest)),
+            Stop::End(left) => return Ok(left),
             Stop::Escape(kind, escape, after) => {
-                stop = push_steps(&mut text, kind, escape, after)?;
+                stop = push_steps(text, kind, escape, after)?;
             }
         }
     }

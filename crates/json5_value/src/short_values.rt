@@ -39,21 +39,17 @@ pub(crate) enum ShortElements {
     NoMemory,
 }
 
-/// Takes a string, with its escapes, if it has no fault. It isn't inlined, since its frame holds a fault: the longer way finds the
-/// fault again.
-#[inline(never)]
+/// Takes a string with its escapes.
+#[inline(always)]
 fn escaped_text<I: Input>(scanner: &mut Scanner<I>) -> ShortValue
     requires { AtKind kind.String scanner.old }
     ensures { KeepsShort scanner.old scanner.new result }
 {
     // Goals below need what `offset` promises: what is unread is the end of the input.
     let _offset = scanner.offset();
-    if let Some(unescaped) = scanner.short_owned() {
-        return ShortValue::Value(Value::String(unescaped));
-    }
-    match scanner.string_owned() {
-        Ok(unescaped) => ShortValue::Value(Value::String(unescaped)),
-        Err(_) => ShortValue::Other,
+    match scanner.short_owned() {
+        Some(unescaped) => ShortValue::Value(Value::String(unescaped)),
+        None => ShortValue::Other,
     }
 }
 
