@@ -150,10 +150,10 @@ took_string before after level failed s u escape_free room live took string = re
   rest = ap (λ i. record { input = i; unread = after.unread; level = level; failed = failed }) took.same;
 }
 
-pub short_owned : {A : Type 0} (before after : Cursor) (level : ℕ) (failed : Bool) (old : State) (o : Option (String A)) → reader_at before level failed ≡ old → level ≤ max_depth → failed ≡ false → TakesShortOwned before after o
+pub short_string_owned : {A : Type 0} (before after : Cursor) (level : ℕ) (failed : Bool) (old : State) (o : Option (String A)) → reader_at before level failed ≡ old → level ≤ max_depth → failed ≡ false → TakesShortOwned before after o
     → ReadsShort string_kind string_bytes old (reader_at after level failed) o
-short_owned before after level failed old None e room live k = same_reader before after level failed old e k
-short_owned before after level failed old (Some t) e room live (s, u, escape_free, took, string, bytes) =
+short_string_owned before after level failed old None e room live k = same_reader before after level failed old e k
+short_string_owned before after level failed old (Some t) e room live (s, u, escape_free, took, string, bytes) =
     subst (λ r. ReadsAs string_kind string_bytes r (reader_at after level failed) (Ok t)) e
     (reads_ok string_kind string_bytes (reader_at before level failed) (reader_at after level failed) t (text u escape_free, took_string before after level failed s u escape_free room live took string, ap Some (sym bytes)))
 

@@ -77,15 +77,15 @@ impl<I: Input> Deserializer<I> {
         self.scanner.short_string()
     }
 
-    /// Reads a string in front whose escapes all have short ways and returns its text, or returns None.
+    /// Reads the string in front and returns its text, escapes replaced, or returns None.
     #[inline(always)]
-    pub(crate) fn short_owned(&mut self) -> Option<String>
+    pub(crate) fn short_string_owned(&mut self) -> Option<String>
         ensures { ReadsShort string_kind string_bytes self.old self.new result }
     {
         if self.failed {
             return None;
         }
-        self.scanner.short_owned()
+        self.scanner.short_string_owned()
     }
 
     /// Takes a key without an escape and returns the span of its text, or returns None.

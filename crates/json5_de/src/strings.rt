@@ -43,7 +43,7 @@ impl<I: Input> Deserializer<I> {
         if let Some(span) = self.short_string() {
             return self.own_text(span);
         }
-        match self.short_owned() {
+        match self.short_string_owned() {
             Some(text) => Ok(text),
             None => self.string_slowly(),
         }

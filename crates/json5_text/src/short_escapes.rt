@@ -53,7 +53,7 @@ impl<I: Input> Scanner<I> {
     /// Takes a string and returns its text, escapes replaced, as a `String`. Returns None where anything else is in front, where the
     /// string has a fault, or where memory runs out, and takes nothing then.
     #[inline(never)]
-    pub fn short_owned(&mut self) -> Option<String>
+    pub fn short_string_owned(&mut self) -> Option<String>
         ensures { TakesShortOwned self.old self.new result }
     {
         let (text, rest) = front_spelled(self.allocator(), self.rest(self.input.as_text()))?;

@@ -47,7 +47,7 @@ fn escaped_text<I: Input>(scanner: &mut Scanner<I>) -> ShortValue
 {
     // Goals below need what `offset` promises: what is unread is the end of the input.
     let _offset = scanner.offset();
-    match scanner.short_owned() {
+    match scanner.short_string_owned() {
         Some(unescaped) => ShortValue::Value(Value::String(unescaped)),
         None => ShortValue::Other,
     }

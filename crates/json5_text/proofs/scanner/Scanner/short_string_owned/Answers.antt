@@ -1,6 +1,6 @@
 use Rattle.std.specs.Str.{chars}
 use Rattle.json5_text.proofs.ScanTokens.{left_counted, leaves_rest, string_taken}
-use Rattle.json5_text.proofs.scanner.Scanner.short_owned.Goals as goal
+use Rattle.json5_text.proofs.scanner.Scanner.short_string_owned.Goals as goal
 
 pub set_remaining-requires : goal.set_remaining-requires
 set_remaining-requires g c =
