@@ -3,6 +3,7 @@
 ghost use Rattle.std.specs.Prelude.{◌≡◌, ◌<◌, IfOk, IfErr, IfSome, length, take, vec_len};
 ghost use Rattle.std.specs.Io.KnownBytes.{IsAtEnd};
 ghost use Rattle.json5_formatter.specs.Inputs.{ReadsPiece, IsReadFault};
+ghost use Rattle.json5_formatter.specs.declared.failure.Failure.TheVariants as failures;
 
 use crate::failure::Failure;
 use std::alloc::Global;
@@ -34,7 +35,7 @@ pub fn read_whole<R: Read>(alloc: Global, r: &mut R) -> Result<Vec<u8>, Failure>
 /// Room for a piece.
 fn new_piece(alloc: Global) -> Result<Vec<u8>, Failure>
     ensures room { IfOk result (λ piece. 0 < vec_len piece) }
-    ensures stopped { IfErr result IsReadFault }
+    ensures memory { IfErr result (λ failure. failure ≡ failures.NoMemory) }
 {
     let mut piece = Vec::new(alloc);
     match piece.resize(PIECE, 0) {
