@@ -17,7 +17,7 @@ Each-front {p = p} (char {c = c} {s = s} h e) = by_test (Each p) (c == 48) (with
 Each-bare : {p : ℕ → Bool} {s : List ℕ} → Each p s → Each p (without_zeros s)
 Each-bare e = Each-reverse (Each-front (Each-reverse (Each-front e)))
 
-front_twice : (s : List ℕ) → without_front_zeros (without_front_zeros s) ≡ without_front_zeros s
+pub front_twice : (s : List ℕ) → without_front_zeros (without_front_zeros s) ≡ without_front_zeros s
 front_twice [] = refl
 front_twice (c ∷ s) = by_test (λ z. without_front_zeros z ≡ z) (c == 48) (without_front_zeros s) (c ∷ s) (λ k. front_twice s) (λ k. rw k)
 

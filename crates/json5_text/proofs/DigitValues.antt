@@ -6,6 +6,8 @@ use Rattle.std.proofs.lemmas.Bool.Decides.{nat_tests}
 use Rattle.json5_grammar.specs.Language.Characters.{is_digit, Each, char}
 use Rattle.json5_grammar.specs.Language.Numbers.{spelled}
 use Rattle.json5_grammar.specs.Model.FixedWidthNumbers.{capped, checked}
+use Rattle.json5_grammar.specs.Model.ReadNumbers.{front_of}
+use Rattle.std.proofs.Math.Nat.{min-eq_right}
 use Rattle.json5_grammar.proofs.FixedWidthLaws.{capped_is}
 use Rattle.std.proofs.lemmas.List.{nil_from_length}
 
@@ -46,3 +48,17 @@ none_left s i h = nil_from_length (drop i s) (omega (arith, length-drop i s))
 
 pub capped_done : (v i : ℕ) (s ds : List ℕ) → capped (2 ^ 100) v (drop i s) ≡ capped (2 ^ 100) 0 ds → length s ≤ i → v ≡ min (2 ^ 100) (spelled 10 0 ds)
 capped_done v i s ds e h = sym (ap (capped (2 ^ 100) v) (none_left s i h)) ∙ e ∙ capped_is (2 ^ 100) 0 ds
+
+-- the digits in front of digits are all of them
+all_front : (s : List ℕ) → Each is_digit s → front_of is_digit s ≡ s
+unfolding front_of
+all_front [] e = refl
+all_front (c ∷ s) (char h e) = rw (h, all_front s e) refl
+
+pub few_value : (v i : ℕ) (s : List ℕ) → Each is_digit s → i ≡ length s → v < 10 ^ 19 → spelled 10 0 (front_of is_digit s) ≡ spelled 10 v (front_of is_digit (drop i s)) → v ≡ min (2 ^ 100) (spelled 10 0 s)
+unfolding front_of
+few_value v i s d k small e =
+    let n : drop i s ≡ [] = none_left s i (omega (arith, k)) in
+    let t : spelled 10 0 s ≡ v = sym (ap (spelled 10 0) (all_front s d)) ∙ e ∙ ap (λ z. spelled 10 v (front_of is_digit z)) n in
+    let below : v ≤ 2 ^ 100 = omega (arith, small) in
+    sym (ap (min (2 ^ 100)) t ∙ min-eq_right below)

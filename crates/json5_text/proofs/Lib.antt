@@ -15,6 +15,7 @@ pub mod DigitValues
 pub mod DecimalLiteralValues
 pub mod NumberCases
 pub mod DecimalRuns
+pub mod DigitsGathered
 pub mod ScanNumbers
 pub mod ScanKeys
 pub mod TextTokens

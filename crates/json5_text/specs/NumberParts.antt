@@ -28,6 +28,10 @@ raised_of e = signed e.negative (spelled 10 0 e.digits.now)
 abbrev pub parts_of : Literal → Parts
 parts_of l = record { before = l.before.now; after = option_map (λ digits. digits.now) l.after; raised = option_map raised_of l.exponent }
 
+-- the digits before the point, and those after it
+abbrev pub digits_of : Literal → List ℕ
+digits_of l = numbers.all_digits (parts_of l).before (parts_of l).after
+
 -- the written exponent, or the limit if that is less
 abbrev pub signed_limited : ℕ → Exponent → ℤ
 signed_limited limit e = signed e.negative (min limit (spelled 10 0 e.digits.now))
@@ -52,6 +56,10 @@ pub record HasDigits (l : Literal) : Type 0 where
 abbrev pub MeansDecimal : Bool → Literal → Option numbers.Decimal → Type 0
 MeansDecimal negative l None = (start rest : List ℕ) → if_literal start negative rest (Some (parts_of l)) ≡ bad (Some OverflowParsingNumber) (here start)
 MeansDecimal negative l (Some d) = (start rest : List ℕ) → if_literal start negative rest (Some (parts_of l)) ≡ got (numbers.decimal d) rest
+
+-- unless it means a whole number, the literal means these digits times ten to the exponent
+abbrev pub MeansFinite : Literal → List ℕ → ℤ → Type 0
+MeansFinite l digits exponent = (negative : Bool) → is_whole_literal negative l ≡ false → MeansDecimal negative l (Some (numbers.finite negative digits exponent))
 
 -- ---- a decimal run in front of the input
 

@@ -195,7 +195,7 @@ fn lengthens_digits(byte: u8) -> bool
 
 /// Digits in front, as many as 64 bits can surely hold.
 #[inline(always)]
-fn front_digits(bytes: &[u8]) -> FewDigits
+pub(crate) fn front_digits(bytes: &[u8]) -> FewDigits
     ensures { SpellsFront bytes.now result }
 {
     let mut i = 0;

@@ -1,14 +1,16 @@
 //! Decimal literals: ECMAScript 5.1 section 7.8.3.
 
-ghost use Rattle.std.specs.Prelude.{◌≡◌, ◌||◌, ◌&&◌, not};
+ghost use Rattle.std.specs.Prelude.{◌≡◌, ◌||◌, ◌&&◌, not, IfSome};
 ghost use Rattle.std.specs.Str.{IsUtf8, chars};
 ghost use Rattle.json5_grammar.specs.Language.Characters.{is_digit, Each};
 ghost use Rattle.json5_grammar.specs.Language.Numbers as numbers;
 ghost use Rattle.json5_grammar.specs.Model.ReadNumbers as model;
-ghost use Rattle.json5_text.specs.NumberParts.{begun, run_of, after_sign, ReadsTail, ReadsLiteral};
+ghost use Rattle.json5_text.specs.NumberParts.{begun, run_of, after_sign, digits_of, ReadsTail, IsLiteral, ReadsLiteral};
+ghost use Rattle.json5_types.specs.DigitRuns.{Gathers};
 
 use crate::first_char::front;
 use json5_types::digit_runs::split_digits;
+use json5_types::inline_digits::InlineDigits;
 
 /// The exponent of a literal: its sign and its digits.
 #[derive(Clone, Copy)]
@@ -34,6 +36,7 @@ pub(crate) struct Literal<'t> {
 }
 
 /// Whether a minus is in front, and what follows the sign in front, if there is one (JSON5 section 6).
+#[inline(always)]
 pub(crate) fn after_sign(text: &str) -> (bool, &str)
     ensures sign { after_sign (chars text.now) ≡ (result.0, chars result.1.now) }
     ensures text { IsUtf8 result.1.now }
@@ -47,6 +50,7 @@ pub(crate) fn after_sign(text: &str) -> (bool, &str)
 
 /// Whether a decimal run begins or continues in front: the characters that a decimal literal may have (ECMAScript 5.1 section
 /// 7.8.3).
+#[inline(always)]
 fn goes_on(text: &str) -> bool
     ensures { result ≡ begun numbers.in_run (chars text.now) }
 {
@@ -102,6 +106,7 @@ pub(crate) fn is_integer(digits: &str) -> bool
 }
 
 /// The literal of these digits and of an exponent, which ends the decimal run (ECMAScript 5.1 section 7.8.3).
+#[inline(always)]
 fn read_without_point<'t>(before: &'t str, text: &'t str) -> Option<Literal<'t>>
     requires { Each is_digit before.now }
     ensures { ReadsLiteral (model.no_point before.now (run_of (chars text.now))) text.now result }
@@ -125,8 +130,27 @@ fn has_digits(before: &str, after: &str) -> bool
     is_integer(before) || before.is_empty() && !after.is_empty()
 }
 
-/// The literal that is all of the decimal run in front (ECMAScript 5.1 section 7.8.3).
+/// The literal of these digits before and after a point, and of an exponent, which ends the decimal run (ECMAScript 5.1 section
+/// 7.8.3).
 #[inline(always)]
+fn read_with_point<'t>(before: &'t str, after: &'t str, text: &'t str) -> Option<Literal<'t>>
+    requires before { Each is_digit before.now }
+    requires after { Each is_digit after.now }
+    ensures { ReadsLiteral (model.at_point before.now after.now (run_of (chars text.now))) text.now result }
+{
+    if !has_digits(before, after) {
+        return None;
+    }
+    let tail = read_exponent(text)?;
+    Some(Literal {
+        before,
+        after: Some(after),
+        exponent: tail.exponent,
+        rest: tail.rest,
+    })
+}
+
+/// The literal that is all of the decimal run in front (ECMAScript 5.1 section 7.8.3).
 pub(crate) fn read_literal(text: &str) -> Option<Literal>
     ensures { ReadsLiteral (model.literal_at (run_of (chars text.now))) text.now result }
 {
@@ -135,14 +159,20 @@ pub(crate) fn read_literal(text: &str) -> Option<Literal>
         return read_without_point(before, rest);
     };
     let (after, rest) = split_digits(digits);
-    if !has_digits(before, after) {
-        return None;
-    }
-    let tail = read_exponent(rest)?;
-    Some(Literal {
-        before,
-        after: Some(after),
-        exponent: tail.exponent,
-        rest: tail.rest,
-    })
+    read_with_point(before, after, rest)
+}
+
+/// The literal that is all of the decimal run in front, whose digits before the exponent are gathered; None too if there is no
+/// room for them.
+#[inline(always)]
+pub(crate) fn gather_literal<'t>(digits: &mut InlineDigits, text: &'t str) -> Option<Literal<'t>>
+    ensures literal { IfSome result (IsLiteral (model.literal_at (run_of (chars text.now))) text.now) }
+    ensures gathered { IfSome result (λ literal. Gathers digits.old digits.new (digits_of literal)) }
+{
+    let (before, rest) = digits.take_digits(text)?;
+    let Some(('.', pointed)) = front(rest) else {
+        return read_without_point(before, rest);
+    };
+    let (after, rest) = digits.take_digits(pointed)?;
+    read_with_point(before, after, rest)
 }

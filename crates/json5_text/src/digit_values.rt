@@ -5,6 +5,8 @@ ghost use Rattle.json5_grammar.specs.Language.Characters.{is_digit, Each};
 ghost use Rattle.json5_grammar.specs.Language.Numbers.{spelled};
 ghost use Rattle.json5_grammar.specs.Model.FixedWidthNumbers.{checked};
 
+use crate::byte_runs::front_digits;
+
 /// An exponent past this is out of range, however many digits an input may have.
 pub(crate) const EXPONENT_LIMIT: u128 = 1 << 100;
 
@@ -28,8 +30,9 @@ pub(crate) fn decimal_value(digits: &str) -> Option<u128>
     Some(value)
 }
 
-/// The value of decimal digits, or `EXPONENT_LIMIT` where that is less.
-pub(crate) fn limited_value(digits: &str) -> u128
+/// The value of decimal digits, or `EXPONENT_LIMIT` where that is less, in 128 bits from the first digit on.
+#[inline(never)]
+fn limited_slowly(digits: &str) -> u128
     requires { Each is_digit digits.now }
     ensures { result ≡ min EXPONENT_LIMIT (spelled 10 0 digits.now) }
 {
@@ -38,4 +41,16 @@ pub(crate) fn limited_value(digits: &str) -> u128
         value = (value * 10 + u128::from(byte - b'0')).min(EXPONENT_LIMIT);
     }
     value
+}
+
+/// The value of decimal digits, or `EXPONENT_LIMIT` where that is less.
+pub(crate) fn limited_value(digits: &str) -> u128
+    requires { Each is_digit digits.now }
+    ensures { result ≡ min EXPONENT_LIMIT (spelled 10 0 digits.now) }
+{
+    let few = front_digits(digits.as_bytes());
+    if few.len == digits.len() {
+        return u128::from(few.value);
+    }
+    limited_slowly(digits)
 }

@@ -7,7 +7,8 @@ ghost use Rattle.json5_grammar.specs.Language.Numbers as numbers;
 ghost use Rattle.json5_grammar.specs.Model.ReadNumbers as model;
 ghost use Rattle.json5_text.specs.TokenResults.{JudgesNumber};
 ghost use Rattle.json5_types.specs.NumberMeanings.{number_of, keeps_digits, whole_in};
-ghost use Rattle.json5_text.specs.NumberParts.{scanned_of, parts_of, signed_limited, limited_exponent, is_whole_literal, HasExponentDigits, HasDigits, MeansDecimal};
+ghost use Rattle.json5_text.specs.NumberParts.{scanned_of, parts_of, signed_limited, limited_exponent, is_whole_literal, HasExponentDigits, HasDigits, digits_of, MeansDecimal, MeansFinite};
+ghost use Rattle.json5_grammar.specs.Written.NumberText.{IsNormal};
 ghost use Rattle.json5_types.specs.Exponents.{IsSmallExponent};
 
 use crate::decimal_literals::{Exponent, Literal};
@@ -15,6 +16,7 @@ use crate::digit_values::{EXPONENT_LIMIT, decimal_value, limited_value};
 use crate::refusal::Refusal;
 use json5_grammar::error_code::ErrorCode;
 use json5_types::decimal::{Decimal, DecimalRef};
+use json5_types::inline_digits::InlineDigits;
 use json5_types::number::Number;
 use json5_types::whole::Whole;
 use std::alloc::{AllocError, Global};
@@ -90,7 +92,6 @@ fn whole_number(negative: bool, literal: &Literal) -> Option<Whole>
 }
 
 /// The decimal that a literal means if it means no whole number in range; None if its exponent is out of range.
-#[inline(always)]
 pub(crate) fn finite_decimal<'t>(negative: bool, literal: &Literal<'t>) -> Option<DecimalRef<'t>>
     requires digits { HasDigits literal.now }
     requires other { is_whole_literal negative literal.now ≡ false }
@@ -99,6 +100,19 @@ pub(crate) fn finite_decimal<'t>(negative: bool, literal: &Literal<'t>) -> Optio
     let after = literal.after.unwrap_or("");
     let exponent = lowered_exponent(literal, after.len());
     DecimalRef::new(negative, literal.before, after, exponent)
+}
+
+/// The exponent of the decimal that a literal of these digits means if it means no whole number in range, once the zeros are off
+/// their end; None if it is out of range.
+#[inline(always)]
+pub(crate) fn few_exponent(literal: &Literal, digits: &mut InlineDigits) -> Option<i16>
+    requires parts { HasDigits literal.now }
+    requires gathered { digits.old ≡ numbers.without_front_zeros (digits_of literal.now) }
+    ensures means { IfSome result (λ exponent. MeansFinite literal.now digits.new exponent) }
+    ensures normal { IfSome result (λ exponent. IsNormal digits.new exponent) }
+{
+    let after = literal.after.unwrap_or("");
+    digits.normalize(lowered_exponent(literal, after.len()))
 }
 
 /// The number that a literal means; `start` is the input from the number's start.

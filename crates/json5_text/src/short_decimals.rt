@@ -1,21 +1,23 @@
 //! A short way for decimals: one that takes no memory is taken at once. Where the call returns none it takes nothing, and the
 //! scanner's other calls say what is in front.
 
-ghost use Rattle.std.specs.Prelude.{◌≡◌, true, IfSome};
+ghost use Rattle.std.specs.Prelude.{◌≡◌, [], true, IfSome};
 ghost use Rattle.std.specs.Str.{chars};
 ghost use Rattle.json5_grammar.specs.Language.Numbers as numbers;
+ghost use Rattle.json5_grammar.specs.Written.NumberText.{IsNormal};
 ghost use Rattle.json5_grammar.specs.Model.ReadNumbers as model;
 ghost use Rattle.json5_text.specs.TokenResults.{GivesValue};
 ghost use Rattle.json5_text.specs.NumberParts.{IsAtRun, is_whole_literal};
 ghost use Rattle.json5_text.specs.ShortWays.{TakesShortDecimal};
 
 use crate::blanks::skip_ascii;
-use crate::decimal_literals::{Literal, after_sign, read_literal};
+use crate::decimal_literals::{after_sign, gather_literal};
 use crate::first_char::front;
 use crate::input::Input;
-use crate::number_slices::finite_decimal;
+use crate::number_slices::few_exponent;
 use crate::scanner::Scanner;
 use json5_types::decimal::Decimal;
+use json5_types::inline_digits::InlineDigits;
 
 /// Whether a digit or a point is in front that begins a decimal run; after a first `0` goes a point or an exponent.
 #[inline(always)]
@@ -29,21 +31,24 @@ fn begins_run(text: &str) -> bool
     }
 }
 
-/// The decimal with a point or an exponent in front, where its digits take no memory, and what follows it.
+/// Gathers the digits of the decimal with a point or an exponent in front; returns whether it is negative, its exponent, and what
+/// follows it. Returns None if there is no room for the digits.
 #[inline(always)]
-fn front_decimal(text: &str) -> Option<(Decimal, &str)>
-    ensures { IfSome result (λ p. GivesValue (model.number (chars text.now)) (numbers.decimal p.0) p.1.now) }
+fn front_decimal<'t>(digits: &mut InlineDigits, text: &'t str) -> Option<(bool, i16, &'t str)>
+    requires { digits.old ≡ [] }
+    ensures read { IfSome result (λ p. GivesValue (model.number (chars text.now)) (numbers.decimal (numbers.finite p.0 digits.new p.1)) p.2.now) }
+    ensures normal { IfSome result (λ p. IsNormal digits.new p.1) }
 {
     let (negative, body) = after_sign(text);
     if !begins_run(body) {
         return None;
     }
-    let literal = read_literal(body)?;
+    let literal = gather_literal(digits, body)?;
     if literal.after.is_none() && literal.exponent.is_none() {
         return None;
     }
-    let decimal = finite_decimal(negative, &literal)?.to_short_decimal()?;
-    Some((decimal, literal.rest))
+    let exponent = few_exponent(&literal, digits)?;
+    Some((negative, exponent, literal.rest))
 }
 
 impl<I: Input> Scanner<I> {
@@ -53,9 +58,11 @@ impl<I: Input> Scanner<I> {
     pub fn short_decimal(&mut self) -> Option<Decimal>
         ensures { TakesShortDecimal self.old self.new result }
     {
-        let (decimal, rest) = front_decimal(skip_ascii(self.rest(self.input.as_text())))?;
+        let mut digits = InlineDigits::empty();
+        let text = skip_ascii(self.rest(self.input.as_text()));
+        let (negative, exponent, rest) = front_decimal(&mut digits, text)?;
         let left = rest.len();
         self.set_remaining(left);
-        Some(decimal)
+        Some(digits.into_decimal(negative, exponent))
     }
 }

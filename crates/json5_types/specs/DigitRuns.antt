@@ -1,7 +1,8 @@
 -- Decimal digits in front of a text.
-use Rattle.std.specs.Prelude.{◌≡◌, ℕ, List}
+use Rattle.std.specs.Prelude.{◌≡◌, ◌++◌, ℕ, List}
 use Rattle.std.specs.Str.{IsUtf8, chars}
 use Rattle.json5_grammar.specs.Language.Characters.{is_digit, Each}
+use Rattle.json5_grammar.specs.Language.Numbers.{without_front_zeros}
 use Rattle.json5_grammar.specs.Model.ReadNumbers.{front_of, rest_of}
 
 -- the digits in front and what follows them, of the characters and of the bytes
@@ -12,3 +13,7 @@ pub record SplitsDigits (whole start after : List ℕ) : Type 0 where
   pub front_bytes : start ≡ front_of is_digit whole
   pub rest_bytes : after ≡ rest_of is_digit whole
   pub text : IsUtf8 after
+
+-- the new digits are the old ones and these, without the zeros in front of all
+abbrev pub Gathers : (old new more : List ℕ) → Type 0
+Gathers old new more = (seen : List ℕ) → old ≡ without_front_zeros seen → new ≡ without_front_zeros (seen ++ more)

@@ -6,7 +6,7 @@ use Rattle.std.specs.Cmp.Lexicographic.{pointwise}
 use Rattle.std.specs.Hash as fed
 use Rattle.json5_grammar.specs.Language.Characters.{is_digit, Each}
 use Rattle.json5_grammar.specs.Language.Numbers.{Decimal, infinite, nan, finite, without_zeros, normal_exponent, InExponents}
-use Rattle.json5_grammar.specs.Written.NumberText.{Normal}
+use Rattle.json5_grammar.specs.Written.NumberText.{Normal, IsNormal}
 use Rattle.json5_types.specs.declared.decimal.Kept.{Kept}
 use Rattle.json5_types.specs.declared.decimal.Kept.TheVariants as kept
 use Rattle.json5_types.specs.declared.decimal.Size.{Size}
@@ -66,6 +66,13 @@ IsInRange digits exponent = InExponents (normal_exponent digits exponent)
 pub record IsFiniteIfInRange (negative : Bool) (digits : List ℕ) (exponent : ℤ) (found : Option Decimal) : Type 0 where
   pub in_range : IsSome found ↔ IsInRange digits exponent
   pub value : IfSome found (λ d. d ≡ finite negative (without_zeros digits) (normal_exponent digits exponent))
+
+-- the digits without the zeros around them, and the exponent that goes with them, if it is in range
+pub record Normalizes (old : List ℕ) (exponent : ℤ) (new : List ℕ) (found : Option ℤ) : Type 0 where
+  pub in_range : IsSome found ↔ IsInRange old exponent
+  pub digits : IfSome found (λ _. new ≡ without_zeros old)
+  pub value : IfSome found (λ e. e ≡ normal_exponent old exponent)
+  pub normal : IfSome found (λ e. IsNormal new e)
 
 -- the number, if it is in range and the digits are digits
 pub record IsFiniteOf (negative : Bool) (digits : List ℕ) (exponent : ℤ) (found : Option Decimal) : Type 0 where

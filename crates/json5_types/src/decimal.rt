@@ -6,7 +6,7 @@ ghost use Rattle.json5_grammar.specs.Language.Characters.{is_digit, Each};
 ghost use Rattle.json5_grammar.specs.Language.Numbers as numbers;
 ghost use Rattle.json5_grammar.specs.Written.NumberText.{decimal_text, IsNormal};
 ghost use Rattle.json5_types.specs.Errors.{LacksMemory};
-ghost use Rattle.json5_types.specs.NumberDecimals.{has_minus, is_infinity, is_not_a_number, digits_in, exponent_in, sized, ShowsDecimal, IsFiniteIfInRange, IsFiniteOf};
+ghost use Rattle.json5_types.specs.NumberDecimals.{has_minus, is_infinity, is_not_a_number, digits_in, exponent_in, sized, ShowsDecimal, IsFiniteIfInRange, IsFiniteOf, Normalizes};
 ghost use Rattle.json5_types.specs.Exponents.{raised, IsSmallExponent};
 ghost use Rattle.json5_types.specs.NumberMeanings.{keeps_digits};
 
@@ -123,9 +123,7 @@ fn keep_few(negative: bool, exponent: i16, first: &str, last: &str) -> Option<De
     ensures { IfSome result (λ d. d ≡ numbers.finite negative (first.now ++ last.now) exponent) }
 {
     let digits = InlineDigits::new(first, last)?;
-    Some(Decimal {
-        kept: Kept::Few(negative, exponent, digits),
-    })
+    Some(digits.into_decimal(negative, exponent))
 }
 
 /// The finite decimal with the digits of both strings, one after the other. It takes memory if they are more than 19.
@@ -195,18 +193,36 @@ impl<'a> DecimalRef<'a> {
         })
     }
 
-    /// The same number with owned digits, which take no memory; None if they are more than 19.
-    pub fn to_short_decimal(&self) -> Option<Decimal>
-        ensures { IfSome result (λ d. d ≡ self.now) }
-    {
-        keep_few(self.negative, self.exponent, self.first, self.last)
-    }
-
     /// The same number with owned digits.
     pub fn to_decimal(&self, alloc: Global) -> std::result::Result<Decimal, AllocError>
         ensures { MatchResult result (λ d. d ≡ self.now) (λ _. keeps_digits (numbers.decimal self.now) ≡ true) }
     {
         keep(alloc, self.negative, self.exponent, self.first, self.last)
+    }
+}
+
+impl InlineDigits {
+    /// Takes off the zeros at the end, and returns the exponent raised by as many; None if it is out of range.
+    #[inline(always)]
+    pub fn normalize(&mut self, exponent: i128) -> Option<i16>
+        requires front { self.old ≡ numbers.without_front_zeros self.old }
+        requires small { IsSmallExponent exponent }
+        ensures { Normalizes self.old exponent self.new result }
+    {
+        let count = self.as_str().len();
+        self.trim_back_zeros();
+        bare_exponent(exponent, count, self.as_str().len())
+    }
+
+    /// The finite number with these digits times ten to the exponent.
+    #[inline(always)]
+    pub fn into_decimal(self, negative: bool, exponent: i16) -> Decimal
+        requires { IsNormal self exponent }
+        ensures { result ≡ numbers.finite negative self exponent }
+    {
+        Decimal {
+            kept: Kept::Few(negative, exponent, self),
+        }
     }
 }
 

@@ -1,8 +1,12 @@
 //! Decimal digits that are kept in the value itself.
 
-ghost use Rattle.std.specs.Prelude.{◌≡◌, ◌<◌, ◌+◌, ◌++◌, length, MatchOption};
+ghost use Rattle.std.specs.Prelude.{◌≡◌, ◌<◌, ◌+◌, ◌++◌, ◌∷◌, [], length, take, reverse, true, MatchOption, IfSome};
+ghost use Rattle.std.specs.List.{prefix_len};
 ghost use Rattle.json5_grammar.specs.Language.Characters.{is_digit, Each};
+ghost use Rattle.json5_grammar.specs.Language.Numbers as numbers;
+ghost use Rattle.json5_types.specs.DigitRuns.{SplitsDigits, Gathers};
 
+use crate::digit_runs::{is_digit, split_counted, without_back_zeros};
 use std::marker::Model;
 use std::str;
 
@@ -11,7 +15,7 @@ const CAPACITY: usize = 19;
 
 /// At most 19 ASCII digits, which take no heap memory.
 #[derive(Drop)]
-pub(crate) struct InlineDigits {
+pub struct InlineDigits {
     len: u8,
     bytes: [u8; CAPACITY],
 }
@@ -47,9 +51,62 @@ impl InlineDigits {
         })
     }
 
+    /// No digits.
+    #[inline(always)]
+    pub fn empty() -> InlineDigits
+        ensures { result ≡ [] }
+    {
+        InlineDigits {
+            len: 0,
+            bytes: [0; CAPACITY],
+        }
+    }
+
+    /// Adds the digits in front of the bytes, and returns how many they are; None if there is no room.
+    #[inline(always)]
+    fn push_digits(&mut self, bytes: &[u8]) -> Option<usize>
+        ensures count { IfSome result (λ count. count ≡ prefix_len is_digit bytes.now) }
+        ensures gathered { IfSome result (λ count. Gathers self.old self.new (take count bytes.now)) }
+    {
+        let mut len = usize::from(self.len);
+        let mut i = 0;
+        while i < bytes.len() && is_digit(bytes[i]) {
+            if len > 0 || bytes[i] != b'0' {
+                if len == CAPACITY {
+                    return None;
+                }
+                self.bytes[len] = bytes[i];
+                len += 1;
+            }
+            i += 1;
+        }
+        self.len = len as u8;
+        Some(i)
+    }
+
+    /// Adds the digits in front of the text, without zeros in front of all; returns them and what follows them, or None if there
+    /// is no room.
+    #[inline(always)]
+    pub fn take_digits<'t>(&mut self, text: &'t str) -> Option<(&'t str, &'t str)>
+        ensures split { IfSome result (λ parts. SplitsDigits text.now parts.0.now parts.1.now) }
+        ensures gathered { IfSome result (λ parts. Gathers self.old self.new parts.0.now) }
+    {
+        let count = self.push_digits(text.as_bytes())?;
+        Some(split_counted(text, count))
+    }
+
+    /// Takes off the zeros at the end.
+    #[inline(always)]
+    pub(crate) fn trim_back_zeros(&mut self)
+        ensures { self.new ≡ reverse (numbers.without_front_zeros (reverse self.old)) }
+    {
+        self.len = without_back_zeros(self.as_str()).len() as u8;
+    }
+
     /// The digits.
     pub(crate) fn as_str(&self) -> &str
-        ensures { result.now ≡ self.now }
+        ensures same { result.now ≡ self.now }
+        ensures digits { Each is_digit result.now }
     {
         unsafe { str::from_utf8_unchecked(&self.bytes[..usize::from(self.len)]) }
     }

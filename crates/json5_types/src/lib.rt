@@ -10,7 +10,7 @@ pub mod decimal;
 pub mod decimal_pieces;
 pub mod digit_runs;
 pub mod error;
-mod inline_digits;
+pub mod inline_digits;
 pub mod laws;
 pub mod nesting;
 pub mod number;

@@ -1,7 +1,7 @@
 use Rattle.std.proofs.Common.{◌≡◌, ◌≤◌, ◌^◌, drop}
 use Rattle.json5_grammar.specs.Language.Characters.{is_digit, Each}
 use Rattle.json5_grammar.specs.Model.FixedWidthNumbers.{capped}
-use Rattle.json5_text.proofs.digit_values.limited_value.Given as goal
+use Rattle.json5_text.proofs.digit_values.limited_slowly.Given as goal
 
 abbrev pub invariant-loop-byte : goal.invariant-loop-byte
 invariant-loop-byte l = record {
