@@ -43,6 +43,11 @@ pub checked_past : (n k : ℕ) (s : List ℕ) (i : ℕ) → Each is_digit (drop 
 checked_past n k s i e h f l =
     sym (ap (checked (2 ^ 128) 10 n) (at_digit s i h) ∙ checked_next n k (slice_index_or s i 0) (drop (i + 1) s) (head_digit (slice_index_or s i 0) (drop (i + 1) s) (subst (Each is_digit) (at_digit s i h) e)) f l)
 
+pub capped_past : (n k : ℕ) (s : List ℕ) (i : ℕ) → Each is_digit (drop i s) → i < length s → k ≡ min (2 ^ 100) (n * 10 + (slice_index_or s i 0 - 48)) → capped (2 ^ 100) k (drop (i + 1) s) ≡ capped (2 ^ 100) n (drop i s)
+capped_past n k s i e h f =
+    let d = value_of_digit (slice_index_or s i 0) (head_digit (slice_index_or s i 0) (drop (i + 1) s) (subst (Each is_digit) (at_digit s i h) e)) in
+    ap (λ z. capped (2 ^ 100) z (drop (i + 1) s)) (f ∙ ap (λ z. min (2 ^ 100) (n * 10 + z)) (sym d)) ∙ sym (ap (capped (2 ^ 100) n) (at_digit s i h))
+
 none_left : (s : List ℕ) (i : ℕ) → length s ≤ i → drop i s ≡ []
 none_left s i h = nil_from_length (drop i s) (omega (arith, length-drop i s))
 

@@ -30,27 +30,19 @@ pub(crate) fn decimal_value(digits: &str) -> Option<u128>
     Some(value)
 }
 
-/// The value of decimal digits, or `EXPONENT_LIMIT` where that is less, in 128 bits from the first digit on.
-#[inline(never)]
-fn limited_slowly(digits: &str) -> u128
-    requires { Each is_digit digits.now }
-    ensures { result ≡ min EXPONENT_LIMIT (spelled 10 0 digits.now) }
-{
-    let mut value: u128 = 0;
-    for byte in digits.as_bytes() {
-        value = (value * 10 + u128::from(byte - b'0')).min(EXPONENT_LIMIT);
-    }
-    value
-}
-
 /// The value of decimal digits, or `EXPONENT_LIMIT` where that is less.
 pub(crate) fn limited_value(digits: &str) -> u128
     requires { Each is_digit digits.now }
     ensures { result ≡ min EXPONENT_LIMIT (spelled 10 0 digits.now) }
 {
-    let few = front_digits(digits.as_bytes());
-    if few.len == digits.len() {
+    let bytes = digits.as_bytes();
+    let few = front_digits(bytes);
+    if few.len == bytes.len() {
         return u128::from(few.value);
     }
-    limited_slowly(digits)
+    let mut value: u128 = 0;
+    for byte in bytes {
+        value = (value * 10 + u128::from(byte - b'0')).min(EXPONENT_LIMIT);
+    }
+    value
 }

@@ -1,10 +1,15 @@
 -- One digit more of a text is gathered.
-use Rattle.std.proofs.Common.{◌≡◌, ℕ, suc, ◌<◌, ◌+◌, false, List, [], ◌∷◌, ◌++◌, length, take, ap, sym, ◌∙◌, arith}
+use Rattle.std.proofs.Common.{drop, subst, ◌≡◌, ℕ, suc, ◌<◌, ◌+◌, false, List, [], ◌∷◌, ◌++◌, length, take, ap, sym, ◌∙◌, arith}
 use Rattle.std.specs.Prelude.{◌==◌, get_or}
 use Rattle.std.proofs.Math.Seq.{take-suc}
 use Rattle.std.proofs.lemmas.List.{append_assoc}
 use Rattle.json5_grammar.specs.Language.Numbers.{without_front_zeros}
-use Rattle.json5_types.specs.DigitRuns.{Gathers}
+use Rattle.std.specs.List.{prefix_len}
+use Rattle.json5_grammar.specs.Language.Characters.{is_digit, Each}
+use Rattle.std.specs.Str.{chars, IsUtf8}
+use Rattle.json5_grammar.proofs.CharacterTests.{front_each}
+use Rattle.json5_types.specs.DigitRuns.{Gathers, SplitsDigits}
+use Rattle.json5_types.proofs.AsciiRuns.{counted, digit_is_ascii, front_cut, rest_cut, rest_utf8, front_chars, rest_chars}
 use Rattle.json5_types.proofs.NumberZeros.{front_zero, front_first, front_next}
 
 take-next : (text : List ℕ) (i : ℕ) → i < length text → take (i + 1) text ≡ take i text ++ (get_or text i 0 ∷ [])
@@ -24,3 +29,17 @@ gathers_first old text w i h n z g seen e = front_first w (seen ++ take i text) 
 -- a digit after others
 pub gathers_next : (old text w : List ℕ) (i : ℕ) → i < length text → 0 < length w → Gathers old w (take i text) → Gathers old (w ++ (get_or text i 0 ∷ [])) (take (i + 1) text)
 gathers_next old text w i h n g seen e = front_next w (seen ++ take i text) (get_or text i 0) (g seen e) n ∙ ap without_front_zeros (one_more seen text i h)
+
+-- the text is split after the digits in front
+pub splits : (text : List ℕ) (n : ℕ) (front back : List ℕ) → IsUtf8 text → n ≡ prefix_len is_digit text → front ≡ take n text → back ≡ drop n text → SplitsDigits text front back
+splits text n front back u k f b =
+    let e = f ∙ front_cut is_digit text n (counted is_digit text n k) in
+    let r = b ∙ rest_cut is_digit text n (counted is_digit text n k) in
+    record {
+      front = e ∙ front_chars is_digit text digit_is_ascii u;
+      digits = subst (Each is_digit) (sym e) (front_each is_digit text);
+      rest = ap chars r ∙ rest_chars is_digit text digit_is_ascii u;
+      front_bytes = e;
+      rest_bytes = r;
+      text = subst IsUtf8 (sym r) (rest_utf8 is_digit text digit_is_ascii u);
+    }

@@ -5,8 +5,9 @@ use Rattle.std.specs.Ordering.{int_eq}
 use Rattle.std.specs.Cmp.Lexicographic.{pointwise}
 use Rattle.std.specs.Hash as fed
 use Rattle.json5_grammar.specs.Language.Characters.{is_digit, Each}
-use Rattle.json5_grammar.specs.Language.Numbers.{Decimal, infinite, nan, finite, without_zeros, normal_exponent, InExponents}
+use Rattle.json5_grammar.specs.Language.Numbers.{Decimal, infinite, nan, finite, without_front_zeros, without_zeros, normal_exponent, InExponents}
 use Rattle.json5_grammar.specs.Written.NumberText.{Normal, IsNormal}
+use Rattle.json5_types.specs.Exponents.{IsSmallExponent}
 use Rattle.json5_types.specs.declared.decimal.Kept.{Kept}
 use Rattle.json5_types.specs.declared.decimal.Kept.TheVariants as kept
 use Rattle.json5_types.specs.declared.decimal.Size.{Size}
@@ -66,6 +67,11 @@ IsInRange digits exponent = InExponents (normal_exponent digits exponent)
 pub record IsFiniteIfInRange (negative : Bool) (digits : List ℕ) (exponent : ℤ) (found : Option Decimal) : Type 0 where
   pub in_range : IsSome found ↔ IsInRange digits exponent
   pub value : IfSome found (λ d. d ≡ finite negative (without_zeros digits) (normal_exponent digits exponent))
+
+-- no zeros in front, and an exponent far within 128 bits
+pub record CanNormalize (digits : List ℕ) (exponent : ℤ) : Type 0 where
+  pub front : digits ≡ without_front_zeros digits
+  pub small : IsSmallExponent exponent
 
 -- the digits without the zeros around them, and the exponent that goes with them, if it is in range
 pub record Normalizes (old : List ℕ) (exponent : ℤ) (new : List ℕ) (found : Option ℤ) : Type 0 where

@@ -6,7 +6,7 @@ ghost use Rattle.json5_grammar.specs.Language.Characters.{is_digit, Each};
 ghost use Rattle.json5_grammar.specs.Language.Numbers as numbers;
 ghost use Rattle.json5_grammar.specs.Written.NumberText.{decimal_text, IsNormal};
 ghost use Rattle.json5_types.specs.Errors.{LacksMemory};
-ghost use Rattle.json5_types.specs.NumberDecimals.{has_minus, is_infinity, is_not_a_number, digits_in, exponent_in, sized, ShowsDecimal, IsFiniteIfInRange, IsFiniteOf, Normalizes};
+ghost use Rattle.json5_types.specs.NumberDecimals.{has_minus, is_infinity, is_not_a_number, digits_in, exponent_in, sized, ShowsDecimal, IsFiniteIfInRange, IsFiniteOf, CanNormalize, Normalizes};
 ghost use Rattle.json5_types.specs.Exponents.{raised, IsSmallExponent};
 ghost use Rattle.json5_types.specs.NumberMeanings.{keeps_digits};
 
@@ -205,8 +205,7 @@ impl InlineDigits {
     /// Takes off the zeros at the end, and returns the exponent raised by as many; None if it is out of range.
     #[inline(always)]
     pub fn normalize(&mut self, exponent: i128) -> Option<i16>
-        requires front { self.old ≡ numbers.without_front_zeros self.old }
-        requires small { IsSmallExponent exponent }
+        requires { CanNormalize self.old exponent }
         ensures { Normalizes self.old exponent self.new result }
     {
         let count = self.as_str().len();

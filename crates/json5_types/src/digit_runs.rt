@@ -25,20 +25,11 @@ fn digits_len(bytes: &[u8]) -> usize
     i
 }
 
-/// The digits in front, of which there are so many, and what follows them.
-#[inline(always)]
-pub(crate) fn split_counted(text: &str, count: usize) -> (&str, &str)
-    requires { count ≡ prefix_len is_digit text.now }
-    ensures { SplitsDigits text.now result.0.now result.1.now }
-{
-    text.split_at(count)
-}
-
 /// The digits in front, and what follows them.
 pub fn split_digits(text: &str) -> (&str, &str)
     ensures { SplitsDigits text.now result.0.now result.1.now }
 {
-    split_counted(text, digits_len(text.as_bytes()))
+    text.split_at(digits_len(text.as_bytes()))
 }
 
 /// The digits without the zeros in front.

@@ -6,7 +6,7 @@ ghost use Rattle.json5_grammar.specs.Language.Characters.{is_digit, Each};
 ghost use Rattle.json5_grammar.specs.Language.Numbers as numbers;
 ghost use Rattle.json5_types.specs.DigitRuns.{SplitsDigits, Gathers};
 
-use crate::digit_runs::{is_digit, split_counted, without_back_zeros};
+use crate::digit_runs::{is_digit, without_back_zeros};
 use std::marker::Model;
 use std::str;
 
@@ -54,7 +54,7 @@ impl InlineDigits {
     /// No digits.
     #[inline(always)]
     pub fn empty() -> InlineDigits
-        ensures { result ≡ [] }
+        ensures none { result ≡ [] }
     {
         InlineDigits {
             len: 0,
@@ -92,7 +92,7 @@ impl InlineDigits {
         ensures gathered { IfSome result (λ parts. Gathers self.old self.new parts.0.now) }
     {
         let count = self.push_digits(text.as_bytes())?;
-        Some(split_counted(text, count))
+        Some(text.split_at(count))
     }
 
     /// Takes off the zeros at the end.

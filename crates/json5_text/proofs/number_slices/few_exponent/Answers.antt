@@ -8,8 +8,14 @@ use Rattle.json5_text.proofs.DecimalLiteralValues.{after_or, found_is}
 use Rattle.json5_text.proofs.DigitsGathered.{few_means}
 use Rattle.json5_text.proofs.number_slices.few_exponent.Goals as goal
 
-pub normalize-requires-clause-front : goal.normalize-requires-clause-front
-normalize-requires-clause-front c = c.requires.gathered ∙ sym (front_twice (digits_of c.args.literal.now)) ∙ ap without_front_zeros (sym c.requires.gathered)
+pub normalize-requires : goal.normalize-requires
+normalize-requires c =
+    let v = c.lowered_exponent.ensures.small in
+    let s = to_z-of_z w128 c.lowered_exponent.result (let a = v.low in let b = v.high in omega (arith, ints)) in
+    record {
+      front = c.requires.gathered ∙ sym (front_twice (digits_of c.args.literal.now)) ∙ ap without_front_zeros (sym c.requires.gathered);
+      small = rw s v;
+    }
 
 pub returns-clause-means : goal.returns-clause-means
 returns-clause-means c =
