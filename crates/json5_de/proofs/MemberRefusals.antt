@@ -1,6 +1,6 @@
 -- How a key and its value begin, and how they are refused.
 use Rattle.std.proofs.Common.{◌≡◌, ◌≢◌, ℕ, Bool, true, false, List, [], ◌∷◌, ◌++◌, length, refl, ap, sym, ◌∙◌, subst, arith, Option, Some, None, Ok, Err}
-use Rattle.std.specs.Prelude.{◌==◌, is_some, Result, String, string_bytes}
+use Rattle.std.specs.Prelude.{◌==◌, is_some, Result}
 use Rattle.std.specs.Str.{encode_utf8_all}
 use Rattle.std.proofs.lemmas.Bool.{or_parts}
 use Rattle.std.proofs.lemmas.Result.{err_from_is_err_and}
@@ -20,15 +20,16 @@ use Rattle.json5_grammar.proofs.ArraysRead.{comma_solid}
 use Rattle.json5_grammar.proofs.ArraysPartlyRead.{after_same_comma, same_sign}
 use Rattle.json5_grammar.proofs.ObjectsRead.{colon_solid}
 use Rattle.json5_types.specs.declared.error.Error.{Error}
-use Rattle.json5_types.specs.Errors.{code, kind_of}
+use Rattle.json5_types.specs.Errors.{code, kind_of, LacksMemory}
 use Rattle.json5_text.specs.TextTokens.{IsSliceAt}
+use Rattle.json5_text.specs.ShortTexts.{IsTextAt}
 use Rattle.json5_text.specs.declared.short_texts.Span.{Span}
 use Rattle.json5_text.specs.Cursor.{Refused}
 use Rattle.json5_text.specs.TokenFaults.{FaultyBlanks}
 use Rattle.json5_de.specs.Convert.{every_text}
 use Rattle.json5_de.specs.KeyKinds.{RefusedAsKey, string_key}
-use Rattle.json5_de.specs.ShortWays.{OwnsTextAt, RunsOut, filled_if_given}
-use Rattle.json5_de.specs.State.{State, OnlyRead, SameText, cursor_of}
+use Rattle.json5_de.specs.ShortWays.{RunsOut, filled_if_given}
+use Rattle.json5_de.specs.State.{State, OnlyRead, SameText, GivesUp, cursor_of}
 use Rattle.json5_de.specs.DeserializeLaw.{TookValue}
 use Rattle.json5_de.specs.ReaderSteps.{PassedGap, TookText, IsCount}
 use Rattle.json5_de.specs.Keys.{KeyConversion, TookKey, GivesKey, CompletesKey, ReadsKeyOf}
@@ -40,7 +41,7 @@ use Rattle.json5_value.specs.Offsets.{StartsAfter}
 use Rattle.json5_de.specs.AccessCalls.{IsAfterGap, IsEntryStart, IsUnexpected, Advances, AtEntry, NothingNext, NoNext, no_comma, comma_missing, in_blanks_after}
 use Rattle.json5_de.specs.Objects.{MapAccessState, bare_map, TookMemberKey, AfterColon, TookMemberValue, GivesMemberKey, GivesMemberValue, CompletesMemberKey}
 use Rattle.json5_value.proofs.NoFailedCode.{other_says}
-use Rattle.json5_de.proofs.ShortReads.{own_key}
+use Rattle.json5_de.proofs.ShortReads.{kept_key, lost_key}
 use Rattle.json5_de.proofs.Offsets.{placed_where}
 use Rattle.json5_de.specs.ObjectFaults.{begins_key, AtKey, NoKeyHere, no_key, key_missing, NoKey, no_next, not_here, not_after_comma, PositionedAtKey, at_key, as_it_is, PositionsKey, is_positionless, RefusesMemberKey, not_reached, in_key, ReadsKeyOfMember, begins_next_key, no_key_code, RefusesNextKey, NoColon, no_colon, colon_missing, is_colon, RefusesMemberValue, no_value, in_value, RefusesNextValue}
 use Rattle.json5_de.proofs.ExpectedKinds.{Expected, end_fault, other_fault}
@@ -388,20 +389,29 @@ module _ {span : Span} (comma_due : Bool) (s mid taken end : State) (at : AtEntr
   name_begins : AtKey comma_due s mid
   name_begins = key_begun comma_due s mid taken key.0 true at key.1
 
-  name_read : {A : Type 0} (r : Result (String A) Error) → OwnsTextAt span taken end r → ReadsKeyOf string_bytes every_text (RefusedAsKey string_key) mid end r
-  name_read r owns = let k = own_key mid taken end r key owns in record { sound = k.sound; complete = k.complete; refused = k.refused; unprompted = k.unprompted; same_text = k.same_text }
-
-  pub name_given : {A : Type 0} (t : String A) → OwnsTextAt span taken end (Ok t) → ReadsKeyOfMember string_bytes every_text (RefusedAsKey string_key) comma_due s end (Ok (Some t))
-  name_given t owns = let k = name_read (Ok t) owns in read_key_given string_bytes every_text (RefusedAsKey string_key) comma_due s mid end name_begins t k.sound k.same_text
+  pub name_given : {K : Type 0} (content : K → List ℕ) (k : K) → (end ≡ taken) × IsTextAt taken.input span (content k) → ReadsKeyOfMember content every_text (RefusedAsKey string_key) comma_due s end (Ok (Some k))
+  name_given content k kept = let r = kept_key content mid taken end k key kept in read_key_given content every_text (RefusedAsKey string_key) comma_due s mid end name_begins k r.sound r.same_text
 
   -- or memory ran out
-  pub name_refused : {A : Type 0} (e : Error) → OwnsTextAt {A = A} span taken end (Err e) → ReadsKeyOfMember {K = String A} string_bytes every_text (RefusedAsKey string_key) comma_due s end (Err e)
-  name_refused {A = A} e owns =
-      read_key_refused (string_bytes {Z = A}) every_text (RefusedAsKey string_key) comma_due s mid end name_begins e e (name_read (Err e) owns) (as_it_is (ap is_positionless owns.0.kind) refl refl)
+  name_refused : {K : Type 0} (content : K → List ℕ) (e : Error) → LacksMemory e × GivesUp taken end → ReadsKeyOfMember content every_text (RefusedAsKey string_key) comma_due s end (Err e)
+  name_refused content e lost =
+      let r = lost_key content mid taken end e key lost in
+      read_key_refused content every_text (RefusedAsKey string_key) comma_due s mid end name_begins e e (record { sound = r.sound; complete = r.complete; refused = r.refused; unprompted = r.unprompted; same_text = r.same_text }) (as_it_is (ap is_positionless lost.0.kind) refl refl)
 
-  pub name_lost : {A : Type 0} (text : String A) (r : Result Bool Error) → RunsOut taken end r → ReadsKeyOfMember {K = String A} string_bytes every_text (RefusedAsKey string_key) comma_due s end (filled_if_given text r)
-  name_lost text (Ok given) lost = absurd lost
-  name_lost {A = A} text (Err e) lost = name_refused {A = A} e lost
+  pub name_lost : {K : Type 0} (content : K → List ℕ) (k : K) (r : Result Bool Error) → RunsOut taken end r → ReadsKeyOfMember content every_text (RefusedAsKey string_key) comma_due s end (filled_if_given k r)
+  name_lost content k (Ok given) lost = absurd lost
+  name_lost content k (Err e) lost = name_refused content e lost
+
+-- a key is refused alike, whatever it would have been kept as
+pub refused_alike : {K L C : Type 0} (content : K → C) (other : L → C) (convert : KeyConversion C) (refuses : State → Error → State → Type 0) (comma_due : Bool) (old new : State) (e : Error)
+    → ReadsKeyOfMember content convert refuses comma_due old new (Err e) → ReadsKeyOfMember other convert refuses comma_due old new (Err e)
+refused_alike content other convert refuses comma_due old new e r = record {
+  sound = tt;
+  complete = r.complete;
+  closing = r.closing;
+  cause = r.cause;
+  steady = record { same_text = r.steady.same_text; unprompted = r.steady.unprompted; before = r.steady.before };
+}
 
 -- ---- a colon and a value
 

@@ -20,6 +20,7 @@ pub mod TokenCalls
 pub mod Objects
 pub mod ObjectFaults
 pub mod Maps
+pub mod FieldNames
 pub mod Fields
 pub mod Plans
 pub mod StructFaults

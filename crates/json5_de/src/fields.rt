@@ -9,6 +9,7 @@ ghost use Rattle.json5_de.specs.KeyKinds.{RefusedAsKey, string_key};
 ghost use Rattle.json5_de.specs.ObjectFaults.{ReadsKeyAtEntry, ReadsKeyOfMember};
 ghost use Rattle.json5_de.specs.DeserializeLaw.{IsUnprompted};
 ghost use Rattle.json5_de.specs.Objects.{KeepsPending};
+ghost use Rattle.json5_de.specs.FieldNames.{name_text};
 ghost use Rattle.json5_de.specs.Fields.{FieldRead, FieldRequired, IsOwnAtBracket, RefusesHere};
 ghost use Rattle.json5_de.specs.Plans.{PassesMember, ReadsMembers};
 ghost use Rattle.json5_de.specs.ShortWays.{filled_if_given};
@@ -17,6 +18,7 @@ ghost use Rattle.json5_de.specs.Lending.{map_state_of, KeepsMap, KeyPending, NoK
 
 use crate::any::IgnoredAny;
 use crate::de::{Deserialize, Deserializer};
+use crate::field_names::FieldName;
 use crate::map::MapAccess;
 use json5_text::input::Input;
 use json5_text::short_ways::ShortStep;
@@ -70,11 +72,11 @@ pub trait Fields<I: Input>: Sized + Drop {
 }
 
 impl<I: Input> Deserializer<I> {
-    /// Reads the next key of an object as `member_key::<String>` does, and puts it into a string. Says whether there was one. A key
-    /// of the short way takes the memory that the string has.
+    /// Reads the next key of an object as `member_key::<String>` does, and keeps it as a name. Says whether there was one. A short
+    /// key of the short way takes no memory, and a long one that of the long name before it.
     #[inline(always)]
-    fn member_name(&mut self, comma_due: bool, name: &mut String) -> Result<bool>
-        ensures { ReadsKeyOfMember string_bytes every_text (RefusedAsKey string_key) comma_due self.old self.new (filled_if_given name.new result) }
+    fn member_name(&mut self, comma_due: bool, name: &mut FieldName) -> Result<bool>
+        ensures { ReadsKeyOfMember name_text every_text (RefusedAsKey string_key) comma_due self.old self.new (filled_if_given name.new result) }
     {
         match self.short_step(BracketKind::Object, comma_due) {
             ShortStep::Member => {}
@@ -84,7 +86,7 @@ impl<I: Input> Deserializer<I> {
         let Some(span) = self.short_key() else {
             return self.entry_name(name);
         };
-        if self.put_text(span, name) {
+        if self.put_name(span, name) {
             return Ok(true);
         }
         self.without_memory()
@@ -92,8 +94,8 @@ impl<I: Input> Deserializer<I> {
 
     /// The same for anything in front.
     #[inline(never)]
-    fn member_name_slowly(&mut self, comma_due: bool, name: &mut String) -> Result<bool>
-        ensures { ReadsKeyOfMember string_bytes every_text (RefusedAsKey string_key) comma_due self.old self.new (filled_if_given name.new result) }
+    fn member_name_slowly(&mut self, comma_due: bool, name: &mut FieldName) -> Result<bool>
+        ensures { ReadsKeyOfMember name_text every_text (RefusedAsKey string_key) comma_due self.old self.new (filled_if_given name.new result) }
     {
         match self.advance_to_entry(BracketKind::Object, comma_due) {
             Ok(true) => self.entry_name(name),
@@ -102,16 +104,19 @@ impl<I: Input> Deserializer<I> {
         }
     }
 
-    /// Puts the name of the member that begins here into a string, if a key begins it.
+    /// Keeps the name of the member that begins here, if a key begins it.
     #[inline(never)]
-    fn entry_name(&mut self, name: &mut String) -> Result<bool>
-        ensures { ReadsKeyAtEntry string_bytes every_text (RefusedAsKey string_key) self.old self.new (filled_if_given name.new result) }
+    fn entry_name(&mut self, name: &mut FieldName) -> Result<bool>
+        ensures { ReadsKeyAtEntry name_text every_text (RefusedAsKey string_key) self.old self.new (filled_if_given name.new result) }
     {
-        let Some(key) = self.entry_key::<String>()? else {
-            return Ok(false);
-        };
-        *name = key;
-        Ok(true)
+        match self.entry_key::<String>() {
+            Ok(Some(key)) => {
+                name.put_owned(key);
+                Ok(true)
+            }
+            Ok(None) => Ok(false),
+            Err(e) => Err(e),
+        }
     }
 }
 
@@ -229,11 +234,11 @@ impl<'a, I: Input> MapAccess<'a, I> {
         }
     }
 
-    /// Reads the next key as `next_key::<String>` does, and puts it into a string. Says whether there was one.
+    /// Reads the next key as `next_key::<String>` does, and keeps it as a name. Says whether there was one.
     #[inline(always)]
-    fn next_name(&mut self, name: &mut String) -> Result<bool>
+    fn next_name(&mut self, name: &mut FieldName) -> Result<bool>
         requires no_key { NoKeyPending self.old }
-        ensures { ReadsNextKey string_bytes every_text (RefusedAsKey string_key) self.old self.new (filled_if_given name.new result) }
+        ensures { ReadsNextKey name_text every_text (RefusedAsKey string_key) self.old self.new (filled_if_given name.new result) }
     {
         self.de.set_failed(self.failed);
         match self.de.member_name(self.stage.is_comma_due(), name) {
@@ -267,7 +272,7 @@ impl<'a, I: Input> MapAccess<'a, I> {
         ensures reads { ReadsMembers F.step (F.content fields.old) (F.content fields.new) (map_state_of self.old) (map_state_of self.new) result }
         ensures refused { RefusesMembers F.step F.refuses (F.content fields.old) (map_state_of self.old) result }
     {
-        let mut name = String::new(self.de.allocator());
+        let mut name = FieldName::new(self.de.allocator());
         while self.next_name(&mut name)? {
             fields.read(self, name.as_str())?;
         }

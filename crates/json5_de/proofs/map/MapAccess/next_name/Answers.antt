@@ -1,4 +1,5 @@
-use Rattle.std.proofs.Common.{◌≡◌, Bool, true, false, refl, Global, string_bytes}
+use Rattle.std.proofs.Common.{◌≡◌, Bool, true, false, refl}
+use Rattle.json5_de.specs.FieldNames.{name_text}
 use Rattle.std.specs.Prelude.{is_some}
 use Rattle.json5_de.specs.Convert.{every_text}
 use Rattle.json5_de.specs.KeyKinds.{RefusedAsKey, string_key}
@@ -15,9 +16,9 @@ pub returns-in-Ok : goal.returns-in-Ok
 returns-in-Ok g c =
     let k = rw (c.set_failed.ensures, c.is_comma_due.ensures) at c.in-Ok.ensures in
     let new = blocking_map (lent c.args.self.now c.member_name.new.self) c.args.self.now.failed in
-    rw (c.with_key-self.ensures, c.set_failed-in-Ok.ensures) (key_given (string_bytes {Z = Global}) every_text (RefusedAsKey string_key) c.args.self.now c.requires.no_key c.member_name.new.self new c.in-Ok.given (if_given c.member_name.new.name c.in-Ok.given) refl (given_is_some c.member_name.new.name c.in-Ok.given) k.steady.same_text k.sound)
+    rw (c.with_key-self.ensures, c.set_failed-in-Ok.ensures) (key_given name_text every_text (RefusedAsKey string_key) c.args.self.now c.requires.no_key c.member_name.new.self new c.in-Ok.given (if_given c.member_name.new.name c.in-Ok.given) refl (given_is_some c.member_name.new.name c.in-Ok.given) k.steady.same_text k.sound)
 
 pub returns-in-Err : goal.returns-in-Err
 returns-in-Err g c =
     let k = rw (c.set_failed.ensures, c.is_comma_due.ensures) at c.in-Err.ensures in
-    key_refused (string_bytes {Z = Global}) every_text (RefusedAsKey string_key) c.args.self.now c.requires.no_key c.member_name.new.self c.refused.new.self c.in-Err.e c.refused.result c.refused.ensures.blocks c.refused.ensures.placed k.cause k.steady k.complete k.closing
+    key_refused name_text every_text (RefusedAsKey string_key) c.args.self.now c.requires.no_key c.member_name.new.self c.refused.new.self c.in-Err.e c.refused.result c.refused.ensures.blocks c.refused.ensures.placed k.cause k.steady k.complete k.closing

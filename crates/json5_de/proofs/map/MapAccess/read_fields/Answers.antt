@@ -1,5 +1,5 @@
-use Rattle.std.proofs.Common.{refl, ◌∙◌, Global}
-use Rattle.std.specs.Prelude.{string_bytes}
+use Rattle.std.proofs.Common.{refl, ◌∙◌}
+use Rattle.json5_de.specs.FieldNames.{name_text}
 use Rattle.json5_de.specs.Convert.{every_text}
 use Rattle.json5_de.specs.Lending.{map_state_of}
 use Rattle.json5_de.specs.ShortWays.{if_given}
@@ -15,32 +15,32 @@ loop-name-preserved g c =
     let m = c.loop-name.invariant in
     let key = c.in_ok-next_name.ensures in
     let access = c.in_ok-read.ensures.access in
-    let named = reads_name string_bytes c.next_name.new.name m.reading (live_after_key string_bytes every_text (map_state_of c.loop-name.self) (map_state_of c.next_name.new.self) c.next_name.new.name (rw c.if-branch.true at key.sound)) (rw c.if-branch.true at key.read) (rw c.if-branch.true at key.left) in
+    let named = reads_name name_text c.next_name.new.name m.reading (live_after_key name_text every_text (map_state_of c.loop-name.self) (map_state_of c.next_name.new.self) c.next_name.new.name (rw c.if-branch.true at key.sound)) (rw c.if-branch.true at key.read) (rw c.if-branch.true at key.left) in
     record {
       same_reference = access.same_reference ∙ key.access.same_reference ∙ m.same_reference;
       start = access.start ∙ key.access.start ∙ m.start;
       same_text = access.same_text ∙ key.access.same_text ∙ m.same_text;
-      failed = λ f. absurd (live_before string_bytes every_text (map_state_of c.loop-name.self) (map_state_of c.next_name.new.self) (if_given c.next_name.new.name c.in_ok-next_name.field-0) key.sound (m.failed f));
+      failed = λ f. absurd (live_before name_text every_text (map_state_of c.loop-name.self) (map_state_of c.next_name.new.self) (if_given c.next_name.new.name c.in_ok-next_name.field-0) key.sound (m.failed f));
       no_key = c.in_ok-read.ensures.pending;
-      reading = takes_pair named (rw c.as_str.ensures.value at c.in_ok-read.ensures.takes);
+      reading = takes_pair named (rw c.as_str.ensures at c.in_ok-read.ensures.takes);
     }
 
 pub returns-in_err-next_name-clause-reads : goal.returns-in_err-next_name-clause-reads
 returns-in_err-next_name-clause-reads g c =
-    key_refuses _ _ string_bytes c.from_residual.ensures.1 c.loop-name.invariant.reading c.in_err-next_name.ensures.refused.failed c.in_err-next_name.ensures.refused.unprompted c.in_err-next_name.ensures.left
+    key_refuses _ _ name_text c.from_residual.ensures.1 c.loop-name.invariant.reading c.in_err-next_name.ensures.refused.failed c.in_err-next_name.ensures.refused.unprompted c.in_err-next_name.ensures.left
 
 pub returns-in_err-read-clause-reads : goal.returns-in_err-read-clause-reads
 returns-in_err-read-clause-reads g c =
     let key = c.in_ok-next_name.ensures in
-    let named = reads_name string_bytes c.next_name.new.name c.loop-name.invariant.reading (live_after_key string_bytes every_text (map_state_of c.loop-name.self) (map_state_of c.next_name.new.self) c.next_name.new.name (rw c.if-branch.true at key.sound)) (rw c.if-branch.true at key.read) (rw c.if-branch.true at key.left) in
-    pair_refuses _ _ c.from_residual-in_err-read.ensures.1 named (rw c.as_str.ensures.value at c.in_err-read.ensures.takes)
+    let named = reads_name name_text c.next_name.new.name c.loop-name.invariant.reading (live_after_key name_text every_text (map_state_of c.loop-name.self) (map_state_of c.next_name.new.self) c.next_name.new.name (rw c.if-branch.true at key.sound)) (rw c.if-branch.true at key.read) (rw c.if-branch.true at key.left) in
+    pair_refuses _ _ c.from_residual-in_err-read.ensures.1 named (rw c.as_str.ensures at c.in_err-read.ensures.takes)
 
 pub returns-clause-reads : goal.returns-clause-reads
 returns-clause-reads g c =
     let key = c.in_ok-next_name.ensures in
     let none = rw c.if-branch.false at key.sound in
-    all_read (string_bytes {Z = Global}) c.loop-name.invariant.reading (live_at_brace (string_bytes {Z = Global}) every_text (map_state_of c.loop-name.self) (map_state_of c.next_name.new.self) none)
-    (brace_next (string_bytes {Z = Global}) every_text (map_state_of c.loop-name.self) (map_state_of c.next_name.new.self) none) (rw c.if-branch.false at key.read) (rw c.if-branch.false at key.left)
+    all_read name_text c.loop-name.invariant.reading (live_at_brace name_text every_text (map_state_of c.loop-name.self) (map_state_of c.next_name.new.self) none)
+    (brace_next name_text every_text (map_state_of c.loop-name.self) (map_state_of c.next_name.new.self) none) (rw c.if-branch.false at key.read) (rw c.if-branch.false at key.left)
 
 pub returns-in_err-next_name-clause-refused : goal.returns-in_err-next_name-clause-refused
 returns-in_err-next_name-clause-refused g c =
@@ -51,9 +51,9 @@ pub returns-in_err-read-clause-refused : goal.returns-in_err-read-clause-refused
 returns-in_err-read-clause-refused g c =
     let m = c.loop-name.invariant in
     let key = c.in_ok-next_name.ensures in
-    let named = reads_name string_bytes c.next_name.new.name m.reading (live_after_key string_bytes every_text (map_state_of c.loop-name.self) (map_state_of c.next_name.new.self) c.next_name.new.name (rw c.if-branch.true at key.sound)) (rw c.if-branch.true at key.read) (rw c.if-branch.true at key.left) in
-    value_cause _ _ _ c.from_residual-in_err-read.ensures.1 named (key.access.same_text ∙ m.same_text) (key.access.start ∙ m.start) (rw c.as_str.ensures.value at c.in_err-read.ensures.refused)
-    (λ f. live_before string_bytes every_text (map_state_of c.loop-name.self) (map_state_of c.next_name.new.self) (if_given c.next_name.new.name c.in_ok-next_name.field-0) key.sound (m.failed f))
+    let named = reads_name name_text c.next_name.new.name m.reading (live_after_key name_text every_text (map_state_of c.loop-name.self) (map_state_of c.next_name.new.self) c.next_name.new.name (rw c.if-branch.true at key.sound)) (rw c.if-branch.true at key.read) (rw c.if-branch.true at key.left) in
+    value_cause _ _ _ c.from_residual-in_err-read.ensures.1 named (key.access.same_text ∙ m.same_text) (key.access.start ∙ m.start) (rw c.as_str.ensures at c.in_err-read.ensures.refused)
+    (λ f. live_before name_text every_text (map_state_of c.loop-name.self) (map_state_of c.next_name.new.self) (if_given c.next_name.new.name c.in_ok-next_name.field-0) key.sound (m.failed f))
 
 pub returns-clause-refused : goal.returns-clause-refused
-returns-clause-refused g c = record { cause = tt; before = λ f. absurd (live_before (string_bytes {Z = Global}) every_text (map_state_of c.loop-name.self) (map_state_of c.next_name.new.self) (if_given c.next_name.new.name c.in_ok-next_name.field-0) c.in_ok-next_name.ensures.sound (c.loop-name.invariant.failed f)) }
+returns-clause-refused g c = record { cause = tt; before = λ f. absurd (live_before name_text every_text (map_state_of c.loop-name.self) (map_state_of c.next_name.new.self) (if_given c.next_name.new.name c.in_ok-next_name.field-0) c.in_ok-next_name.ensures.sound (c.loop-name.invariant.failed f)) }
