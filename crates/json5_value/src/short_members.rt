@@ -74,7 +74,7 @@ fn add_member<I: Input>(
     let Ok(key) = String::from_str(scanner.allocator(), scanner.text_of_span(key)) else {
         return false;
     };
-    add_entry(members, (key, value))
+    add_entry(scanner, members, (key, value))
 }
 
 /// Takes the members of an object that follow these, after a comma if one is due, as far as they have short ways.

@@ -63,7 +63,7 @@ pub(crate) fn resume_array<I: Input>(
     let mut elements = elements;
     match short_elements(scanner, &mut elements, comma_due) {
         ShortElements::Value => {
-            if !add_entry(stack, Unfinished::Array { start, elements }) {
+            if !add_entry(scanner, stack, Unfinished::Array { start, elements }) {
                 return Err(Error::new(ErrorCode::OutOfMemory));
             }
             Ok(None)
@@ -90,7 +90,7 @@ fn resume_array_slowly<I: Input>(
 {
     match skip_to_value(scanner, BracketKind::Array, comma_due) {
         Ok(true) => {
-            if !add_entry(stack, Unfinished::Array { start, elements }) {
+            if !add_entry(scanner, stack, Unfinished::Array { start, elements }) {
                 return Err(Error::new(ErrorCode::OutOfMemory));
             }
             Ok(None)
@@ -144,7 +144,7 @@ fn resume_object_slowly<I: Input>(
                 members,
                 key,
             };
-            if !add_entry(stack, object) {
+            if !add_entry(scanner, stack, object) {
                 return Err(Error::new(ErrorCode::OutOfMemory));
             }
             Ok(None)
@@ -175,7 +175,7 @@ fn enter_member<I: Input>(
         members,
         key,
     };
-    if !add_entry(stack, object) {
+    if !add_entry(scanner, stack, object) {
         return Err(Error::new(ErrorCode::OutOfMemory));
     }
     Ok(None)
@@ -196,7 +196,7 @@ pub(crate) fn attach_value<I: Input>(
             start,
             mut elements,
         } => {
-            if !add_entry(&mut elements, value) {
+            if !add_entry(scanner, &mut elements, value) {
                 return Err(Error::new(ErrorCode::OutOfMemory));
             }
             resume_array(scanner, stack, start, elements, true)
@@ -206,7 +206,7 @@ pub(crate) fn attach_value<I: Input>(
             mut members,
             key,
         } => {
-            if !add_entry(&mut members, (key, value)) {
+            if !add_entry(scanner, &mut members, (key, value)) {
                 return Err(Error::new(ErrorCode::OutOfMemory));
             }
             resume_object(scanner, stack, start, members, true)
