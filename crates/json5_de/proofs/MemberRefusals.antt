@@ -20,7 +20,7 @@ use Rattle.json5_grammar.proofs.ArraysRead.{comma_solid}
 use Rattle.json5_grammar.proofs.ArraysPartlyRead.{after_same_comma, same_sign}
 use Rattle.json5_grammar.proofs.ObjectsRead.{colon_solid}
 use Rattle.json5_types.specs.declared.error.Error.{Error}
-use Rattle.json5_types.specs.Errors.{code, kind_of, LacksMemory}
+use Rattle.json5_types.specs.Errors.{code, kind_of}
 use Rattle.json5_text.specs.TextTokens.{IsSliceAt}
 use Rattle.json5_text.specs.ShortTexts.{IsTextAt}
 use Rattle.json5_text.specs.declared.short_texts.Span.{Span}
@@ -28,8 +28,7 @@ use Rattle.json5_text.specs.Cursor.{Refused}
 use Rattle.json5_text.specs.TokenFaults.{FaultyBlanks}
 use Rattle.json5_de.specs.Convert.{every_text}
 use Rattle.json5_de.specs.KeyKinds.{RefusedAsKey, string_key}
-use Rattle.json5_de.specs.ShortWays.{RunsOut, filled_if_given}
-use Rattle.json5_de.specs.State.{State, OnlyRead, SameText, GivesUp, cursor_of}
+use Rattle.json5_de.specs.State.{State, OnlyRead, SameText, cursor_of}
 use Rattle.json5_de.specs.DeserializeLaw.{TookValue}
 use Rattle.json5_de.specs.ReaderSteps.{PassedGap, TookText, IsCount}
 use Rattle.json5_de.specs.Keys.{KeyConversion, TookKey, GivesKey, CompletesKey, ReadsKeyOf}
@@ -41,9 +40,9 @@ use Rattle.json5_value.specs.Offsets.{StartsAfter}
 use Rattle.json5_de.specs.AccessCalls.{IsAfterGap, IsEntryStart, IsUnexpected, Advances, AtEntry, NothingNext, NoNext, no_comma, comma_missing, in_blanks_after}
 use Rattle.json5_de.specs.Objects.{MapAccessState, bare_map, TookMemberKey, AfterColon, TookMemberValue, GivesMemberKey, GivesMemberValue, CompletesMemberKey}
 use Rattle.json5_value.proofs.NoFailedCode.{other_says}
-use Rattle.json5_de.proofs.ShortReads.{kept_key, lost_key}
+use Rattle.json5_de.proofs.ShortReads.{kept_key}
 use Rattle.json5_de.proofs.Offsets.{placed_where}
-use Rattle.json5_de.specs.ObjectFaults.{begins_key, AtKey, NoKeyHere, no_key, key_missing, NoKey, no_next, not_here, not_after_comma, PositionedAtKey, at_key, as_it_is, PositionsKey, is_positionless, RefusesMemberKey, not_reached, in_key, ReadsKeyOfMember, begins_next_key, no_key_code, RefusesNextKey, NoColon, no_colon, colon_missing, is_colon, RefusesMemberValue, no_value, in_value, RefusesNextValue}
+use Rattle.json5_de.specs.ObjectFaults.{begins_key, AtKey, NoKeyHere, no_key, key_missing, NoKey, no_next, not_here, not_after_comma, PositionedAtKey, at_key, as_it_is, PositionsKey, RefusesMemberKey, not_reached, in_key, ReadsKeyOfMember, begins_next_key, no_key_code, RefusesNextKey, NoColon, no_colon, colon_missing, is_colon, RefusesMemberValue, no_value, in_value, RefusesNextValue}
 use Rattle.json5_de.proofs.ExpectedKinds.{Expected, end_fault, other_fault}
 use Rattle.json5_de.proofs.ReadSteps.{input_of, placed_after, refused_token}
 use Rattle.json5_de.proofs.RefusalPositions.{refused_as, refused_after}
@@ -391,16 +390,6 @@ module _ {span : Span} (comma_due : Bool) (s mid taken end : State) (at : AtEntr
 
   pub name_given : {K : Type 0} (content : K → List ℕ) (k : K) → (end ≡ taken) × IsTextAt taken.input span (content k) → ReadsKeyOfMember content every_text (RefusedAsKey string_key) comma_due s end (Ok (Some k))
   name_given content k kept = let r = kept_key content mid taken end k key kept in read_key_given content every_text (RefusedAsKey string_key) comma_due s mid end name_begins k r.sound r.same_text
-
-  -- or memory ran out
-  name_refused : {K : Type 0} (content : K → List ℕ) (e : Error) → LacksMemory e × GivesUp taken end → ReadsKeyOfMember content every_text (RefusedAsKey string_key) comma_due s end (Err e)
-  name_refused content e lost =
-      let r = lost_key content mid taken end e key lost in
-      read_key_refused content every_text (RefusedAsKey string_key) comma_due s mid end name_begins e e (record { sound = r.sound; complete = r.complete; refused = r.refused; unprompted = r.unprompted; same_text = r.same_text }) (as_it_is (ap is_positionless lost.0.kind) refl refl)
-
-  pub name_lost : {K : Type 0} (content : K → List ℕ) (k : K) (r : Result Bool Error) → RunsOut taken end r → ReadsKeyOfMember content every_text (RefusedAsKey string_key) comma_due s end (filled_if_given k r)
-  name_lost content k (Ok given) lost = absurd lost
-  name_lost content k (Err e) lost = name_refused content e lost
 
 -- a key is refused alike, whatever it would have been kept as
 pub refused_alike : {K L C : Type 0} (content : K → C) (other : L → C) (convert : KeyConversion C) (refuses : State → Error → State → Type 0) (comma_due : Bool) (old new : State) (e : Error)

@@ -28,8 +28,7 @@ use Rattle.json5_de.specs.DeserializeLaw.{TookValue}
 use Rattle.json5_de.specs.TokenKinds.{ReadsAs, whole_kind, natural_kind, integer_kind, decimal_kind, string_kind}
 use Rattle.json5_de.specs.AccessCalls.{IsEntryStart}
 use Rattle.json5_de.specs.ShortWays.{ReadsShort, StepsShort, ReadsShortText, ReadsShortKey, PassesShortColon, OwnsTextAt, RunsOut}
-use Rattle.json5_types.specs.Errors.{LacksMemory}
-use Rattle.json5_de.specs.State.{GivesUp, State}
+use Rattle.json5_de.specs.State.{State}
 use Rattle.json5_de.proofs.TokenKinds.{reads_ok}
 use Rattle.json5_de.proofs.ReadSteps.{value_gap, input_of}
 use Rattle.json5_de.proofs.ExpectsStrings.{text_stops}
@@ -210,9 +209,9 @@ pub kept_key : {K : Type 0} {span : Span} (content : K → List ℕ) (old mid ne
 kept_key content old mid new k (u, took, stands) (same, bytes) =
     subst (λ s. ReadsKeyAs string_key content old s (Ok k)) (sym same) (key_ok content every_text _ old mid k (u, true, took, ap Some (sym (bytes u stands))))
 
--- or memory ran out
-pub lost_key : {K : Type 0} {span : Span} (content : K → List ℕ) (old mid new : State) (e : Error) → ((u : List ℕ) × TookKey old u true mid × IsSliceAt mid.input u span.start span.end) → LacksMemory e × GivesUp mid new → ReadsKeyAs string_key content old new (Err e)
-lost_key content old mid new e (u, took, stands) (lacks, gives_up) = record {
+pub own_key : {A : Type 0} {span : Span} (old mid new : State) (r : Result (String A) Error) → ((u : List ℕ) × TookKey old u true mid × IsSliceAt mid.input u span.start span.end) → OwnsTextAt span mid new r → ReadsKeyAs string_key string_bytes old new r
+own_key old mid new (Ok t) key owns = kept_key string_bytes old mid new t key owns
+own_key old mid new (Err e) (u, took, stands) (lacks, gives_up) = record {
   sound = tt;
   complete = λ u escape_free r c live reads is. lacks.kind;
   refused = inl lacks;
@@ -221,7 +220,3 @@ lost_key content old mid new e (u, took, stands) (lacks, gives_up) = record {
   failed = gives_up.failed;
   before = λ h. absurd (true_false h took.live);
 }
-
-pub own_key : {A : Type 0} {span : Span} (old mid new : State) (r : Result (String A) Error) → ((u : List ℕ) × TookKey old u true mid × IsSliceAt mid.input u span.start span.end) → OwnsTextAt span mid new r → ReadsKeyAs string_key string_bytes old new r
-own_key old mid new (Ok t) key owns = kept_key string_bytes old mid new t key owns
-own_key old mid new (Err e) key owns = lost_key string_bytes old mid new e key owns

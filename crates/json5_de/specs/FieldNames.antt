@@ -1,10 +1,17 @@
 -- The name of a member, while a struct is read.
-use Rattle.std.specs.Prelude.{ℕ, List, Bool, cond, String, string_bytes}
-use Rattle.arrayvec.specs.ArrayString.{ArrayString}
+use Rattle.std.specs.Prelude.{ℕ, List, Option, Some, None, IfSome, String, string_bytes, slice_range}
+use Rattle.std.specs.Str.{chars}
+use Rattle.json5_text.specs.declared.short_texts.Span.{Span}
+use Rattle.json5_text.specs.TextTokens.{IsSliceAt}
 
--- a short name, or a long one
-abbrev pub name_of : {A : Type 0} → Bool → ArrayString → String A → List ℕ
-name_of is_short short long = cond is_short short.bytes (string_bytes long)
+-- a part of the text, or a name of its own
+abbrev pub name_of : {A : Type 0} → List ℕ → Option Span → String A → List ℕ
+name_of text (Some span) owned = slice_range text span.start span.end
+name_of text None owned = string_bytes owned
+
+-- characters of the text are between these offsets, if any are given
+abbrev pub StandsIn : List ℕ → Option Span → Type 0
+StandsIn text found = IfSome found (λ span. (u : List ℕ) × IsSliceAt (chars text) u span.start span.end)
 
 abbrev pub name_text : List ℕ → List ℕ
 name_text n = n

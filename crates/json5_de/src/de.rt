@@ -216,6 +216,14 @@ impl<I: Input> Deserializer<I> {
         Err(error)
     }
 
+    /// The input.
+    #[inline(always)]
+    pub(crate) fn input(&self) -> I
+        ensures { chars (I.text result) ≡ self.now.input }
+    {
+        self.scanner.input()
+    }
+
     /// The next character.
     #[inline(always)]
     pub(crate) fn peek(&self) -> Option<char>

@@ -1,59 +1,63 @@
 //! The name of a member, while a struct is read.
 
-ghost use Rattle.std.specs.Prelude.{◌≡◌, true, string_bytes};
+ghost use Rattle.std.specs.Prelude.{◌≡◌, Some, string_bytes};
+ghost use Rattle.std.specs.Str.{chars};
+ghost use Rattle.json5_text.specs.ShortTexts.{IsTextAt};
+ghost use Rattle.json5_de.specs.FieldNames.{StandsIn};
 
-use arrayvec::ArrayString;
+use json5_text::input::Input;
+use json5_text::short_texts::Span;
 use std::alloc::Global;
 use std::marker::Model;
 
-/// The name of the member that was read last. A short one takes no memory.
+/// The name of the member that was read last. If its key had no escape, it is compared where it stands in the input.
 #[derive(Drop)]
-pub(crate) struct FieldName {
-    is_short: bool,
-    short: ArrayString<32>,
-    /// Its memory is kept for the next long name.
-    long: String,
+pub(crate) struct FieldName<I: Input> {
+    input: I,
+    /// Where the name stands in the input. None if it is owned.
+    span: Option<Span>,
+    owned: String,
 }
 
-impl Model for FieldName {
+impl<I: Input> Model for FieldName<I> {
     ghost use Rattle.std.specs.Prelude.{ℕ, List};
-    ghost use Rattle.json5_de.specs.FieldNames.{name_of};
+    ghost use Rattle.json5_de.specs.FieldNames.{name_of, StandsIn};
 
     ghost Value = { List ℕ };
 
-    ghost view = { λ n. name_of n.is_short n.short n.long };
+    ghost view = { λ n. name_of (I.text n.input) n.span n.owned };
+
+    ghost invariant = { λ n. StandsIn (I.text n.input) n.span };
 }
 
-impl FieldName {
+impl<I: Input> FieldName<I> {
     /// No name yet.
-    pub(crate) fn new(alloc: Global) -> FieldName {
+    pub(crate) fn new(alloc: Global, input: I) -> FieldName<I> {
         FieldName {
-            is_short: true,
-            short: ArrayString::new(),
-            long: String::new(alloc),
+            input,
+            span: None,
+            owned: String::new(alloc),
         }
     }
 
-    /// Keeps a copy of this name, and says whether there was memory for it.
+    /// Takes the part of the input at the span as the name.
     #[inline(always)]
-    pub(crate) fn put(&mut self, name: &str) -> bool
-        ensures { result ≡ true → self.new ≡ name.now }
+    pub(crate) fn put(&mut self, input: I, span: Span)
+        requires { StandsIn (I.text input) (Some span) }
+        ensures { IsTextAt (chars (I.text input)) span self.new }
     {
-        self.short.clear();
-        self.is_short = self.short.try_push_str(name).is_ok();
-        if self.is_short {
-            return true;
-        }
-        self.long.clear();
-        self.long.push_str(name).is_ok()
+        // The goal below needs that the input is UTF-8.
+        let _text = input.as_text();
+        self.input = input;
+        self.span = Some(span);
     }
 
-    /// Keeps this name.
+    /// Takes this name.
     pub(crate) fn put_owned(&mut self, name: String)
         ensures { self.new ≡ string_bytes name }
     {
-        self.is_short = false;
-        self.long = name;
+        self.span = None;
+        self.owned = name;
     }
 
     /// The name.
@@ -61,10 +65,9 @@ impl FieldName {
     pub(crate) fn as_str(&self) -> &str
         ensures { result.now ≡ self.now }
     {
-        if self.is_short {
-            self.short.as_str()
-        } else {
-            self.long.as_str()
+        match self.span {
+            Some(span) => &self.input.as_text()[span.start..span.end],
+            None => self.owned.as_str(),
         }
     }
 }

@@ -72,10 +72,10 @@ pub trait Fields<I: Input>: Sized + Drop {
 }
 
 impl<I: Input> Deserializer<I> {
-    /// Reads the next key of an object as `member_key::<String>` does, and keeps it as a name. Says whether there was one. A short
-    /// key of the short way takes no memory, and a long one that of the long name before it.
+    /// Reads the next key of an object as `member_key::<String>` does, and takes it as a name. Says whether there was one. A key of
+    /// the short way takes no memory.
     #[inline(always)]
-    fn member_name(&mut self, comma_due: bool, name: &mut FieldName) -> Result<bool>
+    fn member_name(&mut self, comma_due: bool, name: &mut FieldName<I>) -> Result<bool>
         ensures { ReadsKeyOfMember name_text every_text (RefusedAsKey string_key) comma_due self.old self.new (filled_if_given name.new result) }
     {
         match self.short_step(BracketKind::Object, comma_due) {
@@ -86,15 +86,13 @@ impl<I: Input> Deserializer<I> {
         let Some(span) = self.short_key() else {
             return self.entry_name(name);
         };
-        if self.put_name(span, name) {
-            return Ok(true);
-        }
-        self.without_memory()
+        name.put(self.input(), span);
+        Ok(true)
     }
 
     /// The same for anything in front.
     #[inline(never)]
-    fn member_name_slowly(&mut self, comma_due: bool, name: &mut FieldName) -> Result<bool>
+    fn member_name_slowly(&mut self, comma_due: bool, name: &mut FieldName<I>) -> Result<bool>
         ensures { ReadsKeyOfMember name_text every_text (RefusedAsKey string_key) comma_due self.old self.new (filled_if_given name.new result) }
     {
         match self.advance_to_entry(BracketKind::Object, comma_due) {
@@ -104,9 +102,9 @@ impl<I: Input> Deserializer<I> {
         }
     }
 
-    /// Keeps the name of the member that begins here, if a key begins it.
+    /// Takes the name of the member that begins here, if a key begins it.
     #[inline(never)]
-    fn entry_name(&mut self, name: &mut FieldName) -> Result<bool>
+    fn entry_name(&mut self, name: &mut FieldName<I>) -> Result<bool>
         ensures { ReadsKeyAtEntry name_text every_text (RefusedAsKey string_key) self.old self.new (filled_if_given name.new result) }
     {
         match self.entry_key::<String>() {
@@ -234,9 +232,9 @@ impl<'a, I: Input> MapAccess<'a, I> {
         }
     }
 
-    /// Reads the next key as `next_key::<String>` does, and keeps it as a name. Says whether there was one.
+    /// Reads the next key as `next_key::<String>` does, and takes it as a name. Says whether there was one.
     #[inline(always)]
-    fn next_name(&mut self, name: &mut FieldName) -> Result<bool>
+    fn next_name(&mut self, name: &mut FieldName<I>) -> Result<bool>
         requires no_key { NoKeyPending self.old }
         ensures { ReadsNextKey name_text every_text (RefusedAsKey string_key) self.old self.new (filled_if_given name.new result) }
     {
@@ -272,7 +270,7 @@ impl<'a, I: Input> MapAccess<'a, I> {
         ensures reads { ReadsMembers F.step (F.content fields.old) (F.content fields.new) (map_state_of self.old) (map_state_of self.new) result }
         ensures refused { RefusesMembers F.step F.refuses (F.content fields.old) (map_state_of self.old) result }
     {
-        let mut name = FieldName::new(self.de.allocator());
+        let mut name = FieldName::new(self.de.allocator(), self.de.input());
         while self.next_name(&mut name)? {
             fields.read(self, name.as_str())?;
         }

@@ -9,7 +9,6 @@ ghost use Rattle.json5_de.specs.TokenKinds.{natural_kind, integer_kind, decimal_
 ghost use Rattle.json5_de.specs.ShortWays.{ReadsShort, StepsShort, ReadsShortText, ReadsShortKey, ReadsEscapeFreeText, TakesEscapeFreeKey, PassesShortColon, OpensShort, ClosesShort, OwnsTextAt, RunsOut};
 
 use crate::de::Deserializer;
-use crate::field_names::FieldName;
 use json5_text::input::{Borrows, Input};
 use json5_text::short_texts::Span;
 use json5_text::short_ways::ShortStep;
@@ -149,14 +148,6 @@ impl<I: Input> Deserializer<I> {
             Ok(text) => Ok(text),
             Err(_) => self.without_memory(),
         }
-    }
-
-    /// Keeps a copy of the text of the span as a name, and says whether there was memory for it.
-    #[inline(always)]
-    pub(crate) fn put_name(&self, span: Span, name: &mut FieldName) -> bool
-        ensures { result ≡ true → IsTextAt self.now.input span name.new }
-    {
-        name.put(self.scanner.text_of_span(span))
     }
 
     /// Refuses since memory ran out, now and from now on.

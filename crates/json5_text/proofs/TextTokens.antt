@@ -1,5 +1,6 @@
 -- The offsets of what tokens spell.
 use Rattle.std.proofs.Common.{◌≡◌, ℕ, ◌+◌, ◌-◌, ◌≤◌, Bool, true, List, [], ◌∷◌, ◌++◌, length, take, drop, refl, ap, sym, ◌∙◌, subst, arith, append_assoc, Option, Some, None}
+use Rattle.std.specs.Prelude.{slice_range}
 use Rattle.std.specs.Option.{unwrap_or}
 use Rattle.std.specs.Str.{IsUtf8, IsCharBoundary, chars, encode_utf8_all}
 use Rattle.std.specs.Str.Pattern.{GetsRange}
@@ -96,11 +97,23 @@ token_inside {text = text} {offset = offset} s x u escape_free t inside e f g is
     subst (λ z. Spells z u escape_free t) (whole ∙ e) (is before (inside.counted ∙ left_counted text inside.is_text ∙ sym (ap bytes_in whole)))
 
 -- the part of the input that is u
+pub slice_bytes : (text u : List ℕ) (start end : ℕ) → IsUtf8 text → IsSliceAt (chars text) u start end → slice_range text start end ≡ encode_utf8_all u
+slice_bytes text u start end utf8 at =
+    let h : Halves text at.before (u ++ at.rest) = record { is_text = utf8; split = at.split } in
+    rw (at.ends, at.starts) (part_between u at.rest h)
+
+-- characters begin where it starts and where it ends
+pub slice_starts : (text u : List ℕ) (start end : ℕ) → IsUtf8 text → IsSliceAt (chars text) u start end → IsCharBoundary text start
+slice_starts text u start end utf8 at =
+    let h : Halves text at.before (u ++ at.rest) = record { is_text = utf8; split = at.split } in
+    subst (IsCharBoundary text) (sym at.starts) (cut_at h)
+
+pub slice_ends : (text u : List ℕ) (start end : ℕ) → IsUtf8 text → IsSliceAt (chars text) u start end → IsCharBoundary text end
+slice_ends text u start end utf8 at =
+    let h : Halves text at.before (u ++ at.rest) = record { is_text = utf8; split = at.split } in
+    subst (IsCharBoundary text) (sym (at.ends ∙ ap (λ n. n + bytes_in u) at.starts ∙ sym (bytes_append at.before u))) (cut_at (halves_after u at.rest h refl))
+
+-- the same, as `get` gives it
 pub stands_between : (text u : List ℕ) (start end : ℕ) (part : Option (Bor (List ℕ))) (other : Bor (List ℕ)) → IsUtf8 text → GetsRange text start end part → IsSliceAt (chars text) u start end → (unwrap_or part other).now ≡ encode_utf8_all u
-stands_between text u start end (Some x) other utf8 gets at =
-    let h : Halves text at.before (u ++ at.rest) = record { is_text = utf8; split = at.split } in
-    gets.0 ∙ rw (at.ends, at.starts) (part_between u at.rest h)
-stands_between text u start end None other utf8 gets at =
-    let h : Halves text at.before (u ++ at.rest) = record { is_text = utf8; split = at.split } in
-    let ends = sym (at.ends ∙ ap (λ n. n + bytes_in u) at.starts ∙ sym (bytes_append at.before u)) in
-    absurd (gets (let e = at.ends in omega arith) (subst (IsCharBoundary text) (sym at.starts) (cut_at h)) (subst (IsCharBoundary text) ends (cut_at (halves_after u at.rest h refl))))
+stands_between text u start end (Some x) other utf8 gets at = gets.0 ∙ slice_bytes text u start end utf8 at
+stands_between text u start end None other utf8 gets at = absurd (gets (let e = at.ends in omega arith) (slice_starts text u start end utf8 at) (slice_ends text u start end utf8 at))

@@ -2,12 +2,13 @@
 
 ghost use Rattle.std.specs.Prelude.{◌≡◌};
 
-/// A text to be read, as `&str`. It names no lifetime, so that a reader over it can be lent whole.
+/// A text to be read, as `&str`. It names no lifetime, so that a reader over it can be lent whole. A copy of it is the same text, so
+/// a part of the text can be held while the reader goes on.
 ///
 /// ```text
 /// fn read_ports<I: Input>(de: &mut Deserializer<I>) -> Result<Vec<u16>>    // over every input
 /// ```
-pub trait Input: Drop {
+pub trait Input: Copy + Drop {
     ghost use Rattle.std.specs.Prelude.{ℕ, List};
 
     ghost text: { Self → List ℕ };

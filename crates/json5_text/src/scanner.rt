@@ -103,6 +103,14 @@ impl<I: Input> Scanner<I> {
         self.alloc
     }
 
+    /// Returns the input.
+    #[inline(always)]
+    pub fn input(&self) -> I
+        ensures { chars (I.text result) ≡ self.now.input }
+    {
+        self.input
+    }
+
     /// Returns how many bytes of the text were read. A character begins there, or the text ends.
     pub fn offset(&self) -> usize
         ensures counted { result ≡ offset_of self.now }
