@@ -2,7 +2,7 @@
 
 ghost use Rattle.std.specs.Prelude.{◌≡◌, ◌≤◌, ◌<◌, ◌+◌, ◌-◌, Bool, true, false, IfOk, IfErr, OnOk};
 ghost use Rattle.std.specs.Str.{chars};
-ghost use Rattle.json5_text.specs.Cursor.{Locates};
+ghost use Rattle.json5_text.specs.Cursor.{IsInput, Locates};
 ghost use Rattle.json5_grammar.specs.Language.Documents.{max_depth};
 ghost use Rattle.json5_grammar.specs.declared.error_code.ErrorCode.TheVariants as codes;
 ghost use Rattle.json5_value.specs.OwnedReads.{OwnsKey, ReadsDatum};
@@ -219,7 +219,7 @@ impl<I: Input> Deserializer<I> {
     /// The input.
     #[inline(always)]
     pub(crate) fn input(&self) -> I
-        ensures { chars (I.text result) ≡ self.now.input }
+        ensures { IsInput self.now.input (I.text result) }
     {
         self.scanner.input()
     }

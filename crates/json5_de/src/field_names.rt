@@ -10,7 +10,8 @@ use json5_text::short_texts::Span;
 use std::alloc::Global;
 use std::marker::Model;
 
-/// The name of the member that was read last. If its key had no escape, it is compared where it stands in the input.
+/// The name of the member that was read last. If the short way took its key, the name is compared where it stands in the input;
+/// otherwise it is owned.
 #[derive(Drop)]
 pub(crate) struct FieldName<I: Input> {
     input: I,

@@ -1,6 +1,6 @@
 -- What contracts see of a scanner: the whole input and its unread part, each as the list of its characters.
 use Rattle.std.specs.Prelude.{◌≡◌, ◌-◌, ℕ, List, ◌++◌, length, Option, Some, None}
-use Rattle.std.specs.Str.{encode_utf8_all}
+use Rattle.std.specs.Str.{chars, encode_utf8_all}
 use Rattle.json5_grammar.specs.declared.error_code.ErrorCode.{ErrorCode}
 use Rattle.json5_grammar.specs.declared.error_code.ErrorCode.TheVariants as codes
 use Rattle.json5_grammar.specs.Faults.Positions.{position_after}
@@ -11,6 +11,10 @@ use Rattle.json5_types.specs.Errors.{code, custom, kind_of, error_position}
 pub record Cursor : Type 0 where
   pub input : List ℕ
   pub unread : List ℕ
+
+-- the text whose characters are those of the input
+abbrev pub IsInput : List ℕ → List ℕ → Type 0
+IsInput input text = chars text ≡ input
 
 -- the count of bytes before what is unread
 abbrev pub offset_of : Cursor → ℕ

@@ -3,7 +3,7 @@
 ghost use Rattle.std.specs.Prelude.{◌≡◌, ℕ, List, [], ◌∷◌, ◌++◌, true, false, ◌==◌, drop, slice_get, IsTrue};
 ghost use Rattle.std.specs.Str.{all_scalars, chars};
 ghost use Rattle.json5_grammar.specs.Language.Characters.{NotBegun};
-ghost use Rattle.json5_text.specs.Cursor.{Cursor, offset_of, Took};
+ghost use Rattle.json5_text.specs.Cursor.{Cursor, offset_of, IsInput, Took};
 ghost use Rattle.json5_text.specs.Scan.{InText, Leaves, LeavesAt};
 ghost use Rattle.json5_text.specs.TokenCalls.{PassesBlanks, TakesWord, TakesNumber, TakesOwned, TakesStringToken, TakesKey, PassesString, PassesName, PassesNumber};
 
@@ -106,7 +106,7 @@ impl<I: Input> Scanner<I> {
     /// Returns the input.
     #[inline(always)]
     pub fn input(&self) -> I
-        ensures { chars (I.text result) ≡ self.now.input }
+        ensures { IsInput self.now.input (I.text result) }
     {
         self.input
     }

@@ -89,6 +89,7 @@ impl Default for OpenBracket {
 }
 
 /// Takes the opening bracket in front, if there is room for one more.
+#[inline(always)]
 pub(crate) fn open_bracket<I: Input>(
     scanner: &mut Scanner<I>,
     room: usize,
