@@ -1,7 +1,7 @@
 //! Measures how fast the library reads, passes over, writes and formats.
 //!
 //! `json5_bench CALL SAMPLE MIB` makes an input of that many MiB, makes the call once, and prints how many bytes it read or wrote, in
-//! how many milliseconds, how many MiB a second that is, and the most memory that the program held. Without words it makes each
+//! how many microseconds, how many MiB a second that is, and the most memory that the program held. Without words it makes each
 //! call on a short input of each sample, and prints how many bytes it read or wrote.
 #![tactic(auto)]
 
@@ -48,10 +48,10 @@ fn make_each(rt: &HostRuntime) -> Result<()> {
 fn measure(rt: &HostRuntime, call: Call, sample: Sample, size: usize) -> Result<()> {
     let text = sample.text(rt.alloc(), size.saturating_mul(MIB))?;
     let done = make(rt, call, sample.kind, text.as_str())?;
-    let millis = done.time.as_millis();
+    let micros = done.time.as_micros();
     let speed = mib_a_second(&done);
     let memory = most_memory(rt)?;
-    rt.println(format_args!("{} bytes, {millis} ms, {speed} MiB/s, {memory}", done.bytes))?;
+    rt.println(format_args!("{} bytes, {micros} µs, {speed} MiB/s, {memory}", done.bytes))?;
     Ok(())
 }
 
