@@ -1,4 +1,16 @@
-//! How the calls of an access or of a collection are spelled: `(u8,u8,end)`.
+//! How types are spelled, and the calls of an access or of a collection: `(u8,u8,end)`.
+
+/// Makes the call with the type of the list that has the name. What follows the list is for all other names.
+macro_rules! by_type {
+    ($name:ident, $call:ident $values:tt; $($s:literal => $t:ty),*; $others:expr) => {
+        match $name {
+            $($s => $call::<$t> $values,)*
+            _ => $others,
+        }
+    };
+}
+
+pub(crate) use by_type;
 
 /// What becomes of it after its calls.
 #[derive(Clone, Copy)]

@@ -1,6 +1,7 @@
 //! Calls within a limit: `within 2 Value` reads, `written 1 Value` writes what is read at the full limit.
 
 use crate::call_results::{Answer, Any, push_answer, shown, unknown};
+use crate::call_spelling::by_type;
 use crate::own_enums::E;
 use crate::own_structs::Config;
 use crate::writer_calls::held;
@@ -44,25 +45,15 @@ fn fits(alloc: Global, limit: Limit, text: &str) -> Answer {
 }
 
 fn read(alloc: Global, limit: Limit, name: &str, text: &str) -> Answer {
-    match name {
-        "Value" => shown(alloc, from_str_within(alloc, limit, text).map(Any)),
-        "IgnoredAny" => read_as::<IgnoredAny>(alloc, limit, text),
-        "Vec<Vec<i32>>" => read_as::<Vec<Vec<i32>>>(alloc, limit, text),
-        "BTreeMap<u8, String>" => read_as::<BTreeMap<u8, String>>(alloc, limit, text),
-        "Config" => read_as::<Config>(alloc, limit, text),
-        "E" => read_as::<E>(alloc, limit, text),
-        _ => read_scalar(alloc, limit, name, text),
+    if name == "Value" {
+        return shown(alloc, from_str_within(alloc, limit, text).map(Any));
     }
-}
-
-fn read_scalar(alloc: Global, limit: Limit, name: &str, text: &str) -> Answer {
-    match name {
-        "()" => read_as::<()>(alloc, limit, text),
-        "bool" => read_as::<bool>(alloc, limit, text),
-        "u8" => read_as::<u8>(alloc, limit, text),
-        "String" => read_as::<String>(alloc, limit, text),
-        _ => unknown(alloc),
-    }
+    by_type!(name, read_as(alloc, limit, text);
+        "()" => (), "bool" => bool, "u8" => u8, "String" => String, "IgnoredAny" => IgnoredAny,
+        "Vec<Vec<i32>>" => Vec<Vec<i32>>, "BTreeMap<u8, String>" => BTreeMap<u8, String>,
+        "Config" => Config, "E" => E;
+        unknown(alloc)
+    )
 }
 
 fn read_as<'de, T: Deserialize<&'de str> + Debug>(
@@ -74,24 +65,12 @@ fn read_as<'de, T: Deserialize<&'de str> + Debug>(
 }
 
 fn write(alloc: Global, limit: Limit, name: &str, text: &str) -> Answer {
-    match name {
-        "Value" => write_as::<Value>(alloc, limit, text),
-        "Vec<Vec<i32>>" => write_as::<Vec<Vec<i32>>>(alloc, limit, text),
-        "BTreeMap<u8, String>" => write_as::<BTreeMap<u8, String>>(alloc, limit, text),
-        "Config" => write_as::<Config>(alloc, limit, text),
-        "E" => write_as::<E>(alloc, limit, text),
-        _ => write_scalar(alloc, limit, name, text),
-    }
-}
-
-fn write_scalar(alloc: Global, limit: Limit, name: &str, text: &str) -> Answer {
-    match name {
-        "()" => write_as::<()>(alloc, limit, text),
-        "bool" => write_as::<bool>(alloc, limit, text),
-        "u8" => write_as::<u8>(alloc, limit, text),
-        "String" => write_as::<String>(alloc, limit, text),
-        _ => unknown(alloc),
-    }
+    by_type!(name, write_as(alloc, limit, text);
+        "()" => (), "bool" => bool, "u8" => u8, "String" => String, "Value" => Value,
+        "Vec<Vec<i32>>" => Vec<Vec<i32>>, "BTreeMap<u8, String>" => BTreeMap<u8, String>,
+        "Config" => Config, "E" => E;
+        unknown(alloc)
+    )
 }
 
 /// What `to_string_within` and `to_writer_within` return, and then what the writer holds.

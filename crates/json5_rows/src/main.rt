@@ -14,7 +14,6 @@ mod reads;
 mod rows;
 mod scans;
 mod spelling;
-mod token_lengths;
 mod writer_calls;
 mod writes;
 

@@ -2,7 +2,7 @@
 
 use crate::call_results::{Answer, by_code, by_message};
 use crate::spelling::{shortened, unescaped};
-use crate::{limits, other_calls, reader_calls, reads, scans, token_lengths, writer_calls, writes};
+use crate::{limits, other_calls, reader_calls, reads, scans, writer_calls, writes};
 use std::alloc::{AllocError, Global};
 
 /// Whether the line is a row: neither blank nor a comment.
@@ -30,6 +30,7 @@ fn answer(alloc: Global, call: &str, text: &str) -> Answer {
         "display" => writes::display(alloc, text),
         "format" => json5::format(alloc, text),
         "formatted" => read_formatted(alloc, words, text),
+        "each" => reads::read_each(alloc, words, text),
         "variant" => reads::read_variant(alloc, words, text),
         "sequence" => reader_calls::sequence(alloc, words, text),
         "writing" => writer_calls::writing(alloc, words),
@@ -38,7 +39,6 @@ fn answer(alloc: Global, call: &str, text: &str) -> Answer {
             limits::limited(alloc, name, words, text)
         }
         "limit" => limits::limit(alloc, words),
-        "reaches" => token_lengths::reaches(alloc, words, text),
         "scan" => scans::scan(alloc, words, text),
         "position" => other_calls::position(alloc, words, text),
         "finite" => other_calls::finite(alloc, words, text),

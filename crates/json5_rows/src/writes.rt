@@ -1,6 +1,7 @@
 //! Writing what was read.
 
 use crate::call_results::{Answer, unknown};
+use crate::call_spelling::by_type;
 use crate::own_enums::{E, F};
 use crate::own_structs::Config;
 use indexmap::IndexMap;
@@ -10,15 +11,6 @@ use json5::{
 use std::alloc::Global;
 use std::collections::BTreeMap;
 
-/// Writes as the type of this list that has the name, and returns; does nothing where none has it.
-macro_rules! write_as {
-    ($name:ident, $alloc:ident, $text:ident; $($t:ty),* $(,)?) => {
-        $(if $name == stringify!($t) {
-            return write_value::<$t>($alloc, $text);
-        })*
-    };
-}
-
 fn write_value<'de, T: Deserialize<&'de str> + Serialize>(alloc: Global, text: &'de str) -> Answer {
     let value = from_str::<T>(alloc, text)?;
     to_string(alloc, &value)
@@ -26,31 +18,27 @@ fn write_value<'de, T: Deserialize<&'de str> + Serialize>(alloc: Global, text: &
 
 /// What is written of the text's value, read as the type with this name.
 pub fn write(alloc: Global, name: &str, text: &str) -> Answer {
-    write_as!(name, alloc, text; u8, u16, u32, u64, u128, i8, i16, i32, i64, i128);
-    write_scalar(alloc, name, text)
+    by_type!(name, write_value(alloc, text);
+        "u8" => u8, "u16" => u16, "u32" => u32, "u64" => u64, "u128" => u128,
+        "i8" => i8, "i16" => i16, "i32" => i32, "i64" => i64, "i128" => i128,
+        "()" => (), "bool" => bool, "char" => char, "&str" => &str, "CowStr" => CowStr,
+        "String" => String, "ByteBuf" => ByteBuf, "Decimal" => Decimal, "Value" => Value;
+        write_other(alloc, name, text)
+    )
 }
 
-fn write_scalar(alloc: Global, name: &str, text: &str) -> Answer {
-    write_as!(name, alloc, text; (), bool, char, &str, CowStr, String, ByteBuf, Decimal, Value);
-    write_list(alloc, name, text)
-}
-
-fn write_list(alloc: Global, name: &str, text: &str) -> Answer {
-    write_as!(name, alloc, text; Vec<Vec<i32>>, Vec<Option<&str>>, Vec<(u8, u8, u8, u8)>, [i32; 3]);
-    write_as!(name, alloc, text; (i32,), (i32, i32), (char, i32, &str));
-    write_map(alloc, name, text)
-}
-
-fn write_map(alloc: Global, name: &str, text: &str) -> Answer {
-    write_as!(name, alloc, text; BTreeMap<String, u8>, IndexMap<String, u8>);
-    write_as!(name, alloc, text; BTreeMap<u8, String>, BTreeMap<bool, u8>, BTreeMap<char, u8>);
-    write_as!(name, alloc, text; IndexMap<Decimal, u8>, BTreeMap<ByteBuf, u8>);
-    write_struct(alloc, name, text)
-}
-
-fn write_struct(alloc: Global, name: &str, text: &str) -> Answer {
-    write_as!(name, alloc, text; Config, E, F, BTreeMap<F, i32>);
-    unknown(alloc)
+fn write_other(alloc: Global, name: &str, text: &str) -> Answer {
+    by_type!(name, write_value(alloc, text);
+        "Vec<Vec<i32>>" => Vec<Vec<i32>>, "Vec<Option<&str>>" => Vec<Option<&str>>,
+        "Vec<(u8, u8, u8, u8)>" => Vec<(u8, u8, u8, u8)>, "[i32; 3]" => [i32; 3],
+        "(i32,)" => (i32,), "(i32, i32)" => (i32, i32), "(char, i32, &str)" => (char, i32, &str),
+        "BTreeMap<String, u8>" => BTreeMap<String, u8>, "BTreeMap<bool, u8>" => BTreeMap<bool, u8>,
+        "BTreeMap<u8, String>" => BTreeMap<u8, String>, "BTreeMap<char, u8>" => BTreeMap<char, u8>,
+        "IndexMap<String, u8>" => IndexMap<String, u8>, "BTreeMap<F, i32>" => BTreeMap<F, i32>,
+        "IndexMap<Decimal, u8>" => IndexMap<Decimal, u8>, "Config" => Config, "E" => E,
+        "BTreeMap<ByteBuf, u8>" => BTreeMap<ByteBuf, u8>, "F" => F;
+        unknown(alloc)
+    )
 }
 
 /// What is written of a map from the text's value, read as the type with this name, to 0.

@@ -124,27 +124,29 @@ const FIRST: Position = Position { line: 2, column: 5 };
 const SECOND: Position = Position { line: 0, column: 1 };
 
 /// Appends what the fault prints, on a line.
-fn push_fault(fault: &Error, lines: &mut String) -> Result<(), AllocError> {
-    writeln!(lines, "{fault}")
+fn push_fault(fault: json5::Result<Error>, lines: &mut String) -> json5::Result<()> {
+    let fault = fault?;
+    writeln!(lines, "{fault}")?;
+    Ok(())
 }
 
 /// Faults that are made without memory.
-fn push_bare_faults(lines: &mut String) -> Result<(), AllocError> {
-    push_fault(&Error::new(ErrorCode::EofParsingValue), lines)?;
-    push_fault(&Error::new_at(FIRST, ErrorCode::ExpectedComma), lines)?;
-    push_fault(&Error::from(io::Error::from(ErrorKind::Interrupted)), lines)
+fn push_bare_faults(lines: &mut String) -> json5::Result<()> {
+    push_fault(Ok(Error::new(ErrorCode::EofParsingValue)), lines)?;
+    push_fault(Ok(Error::new_at(FIRST, ErrorCode::ExpectedComma)), lines)?;
+    push_fault(
+        Ok(Error::from(io::Error::from(ErrorKind::Interrupted))),
+        lines,
+    )
 }
 
 /// Faults with a text of their own.
 fn push_custom_faults(alloc: Global, lines: &mut String) -> json5::Result<()> {
-    push_fault(&Error::custom(alloc, "missing field `a`")?, lines)?;
-    push_fault(&Error::custom_at(alloc, SECOND, 17u8)?, lines)?;
-    push_fault(&Error::custom(alloc, Broken)?, lines)?;
-    push_fault(
-        &Error::from_text(String::from_str(alloc, "of mine")?),
-        lines,
-    )?;
-    Ok(())
+    push_fault(Error::custom(alloc, "missing field `a`"), lines)?;
+    push_fault(Error::custom_at(alloc, SECOND, 17u8), lines)?;
+    push_fault(Error::custom(alloc, Broken), lines)?;
+    let text = String::from_str(alloc, "of mine")?;
+    push_fault(Ok(Error::from_text(text)), lines)
 }
 
 /// A fault of each kind, as it is printed.

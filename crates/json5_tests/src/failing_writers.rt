@@ -56,9 +56,7 @@ fn a_list_of_all_kinds_stops_anywhere(rt: HostRuntime) -> std::result::Result<()
 
 #[test]
 fn an_object_stops_anywhere(rt: HostRuntime) -> std::result::Result<(), Fail> {
-    let mut value = IndexMap::new(rt.alloc());
-    value.insert(Some(Id { number: 7 }), Some('c'))?;
-    value.insert(Some(Id { number: 16 }), None)?;
+    let value: IndexMap<Option<Id>, Option<char>> = from_str(rt.alloc(), "{'7':'c','16':null}")?;
     assert!(rt; stops_anywhere(rt.alloc(), &value, "{\n  \"7\": \"c\",\n  \"16\": null,\n}"));
     Ok(())
 }
@@ -67,10 +65,7 @@ fn an_object_stops_anywhere(rt: HostRuntime) -> std::result::Result<(), Fail> {
 fn bytes_as_keys_are_bare_where_they_begin_with_a_letter(
     rt: HostRuntime,
 ) -> std::result::Result<(), Fail> {
-    let mut value = IndexMap::new(rt.alloc());
-    value.insert(ByteBuf::from_vec(vec![in rt.alloc(); 0xABu8, 0x0C]?), 1u8)?;
-    value.insert(ByteBuf::from_vec(vec![in rt.alloc(); 0x0Cu8]?), 2u8)?;
-    value.insert(ByteBuf::from_vec(Vec::new(rt.alloc())), 3u8)?;
+    let value: IndexMap<ByteBuf, u8> = from_str(rt.alloc(), "{ab0c:1,'0C':2,'':3}")?;
     assert!(rt;
         stops_anywhere(
             rt.alloc(),

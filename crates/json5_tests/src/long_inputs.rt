@@ -34,9 +34,14 @@ fn at(column: usize, code: ErrorCode) -> Error {
 
 #[test]
 fn brackets_without_end_are_refused_at_the_129th(rt: HostRuntime) -> std::result::Result<(), Fail> {
-    for (piece, column) in [("[", 128), ("{a:", 384), ("[{a:", 256)] {
+    for (piece, column, code) in [
+        ("[", 128, ErrorCode::TooDeep),
+        ("{a:", 384, ErrorCode::TooDeep),
+        ("[{a:", 256, ErrorCode::TooDeep),
+        ("/*", 5, ErrorCode::ExpectedValue),
+    ] {
         let text = long_text(rt.alloc(), "", piece, "")?;
-        let fault = at(column, ErrorCode::TooDeep);
+        let fault = at(column, code);
         assert!(rt; is_refused(rt.alloc(), text.as_str(), &fault), "{piece}");
     }
     Ok(())
@@ -53,8 +58,6 @@ fn tokens_without_end_are_refused(rt: HostRuntime) -> std::result::Result<(), Fa
         let fault = Error::new(code);
         assert!(rt; is_refused(rt.alloc(), text.as_str(), &fault), "{piece}");
     }
-    let text = long_text(rt.alloc(), "", "/*", "")?;
-    assert!(rt; is_refused(rt.alloc(), text.as_str(), &at(5, ErrorCode::ExpectedValue)));
     Ok(())
 }
 
@@ -89,8 +92,8 @@ fn members(alloc: Global, text: &str) -> Result<usize> {
 #[test]
 fn many_numbers_and_pairs_are_read(rt: HostRuntime) -> std::result::Result<(), Fail> {
     let numbers = between(rt.alloc(), "[", "0,", 100_000, "]")?;
-    assert_eq!(rt; members(rt.alloc(), numbers.as_str())?, 100_000);
+    assert!(rt; members(rt.alloc(), numbers.as_str())? == 100_000);
     let pairs = between(rt.alloc(), "{", "'a':0,", 10_000, "}")?;
-    assert_eq!(rt; members(rt.alloc(), pairs.as_str())?, 10_000);
+    assert!(rt; members(rt.alloc(), pairs.as_str())? == 10_000);
     Ok(())
 }

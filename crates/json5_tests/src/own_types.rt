@@ -1,7 +1,9 @@
 //! Types of one's own: what they accept, and where they refuse.
 
-use json5::{Deserialize, Result, Spanned, from_str, to_string};
-use json5_own_type::{AtMost, Color, Endpoint, Labels, Level, OpenPort, PortRange, Settings};
+use json5::{Deserialize, Result, Serialize, Spanned, from_str, to_string};
+use json5_own_type::{
+    AtMost, Bounds, Color, Endpoint, Labels, Level, OpenPort, Point, Port, PortRange, Settings,
+};
 use std::alloc::Global;
 use std::collections::BTreeMap;
 use std::test::Fail;
@@ -100,6 +102,11 @@ fn other_faults_stay(alloc: Global) -> Result<bool> {
     Ok(
         refuses::<OpenPort>(alloc, " /", "EOF parsing comment")?
             && refuses::<OpenPort>(alloc, "  ", "EOF parsing number")?
+            && refuses::<Port>(
+                alloc,
+                "65536",
+                "invalid value: integer `65536`, expected u16 at line 1 column 1",
+            )?
             && refuses::<Level>(alloc, " low", "expected string at line 1 column 2")?
             && refuses::<Labels>(alloc, "['a', 1]", "expected string at line 1 column 7")?,
     )
@@ -107,9 +114,40 @@ fn other_faults_stay(alloc: Global) -> Result<bool> {
 
 /// Whether ports are read, alone and with a host.
 fn ports_are_read(alloc: Global) -> Result<bool> {
+    let plain = from_str::<Port>(alloc, "/* default */ 8080")?;
     let port = from_str::<OpenPort>(alloc, "/* secure */ 443")?;
     let endpoint = from_str::<Endpoint>(alloc, "['localhost', 8080]")?;
-    Ok(port.number == 443 && endpoint.host.as_str() == "localhost" && endpoint.port.number == 8080)
+    Ok(
+        plain.number == 8080
+            && port.number == 443
+            && endpoint.host.as_str() == "localhost"
+            && endpoint.port.number == 8080,
+    )
+}
+
+/// Whether lists of two are read, by calls of one's own and by a tuple.
+fn pairs_are_read(alloc: Global) -> Result<bool> {
+    let bounds = from_str::<Bounds<i32>>(alloc, "[-1, 2,]")?;
+    let point = from_str::<Point<&str>>(alloc, "['east', /* then */ 'north']")?;
+    Ok(bounds.low == -1 && bounds.high == 2 && point.x == "east" && point.y == "north")
+}
+
+/// Whether another number than two is refused: too few at the bracket, one too many where it is.
+fn other_counts_are_refused(alloc: Global) -> Result<bool> {
+    Ok(
+        refuses::<Bounds<i32>>(alloc, " []", "missing field `low` at line 1 column 2")?
+            && refuses::<Bounds<i32>>(alloc, "[1]", "missing field `high` at line 1 column 1")?
+            && refuses::<Bounds<i32>>(
+                alloc,
+                "[1, 2, 3]",
+                "expected closing bracket at line 1 column 8",
+            )?
+            && refuses::<Point<&str>>(
+                alloc,
+                "['east']",
+                "invalid length 1, expected a tuple of size 2 at line 1 column 1",
+            )?,
+    )
 }
 
 /// Whether ranges, labels and levels are read.
@@ -128,64 +166,52 @@ fn lists_are_read(alloc: Global) -> Result<bool> {
 #[test]
 fn own_types_read_what_they_accept(rt: HostRuntime) -> std::result::Result<(), Fail> {
     assert!(rt; ports_are_read(rt.alloc())?);
+    assert!(rt; pairs_are_read(rt.alloc())?);
+    assert!(rt; other_counts_are_refused(rt.alloc())?);
     assert!(rt; lists_are_read(rt.alloc())?);
     assert!(rt; other_faults_stay(rt.alloc())?);
     Ok(())
 }
 
-/// Whether a value is counted in bytes from its first character to what follows it.
-fn spans_are_in_bytes(alloc: Global) -> Result<bool> {
-    let (name, number) = from_str::<(Spanned<String>, Spanned<u8>)>(
-        alloc,
-        "['\u{e9}'/* \u{e9} */, 80\n]",
-    )?;
-    Ok(
-        name.start == 1
-            && name.end == 5
-            && number.start == 15
-            && number.end == 17
-            && number.value == 80,
-    )
-}
-
+/// A value is counted in bytes from its first character to what follows it.
 #[test]
 fn spans_count_bytes(rt: HostRuntime) -> std::result::Result<(), Fail> {
-    assert!(rt; spans_are_in_bytes(rt.alloc())?);
+    let (name, number) = from_str::<(Spanned<String>, Spanned<u8>)>(
+        rt.alloc(),
+        "['\u{e9}'/* \u{e9} */, 80\n]",
+    )?;
+    assert!(rt; name.start == 1 && name.end == 5);
+    assert!(rt; number.start == 15 && number.end == 17 && number.value == 80);
     Ok(())
 }
 
-/// Whether colors are read and written as keys, and another name is refused where the key is.
-fn colors_are_keys(alloc: Global) -> Result<bool> {
-    let shares = from_str::<BTreeMap<Color, u8>>(alloc, "{blue: 2, 'red': 1}")?;
-    Ok(
-        to_string(alloc, &shares)?.as_str() == "{\n  red: 1,\n  blue: 2,\n}"
-            && refuses::<BTreeMap<Color, u8>>(
-                alloc,
-                "{red: 1,\n  pink: 2}",
-                "unknown variant `pink`, expected one of `red`, `green`, `blue` at line 2 column 3",
-            )?,
-    )
+/// Whether that is written of what the text is read as.
+fn rewrites<'de, T: Deserialize<&'de str> + Serialize>(
+    alloc: Global,
+    text: &'de str,
+    wanted: &str,
+) -> Result<bool> {
+    let value = from_str::<T>(alloc, text)?;
+    Ok(to_string(alloc, &value)?.as_str() == wanted)
 }
 
-/// Whether settings are written in the order of their fields, without a label that is missing.
-fn settings_are_written(alloc: Global) -> Result<bool> {
-    let bare = from_str::<Settings>(alloc, "{host: 'a'}")?;
-    let whole = from_str::<Settings>(alloc, "{label: 'b', port: 1, host: 'a'}")?;
-    Ok(
-        to_string(alloc, &bare)?.as_str() == "{\n  host: \"a\",\n  port: 80,\n}"
-            && to_string(alloc, &whole)?.as_str()
-                == "{\n  host: \"a\",\n  port: 1,\n  label: \"b\",\n}",
-    )
-}
-
+/// Settings are written in the order of their fields, without a label that is missing.
 #[test]
 fn own_structs_are_written(rt: HostRuntime) -> std::result::Result<(), Fail> {
-    assert!(rt; settings_are_written(rt.alloc())?);
+    let bare = "{\n  host: \"a\",\n  port: 80,\n}";
+    assert!(rt; rewrites::<Settings>(rt.alloc(), "{host: 'a'}", bare)?);
+    let whole = "{\n  host: \"a\",\n  port: 1,\n  label: \"b\",\n}";
+    assert!(rt; rewrites::<Settings>(rt.alloc(), "{label: 'b', port: 1, host: 'a'}", whole)?);
     Ok(())
 }
 
+/// Colors are read and written as keys, and another name is refused where the key is.
 #[test]
 fn keys_of_an_own_type_are_read_and_written(rt: HostRuntime) -> std::result::Result<(), Fail> {
-    assert!(rt; colors_are_keys(rt.alloc())?);
+    let written = "{\n  red: 1,\n  blue: 2,\n}";
+    assert!(rt; rewrites::<BTreeMap<Color, u8>>(rt.alloc(), "{blue: 2, 'red': 1}", written)?);
+    let refused =
+        "unknown variant `pink`, expected one of `red`, `green`, `blue` at line 2 column 3";
+    assert!(rt; refuses::<BTreeMap<Color, u8>>(rt.alloc(), "{red: 1,\n  pink: 2}", refused)?);
     Ok(())
 }

@@ -20,35 +20,22 @@ fn scanned_slices<'de>(alloc: Global, text: &'de str) -> Result<(CowStr<'de>, Co
     Ok((first, scanner.identifier()?))
 }
 
-/// Whether slices of the text outlive a reader and a scanner.
-fn slices_are_kept(alloc: Global) -> Result<bool> {
-    let (first, second) = read_slices(alloc, "'kept' 'too'")?;
-    let (third, fourth) = scanned_slices(alloc, "'kept' too:")?;
-    Ok(
-        first == "kept"
-            && second.as_str() == "too"
-            && third.as_str() == "kept"
-            && fourth.as_str() == "too",
-    )
-}
-
 #[test]
 fn slices_outlive_their_reader(rt: HostRuntime) -> std::result::Result<(), Fail> {
-    assert!(rt; slices_are_kept(rt.alloc())?);
+    let (first, second) = read_slices(rt.alloc(), "'kept' 'too'")?;
+    assert!(rt; first == "kept" && second.as_str() == "too");
+    let (third, fourth) = scanned_slices(rt.alloc(), "'kept' too:")?;
+    assert!(rt; third.as_str() == "kept" && fourth.as_str() == "too");
     Ok(())
 }
 
-/// Whether a reader whose access was dropped refuses, and still has its allocator.
-fn fails_when_dropped(alloc: Global) -> Result<bool> {
-    let mut de = Deserializer::from_str(alloc, "[true, false]");
-    gives_up(&mut de)?;
-    let refused = de.deserialize_bool() == Err(Error::new(ErrorCode::Failed));
-    let text = String::from_str(de.allocator(), "given")?;
-    Ok(refused && text.as_str() == "given")
-}
-
+/// A reader whose access was dropped refuses, and still has its allocator.
 #[test]
 fn a_dropped_access_leaves_its_reader_failed(rt: HostRuntime) -> std::result::Result<(), Fail> {
-    assert!(rt; fails_when_dropped(rt.alloc())?);
+    let mut de = Deserializer::from_str(rt.alloc(), "[true, false]");
+    gives_up(&mut de)?;
+    assert!(rt; de.deserialize_bool() == Err(Error::new(ErrorCode::Failed)));
+    let text = String::from_str(de.allocator(), "given")?;
+    assert!(rt; text.as_str() == "given");
     Ok(())
 }

@@ -66,22 +66,15 @@ fn equal_decimals_hash_alike(rt: HostRuntime) -> std::result::Result<(), Fail> {
     Ok(())
 }
 
-/// Whether a borrowed and an owned text are equal, order alike and hash alike.
-fn compare_alike(alloc: Global) -> Result<bool> {
-    let borrowed = CowStr::Borrowed("key");
-    let owned = CowStr::Owned(String::from_str(alloc, "key")?);
-    let later = CowStr::Borrowed("kez");
-    Ok(
-        borrowed == owned
-            && owned.as_str() == "key"
-            && hash_of(&borrowed) == hash_of(&owned)
-            && later.cmp(&owned) == Ordering::Greater,
-    )
-}
-
+/// A borrowed and an owned text are equal, order alike and hash alike.
 #[test]
 fn borrowed_and_owned_texts_compare_alike(rt: HostRuntime) -> std::result::Result<(), Fail> {
-    assert!(rt; compare_alike(rt.alloc())?);
+    let borrowed = CowStr::Borrowed("key");
+    let owned = CowStr::Owned(String::from_str(rt.alloc(), "key")?);
+    let later = CowStr::Borrowed("kez");
+    assert!(rt; borrowed == owned && owned.as_str() == "key");
+    assert!(rt; hash_of(&borrowed) == hash_of(&owned));
+    assert!(rt; later.cmp(&owned) == Ordering::Greater);
     Ok(())
 }
 
@@ -101,7 +94,6 @@ fn a_value_is_looked_into(rt: HostRuntime) -> std::result::Result<(), Fail> {
     let settings = from_str::<Value>(rt.alloc(), text)?;
     assert!(rt; second_port(&settings) == Some(Whole::from_u128(443)));
     assert!(rt; name(&settings) == Some("last"));
-    assert!(rt; settings.get("host").is_none());
-    assert!(rt; settings.as_whole().is_none());
+    assert!(rt; settings.get("host").is_none() && settings.as_whole().is_none());
     Ok(())
 }

@@ -16,7 +16,7 @@ use crate::strings::skip_raw;
 use crate::strings_and_names::Quote;
 
 /// The offsets of a text in the input, from `start` up to `end`, in bytes.
-#[derive(Clone, Copy, Debug, PartialEq, Eq)]
+#[derive(Clone, Copy)]
 pub struct Span {
     pub start: usize,
     pub end: usize,

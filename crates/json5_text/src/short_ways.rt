@@ -79,7 +79,7 @@ fn spaced_whole(text: &str) -> Option<ShortWhole>
 }
 
 /// What a step to the next member of an array or an object came to.
-#[derive(Clone, Copy, Debug, PartialEq, Eq)]
+#[derive(Clone, Copy)]
 pub enum ShortStep {
     /// A member may begin here.
     Member,

@@ -8,7 +8,7 @@ use crate::short_texts::Span;
 use json5_types::cow_str::CowStr;
 
 /// The text of a string or a key that a `Scanner` took. `Scanner::text_of` finds it, also after more was read.
-#[derive(Debug, Drop)]
+#[derive(Drop)]
 pub enum TextToken {
     /// The input spells it as it is, at these offsets.
     EscapeFree(Span),

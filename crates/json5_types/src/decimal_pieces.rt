@@ -16,7 +16,7 @@ use std::mem;
 ///     f.write_str(piece)?;
 /// }
 /// ```
-#[derive(Debug, Drop)]
+#[derive(Drop)]
 pub struct Pieces<'a> {
     sign: &'static str,
     first: &'a str,

@@ -5,7 +5,7 @@ use crate::whole::Whole;
 
 /// What a number means (JSON5 section 6): a whole number from `i128::MIN` to `u128::MAX` where it has neither point nor
 /// exponent, or is hexadecimal; else a decimal.
-#[derive(Debug, PartialEq, Eq, Hash, Drop)]
+#[derive(Drop)]
 pub enum Number {
     /// A whole number: `12`, `-0x1F`.
     Whole(Whole),
