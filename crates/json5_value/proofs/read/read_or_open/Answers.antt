@@ -1,9 +1,16 @@
+use Rattle.std.proofs.Common.{rules}
 use Rattle.std.proofs.lemmas.Result.{err_from_is_err_and}
 use Rattle.json5_value.proofs.BuildScalars.{nothing_left, scalar_begun, scalar_not_begun}
 use Rattle.json5_value.proofs.read.read_or_open.Goals as goal
 
 pub returns-in_default : goal.returns-in_default
 returns-in_default g c = nothing_left c.args.room c.args.scanner.now c.peek.result c.new.result c.peek.ensures c.in_default.is c.new.ensures.kind c.new.ensures.place
+
+pub returns-in_err-bracket : goal.returns-in_err-bracket
+returns-in_err-bracket g c = search rules
+
+pub returns-in-Some-kind_opened : goal.returns-in-Some-kind_opened
+returns-in-Some-kind_opened g c = search rules
 
 pub returns-in_err-value : goal.returns-in_err-value
 returns-in_err-value g c =
