@@ -23,7 +23,7 @@ use Rattle.json5_de.specs.KeyKinds.{document_of}
 use Rattle.json5_de.proofs.KeyDocuments.{converts_documents}
 use Rattle.json5_ser.specs.Out.{bool_text}
 use Rattle.json5_ser.specs.ValueTrees.{key_of_string}
-use Rattle.json5_ser.proofs.WritableNumbers.{unsigned_whole}
+use Rattle.json5_write.proofs.WritableNumbers.{unsigned_whole}
 use Rattle.json5_ser.specs.WrittenTrees.{WrittenKey, named, natural_key, integer_key, Fields, field, fields_of}
 use Rattle.json5_ser.specs.WrittenTrees.{Written, null, boolean, number, text, array, object, natural, integer, no_element, element, elements_of}
 use Rattle.json5_ser.specs.EscapeFreeMarks.{marks, field_marks, is_escape_free_key, element_marks, is_escape_free_text}

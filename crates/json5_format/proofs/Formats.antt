@@ -11,15 +11,15 @@ use Rattle.json5_text.specs.Cursor.{IsOutOfMemory}
 use Rattle.json5_types.specs.Errors.{FaultKind, code, custom, failed_write, kind_of}
 use Rattle.json5_types.specs.ValueMeanings.{Datum}
 use Rattle.json5_value.specs.TreeMeanings.{datum_of, items_of, fields_of}
-use Rattle.json5_ser.specs.EscapeFreeMarks.{marks, unmarked, unmarked_elements, unmarked_fields}
-use Rattle.json5_ser.specs.Out.{Out, whole, invalid_key, too_deep, written_text, text_within}
-use Rattle.json5_ser.specs.Pieces.{AppendsFront, Pushes}
-use Rattle.json5_ser.specs.WholeOutputs.{IsText, RefusesToString, StopsAs}
-use Rattle.json5_ser.specs.ValueTrees.{datum_tree, items_tree, fields_tree}
-use Rattle.json5_ser.specs.Writes.{SerializerState, Writes, Refusal, by_key, by_depth, by_writer, by_refusal, by_none, refusal_of, RefusesBy, fresh, ended}
-use Rattle.json5_ser.proofs.WrittenDepths.{text_document}
-use Rattle.json5_ser.proofs.ReadTreesWritable.{read_written}
-use Rattle.json5_ser.proofs.Unmarked.{tree_again}
+use Rattle.json5_write.specs.EscapeFreeMarks.{marks, unmarked, unmarked_elements, unmarked_fields}
+use Rattle.json5_write.specs.Out.{Out, whole, invalid_key, too_deep, written_text, text_within}
+use Rattle.json5_write.specs.Pieces.{AppendsFront, Pushes}
+use Rattle.json5_write.specs.WholeOutputs.{IsText, RefusesToString, StopsAs}
+use Rattle.json5_write.specs.ValueTrees.{datum_tree, items_tree, fields_tree}
+use Rattle.json5_write.specs.Writes.{SerializerState, Writes, Refusal, by_key, by_depth, by_writer, by_refusal, by_none, refusal_of, RefusesBy, fresh, ended}
+use Rattle.json5_write.proofs.WrittenDepths.{text_document}
+use Rattle.json5_write.proofs.ReadTreesWritable.{read_written}
+use Rattle.json5_write.proofs.Unmarked.{tree_again}
 use Rattle.json5_format.specs.Formatted.{IsFormatted, IsFormattedWithin}
 
 -- ---- the tree that is written

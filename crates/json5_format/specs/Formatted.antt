@@ -3,9 +3,9 @@ use Rattle.std.specs.Prelude.{◌≡◌, ℕ, List}
 use Rattle.std.specs.Str.{chars}
 use Rattle.json5_grammar.specs.Language.Trees.{Tree}
 use Rattle.json5_grammar.specs.Language.Documents.{Doc, max_depth}
-use Rattle.json5_ser.specs.Out.{text_within}
-use Rattle.json5_ser.specs.EscapeFreeMarks.{unmarked}
-use Rattle.json5_ser.specs.WholeOutputs.{IsText}
+use Rattle.json5_write.specs.Out.{text_within}
+use Rattle.json5_write.specs.EscapeFreeMarks.{unmarked}
+use Rattle.json5_write.specs.WholeOutputs.{IsText}
 
 -- the bytes are the output of the tree without its marks
 abbrev pub WritesUnmarked : ℕ → Tree → List ℕ → Type 0

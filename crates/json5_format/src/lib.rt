@@ -11,7 +11,6 @@ ghost use Rattle.json5_text.specs.Cursor.{IsOutOfMemory};
 ghost use Rattle.json5_format.specs.DocumentReads.{IsRefused, IsRefusedWithin, ReadsText};
 ghost use Rattle.json5_format.specs.Formatted.{WritesUnmarked, IsFormatted, IsFormattedWithin};
 
-use json5_ser::to_string_within;
 use json5_text::scanner::Scanner;
 use json5_types::ErrorCode;
 use json5_types::error::Result;
@@ -19,6 +18,7 @@ use json5_types::nesting::Limit;
 use json5_types::value::Value;
 use json5_value::faults::fault_here;
 use json5_value::read::read_value;
+use json5_write::to_string;
 use std::alloc::Global;
 
 /// Formats a document: writes its value anew, without comments. Each number and each string gets its one spelling, and each
@@ -61,7 +61,7 @@ pub fn format_within(alloc: Global, limit: Limit, text: &str) -> Result<String>
     ensures refused { IfErr result (IsRefusedWithin limit (chars text.now)) }
 {
     let value = read_document_within(alloc, limit, text)?;
-    to_string_within(alloc, limit, &value)
+    to_string(alloc, limit, &value)
 }
 
 /// Reads a document as a value, nested at most 128 deep. It is [`read_document_within`] at the full limit.

@@ -4,7 +4,7 @@ use Rattle.std.specs.declared.alloc.Global.{Global}
 use Rattle.std.specs.Prelude.{String, string_bytes, Ok, Err}
 use Rattle.std.proofs.lemmas.Int.{clamps}
 use Rattle.std.proofs.lemmas.List.{take_more, take_all}
-use Rattle.json5_ser.specs.Pieces.{AppendsFront}
+use Rattle.json5_write.specs.Pieces.{AppendsFront}
 use Rattle.json5_formatter.specs.declared.failure.Failure.{Failure}
 use Rattle.json5_formatter.specs.declared.failure.Failure.TheVariants as failure
 use Rattle.json5_formatter.specs.declared.work.Work.{Work}

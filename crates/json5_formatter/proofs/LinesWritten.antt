@@ -5,13 +5,13 @@ use Rattle.std.specs.Str.{all_scalars, chars}
 use Rattle.std.specs.Io.KnownBytes.{Appends, Keeps}
 use Rattle.std.proofs.KnownBytes.{Appends-trans}
 use Rattle.std.proofs.lemmas.Str.{chars-encodes}
-use Rattle.json5_ser.specs.Out.{whole, written_text}
-use Rattle.json5_ser.specs.Pieces.{AppendsFront}
+use Rattle.json5_write.specs.Out.{whole, written_text}
+use Rattle.json5_write.specs.Pieces.{AppendsFront}
 use Rattle.json5_types.specs.declared.value.Value.{Value}
-use Rattle.json5_ser.specs.ValueTrees.{value_tree}
+use Rattle.json5_write.specs.ValueTrees.{value_tree}
 use Rattle.json5_types.specs.ValueMeanings.{value_of}
-use Rattle.json5_ser.specs.WholeOutputs.{IsText}
-use Rattle.json5_ser.specs.WrittenTrees.{Written}
+use Rattle.json5_write.specs.WholeOutputs.{IsText}
+use Rattle.json5_write.specs.WrittenTrees.{Written}
 use Rattle.json5_format.proofs.Formats.{written_tree, value_whole, formatted}
 use Rattle.json5_formatter.specs.Runs.{with_line_feed, written_bytes, HoldsValue, WritesFormatted, BeginsFormatted}
 

@@ -5,7 +5,7 @@ use Rattle.std.specs.Borrow.{Bor}
 use Rattle.std.specs.Io.KnownBytes.{Appends}
 use Rattle.std.proofs.KnownBytes.{Appends-trans}
 use Rattle.std.proofs.lemmas.List.{take_more}
-use Rattle.json5_ser.specs.Pieces.{Pushes}
+use Rattle.json5_write.specs.Pieces.{Pushes}
 use Rattle.json5_formatter.specs.JoinedTexts.{joined_texts}
 
 -- ---- strings in a row

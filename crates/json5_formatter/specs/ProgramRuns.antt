@@ -2,7 +2,7 @@
 use Rattle.std.specs.declared.alloc.Global.{Global}
 use Rattle.std.specs.Prelude.{◌≡◌, ℕ, List, [], ◌∷◌, Option, IfSome, String, string_bytes}
 use lib.Chars.{codes}
-use Rattle.json5_ser.specs.Pieces.{AppendsFront}
+use Rattle.json5_write.specs.Pieces.{AppendsFront}
 use Rattle.json5_formatter.specs.declared.failure.Failure.{Failure}
 use Rattle.json5_formatter.specs.declared.work.Work.{Work}
 use Rattle.json5_formatter.specs.Failures.{NamesMemory}

@@ -7,14 +7,14 @@ use Rattle.json5_format.specs.TreeMeanings.{datum_of}
 use Rattle.json5_text.specs.Cursor.{IsOutOfMemory}
 use Rattle.json5_grammar.specs.Language.Documents.{Doc, max_depth}
 use Rattle.json5_types.specs.declared.error.Error.{Error}
-use Rattle.json5_ser.specs.EscapeFreeMarks.{unmarked}
-use Rattle.json5_ser.specs.Out.{whole, written_text}
-use Rattle.json5_ser.specs.Pieces.{AppendsFront}
+use Rattle.json5_write.specs.EscapeFreeMarks.{unmarked}
+use Rattle.json5_write.specs.Out.{whole, written_text}
+use Rattle.json5_write.specs.Pieces.{AppendsFront}
 use Rattle.json5_grammar.specs.Language.Trees.{Tree}
 use Rattle.json5_types.specs.declared.value.Value.{Value}
 use Rattle.json5_types.specs.ValueMeanings.{value_of}
-use Rattle.json5_ser.specs.WholeOutputs.{IsText}
-use Rattle.json5_ser.specs.WrittenTrees.{Written}
+use Rattle.json5_write.specs.WholeOutputs.{IsText}
+use Rattle.json5_write.specs.WrittenTrees.{Written}
 use Rattle.json5_formatter.specs.Formats.{Formats, RefusesFormat}
 use Rattle.json5_formatter.specs.declared.failure.Failure.{Failure}
 use Rattle.json5_formatter.specs.declared.failure.Failure.TheVariants as failure

@@ -1,7 +1,7 @@
 //! The lines on standard error.
 
 ghost use Rattle.std.specs.Prelude.{◌≡◌};
-ghost use Rattle.json5_ser.specs.Pieces.{AppendsFront};
+ghost use Rattle.json5_write.specs.Pieces.{AppendsFront};
 ghost use Rattle.json5_formatter.specs.JoinedTexts.{joined_texts};
 ghost use Rattle.json5_formatter.specs.Reports.{fault_line, report_line, status_of, usage_line};
 

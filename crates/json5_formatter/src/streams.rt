@@ -1,16 +1,17 @@
 //! One input, from a reader, and formatted to a writer.
 
 ghost use Rattle.std.specs.Prelude.{◌≡◌, IfOk, IfErr, IfSome, OnOk, string_bytes};
-ghost use Rattle.json5_ser.specs.ValueTrees.{value_tree};
+ghost use Rattle.json5_write.specs.ValueTrees.{value_tree};
 ghost use Rattle.json5_formatter.specs.Runs.{HoldsValue, HoldsDocument, NoText, ReadFailure, RunFailure, WritesFormatted, WritesLine};
 ghost use Rattle.json5_formatter.specs.Failures.{NamesMemory};
 
 use crate::failure::Failure;
 use crate::input::read_whole;
 use json5_format::read_document;
-use json5_ser::to_writer;
-use json5_ser::write_whole::write_whole;
+use json5_types::nesting::Limit;
 use json5_types::value::Value;
+use json5_write::to_writer;
+use json5_write::write_whole::write_whole;
 use std::alloc::Global;
 use std::io::{Read, Write};
 
@@ -80,7 +81,7 @@ fn read_text<R: Read>(alloc: Global, r: &mut R) -> Result<String, Failure>
 fn write_value<W: Write>(w: &mut W, value: &Value) -> json5_types::error::Result<()>
     ensures { WritesLine (value_tree value.now) (W.contents w.old) (W.contents w.new) result }
 {
-    to_writer(w, value)?;
+    to_writer(w, Limit::full(), value)?;
     write_whole(w, b"\n")?;
     w.flush()?;
     Ok(())

@@ -1,16 +1,16 @@
 //! Writing several strings.
 
-ghost use Rattle.json5_ser.specs.Pieces.{Pushes};
+ghost use Rattle.json5_write.specs.Pieces.{Pushes};
 ghost use Rattle.json5_formatter.specs.JoinedTexts.{joined_texts};
 
-use json5_ser::write_whole::write_whole;
+use json5_write::write_whole::write_whole;
 use std::io::{self, Write};
 
 /// Writes the texts, one after the other.
 ///
 /// # Errors
 ///
-/// Those of `json5_ser::write_whole::write_whole`: then a prefix of the texts was written.
+/// Those of `json5_write::write_whole::write_whole`: then a prefix of the texts was written.
 pub fn write_texts<W: Write>(writer: &mut W, texts: &[&str]) -> io::Result<()>
     ensures { Pushes (W.contents writer.old) (W.contents writer.new) (joined_texts texts.now) result }
 {

@@ -1,16 +1,17 @@
 -- Collections that are written one element or member after another: what an impl of `Serialize` cites. Each law takes what remained before the call.
-use Rattle.std.proofs.Common.{◌≡◌, ◌<◌, ◌≤◌, ℕ, suc, ◌+◌, length, get_or, drop, drop-cons, drop_of_length-le, add-one, List, [], ◌∷◌, Bool, true, false, Result, Ok, Err, refl, sym, ap, ◌∙◌, subst}
+pub use Rattle.json5_write.proofs.ValuesInside.{item_first}
+use Rattle.std.proofs.Common.{◌≡◌, ◌<◌, ◌≤◌, ℕ, ◌+◌, length, get_or, drop, drop_of_length-le, List, [], ◌∷◌, Bool, true, false, Result, Ok, Err, refl, sym, ap, ◌∙◌, subst}
 use Rattle.std.specs.Prelude.{⊤}
 use Rattle.std.specs.Result.{IsErrAnd}
 use Rattle.std.specs.Borrow.{GName, MutBor}
 use Rattle.json5_types.specs.declared.error.Error.{Error}
 use Rattle.json5_grammar.specs.Language.Characters.{comma_sign, colon_sign, space, left_bracket, right_bracket, left_brace, right_brace}
-use Rattle.json5_ser.specs.WrittenTrees.{Written, array, object, tuple_variant, struct_variant, Elements, no_element, element, elements_of, Fields, no_field, field, fields_of, WrittenKey, named}
-use Rattle.json5_ser.specs.Out.{Out, piece, ◌then◌, opened_by, closed_by, out, elements_out, fields_out, element_out, key_part, value_part, entry_out, variant_opening}
-use Rattle.json5_ser.specs.Writes.{SerializerState, RefusesWrite, Writes, WritesTree}
+use Rattle.json5_write.specs.WrittenTrees.{Written, array, object, tuple_variant, struct_variant, Elements, no_element, element, elements_of, Fields, no_field, field, fields_of, WrittenKey, named}
+use Rattle.json5_write.specs.Out.{Out, piece, ◌then◌, opened_by, closed_by, out, elements_out, fields_out, element_out, key_part, value_part, entry_out, variant_opening}
+use Rattle.json5_write.specs.Writes.{SerializerState, RefusesWrite, Writes, WritesTree}
 use Rattle.json5_ser.specs.WrittenCollections.{inner, serializer_of, reference_of, state_of, has_member, in_variant, list_opening, object_opening, ListBegun, ObjectBegun, VariantListBegun, VariantObjectBegun, Steps, outside, ending}
 use Rattle.json5_ser.specs.declared.collection.SerializeCollection.{SerializeCollection}
-use Rattle.json5_ser.proofs.OutputsJoined.{Refuses-before, Writes-handed}
+use Rattle.json5_write.proofs.OutputsJoined.{Refuses-before, Writes-handed}
 use Rattle.json5_ser.proofs.RemainingOutput.{Rest, Remains, elements, fields, value, BeginsWith, then_assoc, remains_on, remains_refused, remains_all, ends_whole, closes_list, closes_object}
 
 -- ---- what a call writes is what remains first
@@ -60,9 +61,6 @@ variant_list_refused u ts at last e result p is = refused_first _ (variant_openi
 
 pub variant_object_refused : {A : Type 0} (u : List ℕ) (fs : Fields) (at last : SerializerState) (e : Error) (result : Result A Error) → RefusesWrite (variant_opening at.limit u left_brace at.depth) at e last → IsErrAnd result (λ y. y ≡ e) → WritesTree (struct_variant u fs) at result last
 variant_object_refused u fs at last e result p is = refused_first _ (variant_opening at.limit u left_brace at.depth) _ at last e result (variant_object at.limit u fs at.depth) p is
-
-pub item_first : {A : Type 0} (xs : List A) (i : ℕ) (x : A) → i < length xs → x ≡ get_or xs i x → drop i xs ≡ x ∷ drop (i + 1) xs
-item_first xs i x h e = rw add-one (drop-cons xs i x h ∙ ap (λ y. y ∷ drop (suc i) xs) (sym e))
 
 module _ {W : Type 0} where
   -- ---- a collection was begun, and all its members remain

@@ -16,11 +16,11 @@ use Rattle.hex.proofs.HexLemmas.{IsAscii-encode_with}
 use Rattle.json5_grammar.specs.Language.Characters.{is_identifier_start, is_identifier_part}
 use Rattle.json5_grammar.specs.Written.Quoting.{quoted_text, is_name}
 use Rattle.json5_types.specs.declared.error.Error.{Error}
-use Rattle.json5_ser.specs.Out.{Out, piece, ◌then◌}
-use Rattle.json5_ser.specs.Writes.{SerializerState, Wrote, RefusesWrite, Writes}
-use Rattle.json5_ser.proofs.DecimalPieces.{is_spelling, IsAscii-text, first, second, both}
+use Rattle.json5_write.specs.Out.{Out, piece, ◌then◌}
+use Rattle.json5_write.specs.Writes.{SerializerState, Wrote, RefusesWrite, Writes}
+use Rattle.json5_write.proofs.DecimalPieces.{is_spelling, IsAscii-text, first, second, both}
 use Rattle.json5_ser.proofs.SpelledKeys.{run, not_in_run, spelled_quoted}
-use Rattle.json5_ser.proofs.OutputsJoined.{Reaches, Reaches-next, Reaches-exit}
+use Rattle.json5_write.proofs.OutputsJoined.{Reaches, Reaches-next, Reaches-exit}
 
 pub hex_ascii : (bs : List ℕ) → IsAscii (encode_lower bs)
 hex_ascii bs = IsAscii-encode_with lower_digits bs (IsAscii-text lower_digits refl)

@@ -1,25 +1,6 @@
--- Lists the lemmas about writing.
-pub mod OutputsJoined
-pub mod PiecesWritten
-pub mod ShortWritesJoined
-pub mod TextsWhole
-pub mod QuotesFound
-pub mod EscapesSplit
-pub mod EscapeFreeRuns
-pub mod DecimalPieces
-pub mod Unmarked
-pub mod ReadBack
-pub mod WrittenDepths
-pub mod ReadTreesWritable
-pub mod ValueTexts
-pub mod WritableNumbers
-pub mod LineStarts
+-- Lists the lemmas about typed writing.
 pub mod RemainingOutput
-pub mod NamesFound
 pub mod VariantOpened
 pub mod CollectionsWritten
-pub mod Commas
-pub mod CopiesJoined
-pub mod ValuesInside
 pub mod SpelledKeys
 pub mod HexPieces

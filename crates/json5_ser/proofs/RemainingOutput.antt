@@ -1,21 +1,23 @@
 -- What of a tree remains to be written in a collection.
-use Rattle.std.proofs.Common.{◌≡◌, ℕ, ◌+◌, ◌-◌, List, [], ◌∷◌, ◌++◌, append_assoc, Bool, true, false, Result, Ok, Err, refl, sym, ap, ◌∙◌, subst, arith}
+pub use Rattle.json5_write.proofs.OutputsJoined.{Wrote-at, RefusesBy-at, Refuses-at, Writes-at, then_assoc}
+use Rattle.std.proofs.Common.{◌≡◌, ℕ, ◌+◌, ◌-◌, [], ◌∷◌, Bool, true, false, Result, Ok, Err, refl, sym, ap, ◌∙◌, subst, arith}
 use Rattle.std.specs.Prelude.{⊤}
 use Rattle.std.specs.Result.{IsErrAnd}
 use Rattle.std.specs.Borrow.{GName, MutBor}
 use Rattle.json5_types.specs.declared.error.Error.{Error}
 use Rattle.json5_grammar.specs.Language.Characters.{comma_sign, right_bracket, right_brace}
-use Rattle.json5_ser.specs.WrittenTrees.{Written, Elements, Fields}
-use Rattle.json5_ser.specs.Out.{Out, Stop, whole, invalid_key, too_deep, no_number, followed_by, piece, ◌then◌, closed_by, out, elements_out, fields_out, value_part}
-use Rattle.json5_ser.specs.Writes.{SerializerState, Wrote, Refusal, by_key, by_depth, by_writer, by_refusal, by_none, refusal_of, RefusesBy, RefusesWrite, Writes, WritesTree, at_depth}
+use Rattle.json5_write.specs.WrittenTrees.{Written, Elements, Fields}
+use Rattle.json5_write.specs.Out.{Out, piece, ◌then◌, closed_by, out, elements_out, fields_out, value_part}
+use Rattle.json5_write.specs.Writes.{SerializerState, Wrote, Refusal, by_key, by_depth, by_writer, by_refusal, by_none, refusal_of, RefusesBy, RefusesWrite, Writes, WritesTree, at_depth}
 use Rattle.json5_types.specs.Errors.{kind_of}
 use Rattle.json5_grammar.specs.Faults.Fronts.{closing}
-use Rattle.json5_ser.specs.Brackets.{bracket_of, is_square}
+use Rattle.json5_write.specs.Brackets.{bracket_of}
+use Rattle.json5_ser.specs.Brackets.{is_square}
 use Rattle.json5_ser.specs.WrittenCollections.{within_variant, inner, serializer_of, reference_of, state_of, is_list, key_pending, has_member, in_variant, Opened, Steps}
-use Rattle.json5_ser.specs.declared.brackets.Brackets.{Brackets}
-use Rattle.json5_ser.specs.declared.brackets.Brackets.TheVariants as brackets
+use Rattle.json5_write.specs.declared.brackets.Brackets.{Brackets}
+use Rattle.json5_write.specs.declared.brackets.Brackets.TheVariants as brackets
 use Rattle.json5_ser.specs.declared.collection.SerializeCollection.{SerializeCollection}
-use Rattle.json5_ser.proofs.OutputsJoined.{Refuses-before, Writes-handed, Reaches, Reaches-refused, Reaches-first, Reaches-next, Reaches-last}
+use Rattle.json5_write.proofs.OutputsJoined.{Refuses-before, Writes-handed, Reaches, Reaches-refused, Reaches-first, Reaches-next, Reaches-last}
 
 -- elements, fields, or the value of the key that was written last and the fields after it
 pub data Rest : Type 0 where
@@ -47,39 +49,6 @@ pub record Remains {W : Type 0} (t : Written) (name : GName) (at : SerializerSta
   pub limit : (state_of c).limit ≡ at.limit
   pub list : is_list c ≡ is_of_list r
   pub pending : key_pending c ≡ is_value r
-
--- the same with another count of brackets
-pub Wrote-at : (d : ℕ) (w : Out) (o n : SerializerState) → Wrote w o n → Wrote w (at_depth d o) (at_depth d n)
-Wrote-at d w o n p = record { was = p.was; stop = p.stop; chars = p.chars; bytes = p.bytes; depth = refl; limit = p.limit; failed = p.failed }
-
-pub RefusesBy-at : (d e : ℕ) (w : Out) (o n : SerializerState) (r : Refusal) → RefusesBy w o r n → RefusesBy w (at_depth d o) r (at_depth e n)
-RefusesBy-at d e w o n by_key p = record { was = p.was; stop = p.stop; bytes = p.bytes; failed = p.failed }
-RefusesBy-at d e w o n by_depth p = record { was = p.was; stop = p.stop; bytes = p.bytes; failed = p.failed }
-RefusesBy-at d e w o n by_writer p = record { was = p.was; front = p.front; rest = p.rest; cut = p.cut; bytes = p.bytes; failed = p.failed }
-RefusesBy-at d e w o n by_refusal p = record { was = p.was; bytes = p.bytes; failed = p.failed }
-RefusesBy-at d e w o n by_none p = p
-
-pub Refuses-at : (d e : ℕ) (w : Out) (o n : SerializerState) (x : Error) → RefusesWrite w o x n → RefusesWrite w (at_depth d o) x (at_depth e n)
-Refuses-at d e w o n x p = record { leaves = RefusesBy-at d e w o n (refusal_of (kind_of x)) p.leaves; no_place = p.no_place }
-
-pub Writes-at : {A : Type 0} (d : ℕ) (w : Out) (o n : SerializerState) (r : Result A Error) → Writes w o r n → Writes w (at_depth d o) r (at_depth d n)
-Writes-at d w o n (Ok x) p = Wrote-at d w o n p
-Writes-at d w o n (Err e) p = Refuses-at d d w o n e p
-
-after_whole_part : (s t : List ℕ) (e : Stop) (c : Out) → followed_by (s ++ t) e c ≡ followed_by s whole (followed_by t e c)
-after_whole_part s t whole c = ap (λ l. record { text = l; stop = c.stop }) (append_assoc s t c.text)
-after_whole_part s t invalid_key c = refl
-after_whole_part s t too_deep c = refl
-after_whole_part s t no_number c = refl
-
-after_after : (s : List ℕ) (e : Stop) (b c : Out) → (followed_by s e b) then c ≡ followed_by s e (b then c)
-after_after s whole b c = after_whole_part s b.text b.stop c
-after_after s invalid_key b c = refl
-after_after s too_deep b c = refl
-after_after s no_number b c = refl
-
-pub then_assoc : (a b c : Out) → (a then b) then c ≡ a then (b then c)
-then_assoc a b c = after_after a.text a.stop b c
 
 -- what closes a collection is refused, in a variant or not
 pub end_refused : (v : Bool) (d e : ℕ) (w : Out) (o n : SerializerState) (x : Error) → RefusesWrite w (at_depth e o) x n → RefusesWrite (within_variant v d w) (at_depth d o) x n

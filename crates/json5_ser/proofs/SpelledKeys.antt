@@ -13,7 +13,7 @@ use Rattle.json5_grammar.specs.Language.Numbers.{Decimal, infinite, nan, finite}
 use Rattle.json5_grammar.specs.Written.NumberText.{zeros, digits_text, decimal_text, Normal}
 use Rattle.json5_grammar.specs.Written.Quoting.{escaped, escaped_all, quote_for, quoted_text, is_name, key_text}
 use Rattle.json5_types.specs.NumberDecimals.{has_minus, is_infinity, is_not_a_number}
-use Rattle.json5_ser.proofs.DecimalPieces.{is_spelling, is_spelled, ascii_decimal}
+use Rattle.json5_write.proofs.DecimalPieces.{is_spelling, is_spelled, ascii_decimal}
 
 -- ---- no character is escaped
 

@@ -3,10 +3,10 @@ use Rattle.std.proofs.Common.{◌≡◌, ℕ, ◌+◌, List, [], ◌∷◌, Resu
 use Rattle.std.specs.Result.{IsErrAnd}
 use Rattle.json5_types.specs.declared.error.Error.{Error}
 use Rattle.json5_grammar.specs.Language.Characters.{colon_sign, space, left_brace}
-use Rattle.json5_ser.specs.WrittenTrees.{named}
-use Rattle.json5_ser.specs.Out.{piece, ◌then◌, opened_by, key_part, variant_opening}
-use Rattle.json5_ser.specs.Writes.{SerializerState, Wrote, RefusesWrite, Writes, at_depth}
-use Rattle.json5_ser.proofs.OutputsJoined.{Reaches, Reaches-first, Reaches-next, Reaches-exit, Reaches-last}
+use Rattle.json5_write.specs.WrittenTrees.{named}
+use Rattle.json5_write.specs.Out.{piece, ◌then◌, opened_by, key_part, variant_opening}
+use Rattle.json5_write.specs.Writes.{SerializerState, Wrote, RefusesWrite, Writes, at_depth}
+use Rattle.json5_write.proofs.OutputsJoined.{Reaches, Reaches-first, Reaches-next, Reaches-exit, Reaches-last}
 use Rattle.json5_ser.proofs.RemainingOutput.{Wrote-at, Refuses-at, Writes-at}
 
 pub before_key : (u : List ℕ) (sign : ℕ) (o m : SerializerState) → Wrote (opened_by o.limit o.depth left_brace) o (at_depth o.depth m)

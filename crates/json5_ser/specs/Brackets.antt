@@ -1,14 +1,11 @@
--- The kinds of brackets, in the words of the grammar.
+-- The brackets of a collection, and of what a variant holds.
 use Rattle.std.specs.Prelude.{ℕ, List, Bool, true, false}
-use Rattle.json5_grammar.specs.Faults.Fronts.{BracketKind, of_array, of_object, opening}
-use Rattle.json5_ser.specs.Out.{Out, variant_opening}
-use Rattle.json5_ser.specs.Writes.{SerializerState}
-use Rattle.json5_ser.specs.declared.brackets.Brackets.{Brackets}
-use Rattle.json5_ser.specs.declared.brackets.Brackets.TheVariants as brackets
-
-abbrev pub bracket_of : Brackets → BracketKind
-bracket_of brackets.Square = of_array
-bracket_of brackets.Curly = of_object
+use Rattle.json5_grammar.specs.Faults.Fronts.{opening}
+use Rattle.json5_write.specs.Brackets.{bracket_of}
+use Rattle.json5_write.specs.Out.{Out, variant_opening}
+use Rattle.json5_write.specs.Writes.{SerializerState}
+use Rattle.json5_write.specs.declared.brackets.Brackets.{Brackets}
+use Rattle.json5_write.specs.declared.brackets.Brackets.TheVariants as brackets
 
 -- whether they are those of a list
 abbrev pub is_square : Brackets → Bool

@@ -2,8 +2,8 @@
 use Rattle.std.specs.Prelude.{Result}
 use Rattle.json5_grammar.specs.Language.Values.{null_text}
 use Rattle.json5_types.specs.declared.error.Error.{Error}
-use Rattle.json5_ser.specs.WrittenTrees.{named, bad}
-use Rattle.json5_ser.specs.Writes.{SerializerState}
+use Rattle.json5_write.specs.WrittenTrees.{named, bad}
+use Rattle.json5_write.specs.Writes.{SerializerState}
 use Rattle.json5_ser.specs.WrittenKeys.{WritesKey}
 use Rattle.json5_ser.specs.declared.key.MapKey.{MapKey}
 

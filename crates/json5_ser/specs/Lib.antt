@@ -1,22 +1,13 @@
--- Lists the definitions that contracts of writing cite.
+-- Lists the definitions that contracts of typed writing cite.
 pub mod WrittenTrees
-pub mod WritableNumbers
 pub mod Out
-pub mod Commas
-pub mod Copies
 pub mod EscapeFreeMarks
 pub mod Writes
 pub mod Pieces
-pub mod ShortWrites
-pub mod ReferencedWriters
 pub mod WholeOutputs
-pub mod Quotes
+pub mod ValueTrees
 pub mod Brackets
 pub mod Stages
 pub mod WrittenCollections
 pub mod WrittenKeys
 pub mod KeyLending
-pub mod Escaping
-pub mod EscapeFree
-pub mod NameBytes
-pub mod ValueTrees

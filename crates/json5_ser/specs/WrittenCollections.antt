@@ -4,10 +4,11 @@ use Rattle.std.specs.Borrow.{Fml, GName, RattleType, MutBor, RestsIfErr}
 use Rattle.std.specs.declared.io.Write as write
 use Rattle.json5_grammar.specs.Language.Characters.{comma_sign, left_bracket, left_brace, right_brace}
 use Rattle.json5_types.specs.declared.error.Error.{Error}
-use Rattle.json5_ser.specs.Out.{Out, piece, ◌then◌, opened_by, closed_by, variant_opening}
-use Rattle.json5_ser.specs.Writes.{SerializerState, Wrote, RefusesWrite, Writes, at_depth}
+use Rattle.json5_write.specs.Out.{Out, piece, ◌then◌, opened_by, closed_by, variant_opening}
+use Rattle.json5_write.specs.Writes.{SerializerState, Wrote, RefusesWrite, Writes, at_depth}
 use Rattle.json5_grammar.specs.Faults.Fronts.{closing}
-use Rattle.json5_ser.specs.Brackets.{bracket_of, is_square}
+use Rattle.json5_write.specs.Brackets.{bracket_of}
+use Rattle.json5_ser.specs.Brackets.{is_square}
 use Rattle.json5_ser.specs.Stages.{is_started, is_pending}
 use Rattle.json5_ser.specs.declared.stage.Stage.{Stage}
 use Rattle.json5_ser.specs.declared.collection.SerializeCollection.{SerializeCollection}

@@ -6,15 +6,15 @@ ghost use Rattle.hex.specs.Hex.{encode_lower};
 ghost use Rattle.json5_types.specs.ByteBufs.{bytes_of};
 ghost use Rattle.json5_types.specs.Cows.{cow_bytes};
 ghost use Rattle.json5_grammar.specs.Language.Numbers.{decimal};
-ghost use Rattle.json5_ser.specs.WrittenTrees.{null, boolean, number, natural, integer, text, option_tree};
+ghost use Rattle.json5_write.specs.WrittenTrees.{null, boolean, number, natural, integer, text, option_tree};
 
-use crate::key::bool_name;
-use crate::refusal::Put;
 use crate::{Serialize, Serializer};
 use json5_types::byte_buf::ByteBuf;
 use json5_types::cow_str::CowStr;
 use json5_types::decimal::Decimal;
 use json5_types::error::Result;
+use json5_write::literals::bool_name;
+use json5_write::refusal::Put;
 use std::io::Write;
 
 /// Writes `null`.
@@ -35,7 +35,7 @@ impl Serialize for bool {
     }
 
     fn put<W: Write + Drop>(&self, ser: &mut Serializer<W>) -> Put {
-        ser.put_short(bool_name(*self))
+        ser.put_piece(bool_name(*self))
     }
 }
 
@@ -257,7 +257,7 @@ impl<T: Serialize> Serialize for Option<T> {
     fn put<W: Write + Drop>(&self, ser: &mut Serializer<W>) -> Put {
         match self {
             Some(value) => value.put(ser),
-            None => ser.put_short("null"),
+            None => ser.put_piece("null"),
         }
     }
 }

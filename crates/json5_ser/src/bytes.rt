@@ -3,10 +3,10 @@
 ghost use Rattle.std.specs.Prelude.{◌≡◌};
 ghost use Rattle.hex.specs.Hex.{encode_lower};
 ghost use Rattle.json5_grammar.specs.Written.Quoting.{is_name};
-ghost use Rattle.json5_ser.specs.WrittenTrees.{text, named};
-ghost use Rattle.json5_ser.specs.Writes.{Writes, WritesTree};
+ghost use Rattle.json5_write.specs.WrittenTrees.{text, named};
+ghost use Rattle.json5_write.specs.Writes.{Writes, WritesTree};
 ghost use Rattle.json5_ser.specs.WrittenKeys.{WritesKey};
-ghost use Rattle.json5_ser.specs.Out.{piece};
+ghost use Rattle.json5_write.specs.Out.{piece};
 
 use crate::Serializer;
 use json5_types::error::Result;

@@ -2,16 +2,16 @@
 
 ghost use Rattle.std.specs.Prelude.{◌≡◌, true, false};
 ghost use Rattle.std.specs.Str.{chars};
-ghost use Rattle.json5_ser.specs.WrittenTrees.{named};
-ghost use Rattle.json5_ser.specs.Out.{out, element_out, key_part, value_part, entry_out};
-ghost use Rattle.json5_ser.specs.Writes.{Writes};
+ghost use Rattle.json5_write.specs.WrittenTrees.{named};
+ghost use Rattle.json5_write.specs.Out.{out, element_out, key_part, value_part, entry_out};
+ghost use Rattle.json5_write.specs.Writes.{Writes};
 
 mod opening;
 
-use crate::brackets::Brackets;
 use crate::stage::Stage;
 use crate::{Serialize, SerializeKey, Serializer};
 use json5_types::error::Result;
+use json5_write::brackets::Brackets;
 use std::io::Write;
 
 /// An array or an object that is written one element or member after another, each on a line of its own with a comma after it.
@@ -64,7 +64,7 @@ impl<W: Write + Drop> Serializer<W> {
     {
         self.start_line(false)?;
         value.put(self)?;
-        Ok(self.put_short(",")?)
+        Ok(self.put_piece(",")?)
     }
 }
 

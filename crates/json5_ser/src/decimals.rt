@@ -4,13 +4,11 @@ ghost use Rattle.std.specs.Prelude.{◌≡◌};
 ghost use Rattle.json5_grammar.specs.Language.Numbers as numbers;
 ghost use Rattle.json5_grammar.specs.Written.NumberText.{decimal_text, Normal};
 ghost use Rattle.json5_grammar.specs.Written.Quoting.{is_name};
-ghost use Rattle.json5_ser.specs.WrittenTrees.{number, named};
-ghost use Rattle.json5_ser.specs.ShortWrites.{PutsTree};
-ghost use Rattle.json5_ser.specs.Writes.{WritesTree};
+ghost use Rattle.json5_write.specs.WrittenTrees.{number, named};
+ghost use Rattle.json5_write.specs.Writes.{WritesTree};
 ghost use Rattle.json5_ser.specs.WrittenKeys.{WritesKey};
 
 use crate::Serializer;
-use crate::refusal::Put;
 use json5_types::decimal::Decimal;
 use json5_types::error::Result;
 use std::io::Write;
@@ -27,17 +25,6 @@ fn is_word(value: &Decimal) -> bool
 }
 
 impl<W: Write + Drop> Serializer<W> {
-    /// Writes a decimal, as `serialize_decimal` does.
-    pub(crate) fn put_decimal(&mut self, value: &Decimal) -> Put
-        ensures { PutsTree (number (numbers.decimal value.now)) self.old result self.new }
-    {
-        let mut pieces = value.pieces();
-        while let Some(piece) = pieces.next_piece() {
-            self.put_short(piece)?;
-        }
-        Ok(())
-    }
-
     /// Writes a decimal in plain notation, always with a point; else `Infinity` or `NaN` (JSON5 section 6). A minus is before
     /// what is negative, zero too: `1.5`, `1000.0`, `-0.0`. A few digits with a large exponent have a long text.
     ///

@@ -3,9 +3,8 @@
 ghost use Rattle.std.specs.Prelude.{◌≡◌, [], ◌∷◌, Some};
 ghost use Rattle.std.specs.Str.{chars};
 ghost use Rattle.hex.specs.Hex.{encode_lower};
-ghost use Rattle.json5_ser.specs.WrittenTrees.{WrittenKey, named, option_key};
-ghost use Rattle.json5_ser.specs.Out.{bool_text, key_out};
-ghost use Rattle.json5_ser.specs.ShortWrites.{Puts};
+ghost use Rattle.json5_write.specs.WrittenTrees.{WrittenKey, named, option_key};
+ghost use Rattle.json5_write.specs.Out.{bool_text};
 ghost use Rattle.json5_ser.specs.WrittenKeys.{WritesKey};
 
 mod members;
@@ -13,9 +12,8 @@ mod numbers;
 mod refusals;
 
 use crate::Serializer;
-use crate::identifiers::is_identifier;
-use crate::refusal::Put;
 use json5_types::error::Result;
+use json5_write::literals::bool_name;
 use std::io::Write;
 
 /// A key that is to be written. Each of its methods takes it and writes it whole: bare where its text is an identifier
@@ -77,25 +75,7 @@ pub trait SerializeKey {
         ensures { WritesKey (as_key self.now) (serializer_of_key key.entry) result key.exit.0.now };
 }
 
-#[tactic(auto, using(crate::proofs::PiecesWritten::chars_true, crate::proofs::PiecesWritten::chars_false))]
-pub(crate) fn bool_name(value: bool) -> &'static str
-    ensures { chars result.now ≡ bool_text value }
-{
-    if value { "true" } else { "false" }
-}
-
 impl<W: Write + Drop> Serializer<W> {
-    /// Writes a key's text, between quotes if it is no identifier.
-    pub(crate) fn put_key(&mut self, text: &str) -> Put
-        ensures { Puts (key_out (named (chars text.now))) self.old result self.new }
-    {
-        if is_identifier(text) {
-            self.put_short(text)
-        } else {
-            self.put_str(text)
-        }
-    }
-
     /// Writes a key's text as `put_key` does, for a call that may be refused otherwise too.
     fn put_name(&mut self, text: &str) -> Result<()>
         ensures { WritesKey (named (chars text.now)) self.old result self.new }

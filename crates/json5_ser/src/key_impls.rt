@@ -7,8 +7,8 @@ ghost use Rattle.json5_grammar.specs.Written.NumberText.{decimal_text};
 ghost use Rattle.hex.specs.Hex.{encode_lower};
 ghost use Rattle.json5_types.specs.ByteBufs.{bytes_of};
 ghost use Rattle.json5_types.specs.Cows.{cow_bytes};
-ghost use Rattle.json5_ser.specs.WrittenTrees.{named, natural_key, integer_key, option_key};
-ghost use Rattle.json5_ser.specs.Out.{bool_text};
+ghost use Rattle.json5_write.specs.WrittenTrees.{named, natural_key, integer_key, option_key};
+ghost use Rattle.json5_write.specs.Out.{bool_text};
 
 use crate::{MapKey, SerializeKey};
 use json5_types::byte_buf::ByteBuf;

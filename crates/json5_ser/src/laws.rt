@@ -9,10 +9,10 @@ ghost use Rattle.json5_grammar.specs.Language.Values.{Val, KeyText};
 ghost use Rattle.json5_grammar.specs.Language.Documents.{Doc};
 ghost use Rattle.json5_types.specs.declared.value.Value.{Value};
 ghost use Rattle.json5_types.specs.ValueMeanings.{value_of};
-ghost use Rattle.json5_ser.specs.ValueTrees.{value_text};
-ghost use Rattle.json5_ser.specs.WrittenTrees.{Written, number};
-ghost use Rattle.json5_ser.specs.Out.{out, piece, whole, invalid_key, too_deep};
-ghost use Rattle.json5_ser.specs.EscapeFreeMarks.{marks, unmarked, is_escape_free_key, IsSpelled};
+ghost use Rattle.json5_write.specs.ValueTrees.{value_text};
+ghost use Rattle.json5_write.specs.WrittenTrees.{Written, number};
+ghost use Rattle.json5_write.specs.Out.{out, piece, whole, invalid_key, too_deep};
+ghost use Rattle.json5_write.specs.EscapeFreeMarks.{marks, unmarked, is_escape_free_key, IsSpelled};
 
 /// A number's text is whole exactly when it is a whole number in range, or a decimal in normal form.
 pub fn written_numbers()

@@ -2,32 +2,24 @@
 #![tactic(auto)]
 
 mod basic_impls;
-mod brackets;
-mod byte_copies;
 mod bytes;
 mod collection;
 mod decimals;
-mod escape_free;
-mod identifiers;
 mod key;
 mod key_impls;
 pub mod laws;
-mod line_starts;
 mod lists;
 mod maps;
 mod options_and_variants;
-mod quoting;
-pub mod refusal;
 mod serialize;
 mod serializer;
 mod stage;
-mod string_writer;
 mod tuples;
 mod value;
 mod whole_output;
-pub mod write_whole;
 
 pub use collection::SerializeCollection;
+pub use json5_write::{refusal, write_whole};
 pub use key::{MapKey, SerializeKey};
 pub use serialize::Serialize;
 pub use serializer::Serializer;

@@ -1,13 +1,13 @@
 //! Lists, written as arrays (JSON5 section 4).
 
-ghost use Rattle.json5_ser.specs.WrittenTrees.{array, elements_of};
-ghost use Rattle.json5_ser.specs.Commas.{comma_before, element_line};
-ghost use Rattle.json5_ser.specs.ShortWrites.{Puts, PutsTree};
+ghost use Rattle.json5_write.specs.WrittenTrees.{array, elements_of};
+ghost use Rattle.json5_write.specs.Commas.{comma_before, element_line};
+ghost use Rattle.json5_write.specs.ShortWrites.{Puts, PutsTree};
 
-use crate::brackets::Brackets;
-use crate::refusal::Put;
 use crate::{Serialize, Serializer};
 use json5_types::error::Result;
+use json5_write::brackets::Brackets;
+use json5_write::refusal::Put;
 use std::io::Write;
 
 /// Writes the line of an element, without the comma after it.
@@ -27,13 +27,13 @@ fn put_item<T: Serialize, W: Write + Drop>(
 fn put_items<T: Serialize, W: Write + Drop>(items: &[T], ser: &mut Serializer<W>) -> Put
     ensures { PutsTree (array (elements_of T.tree items.now)) ser.old result ser.new }
 {
-    ser.open_short(Brackets::Square)?;
+    ser.open_brackets(Brackets::Square)?;
     let mut comma_due = false;
     for item in items {
         put_item(comma_due, item, ser)?;
         comma_due = true;
     }
-    ser.close_short(comma_due, Brackets::Square)
+    ser.close_brackets(comma_due, Brackets::Square)
 }
 
 /// Writes an array of the elements.

@@ -1,21 +1,21 @@
 //! Maps, written as objects (JSON5 section 3).
 
-use crate::brackets::Brackets;
 use crate::{Serialize, SerializeKey, Serializer};
 use indexmap::IndexMap;
 use json5_types::error::Result;
+use json5_write::brackets::Brackets;
 use std::collections::BTreeMap;
 use std::hash::Hash;
 use std::io::Write;
 
 /// Writes an object of the entries, in the order of the keys.
 impl<K: SerializeKey + Ord, V: Serialize> Serialize for BTreeMap<K, V> {
-    ghost use Rattle.json5_ser.specs.WrittenTrees.{object, fields_of};
+    ghost use Rattle.json5_write.specs.WrittenTrees.{object, fields_of};
 
     ghost tree = { λ m. object (fields_of K.as_key V.tree m.entries) };
 
     fn serialize<W: Write + Drop>(&self, ser: &mut Serializer<W>) -> Result<()> {
-        ser.open_short(Brackets::Curly)?;
+        ser.open_brackets(Brackets::Curly)?;
         let mut comma_due = false;
         for (key, value) in self {
             let written = ser.member_line(comma_due, key, value);
@@ -30,12 +30,12 @@ impl<K: SerializeKey + Ord, V: Serialize> Serialize for BTreeMap<K, V> {
 
 /// Writes an object of the entries, in their order.
 impl<K: SerializeKey + Eq + Hash, V: Serialize> Serialize for IndexMap<K, V> {
-    ghost use Rattle.json5_ser.specs.WrittenTrees.{object, fields_of};
+    ghost use Rattle.json5_write.specs.WrittenTrees.{object, fields_of};
 
     ghost tree = { λ m. object (fields_of K.as_key V.tree m.entries) };
 
     fn serialize<W: Write + Drop>(&self, ser: &mut Serializer<W>) -> Result<()> {
-        ser.open_short(Brackets::Curly)?;
+        ser.open_brackets(Brackets::Curly)?;
         let mut comma_due = false;
         for (key, value) in self {
             let written = ser.member_line(comma_due, key, value);

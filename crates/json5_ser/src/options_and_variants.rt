@@ -2,8 +2,8 @@
 
 ghost use Rattle.std.specs.Prelude.{Some};
 ghost use Rattle.std.specs.Str.{chars};
-ghost use Rattle.json5_ser.specs.WrittenTrees.{null, text, option_tree, newtype_variant};
-ghost use Rattle.json5_ser.specs.Writes.{WritesTree};
+ghost use Rattle.json5_write.specs.WrittenTrees.{null, text, option_tree, newtype_variant};
+ghost use Rattle.json5_write.specs.Writes.{WritesTree};
 
 use crate::{Serialize, Serializer};
 use json5_types::error::Result;

@@ -1,12 +1,12 @@
 //! What can be written.
 
-ghost use Rattle.json5_ser.specs.WrittenTrees.{Written};
-ghost use Rattle.json5_ser.specs.Writes.{WritesTree};
-ghost use Rattle.json5_ser.specs.ShortWrites.{PutsTree};
+ghost use Rattle.json5_write.specs.WrittenTrees.{Written};
+ghost use Rattle.json5_write.specs.Writes.{WritesTree};
+ghost use Rattle.json5_write.specs.ShortWrites.{PutsTree};
 
 use crate::Serializer;
-use crate::refusal::{Put, Refused};
 use json5_types::error::Result;
+use json5_write::refusal::{Put, Refused};
 use std::io::Write;
 
 /// A value that can be written. Each type says by `tree` what is written of its values. An impl passes on what the methods of

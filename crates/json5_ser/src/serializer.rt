@@ -1,31 +1,32 @@
 //! Writing values to a writer.
 
-ghost use Rattle.std.specs.Prelude.{◌≡◌, ◌≤◌, ◌+◌, ◌-◌, true, false, None, IsErr, IfErr, OnOk};
+ghost use Rattle.std.specs.Prelude.{◌≡◌, ◌+◌, ◌-◌, true, false, None, IsErr, IfErr, OnOk};
 ghost use Rattle.std.specs.Str.{chars};
-ghost use Rattle.json5_grammar.specs.Language.Documents.{max_depth};
-ghost use Rattle.json5_ser.specs.Out.{piece, stopped, line, opened_by, closed_by, invalid_key, too_deep};
+ghost use Rattle.json5_grammar.specs.Language.Numbers.{decimal};
+ghost use Rattle.json5_grammar.specs.Written.Quoting.{quoted_text};
+ghost use Rattle.json5_write.specs.WrittenTrees.{integer, natural, number, named};
+ghost use Rattle.json5_write.specs.Out.{piece, stopped, line, opened_by, closed_by, invalid_key, key_out};
 ghost use Rattle.json5_grammar.specs.declared.error_code.ErrorCode.TheVariants as codes;
 ghost use Rattle.json5_types.specs.Errors.{code, kind_of, error_position};
 ghost use Rattle.json5_grammar.specs.Faults.Fronts.{opening, closing};
-ghost use Rattle.json5_ser.specs.Brackets.{bracket_of};
-ghost use Rattle.json5_ser.specs.Commas.{comma_before, closed_after};
-ghost use Rattle.json5_ser.specs.ShortWrites.{Puts};
+ghost use Rattle.json5_write.specs.Brackets.{bracket_of};
+ghost use Rattle.json5_write.specs.Commas.{comma_before, closed_after};
+ghost use Rattle.json5_write.specs.ShortWrites.{Puts, PutsTree};
 ghost use Rattle.json5_ser.specs.Stages.{is_started};
-ghost use Rattle.json5_ser.specs.Writes.{SerializerState, Writes, fresh, fresh_within, at_depth, after_closing};
+ghost use Rattle.json5_write.specs.Writes.{SerializerState, Writes, fresh, fresh_within, at_depth, after_closing};
 
 mod integers;
 mod literals;
 mod strings;
 
-use crate::brackets::Brackets;
-use crate::escape_free::is_escape_free;
-use crate::line_starts::line;
-use crate::refusal::{Put, Refused, refusal};
 use crate::stage::Stage;
-use crate::write_whole::write_whole;
 use json5_types::ErrorCode;
+use json5_types::decimal::Decimal;
 use json5_types::error::{Error, Result};
 use json5_types::nesting::Limit;
+use json5_write::Printer;
+use json5_write::brackets::Brackets;
+use json5_write::refusal::{Put, refusal};
 use std::io::Write;
 use std::marker::Model;
 
@@ -52,18 +53,13 @@ use std::marker::Model;
 /// - `InvalidKey` at a key that can't be written: the writer holds exactly the text before it.
 #[derive(Drop)]
 pub struct Serializer<W: Write + Drop> {
-    writer: W,
-    depth: u8,
-    limit: Limit,
-    failed: bool,
+    pub(crate) printer: Printer<W>,
 }
 
 impl<W: Write + Drop> Model for Serializer<W> {
     ghost Value = { SerializerState };
 
-    ghost view = { λ s. record { known = W.contents s.writer; depth = s.depth; limit = s.limit; failed = s.failed } };
-
-    ghost invariant = { λ s. s.depth ≤ max_depth };
+    ghost view = { λ s. s.printer };
 }
 
 impl<W: Write + Drop> Serializer<W> {
@@ -92,10 +88,7 @@ impl<W: Write + Drop> Serializer<W> {
         ensures { result ≡ fresh_within limit (W.contents writer) }
     {
         Serializer {
-            writer,
-            depth: 0,
-            limit,
-            failed: false,
+            printer: Printer::within(writer, limit),
         }
     }
 
@@ -109,20 +102,15 @@ impl<W: Write + Drop> Serializer<W> {
     pub fn into_inner(self) -> W
         ensures { W.contents result ≡ self.known }
     {
-        let Serializer {
-            writer,
-            depth: _,
-            limit: _,
-            failed: _,
-        } = self;
-        writer
+        let Serializer { printer } = self;
+        printer.into_inner()
     }
 
     /// Sets whether it has failed.
     pub(crate) fn set_failed(&mut self, failed: bool)
         ensures { self.new ≡ record self.old { failed = failed } }
     {
-        self.failed = failed;
+        self.printer.set_failed(failed);
     }
 
     /// Returns `Failed` if a call was refused before, or a collection holds the serializer.
@@ -130,7 +118,7 @@ impl<W: Write + Drop> Serializer<W> {
         ensures live { OnOk result (self.now.failed ≡ false) }
         ensures failed { IfErr result (λ e. (self.now.failed ≡ true) × (kind_of e ≡ code codes.Failed) × (error_position e ≡ None)) }
     {
-        if !self.failed {
+        if !self.printer.has_failed() {
             return Ok(());
         }
         Err(Error::new(ErrorCode::Failed))
@@ -143,23 +131,16 @@ impl<W: Write + Drop> Serializer<W> {
         ensures { Writes (stopped invalid_key) self.old result self.new }
     {
         self.check_not_failed()?;
-        self.failed = true;
+        self.set_failed(true);
         Err(Error::new(ErrorCode::InvalidKey))
     }
 
     /// Writes a piece, unless a call was refused before.
     #[inline(always)]
-    pub(crate) fn put_short(&mut self, text: &str) -> Put
+    pub(crate) fn put_piece(&mut self, text: &str) -> Put
         ensures { Puts (piece (chars text.now)) self.old result self.new }
     {
-        if self.failed {
-            return Err(Refused::Before);
-        }
-        if write_whole(&mut self.writer, text.as_bytes()).is_ok() {
-            return Ok(());
-        }
-        self.failed = true;
-        Err(Refused::ByWriter)
+        self.printer.put_piece(text)
     }
 
     /// Writes a piece; returns `Failed` if a call was refused before.
@@ -167,80 +148,88 @@ impl<W: Write + Drop> Serializer<W> {
     pub(crate) fn put(&mut self, text: &str) -> Result<()>
         ensures { Writes (piece (chars text.now)) self.old result self.new }
     {
-        match self.put_short(text) {
+        match self.put_piece(text) {
             Ok(()) => Ok(()),
             Err(refused) => refusal(refused),
         }
     }
 
+    /// Writes the decimal digits of a number that isn't negative.
+    #[inline(always)]
+    pub(crate) fn put_unsigned(&mut self, value: u128) -> Put
+        ensures { PutsTree (natural value) self.old result self.new }
+    {
+        self.printer.put_unsigned(value)
+    }
+
+    /// Writes the decimal digits of a number, after a minus where it is negative.
+    #[inline(always)]
+    pub(crate) fn put_signed(&mut self, value: i128) -> Put
+        ensures { PutsTree (integer value) self.old result self.new }
+    {
+        self.printer.put_signed(value)
+    }
+
+    /// Writes a decimal, as `serialize_decimal` does.
+    #[inline(always)]
+    pub(crate) fn put_decimal(&mut self, value: &Decimal) -> Put
+        ensures { PutsTree (number (decimal value.now)) self.old result self.new }
+    {
+        self.printer.put_decimal(value)
+    }
+
+    /// Writes a string, as `serialize_str` does.
+    #[inline(always)]
+    pub(crate) fn put_str(&mut self, value: &str) -> Put
+        ensures { Puts (piece (quoted_text (chars value.now))) self.old result self.new }
+    {
+        self.printer.put_str(value)
+    }
+
+    /// Writes a key's text, between quotes if it is no identifier.
+    #[inline(always)]
+    pub(crate) fn put_key(&mut self, text: &str) -> Put
+        ensures { Puts (key_out (named (chars text.now))) self.old result self.new }
+    {
+        self.printer.put_key(text)
+    }
+
     /// Starts the line of a member, or of the bracket that closes, after a comma where one is due.
+    #[inline(always)]
     pub(crate) fn start_line(&mut self, comma_due: bool) -> Put
         ensures { Puts (comma_before comma_due (piece (line self.old.depth))) self.old result self.new }
     {
-        self.put_short(line(comma_due, self.depth))
-    }
-
-    /// Refuses a bracket past the limit.
-    #[cold]
-    #[inline(never)]
-    fn refuse_bracket(&mut self) -> Put
-        ensures { Puts (stopped too_deep) self.old result self.new }
-    {
-        if !self.failed {
-            self.failed = true;
-            return Err(Refused::TooDeep);
-        }
-        Err(Refused::Before)
+        self.printer.start_line(comma_due)
     }
 
     /// Opens a collection.
-    pub(crate) fn open_short(&mut self, brackets: Brackets) -> Put
+    #[inline(always)]
+    pub(crate) fn open_brackets(&mut self, brackets: Brackets) -> Put
         ensures opens { Puts (opened_by self.old.limit self.old.depth (opening (bracket_of brackets))) self.old result (at_depth self.old.depth self.new) }
         ensures deeper { OnOk result (self.new.depth ≡ self.old.depth + 1) }
     {
-        if self.depth >= self.limit.get() {
-            return self.refuse_bracket();
-        }
-        self.put_short(brackets.opening())?;
-        self.depth += 1;
-        Ok(())
-    }
-
-    /// Counts one open bracket less.
-    fn exit_bracket(&mut self)
-        ensures { self.new ≡ after_closing self.old }
-    {
-        self.depth = self.depth.saturating_sub(1);
+        self.printer.open_brackets(brackets)
     }
 
     /// Closes a collection; its bracket is on its own line if something was written in it.
     pub(crate) fn close(&mut self, brackets: Brackets, stage: Stage) -> Result<()>
         ensures { Writes (closed_by (self.old.depth - 1) (is_started stage) (closing (bracket_of brackets))) (after_closing self.old) result self.new }
     {
-        self.exit_bracket();
-        if !stage.is_started() {
-            return self.put(brackets.closing());
-        }
-        self.start_line(false)?;
-        self.put(brackets.closing())
+        Ok(self.printer.close(stage.is_started(), brackets)?)
     }
 
     /// Closes a collection whose last member lacks its comma, if it has one.
-    pub(crate) fn close_short(&mut self, comma_due: bool, brackets: Brackets) -> Put
+    #[inline(always)]
+    pub(crate) fn close_brackets(&mut self, comma_due: bool, brackets: Brackets) -> Put
         ensures { Puts (closed_after comma_due (self.old.depth - 1) (closing (bracket_of brackets))) (after_closing self.old) result self.new }
     {
-        self.exit_bracket();
-        if !comma_due {
-            return self.put_short(brackets.closing());
-        }
-        self.start_line(true)?;
-        self.put_short(brackets.closing())
+        self.printer.close_brackets(comma_due, brackets)
     }
 
-    /// Closes a collection as `close_short` does, for a call that may be refused otherwise too.
+    /// Closes a collection as `close_brackets` does, for a call that may be refused otherwise too.
     pub(crate) fn close_after(&mut self, comma_due: bool, brackets: Brackets) -> Result<()>
         ensures { Writes (closed_after comma_due (self.old.depth - 1) (closing (bracket_of brackets))) (after_closing self.old) result self.new }
     {
-        Ok(self.close_short(comma_due, brackets)?)
+        Ok(self.close_brackets(comma_due, brackets)?)
     }
 }

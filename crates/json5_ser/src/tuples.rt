@@ -6,7 +6,7 @@ use std::io::Write;
 
 /// Writes an array of one element.
 impl<A: Serialize> Serialize for (A,) {
-    ghost use Rattle.json5_ser.specs.WrittenTrees.{array, element, no_element};
+    ghost use Rattle.json5_write.specs.WrittenTrees.{array, element, no_element};
 
     ghost tree = { λ t. array (element (A.tree t.0) no_element) };
 
@@ -19,7 +19,7 @@ impl<A: Serialize> Serialize for (A,) {
 
 /// Writes an array of two elements.
 impl<A: Serialize, B: Serialize> Serialize for (A, B) {
-    ghost use Rattle.json5_ser.specs.WrittenTrees.{array, element, no_element};
+    ghost use Rattle.json5_write.specs.WrittenTrees.{array, element, no_element};
 
     ghost tree = { λ t. array (element (A.tree t.0) (element (B.tree t.1) no_element)) };
 
@@ -33,7 +33,7 @@ impl<A: Serialize, B: Serialize> Serialize for (A, B) {
 
 /// Writes an array of three elements.
 impl<A: Serialize, B: Serialize, C: Serialize> Serialize for (A, B, C) {
-    ghost use Rattle.json5_ser.specs.WrittenTrees.{array, element, no_element};
+    ghost use Rattle.json5_write.specs.WrittenTrees.{array, element, no_element};
 
     ghost tree = { λ t. array (element (A.tree t.0) (element (B.tree t.1) (element (C.tree t.2) no_element))) };
 
@@ -48,7 +48,7 @@ impl<A: Serialize, B: Serialize, C: Serialize> Serialize for (A, B, C) {
 
 /// Writes an array of four elements.
 impl<A: Serialize, B: Serialize, C: Serialize, D: Serialize> Serialize for (A, B, C, D) {
-    ghost use Rattle.json5_ser.specs.WrittenTrees.{array, element, no_element};
+    ghost use Rattle.json5_write.specs.WrittenTrees.{array, element, no_element};
 
     ghost tree = { λ t. array (element (A.tree t.0) (element (B.tree t.1) (element (C.tree t.2) (element (D.tree t.3) no_element)))) };
 

@@ -3,39 +3,19 @@
 ghost use Rattle.std.specs.Prelude.{string_bytes, IfOk, IfErr};
 ghost use Rattle.std.specs.Str.{chars};
 ghost use Rattle.json5_grammar.specs.Language.Documents.{Doc, max_depth};
-ghost use Rattle.json5_ser.specs.EscapeFreeMarks.{marks};
-ghost use Rattle.json5_ser.specs.Out.{written_text, text_within};
-ghost use Rattle.json5_ser.specs.Writes.{WritesTree, fresh, fresh_within, ended, ended_within};
-ghost use Rattle.json5_ser.specs.WholeOutputs.{IsText, RefusesToString};
-ghost use Rattle.json5_ser.specs.ReferencedWriters.{named};
+ghost use Rattle.json5_write.specs.EscapeFreeMarks.{marks};
+ghost use Rattle.json5_write.specs.Out.{written_text, text_within};
+ghost use Rattle.json5_write.specs.Writes.{WritesTree, fresh, fresh_within, ended, ended_within};
+ghost use Rattle.json5_write.specs.WholeOutputs.{IsText, RefusesToString};
 
-use crate::string_writer::StringWriter;
 use crate::{Serialize, Serializer};
-use json5_types::ErrorCode;
-use json5_types::error::{Error, Result};
+use json5_types::error::Result;
 use json5_types::nesting::Limit;
+use json5_write::lent::Lent;
+use json5_write::string_writer::StringWriter;
+use json5_write::text_of;
 use std::alloc::Global;
-use std::io;
 use std::io::Write;
-
-/// A writer that is lent. Its bytes begin with the name of the reference, so that a proof knows
-/// which writer they are of.
-#[derive(Drop)]
-struct Lent<'a, W: Write> {
-    writer: &'a mut W,
-}
-
-impl<W: Write> Write for Lent<'_, W> {
-    ghost contents = { λ s. named s.writer.ghost_name (W.contents s.writer.now) };
-
-    fn write(&mut self, buf: &[u8]) -> io::Result<usize> {
-        self.writer.write(buf)
-    }
-
-    fn flush(&mut self) -> io::Result<()> {
-        self.writer.flush()
-    }
-}
 
 /// Writes the text of a value to a writer, in pieces. `flush` isn't called. It is [`to_writer_within`] at the full limit of 128
 /// brackets.
@@ -113,11 +93,6 @@ pub fn to_string_within<T: Serialize>(alloc: Global, limit: Limit, value: &T) ->
     ensures refused { IfErr result (RefusesToString (text_within limit (T.tree value.now))) }
 {
     let mut ser = Serializer::within(StringWriter::new(alloc), limit);
-    let written = value.serialize(&mut ser);
-    let bytes = ser.into_inner().into_bytes();
-    match written {
-        Ok(()) => Ok(unsafe { String::from_utf8_unchecked(bytes) }),
-        Err(e) if e.code().is_none() => Err(Error::new(ErrorCode::OutOfMemory)),
-        Err(e) => Err(e),
-    }
+    let printed = value.put(&mut ser);
+    text_of(printed, ser.into_inner().into_bytes())
 }

@@ -19,14 +19,14 @@ returns-in_err-value-clause-refused c =
 pub returns-clause-refused : goal.returns-clause-refused
 returns-clause-refused c =
     let (t, document, is) = c.in_ok-value.ensures.sound in
-    IfErr-weaker c.to_string_within.result _ _ (λ e k. memory_refused c.args.limit (chars c.args.text.now) e (only_memory c.args.limit (chars c.args.text.now) t (value_of c.in_ok-value.value) e document is k)) c.to_string_within.ensures.refused
+    IfErr-weaker c.to_string.result _ _ (λ e k. memory_refused c.args.limit (chars c.args.text.now) e (only_memory c.args.limit (chars c.args.text.now) t (value_of c.in_ok-value.value) e document is k)) c.to_string.ensures.refused
 
 pub returns-clause-formatted : goal.returns-clause-formatted
 returns-clause-formatted c =
     let (t, document, is) = c.in_ok-value.ensures.sound in
-    IfOk-weaker c.to_string_within.result _ _ (λ s w. formatted_within c.args.limit (chars c.args.text.now) (string_bytes s) t (value_of c.in_ok-value.value) document is w) c.to_string_within.ensures.whole
+    IfOk-weaker c.to_string.result _ _ (λ s w. formatted_within c.args.limit (chars c.args.text.now) (string_bytes s) t (value_of c.in_ok-value.value) document is w) c.to_string.ensures.whole
 
 pub returns-clause-complete : goal.returns-clause-complete
 returns-clause-complete c = λ u other.
     let (t, document, is) = c.in_ok-value.ensures.sound in
-    completed c.args.limit string_bytes (chars c.args.text.now) t u (value_of c.in_ok-value.value) c.to_string_within.result document other is c.to_string_within.ensures.whole c.to_string_within.ensures.refused
+    completed c.args.limit string_bytes (chars c.args.text.now) t u (value_of c.in_ok-value.value) c.to_string.result document other is c.to_string.ensures.whole c.to_string.ensures.refused

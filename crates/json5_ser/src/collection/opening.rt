@@ -5,10 +5,10 @@ ghost use Rattle.std.specs.Borrow.{sem};
 ghost use Rattle.std.specs.Str.{chars};
 ghost use Rattle.json5_grammar.specs.Language.Characters.{left_bracket, left_brace};
 
-use crate::brackets::Brackets;
 use crate::stage::Stage;
 use crate::{SerializeCollection, Serializer};
 use json5_types::error::Result;
+use json5_write::brackets::Brackets;
 use std::io::Write;
 
 impl<W: Write + Drop> Serializer<W> {
@@ -31,7 +31,7 @@ impl<W: Write + Drop> Serializer<W> {
         ensures* lends { sem 𝓛 (lends_list W.row W.Write self.entry result) }
         ensures begun { IfOk result (ListBegun self.entry) }
     {
-        self.open_short(Brackets::Square)?;
+        self.open_brackets(Brackets::Square)?;
         self.set_failed(true);
         Ok(SerializeCollection {
             ser: self,
@@ -96,7 +96,7 @@ impl<W: Write + Drop> Serializer<W> {
         ensures* lends { sem 𝓛 (lends_object W.row W.Write self.entry result) }
         ensures begun { IfOk result (ObjectBegun self.entry) }
     {
-        self.open_short(Brackets::Curly)?;
+        self.open_brackets(Brackets::Curly)?;
         self.set_failed(true);
         Ok(SerializeCollection {
             ser: self,

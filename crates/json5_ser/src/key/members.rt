@@ -2,17 +2,17 @@
 
 ghost use Rattle.std.specs.Prelude.{◌≡◌, ◌+◌, OnOk};
 ghost use Rattle.std.specs.Str.{chars};
-ghost use Rattle.json5_ser.specs.Out.{out, key_part, value_part, entry_out};
+ghost use Rattle.json5_write.specs.Out.{out, key_part, value_part, entry_out};
 ghost use Rattle.json5_ser.specs.Brackets.{variant_of};
-ghost use Rattle.json5_ser.specs.Commas.{comma_before, member_line};
-ghost use Rattle.json5_ser.specs.ShortWrites.{Puts};
-ghost use Rattle.json5_ser.specs.WrittenTrees.{named};
-ghost use Rattle.json5_ser.specs.Writes.{Writes, at_depth};
+ghost use Rattle.json5_write.specs.Commas.{comma_before, member_line};
+ghost use Rattle.json5_write.specs.ShortWrites.{Puts};
+ghost use Rattle.json5_write.specs.WrittenTrees.{named};
+ghost use Rattle.json5_write.specs.Writes.{Writes, at_depth};
 
-use crate::brackets::Brackets;
-use crate::refusal::Put;
 use crate::{MapKey, Serialize, SerializeKey, Serializer};
 use json5_types::error::Result;
+use json5_write::brackets::Brackets;
+use json5_write::refusal::Put;
 use std::io::Write;
 
 impl<W: Write + Drop> Serializer<W> {
@@ -56,10 +56,10 @@ impl<W: Write + Drop> Serializer<W> {
         ensures opens { Writes (variant_of self.old (chars variant.now) brackets) self.old result (at_depth self.old.depth self.new) }
         ensures deeper { OnOk result (self.new.depth ≡ self.old.depth + 1 + 1) }
     {
-        self.open_short(Brackets::Curly)?;
+        self.open_brackets(Brackets::Curly)?;
         self.key(&variant)?;
         self.put(": ")?;
-        self.open_short(brackets)?;
+        self.open_brackets(brackets)?;
         Ok(())
     }
 
@@ -77,7 +77,7 @@ impl<W: Write + Drop> Serializer<W> {
         if written.is_err() {
             return written;
         }
-        self.put_short(": ")?;
+        self.put_piece(": ")?;
         Ok(value.put(self)?)
     }
 
@@ -85,8 +85,8 @@ impl<W: Write + Drop> Serializer<W> {
     pub(crate) fn value<T: Serialize>(&mut self, value: &T) -> Result<()>
         ensures { Writes (value_part (out self.old.limit (T.tree value.now) self.old.depth)) self.old result self.new }
     {
-        self.put_short(": ")?;
+        self.put_piece(": ")?;
         value.put(self)?;
-        Ok(self.put_short(",")?)
+        Ok(self.put_piece(",")?)
     }
 }

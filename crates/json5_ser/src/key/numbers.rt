@@ -1,7 +1,7 @@
 //! Numbers as keys.
 
 ghost use Rattle.json5_grammar.specs.Written.NumberText.{decimal_text};
-ghost use Rattle.json5_ser.specs.WrittenTrees.{named};
+ghost use Rattle.json5_write.specs.WrittenTrees.{named};
 ghost use Rattle.json5_ser.specs.WrittenKeys.{WritesKey};
 
 use crate::{MapKey, SerializeKey, Serializer};

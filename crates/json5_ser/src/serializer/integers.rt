@@ -1,49 +1,12 @@
 //! Whole numbers (JSON5 section 6).
 
-ghost use Rattle.json5_ser.specs.Out.{piece};
-ghost use Rattle.json5_ser.specs.ShortWrites.{Puts, PutsTree};
-ghost use Rattle.json5_ser.specs.WrittenTrees.{integer, natural};
-ghost use Rattle.json5_ser.specs.Writes.{WritesTree};
+ghost use Rattle.json5_write.specs.Writes.{WritesTree};
 
-use crate::refusal::Put;
 use crate::{Serialize, Serializer};
-use itoa::{Buffer, Integer};
 use json5_types::error::Result;
 use std::io::Write;
 
 impl<W: Write + Drop> Serializer<W> {
-    /// Writes the decimal digits, after a minus if the number is below zero.
-    #[inline(always)]
-    pub(crate) fn put_integer<I: Integer>(&mut self, value: I) -> Put
-        ensures { Puts (piece (I.text value)) self.old result self.new }
-    {
-        let mut buffer = Buffer::new();
-        let digits = buffer.format(value);
-        self.put_short(digits)
-    }
-
-    /// Writes the decimal digits of a number that isn't negative, by 64 bits where it has no more.
-    #[inline(always)]
-    pub(crate) fn put_unsigned(&mut self, value: u128) -> Put
-        ensures { PutsTree (natural value) self.old result self.new }
-    {
-        match u64::try_from(value) {
-            Ok(short) => self.put_integer(short),
-            Err(_) => self.put_integer(value),
-        }
-    }
-
-    /// Writes the decimal digits of a number, after a minus where it is negative, by 64 bits where it has no more.
-    #[inline(always)]
-    pub(crate) fn put_signed(&mut self, value: i128) -> Put
-        ensures { PutsTree (integer value) self.old result self.new }
-    {
-        match i64::try_from(value) {
-            Ok(short) => self.put_integer(short),
-            Err(_) => self.put_integer(value),
-        }
-    }
-
     /// Writes the decimal digits of a `u8` (JSON5 section 6).
     ///
     /// ```text

@@ -1,7 +1,7 @@
 //! The literals `null`, `true` and `false`.
 
-ghost use Rattle.json5_ser.specs.WrittenTrees.{null, boolean};
-ghost use Rattle.json5_ser.specs.Writes.{WritesTree};
+ghost use Rattle.json5_write.specs.WrittenTrees.{null, boolean};
+ghost use Rattle.json5_write.specs.Writes.{WritesTree};
 
 use crate::Serializer;
 use json5_types::error::Result;

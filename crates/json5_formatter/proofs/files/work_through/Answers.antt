@@ -1,5 +1,5 @@
 use Rattle.std.proofs.Common.{◌≡◌, ◌∙◌, true, false, sym, subst}
-use Rattle.json5_ser.specs.Pieces.{AppendsFront}
+use Rattle.json5_write.specs.Pieces.{AppendsFront}
 use Rattle.json5_formatter.specs.Files.{none}
 use Rattle.json5_formatter.specs.Reports.{report_line}
 use Rattle.json5_formatter.proofs.FilesWorked.{more_good, more_bad, stops, ends}

@@ -1,5 +1,5 @@
 use Rattle.std.proofs.Common.{ℕ, List, subst}
-use Rattle.json5_ser.specs.Pieces.{AppendsFront}
+use Rattle.json5_write.specs.Pieces.{AppendsFront}
 use Rattle.json5_formatter.proofs.LinesJoined.{fault_joined}
 use Rattle.json5_formatter.proofs.reports.say_fault.Goals as goal
 

@@ -1,4 +1,4 @@
-use Rattle.json5_ser.proofs.Unmarked.{tree_again}
+use Rattle.json5_write.proofs.Unmarked.{tree_again}
 use Rattle.json5_ser.proofs.laws.marks_go.Goals as goal
 
 pub returns : goal.returns

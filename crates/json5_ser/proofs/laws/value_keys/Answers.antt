@@ -1,5 +1,5 @@
 use Rattle.json5_types.specs.ValueMeanings.{value_of}
-use Rattle.json5_ser.proofs.ValueTexts.{datum_named}
+use Rattle.json5_write.proofs.ValueTexts.{datum_named}
 use Rattle.json5_ser.proofs.laws.value_keys.Goals as goal
 
 pub returns : goal.returns

@@ -1,4 +1,4 @@
-use Rattle.json5_ser.proofs.WritableNumbers.{number_piece, number_whole}
+use Rattle.json5_write.proofs.WritableNumbers.{number_piece, number_whole}
 use Rattle.json5_ser.proofs.laws.written_numbers.Goals as goal
 
 pub returns : goal.returns

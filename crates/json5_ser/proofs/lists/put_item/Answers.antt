@@ -1,8 +1,8 @@
-use Rattle.json5_ser.specs.Commas.{comma_before}
-use Rattle.json5_ser.specs.Out.{out, line, piece}
-use Rattle.json5_ser.proofs.OutputsJoined.{Reaches-first}
-use Rattle.json5_ser.proofs.ShortWritesJoined.{Puts-as, Puts-stop, Reaches-end}
-use Rattle.json5_ser.proofs.Commas.{comma_before_then, tree_put}
+use Rattle.json5_write.specs.Commas.{comma_before}
+use Rattle.json5_write.specs.Out.{out, line, piece}
+use Rattle.json5_write.proofs.OutputsJoined.{Reaches-first}
+use Rattle.json5_write.proofs.ShortWritesJoined.{Puts-as, Puts-stop, Reaches-end}
+use Rattle.json5_write.proofs.Commas.{comma_before_then, tree_put}
 use Rattle.json5_ser.proofs.lists.put_item.Goals as goal
 
 pub returns-in_err-start_line : goal.returns-in_err-start_line

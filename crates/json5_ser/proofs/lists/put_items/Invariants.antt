@@ -1,7 +1,7 @@
 use Rattle.std.proofs.Common.{drop}
-use Rattle.json5_ser.specs.WrittenTrees.{array, elements_of}
-use Rattle.json5_ser.specs.Out.{out}
-use Rattle.json5_ser.proofs.Commas.{Left, elements_left}
+use Rattle.json5_write.specs.WrittenTrees.{array, elements_of}
+use Rattle.json5_write.specs.Out.{out}
+use Rattle.json5_write.proofs.Commas.{Left, elements_left}
 use Rattle.json5_ser.proofs.lists.put_items.Given as goal
 
 abbrev pub invariant-loop-item : goal.invariant-loop-item

@@ -1,18 +1,17 @@
-use Rattle.std.proofs.Common.{rules, string_bytes, Some, ap, refl, ◌∙◌}
-use Rattle.json5_ser.proofs.TextsWhole.{whole_text, whole_utf8}
-use Rattle.json5_ser.proofs.WrittenDepths.{text_document}
+use Rattle.std.proofs.Common.{Some, ap, refl, ◌∙◌}
+use Rattle.json5_write.proofs.TextsWhole.{put_utf8, text_returned, refusal_returned}
+use Rattle.json5_write.proofs.WrittenDepths.{text_documents}
 use Rattle.json5_ser.proofs.whole_output.to_string_within.Goals as goal
 
-pub from_utf8_unchecked-requires : goal.from_utf8_unchecked-requires
-from_utf8_unchecked-requires g c = whole_utf8 _ _ _ c.into_bytes-bytes.result.items (rw c.within-ser.ensures at c.in-Ok.ensures) (rw c.new.ensures refl) (ap Some c.into_bytes-bytes.ensures ∙ c.into_inner.ensures)
+pub text_of-requires : goal.text_of-requires
+text_of-requires g c = put_utf8 _ _ _ c.into_bytes.result.items _ (rw c.within-ser.ensures at c.put-printed.ensures) (rw c.new.ensures refl) (ap Some c.into_bytes.ensures ∙ c.into_inner.ensures)
 
-pub returns-in-Ok-clause-whole : goal.returns-in-Ok-clause-whole
-returns-in-Ok-clause-whole g c =
-    let wrote = rw c.within-ser.ensures at c.in-Ok.ensures in
-    whole_text _ _ _ c.into_bytes-bytes.result.items (string_bytes c.from_utf8_unchecked.result) wrote (rw c.new.ensures refl) (ap Some c.into_bytes-bytes.ensures ∙ c.into_inner.ensures) (ap (λ v. v.items) c.from_utf8_unchecked.ensures.value)
+pub returns-clause-whole : goal.returns-clause-whole
+returns-clause-whole g c =
+    text_returned _ _ _ c.into_bytes.result.items _ _ (rw c.within-ser.ensures at c.put-printed.ensures) (rw c.new.ensures refl) (ap Some c.into_bytes.ensures ∙ c.into_inner.ensures) c.text_of.ensures.text
 
-pub returns-in-Ok-clause-reads_back : goal.returns-in-Ok-clause-reads_back
-returns-in-Ok-clause-reads_back g c = text_document c.args.limit (g.T.Serialize.tree c.args.value.now) (string_bytes c.from_utf8_unchecked.result) (returns-in-Ok-clause-whole g c)
+pub returns-clause-refused : goal.returns-clause-refused
+returns-clause-refused g c = refusal_returned _ _ _ _ _ refl (rw c.within-ser.ensures at c.put-printed.ensures) c.text_of.ensures.refused
 
-pub returns-in-Err-clause-refused : goal.returns-in-Err-clause-refused
-returns-in-Err-clause-refused g c = search rules
+pub returns-clause-reads_back : goal.returns-clause-reads_back
+returns-clause-reads_back g c = text_documents c.args.limit (g.T.Serialize.tree c.args.value.now) _ (returns-clause-whole g c)

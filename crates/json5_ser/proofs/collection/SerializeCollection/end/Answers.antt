@@ -1,5 +1,5 @@
 use Rattle.json5_ser.specs.WrittenCollections.{state_of, in_variant}
-use Rattle.json5_ser.proofs.OutputsJoined.{Writes-handed}
+use Rattle.json5_write.proofs.OutputsJoined.{Writes-handed}
 use Rattle.json5_ser.proofs.RemainingOutput.{end_refused, end_in_variant}
 use Rattle.json5_ser.proofs.collection.SerializeCollection.end.Goals as goal
 

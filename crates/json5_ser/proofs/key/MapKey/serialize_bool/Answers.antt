@@ -1,5 +1,5 @@
 use Rattle.std.proofs.Common.{subst}
-use Rattle.json5_ser.specs.WrittenTrees.{named}
+use Rattle.json5_write.specs.WrittenTrees.{named}
 use Rattle.json5_ser.specs.KeyLending.{serializer_of_key}
 use Rattle.json5_ser.specs.WrittenKeys.{WritesKey}
 use Rattle.json5_ser.proofs.key.MapKey.serialize_bool.Goals as goal

@@ -1,9 +1,9 @@
 use Rattle.std.proofs.Common.{ap, ◌∙◌, subst, rules}
 use Rattle.std.specs.Str.{chars}
-use Rattle.json5_ser.specs.WrittenTrees.{named}
+use Rattle.json5_write.specs.WrittenTrees.{named}
 use Rattle.json5_ser.specs.KeyLending.{serializer_of_key}
 use Rattle.json5_ser.specs.WrittenKeys.{WritesKey}
-use Rattle.json5_ser.proofs.EscapesSplit.{one_char}
+use Rattle.json5_write.proofs.EscapesSplit.{one_char}
 use Rattle.json5_ser.proofs.key.MapKey.serialize_char.Goals as goal
 
 pub returns : goal.returns

@@ -1,6 +1,6 @@
-use Rattle.json5_ser.specs.WrittenTrees.{object, fields_of}
-use Rattle.json5_ser.specs.Out.{out}
-use Rattle.json5_ser.proofs.Commas.{Left, fields_left}
+use Rattle.json5_write.specs.WrittenTrees.{object, fields_of}
+use Rattle.json5_write.specs.Out.{out}
+use Rattle.json5_write.proofs.Commas.{Left, fields_left}
 use Rattle.json5_ser.proofs.maps.BTreeMapSerialize.serialize.Given as goal
 
 abbrev pub invariant-loop-key : goal.invariant-loop-key

@@ -1,8 +1,8 @@
 use Rattle.std.proofs.Common.{sym, subst}
-use Rattle.json5_ser.specs.Out.{out, key_part, value_part}
-use Rattle.json5_ser.specs.Writes.{Writes}
-use Rattle.json5_ser.proofs.OutputsJoined.{Reaches-first, Reaches-last}
-use Rattle.json5_ser.proofs.ShortWritesJoined.{Writes-returned, wrote_whole}
+use Rattle.json5_write.specs.Out.{out, key_part, value_part}
+use Rattle.json5_write.specs.Writes.{Writes}
+use Rattle.json5_write.proofs.OutputsJoined.{Reaches-first, Reaches-last}
+use Rattle.json5_write.proofs.ShortWritesJoined.{Writes-returned, wrote_whole}
 use Rattle.json5_ser.proofs.serializer.Serializer.entry.Goals as goal
 
 pub returns-then-is_err : goal.returns-then-is_err

@@ -1,10 +1,10 @@
 use Rattle.std.proofs.Common.{subst}
 use Rattle.std.specs.Str.{chars}
-use Rattle.json5_ser.specs.Out.{out, key_part, value_part}
-use Rattle.json5_ser.specs.WrittenTrees.{named}
-use Rattle.json5_ser.specs.Writes.{Writes}
-use Rattle.json5_ser.proofs.OutputsJoined.{Reaches-first, Reaches-last}
-use Rattle.json5_ser.proofs.ShortWritesJoined.{Puts-exit}
+use Rattle.json5_write.specs.Out.{out, key_part, value_part}
+use Rattle.json5_write.specs.WrittenTrees.{named}
+use Rattle.json5_write.specs.Writes.{Writes}
+use Rattle.json5_write.proofs.OutputsJoined.{Reaches-first, Reaches-last}
+use Rattle.json5_write.proofs.ShortWritesJoined.{Puts-exit}
 use Rattle.json5_ser.proofs.serializer.Serializer.field.Goals as goal
 
 pub returns-in_err-field_name : goal.returns-in_err-field_name

@@ -1,8 +1,8 @@
 use Rattle.std.specs.Str.{chars}
-use Rattle.json5_ser.specs.Out.{line, piece, key_out}
-use Rattle.json5_ser.specs.WrittenTrees.{named}
-use Rattle.json5_ser.proofs.OutputsJoined.{Reaches-first}
-use Rattle.json5_ser.proofs.ShortWritesJoined.{Puts-stop, Reaches-end}
+use Rattle.json5_write.specs.Out.{line, piece, key_out}
+use Rattle.json5_write.specs.WrittenTrees.{named}
+use Rattle.json5_write.proofs.OutputsJoined.{Reaches-first}
+use Rattle.json5_write.proofs.ShortWritesJoined.{Puts-stop, Reaches-end}
 use Rattle.json5_ser.proofs.serializer.Serializer.field_name.Goals as goal
 
 pub returns-in_err-start_line : goal.returns-in_err-start_line

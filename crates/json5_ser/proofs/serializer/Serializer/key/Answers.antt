@@ -1,6 +1,6 @@
-use Rattle.json5_ser.specs.Out.{line, piece, key_out}
-use Rattle.json5_ser.proofs.OutputsJoined.{Reaches-first, Reaches-last}
-use Rattle.json5_ser.proofs.ShortWritesJoined.{Puts-exit}
+use Rattle.json5_write.specs.Out.{line, piece, key_out}
+use Rattle.json5_write.proofs.OutputsJoined.{Reaches-first, Reaches-last}
+use Rattle.json5_write.proofs.ShortWritesJoined.{Puts-exit}
 use Rattle.json5_ser.proofs.serializer.Serializer.key.Goals as goal
 
 pub returns-in_err-start_line : goal.returns-in_err-start_line

@@ -1,7 +1,7 @@
 use Rattle.std.proofs.Common.{sym, ap, ◌∙◌}
 use Rattle.hex.specs.Hex.{encode_lower}
-use Rattle.json5_ser.specs.Out.{piece}
-use Rattle.json5_ser.proofs.OutputsJoined.{Writes-as}
+use Rattle.json5_write.specs.Out.{piece}
+use Rattle.json5_write.proofs.OutputsJoined.{Writes-as}
 use Rattle.json5_ser.proofs.SpelledKeys.{bare_name, quoted_name}
 use Rattle.json5_ser.proofs.serializer.Serializer.put_bytes_name.Goals as goal
 

@@ -1,9 +1,9 @@
 use Rattle.std.proofs.Common.{[], ◌∷◌, ap, ◌∙◌, sym}
 use Rattle.json5_grammar.specs.Written.NumberText.{decimal_text}
-use Rattle.json5_ser.specs.Out.{piece, ◌then◌}
-use Rattle.json5_ser.proofs.OutputsJoined.{Writes-as, Writes-exit, Reaches-first, Reaches-next, Reaches-exit, Reaches-last}
-use Rattle.json5_ser.proofs.PiecesWritten.{chars_double_quote}
-use Rattle.json5_ser.proofs.WritableNumbers.{Writes-decimal, decimal_wrote, decimal_refused}
+use Rattle.json5_write.specs.Out.{piece, ◌then◌}
+use Rattle.json5_write.proofs.OutputsJoined.{Writes-as, Writes-exit, Reaches-first, Reaches-next, Reaches-exit, Reaches-last}
+use Rattle.json5_write.proofs.PiecesWritten.{chars_double_quote}
+use Rattle.json5_write.proofs.WritableNumbers.{Writes-decimal, decimal_wrote, decimal_refused}
 use Rattle.json5_ser.proofs.SpelledKeys.{bare_key, quoted_key}
 use Rattle.json5_ser.proofs.serializer.Serializer.put_decimal_name.Goals as goal
 

@@ -1,7 +1,7 @@
 use Rattle.std.proofs.Common.{◌∙◌, subst}
-use Rattle.json5_ser.specs.WrittenTrees.{named}
+use Rattle.json5_write.specs.WrittenTrees.{named}
 use Rattle.json5_ser.specs.WrittenKeys.{WritesKey}
-use Rattle.json5_ser.proofs.PiecesWritten.{chars_number}
+use Rattle.json5_write.proofs.PiecesWritten.{chars_number}
 use Rattle.json5_ser.proofs.serializer.Serializer.put_digits.Goals as goal
 
 pub returns : goal.returns

@@ -2,8 +2,8 @@ use Rattle.std.proofs.Common.{rules, ◌≡◌, sym, ◌∙◌, subst}
 use Rattle.std.specs.Str.{IsUtf8}
 use Rattle.std.specs.Slice.Iter.{chunks_rest}
 use Rattle.hex.specs.Hex.{encode_lower}
-use Rattle.json5_ser.specs.Out.{piece}
-use Rattle.json5_ser.proofs.OutputsJoined.{Reaches, Reaches-none}
+use Rattle.json5_write.specs.Out.{piece}
+use Rattle.json5_write.proofs.OutputsJoined.{Reaches, Reaches-none}
 use Rattle.json5_ser.proofs.HexPieces.{hex_utf8, decodes, digits_next, digits_exit, digits_all}
 use Rattle.json5_ser.proofs.serializer.Serializer.put_digits_of.Goals as goal
 

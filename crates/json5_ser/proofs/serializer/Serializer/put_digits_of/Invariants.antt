@@ -1,8 +1,8 @@
 use Rattle.std.proofs.Common.{◌≡◌, false}
 use Rattle.std.specs.Slice.Iter.{chunks_rest, chunks_size}
 use Rattle.hex.specs.Hex.{encode_lower}
-use Rattle.json5_ser.specs.Out.{piece}
-use Rattle.json5_ser.proofs.OutputsJoined.{Reaches}
+use Rattle.json5_write.specs.Out.{piece}
+use Rattle.json5_write.proofs.OutputsJoined.{Reaches}
 use Rattle.json5_ser.proofs.serializer.Serializer.put_digits_of.Given as goal
 
 abbrev pub invariant-loop-chunk : goal.invariant-loop-chunk

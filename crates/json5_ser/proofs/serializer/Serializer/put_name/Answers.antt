@@ -1,4 +1,4 @@
-use Rattle.json5_ser.proofs.ShortWritesJoined.{Puts-handed}
+use Rattle.json5_write.proofs.ShortWritesJoined.{Puts-handed}
 use Rattle.json5_ser.proofs.serializer.Serializer.put_name.Goals as goal
 
 pub returns-in_err-put_key : goal.returns-in_err-put_key

@@ -1,5 +1,5 @@
 use Rattle.std.proofs.Common.{rules}
-use Rattle.json5_ser.proofs.PiecesWritten.{chars_true, chars_false}
+use Rattle.json5_write.proofs.PiecesWritten.{chars_true, chars_false}
 use Rattle.json5_ser.proofs.serializer.Serializer.serialize_bool.Goals as goal
 
 pub returns-then-value : goal.returns-then-value

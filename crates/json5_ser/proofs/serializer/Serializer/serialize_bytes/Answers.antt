@@ -1,8 +1,8 @@
 use Rattle.std.proofs.Common.{[], ◌∷◌, ap}
 use Rattle.hex.specs.Hex.{encode_lower}
-use Rattle.json5_ser.specs.Out.{piece, ◌then◌}
-use Rattle.json5_ser.proofs.OutputsJoined.{Writes-as, Writes-exit, Reaches-first, Reaches-next, Reaches-exit, Reaches-last}
-use Rattle.json5_ser.proofs.PiecesWritten.{chars_double_quote}
+use Rattle.json5_write.specs.Out.{piece, ◌then◌}
+use Rattle.json5_write.proofs.OutputsJoined.{Writes-as, Writes-exit, Reaches-first, Reaches-next, Reaches-exit, Reaches-last}
+use Rattle.json5_write.proofs.PiecesWritten.{chars_double_quote}
 use Rattle.json5_ser.proofs.HexPieces.{fits_bytes, hex_quoted}
 use Rattle.json5_ser.proofs.serializer.Serializer.serialize_bytes.Goals as goal
 

@@ -1,9 +1,9 @@
 use Rattle.std.proofs.Common.{ap, ◌∙◌, subst}
 use Rattle.std.specs.Str.{chars}
 use Rattle.json5_grammar.specs.Written.Quoting.{quoted_text}
-use Rattle.json5_ser.specs.Out.{piece}
-use Rattle.json5_ser.specs.Writes.{Writes}
-use Rattle.json5_ser.proofs.EscapesSplit.{one_char}
+use Rattle.json5_write.specs.Out.{piece}
+use Rattle.json5_write.specs.Writes.{Writes}
+use Rattle.json5_write.proofs.EscapesSplit.{one_char}
 use Rattle.json5_ser.proofs.serializer.Serializer.serialize_char.Goals as goal
 
 pub returns : goal.returns

@@ -1,4 +1,4 @@
-use Rattle.json5_ser.proofs.ShortWritesJoined.{Puts-handed}
+use Rattle.json5_write.proofs.ShortWritesJoined.{Puts-handed}
 use Rattle.json5_ser.proofs.serializer.Serializer.serialize_decimal.Goals as goal
 
 pub returns-in_err-put_decimal : goal.returns-in_err-put_decimal

@@ -1,6 +1,6 @@
 use mir.Syntax.{w128}
 use Rattle.std.proofs.lemmas.Int.{to_z-of_z}
-use Rattle.json5_ser.proofs.ShortWritesJoined.{Puts-handed}
+use Rattle.json5_write.proofs.ShortWritesJoined.{Puts-handed}
 use Rattle.json5_ser.proofs.serializer.Serializer.serialize_i128.Goals as goal
 
 pub returns-in_err-put_signed : goal.returns-in_err-put_signed

@@ -1,6 +1,6 @@
 use Rattle.std.proofs.Common.{rules}
 use Rattle.std.specs.Str.{chars}
-use Rattle.json5_ser.specs.WrittenTrees.{field, no_field, named}
+use Rattle.json5_write.specs.WrittenTrees.{field, no_field, named}
 use Rattle.json5_ser.proofs.CollectionsWritten.{object_refused, object_begun, field_on, field_refused, object_ended}
 use Rattle.json5_ser.proofs.serializer.Serializer.serialize_newtype_variant.Goals as goal
 

@@ -1,5 +1,5 @@
 use Rattle.std.proofs.Common.{rules}
-use Rattle.json5_ser.specs.WrittenTrees.{element, no_element}
+use Rattle.json5_write.specs.WrittenTrees.{element, no_element}
 use Rattle.json5_ser.proofs.CollectionsWritten.{list_refused, list_begun, element_on, element_refused, list_ended}
 use Rattle.json5_ser.proofs.tuples.Tuple1Serialize.serialize.Goals as goal
 

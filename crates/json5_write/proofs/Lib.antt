@@ -1,0 +1,20 @@
+-- Lists the lemmas about writing.
+pub mod OutputsJoined
+pub mod PiecesWritten
+pub mod ShortWritesJoined
+pub mod TextsWhole
+pub mod QuotesFound
+pub mod EscapesSplit
+pub mod EscapeFreeRuns
+pub mod DecimalPieces
+pub mod Unmarked
+pub mod ReadBack
+pub mod WrittenDepths
+pub mod ReadTreesWritable
+pub mod ValueTexts
+pub mod WritableNumbers
+pub mod LineStarts
+pub mod NamesFound
+pub mod Commas
+pub mod CopiesJoined
+pub mod ValuesInside

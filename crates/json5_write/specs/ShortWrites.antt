@@ -1,0 +1,40 @@
+-- What a call does that writes pieces or a value, and returns a small value.
+use Rattle.std.specs.Prelude.{◌≡◌, None, Result, Ok, Err, ⊤}
+use Rattle.json5_grammar.specs.declared.error_code.ErrorCode.TheVariants as codes
+use Rattle.json5_types.specs.declared.error.Error.{Error}
+use Rattle.json5_types.specs.Errors.{FaultKind, code, failed_write, kind_of, SaysAt}
+use Rattle.json5_write.specs.WrittenTrees.{Written}
+use Rattle.json5_write.specs.Out.{Out, out}
+use Rattle.json5_write.specs.Writes.{SerializerState, Wrote, Refusal, by_key, by_writer, by_refusal, by_depth, by_none, refusal_of, RefusesBy}
+use Rattle.json5_write.specs.declared.refusal.Refused.{Refused}
+use Rattle.json5_write.specs.declared.refusal.Refused.TheVariants as refused
+
+-- the refusal that it names
+abbrev pub refusal_by : Refused → Refusal
+refusal_by refused.Before = by_refusal
+refusal_by refused.ByWriter = by_writer
+refusal_by refused.TooDeep = by_depth
+refusal_by refused.Key = by_key
+
+-- the output was written, or refused so
+abbrev pub Puts : Out → SerializerState → Result ⊤ Refused → SerializerState → Type 0
+Puts o old (Ok x) new = Wrote o old new
+Puts o old (Err r) new = RefusesBy o old (refusal_by r) new
+
+-- it says what a call of a serializer is refused for
+abbrev pub IsOfWriting : Error → Type 0
+IsOfWriting e = refusal_of (kind_of e) ≡ by_none → ⊥
+
+-- what a call did that has this tree to write, within the brackets that are open
+abbrev pub PutsTree : Written → SerializerState → Result ⊤ Refused → SerializerState → Type 0
+PutsTree t old result new = Puts (out old.limit t old.depth) old result new
+
+-- what its error says
+abbrev pub kind_by : Refused → FaultKind
+kind_by refused.Before = code codes.Failed
+kind_by refused.ByWriter = failed_write
+kind_by refused.TooDeep = code codes.TooDeep
+kind_by refused.Key = code codes.InvalidKey
+
+abbrev pub MakesError : Refused → Error → Type 0
+MakesError r e = SaysAt (kind_by r) None e

@@ -1,0 +1,49 @@
+//! Copies into a row of bytes.
+
+ghost use Rattle.std.specs.Prelude.{◌+◌, ◌≤◌, length, take};
+ghost use Rattle.json5_write.specs.Copies.{Copied};
+
+use std::simd::Simd;
+
+/// Copies the first N bytes, with one load and one store.
+#[inline(always)]
+fn copy_front<const N: usize>(row: &mut [u8], at: usize, text: &[u8])
+    requires { (N ≤ length text.now) × (at + N ≤ length row.old) }
+    ensures { Copied row.old row.new at (take N text.now) (at + N) }
+{
+    Simd::<u8, N>::from_slice(text).copy_to_slice(&mut row[at..]);
+}
+
+/// Copies the first N bytes and the last N, which overlap.
+#[inline(always)]
+fn copy_ends<const N: usize>(row: &mut [u8], at: usize, text: &[u8])
+    requires fits { at + length text.now ≤ length row.old }
+    requires covers { (N ≤ length text.now) × (length text.now ≤ N + N) }
+    ensures { Copied row.old row.new at text.now (at + length text.now) }
+{
+    let last = text.len() - N;
+    copy_front::<N>(row, at, text);
+    copy_front::<N>(row, at + last, &text[last..]);
+}
+
+/// Copies the bytes to this place.
+#[inline(always)]
+pub(crate) fn copy_to(row: &mut [u8], at: usize, text: &[u8])
+    requires { at + length text.now ≤ length row.old }
+    ensures { Copied row.old row.new at text.now (at + length text.now) }
+{
+    let len = text.len();
+    if len > 32 {
+        row[at..at + len].copy_from_slice(text);
+    } else if len >= 16 {
+        copy_ends::<16>(row, at, text);
+    } else if len >= 8 {
+        copy_ends::<8>(row, at, text);
+    } else if len >= 4 {
+        copy_ends::<4>(row, at, text);
+    } else if len >= 2 {
+        copy_ends::<2>(row, at, text);
+    } else if len == 1 {
+        row[at] = text[0];
+    }
+}

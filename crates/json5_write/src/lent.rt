@@ -1,0 +1,24 @@
+//! A writer that is lent.
+
+ghost use Rattle.json5_write.specs.ReferencedWriters.{named};
+
+use std::io;
+use std::io::Write;
+
+/// A writer that is lent. Its bytes begin with the name of the reference, so that a proof knows which writer they are of.
+#[derive(Drop)]
+pub struct Lent<'a, W: Write> {
+    pub writer: &'a mut W,
+}
+
+impl<W: Write> Write for Lent<'_, W> {
+    ghost contents = { λ s. named s.writer.ghost_name (W.contents s.writer.now) };
+
+    fn write(&mut self, buf: &[u8]) -> io::Result<usize> {
+        self.writer.write(buf)
+    }
+
+    fn flush(&mut self) -> io::Result<()> {
+        self.writer.flush()
+    }
+}

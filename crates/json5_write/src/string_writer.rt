@@ -1,0 +1,84 @@
+//! The writer of a string.
+
+ghost use Rattle.std.specs.Prelude.{◌≡◌, ◌+◌, ◌≤◌, [], Some, take, vec_len, OnOk};
+
+use crate::byte_copies::copy_to;
+use std::alloc::{AllocError, Global};
+use std::io::{self, ErrorKind, Write};
+use std::marker::Model;
+
+static ZEROS: [u8; 4096] = [0; 4096];
+
+/// Text that grows in memory. What was written is in front, and zeros follow it, so that a piece is stored with one test of the room.
+#[derive(Drop)]
+pub struct StringWriter {
+    bytes: Vec<u8>,
+    len: usize,
+}
+
+impl Model for StringWriter {
+    ghost use Rattle.std.specs.Prelude.{ℕ, List, ◌≤◌, take, length};
+
+    ghost Value = { List ℕ };
+
+    ghost view = { λ s. take s.len s.bytes.items };
+
+    ghost invariant = { λ s. s.len ≤ length s.bytes.items };
+}
+
+impl StringWriter {
+    /// A writer of an empty text, which takes no memory yet.
+    pub fn new(alloc: Global) -> StringWriter
+        ensures { result ≡ [] }
+    {
+        StringWriter {
+            bytes: Vec::new(alloc),
+            len: 0,
+        }
+    }
+
+    /// What was written.
+    pub fn into_bytes(self) -> Vec<u8>
+        ensures { result.items ≡ self }
+    {
+        let StringWriter { mut bytes, len } = self;
+        bytes.truncate(len);
+        bytes
+    }
+}
+
+/// Adds zeros, at least so many.
+#[cold]
+#[inline(never)]
+fn add_zeros(bytes: &mut Vec<u8>, count: usize) -> Result<(), AllocError>
+    ensures same { take (vec_len bytes.old) bytes.new.items ≡ bytes.old.items }
+    ensures room { OnOk result (vec_len bytes.old + count ≤ vec_len bytes.new) }
+{
+    bytes.reserve(count)?;
+    let end = bytes.len() + count;
+    while bytes.len() < end {
+        let step = ZEROS.len().min(bytes.capacity() - bytes.len());
+        bytes.extend_from_slice(&ZEROS[..step])?;
+    }
+    Ok(())
+}
+
+impl Write for StringWriter {
+    ghost contents = { λ s. Some s };
+
+    #[inline(always)]
+    fn write(&mut self, buf: &[u8]) -> io::Result<usize> {
+        let room = self.bytes.len() - self.len;
+        if room < buf.len() && add_zeros(&mut self.bytes, buf.len() - room).is_err() {
+            return Err(io::Error::from(ErrorKind::OutOfMemory));
+        }
+        copy_to(&mut self.bytes, self.len, buf);
+        self.len += buf.len();
+        Ok(buf.len())
+    }
+
+    /// Does nothing, since no bytes wait.
+    fn flush(&mut self) -> io::Result<()> {
+        Ok(())
+    }
+}
