@@ -4,20 +4,20 @@ use Rattle.std.specs.declared.alloc.Global.{Global}
 use Rattle.std.specs.Prelude.{String, string_bytes, ◌==◌}
 use Rattle.json5_formatter.specs.declared.work.Work.{Work}
 use Rattle.json5_formatter.specs.ProgramRuns.{AnswersStream, Answers, of_stream, of_files}
-use Rattle.json5_formatter.specs.Files.{WorksThrough}
+use Rattle.json5_formatter.specs.Files.{Opening, WorksThrough}
 use Rattle.json5_formatter.specs.CommandWords.{work_word, IsRequest}
 
-pub without_words : (input output errors written said : Option (List ℕ)) (list : List (String Global)) (n : ℕ) → length list ≡ 0
-    → AnswersStream input output written errors said n → Answers input output errors list written said n
-without_words input output errors written said [] n h k = of_stream k
-without_words input output errors written said (x ∷ xs) n h k = absurd (omega (arith, h))
+pub without_words : (opens : List ℕ → Opening) (input output errors written said : Option (List ℕ)) (list : List (String Global)) (n : ℕ) → length list ≡ 0
+    → AnswersStream input output written errors said n → Answers opens input output errors list written said n
+without_words opens input output errors written said [] n h k = of_stream k
+without_words opens input output errors written said (x ∷ xs) n h k = absurd (omega (arith, h))
 
-pub with_files : (input output errors written said : Option (List ℕ)) (list names : List (String Global)) (word : String Global) (w : Work) (text : List ℕ) (n : ℕ)
+pub with_files : (opens : List ℕ → Opening) (input output errors written said : Option (List ℕ)) (list names : List (String Global)) (word : String Global) (w : Work) (text : List ℕ) (n : ℕ)
     → list ≡ word ∷ names → text ≡ string_bytes word → text ≡ work_word w → false ≡ (length names == 0)
-    → WorksThrough w output errors names written said n → Answers input output errors list written said n
-with_files input output errors written said list [] word w text n is value work some k = absurd (cc)
-with_files input output errors written said list (name ∷ names) word w text n is value work some k =
-    subst (λ l. Answers input output errors l written said n) (sym is) (of_files w word name names (sym value ∙ work) k)
+    → WorksThrough opens w output errors names written said n → Answers opens input output errors list written said n
+with_files opens input output errors written said list [] word w text n is value work some k = absurd (cc)
+with_files opens input output errors written said list (name ∷ names) word w text n is value work some k =
+    subst (λ l. Answers opens input output errors l written said n) (sym is) (of_files w word name names (sym value ∙ work) k)
 
 -- ---- words that ask for nothing
 

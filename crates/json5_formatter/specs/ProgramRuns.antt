@@ -6,7 +6,7 @@ use Rattle.json5_write.specs.Pieces.{AppendsFront}
 use Rattle.json5_formatter.specs.declared.failure.Failure.{Failure}
 use Rattle.json5_formatter.specs.declared.work.Work.{Work}
 use Rattle.json5_formatter.specs.Failures.{NamesMemory}
-use Rattle.json5_formatter.specs.Files.{WorksThrough}
+use Rattle.json5_formatter.specs.Files.{Opening, WorksThrough}
 use Rattle.json5_formatter.specs.Reports.{report_line, status_of, usage_line}
 use Rattle.json5_formatter.specs.Runs.{RunFailure, WritesFormatted}
 use Rattle.json5_formatter.specs.CommandWords.{work_word, IsRequest}
@@ -20,13 +20,13 @@ pub data AnswersStream (input output written errors : Option (List ℕ)) : Optio
       → AppendsFront errors said (report_line (codes "stdin") s) → AnswersStream input output written errors said (status_of s)
 
 -- the words, what was read, what output and errors held before and after, and the status
-pub data Answers (input output errors : Option (List ℕ)) : List (String Global) → Option (List ℕ) → Option (List ℕ) → ℕ → Type 0 where
+pub data Answers (opens : List ℕ → Opening) (input output errors : Option (List ℕ)) : List (String Global) → Option (List ℕ) → Option (List ℕ) → ℕ → Type 0 where
   -- there are no words
   of_stream : {written said : Option (List ℕ)} {status : ℕ} → AnswersStream input output written errors said status
-      → Answers input output errors [] written said status
+      → Answers opens input output errors [] written said status
   -- there are a work and files
   of_files : {written said : Option (List ℕ)} {status : ℕ} (w : Work) (word name : String Global) (names : List (String Global)) → string_bytes word ≡ work_word w
-      → WorksThrough w output errors (name ∷ names) written said status → Answers input output errors (word ∷ name ∷ names) written said status
+      → WorksThrough opens w output errors (name ∷ names) written said status → Answers opens input output errors (word ∷ name ∷ names) written said status
   -- it said how it is called
   says_usage : {list : List (String Global)} {said : Option (List ℕ)} → ¬ (IsRequest list) → AppendsFront errors said usage_line
-      → Answers input output errors list output said 2
+      → Answers opens input output errors list output said 2

@@ -2,26 +2,25 @@
 
 ghost use Rattle.json5_formatter.specs.Files.{WorksOn, WorksThrough};
 
+use crate::disk::Disk;
 use crate::failure::Failure;
 use crate::reports::report;
 use crate::streams::{check, run};
 use crate::work::Work;
 use std::alloc::Global;
-use std::fs;
 use std::io::Write;
-use std::rt::Files;
 
 /// Does the work on each file in turn, and writes to `e` why it failed on one. A failed write to `w` ends it; nothing else
 /// does. Returns the greatest status that was met, else 0.
-pub fn work_through<F: Files, W: Write, E: Write>(
-    disk: &F,
+pub fn work_through<D: Disk, W: Write, E: Write>(
+    disk: &D,
     alloc: Global,
     work: Work,
     names: &[String],
     w: &mut W,
     e: &mut E,
 ) -> u8
-    ensures { WorksThrough work (W.contents w.old) (E.contents e.old) names.now (W.contents w.new) (E.contents e.new) result }
+    ensures { WorksThrough (D.opens disk.now) work (W.contents w.old) (E.contents e.old) names.now (W.contents w.new) (E.contents e.new) result }
 {
     let mut status: u8 = 0;
     for name in names {
@@ -37,16 +36,16 @@ pub fn work_through<F: Files, W: Write, E: Write>(
 }
 
 /// Does the work on one file.
-fn work_on<F: Files, W: Write>(
-    disk: &F,
+fn work_on<D: Disk, W: Write>(
+    disk: &D,
     alloc: Global,
     work: Work,
     name: &str,
     w: &mut W,
 ) -> Result<(), Failure>
-    ensures { WorksOn work (W.contents w.old) (W.contents w.new) result }
+    ensures { WorksOn (D.opens disk.now name.now) work (W.contents w.old) (W.contents w.new) result }
 {
-    let Ok(mut file) = fs::open(disk, name) else {
+    let Ok(mut file) = disk.open(name) else {
         return Err(Failure::Read);
     };
     match work {

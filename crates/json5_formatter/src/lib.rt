@@ -5,6 +5,7 @@
 //! refused, 2 for anything else.
 #![tactic(auto)]
 
+mod disk;
 mod failure;
 #[cfg(test)]
 mod file_tests;
@@ -19,6 +20,7 @@ mod tests;
 mod work;
 mod write_texts;
 
+pub use disk::Disk;
 pub use failure::Failure;
 pub use files::work_through;
 pub use host_program::{program, words};

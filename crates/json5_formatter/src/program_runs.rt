@@ -2,25 +2,25 @@
 
 ghost use Rattle.json5_formatter.specs.ProgramRuns.{Answers, AnswersStream};
 
+use crate::disk::Disk;
 use crate::files::work_through;
 use crate::reports::{report, usage};
 use crate::streams::run;
 use crate::work::Work;
 use std::alloc::Global;
 use std::io::{Read, Write};
-use std::rt::Files;
 
 /// Does what the words ask for: without words it formats `r` to `w`; with a work and files it does the work on each of them;
 /// any other words are answered with the usage line. Returns the status that the program ends with.
-pub fn answer<F: Files, R: Read, W: Write, E: Write>(
-    disk: &F,
+pub fn answer<D: Disk, R: Read, W: Write, E: Write>(
+    disk: &D,
     alloc: Global,
     list: &[String],
     r: &mut R,
     w: &mut W,
     e: &mut E,
 ) -> u8
-    ensures { Answers (R.remaining r.old) (W.contents w.old) (E.contents e.old) list.now (W.contents w.new) (E.contents e.new) result }
+    ensures { Answers (D.opens disk.now) (R.remaining r.old) (W.contents w.old) (E.contents e.old) list.now (W.contents w.new) (E.contents e.new) result }
 {
     let Some((word, names)) = list.split_first() else {
         return answer_stream(alloc, r, w, e);

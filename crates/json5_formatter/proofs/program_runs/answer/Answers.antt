@@ -5,11 +5,11 @@ use Rattle.json5_formatter.proofs.program_runs.answer.Goals as goal
 use Rattle.json5_formatter.proofs.program_runs.answer.Goals.{in_default-named-via-in-Some-named+else-not-is_empty, in_default-named-via-in_default-named}
 
 pub returns-in_default : goal.returns-in_default
-returns-in_default g c = without_words _ _ _ _ _ c.args.list.now c.answer_stream.result c.in_default.ensures.cases c.answer_stream.ensures
+returns-in_default g c = without_words _ _ _ _ _ _ c.args.list.now c.answer_stream.result c.in_default.ensures.cases c.answer_stream.ensures
 
 pub returns-in-Some-named : goal.returns-in-Some-named
 returns-in-Some-named g c =
-    with_files _ _ _ _ _ c.args.list.now c.in-Some.names.now c.in-Some.word.now c.in-Some-named.work c.as_str.result.now c.work_through.result
+    with_files _ _ _ _ _ _ c.args.list.now c.in-Some.names.now c.in-Some.word.now c.in-Some-named.work c.as_str.result.now c.work_through.result
     c.in-Some.ensures.cases.0 c.as_str.ensures.value c.in-Some-named.ensures c.if-not-is_empty.ensures c.work_through.ensures
 
 pub returns-in_default-named : goal.returns-in_default-named
