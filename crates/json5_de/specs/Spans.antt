@@ -1,5 +1,5 @@
 -- The offsets of a value that was read.
-use Rattle.std.specs.Prelude.{◌≡◌, ◌⊎◌, ℕ, ◌++◌, false, List, length}
+use Rattle.std.specs.Prelude.{◌≡◌, ◌⊎◌, ℕ, ◌++◌, true, false, List, length}
 use Rattle.std.specs.Str.{encode_utf8_all}
 use Rattle.json5_types.specs.declared.error.Error.{Error}
 use Rattle.json5_text.specs.Cursor.{Refused}
@@ -18,6 +18,6 @@ pub record SpansValue (old : State) (start end : ℕ) (new : State) : Type 0 whe
   pub starts : IsBefore at start
   pub ends : IsBefore new end
 
--- a comment before the value is at fault, or T refuses after the blanks
+-- a comment before the value is at fault, or T refuses after the blanks; then the reader has failed
 abbrev pub RefusesSpanned : (State → Error → State → Type 0) → State → Error → State → Type 0
-RefusesSpanned refuses old e new = old.failed ≡ false → Refused FaultyBlanks (cursor_of old) e ⊎ ((at : State) × PassedGap old at × refuses at e new)
+RefusesSpanned refuses old e new = old.failed ≡ false → Refused FaultyBlanks (cursor_of old) e ⊎ ((at : State) × (after : State) × PassedGap old at × refuses at e after × (new ≡ record after { failed = true }))

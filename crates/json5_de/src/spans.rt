@@ -3,6 +3,7 @@
 ghost use Rattle.std.specs.Prelude.{IfOk};
 ghost use Rattle.json5_de.specs.Refinement.{ReadsExactly};
 ghost use Rattle.json5_de.specs.Spans.{SpansValue, RefusesSpanned};
+ghost use Rattle.json5_de.specs.State.{FailsIfErr};
 
 use crate::de::{Deserialize, Deserializer};
 use json5_text::input::Input;
@@ -29,7 +30,7 @@ pub struct Spanned<T> {
     pub value: T,
 }
 
-/// Reads what `T` reads, with the faults of `T`.
+/// Reads what `T` reads, with the faults of `T`. After a refusal the reader has failed.
 impl<I: Input, T: Deserialize<I>> Deserialize<I> for Spanned<T> {
     ghost use Rattle.json5_de.specs.Spans.{RefusesSpanned};
 
@@ -45,12 +46,17 @@ impl<I: Input, T: Deserialize<I>> Deserialize<I> for Spanned<T> {
 
     fn deserialize(de: &mut Deserializer<I>) -> Result<Spanned<T>>
         ensures reads { ReadsExactly (λ s. T.content s.value) T.convert T.allocation_free (RefusesSpanned T.refuses) de.old de.new result }
+        ensures fails { FailsIfErr de.new result }
         ensures spans { IfOk result (λ s. SpansValue de.old s.start s.end de.new) }
     {
         de.skip_blank()?;
         let start = de.offset();
-        let value = T::deserialize(de)?;
-        let end = de.offset();
-        Ok(Spanned { start, end, value })
+        match T::deserialize(de) {
+            Ok(value) => {
+                let end = de.offset();
+                Ok(Spanned { start, end, value })
+            }
+            Err(e) => de.refuse(e),
+        }
     }
 }

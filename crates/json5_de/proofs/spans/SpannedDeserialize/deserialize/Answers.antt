@@ -1,4 +1,4 @@
-use Rattle.std.proofs.Common.{◌∙◌, ◌≡◌, ◌+◌, ◌≤◌, ℕ, List, false, arith, Ok, refl, inl, inr}
+use Rattle.std.proofs.Common.{◌∙◌, ◌≡◌, ◌+◌, ◌≤◌, ℕ, List, false, ap, arith, Ok, refl, inl, inr}
 use Rattle.std.proofs.lemmas.Result.{err_from_is_err_and}
 use Rattle.json5_grammar.specs.Language.Documents.{max_depth}
 use Rattle.json5_grammar.specs.Language.Trees.{Tree, depth}
@@ -27,33 +27,40 @@ returns-in_err-skip_blank-clause-reads g c =
       same_text = c.in_err-skip_blank.ensures.failed.same_text;
     })
 
-pub returns-in_err-value-clause-reads : goal.returns-in_err-value-clause-reads
-returns-in_err-value-clause-reads g c =
+pub returns-in_err-skip_blank-clause-fails : goal.returns-in_err-skip_blank-clause-fails
+returns-in_err-skip_blank-clause-fails g c =
+    let (y, is, from) = err_from_is_err_and c.from_residual.result c.from_residual.ensures.1 in
+    rw is c.in_err-skip_blank.ensures.failed.failed
+
+pub returns-in-Err-clause-reads : goal.returns-in-Err-clause-reads
+returns-in-Err-clause-reads g c =
     let passed = c.in_ok-skip_blank.ensures.passed in
-    let (y, is, from) = err_from_is_err_and c.from_residual-in_err-value.result c.from_residual-in_err-value.ensures.1 in
-    rw (is, from) (record {
+    rw c.refuse.ensures.result (record {
       sound = tt;
       complete = λ t r v live reads shallow converts.
           let (still, here, room) = stands_after c.args.de.now c.skip_blank.new.self t r passed live reads shallow in
-          c.in_err-value.ensures.complete t r v still here room converts;
+          c.in-Err.ensures.complete t r v still here room converts;
       no_memory = λ t r v live reads shallow converts allocation_free.
           let (still, here, room) = stands_after c.args.de.now c.skip_blank.new.self t r passed live reads shallow in
-          c.in_err-value.ensures.no_memory t r v still here room converts allocation_free;
-      refused = λ live. inr (c.skip_blank.new.self, passed, c.in_err-value.ensures.refused);
-      unprompted = λ live. c.in_err-value.ensures.unprompted (failed_of passed.rest ∙ live);
-      same_text = c.in_err-value.ensures.same_text ∙ input_of passed.rest;
+          c.in-Err.ensures.no_memory t r v still here room converts allocation_free;
+      refused = λ live. inr (c.skip_blank.new.self, c.deserialize.new.de, passed, c.in-Err.ensures.refused, c.refuse.ensures.state);
+      unprompted = λ live. c.in-Err.ensures.unprompted (failed_of passed.rest ∙ live);
+      same_text = input_of c.refuse.ensures.state ∙ (c.in-Err.ensures.same_text ∙ input_of passed.rest);
     })
 
-pub returns-clause-reads : goal.returns-clause-reads
-returns-clause-reads g c =
-    let (t, took, is) = c.in_ok-value.ensures.sound in
+pub returns-in-Err-clause-fails : goal.returns-in-Err-clause-fails
+returns-in-Err-clause-fails g c = rw c.refuse.ensures.result (ap (λ (s : State). s.failed) c.refuse.ensures.state)
+
+pub returns-in-Ok-clause-reads : goal.returns-in-Ok-clause-reads
+returns-in-Ok-clause-reads g c =
+    let (t, took, is) = c.in-Ok.ensures.sound in
     let passed = c.in_ok-skip_blank.ensures.passed in
     let whole = took_after c.args.de.now c.skip_blank.new.self c.deserialize.new.de t passed took in
     record {
       sound = (t, whole, is);
-      complete = reads_content g.T.Deserialize.content g.T.Deserialize.convert c.args.de.now c.deserialize.new.de (Ok c.in_ok-value.value) (t, whole, is) (λ t r v live reads shallow converts. tt);
+      complete = reads_content g.T.Deserialize.content g.T.Deserialize.convert c.args.de.now c.deserialize.new.de (Ok c.in-Ok.value) (t, whole, is) (λ t r v live reads shallow converts. tt);
       no_memory = λ t r v live reads shallow converts allocation_free. refl;
       refused = tt;
       unprompted = tt;
-      same_text = c.in_ok-value.ensures.same_text ∙ input_of passed.rest;
+      same_text = c.in-Ok.ensures.same_text ∙ input_of passed.rest;
     }
