@@ -1,6 +1,5 @@
-//! `check` and `print` over memory, and the program's words over files.
-use crate::tests::Trickle;
-use crate::{Failure, Work, check, report, run, words, work_through};
+//! `check` and `print` over files in memory, and the program's words over files of the system.
+use crate::{Disk, Work, words, work_through};
 use std::alloc::Global;
 use std::fs;
 use std::io::{self, ErrorKind, Read, Write};
@@ -9,75 +8,72 @@ use std::test::Fail;
 /// A file's name and its bytes, or None if there is no such file.
 type Row<'a> = (&'a str, Option<&'a [u8]>);
 
-/// What both streams hold after a work, and its status.
+/// Files in memory, which are read by so many bytes a call.
 #[derive(Drop)]
-struct Ended {
-    output: Vec<u8>,
-    errors: Vec<u8>,
-    status: u8,
+struct Shelf<'a> {
+    files: &'a [Row<'a>],
+    piece: usize,
 }
 
-impl Ended {
-    fn new(alloc: Global) -> Ended {
-        Ended {
-            output: Vec::new(alloc),
-            errors: Vec::new(alloc),
-            status: 0,
-        }
-    }
+/// What a file of a shelf has left.
+#[derive(Drop)]
+struct Held<'a> {
+    bytes: &'a [u8],
+    piece: usize,
+}
 
-    /// The work on what a reader gives.
-    fn work_on<R: Read>(&mut self, alloc: Global, work: Work, name: &str, input: &mut R) {
-        let done = match work {
-            Work::Check => check(alloc, input),
-            Work::Print => run(alloc, input, &mut self.output),
-        };
-        if let Err(failure) = done {
-            self.report(name, &failure);
-        }
-    }
-
-    fn report(&mut self, name: &str, failure: &Failure) {
-        self.status = self.status.max(report(name, failure, &mut self.errors));
-    }
-
-    /// The output, the errors and the status, one after another.
-    fn shown(self) -> Result<String, Fail> {
-        let Ended {
-            output: mut shown,
-            errors,
-            status,
-        } = self;
-        shown.extend_from_slice(b"--\n")?;
-        shown.extend_from_slice(errors.as_slice())?;
-        write!(shown, "{status}")?;
-        Ok(String::from_utf8(shown)?)
+impl Read for Held<'_> {
+    fn read(&mut self, buf: &mut [u8]) -> io::Result<usize> {
+        let count = self.piece.min(self.bytes.len()).min(buf.len());
+        let (taken, rest) = self.bytes.split_at(count);
+        buf[..count].copy_from_slice(taken);
+        self.bytes = rest;
+        Ok(count)
     }
 }
 
-/// The work on files in memory, each given by one byte a call or at once.
-fn in_memory(alloc: Global, work: Work, is_slow: bool, files: &[Row<'_>]) -> Result<String, Fail> {
-    let mut ended = Ended::new(alloc);
-    for (name, bytes) in files {
-        match bytes {
-            None => ended.report(name, &Failure::Read),
-            Some(bytes) if is_slow => {
-                ended.work_on(alloc, work, name, &mut Trickle::whole(bytes));
-            }
-            Some(bytes) => {
-                let mut input = *bytes;
-                ended.work_on(alloc, work, name, &mut input);
+impl<'a> Disk for Shelf<'a> {
+    ghost use Rattle.std.specs.Prelude.{⊤};
+
+    type File = Held<'a>;
+
+    ghost opens = { λ _ _ _. ⊤ };
+
+    fn open(&self, name: &str) -> io::Result<Held<'a>> {
+        for (given, bytes) in self.files {
+            if let (true, Some(bytes)) = (*given == name, bytes) {
+                let piece = self.piece;
+                return Ok(Held { bytes, piece });
             }
         }
+        Err(io::Error::from(ErrorKind::NotFound))
     }
-    ended.shown()
+}
+
+/// What output and errors hold after the work on files of this shelf, all of them, in their order, and its status.
+fn on_shelf(alloc: Global, work: Work, piece: usize, files: &[Row<'_>]) -> Result<String, Fail> {
+    let mut names = Vec::new(alloc);
+    for (name, _) in files {
+        names.push(String::from_str(alloc, name)?)?;
+    }
+    shown(&Shelf { files, piece }, alloc, work, &names)
+}
+
+/// The output of the work on these files, the errors and the status, one after another.
+fn shown<D: Disk>(disk: &D, alloc: Global, work: Work, names: &[String]) -> Result<String, Fail> {
+    let (mut output, mut errors) = (Vec::new(alloc), Vec::new(alloc));
+    let status = work_through(disk, alloc, work, names, &mut output, &mut errors);
+    output.extend_from_slice(b"--\n")?;
+    output.extend_from_slice(errors.as_slice())?;
+    write!(output, "{status}")?;
+    Ok(String::from_utf8(output)?)
 }
 
 #[test]
 fn each_good_file_is_printed(rt: HostRuntime) -> Result<(), Fail> {
-    for is_slow in [false, true] {
+    for piece in [1, 2, 100] {
         let files: [Row<'_>; 2] = [("a", Some(b"[1]")), ("b", Some(b"null"))];
-        let shown = in_memory(rt.alloc(), Work::Print, is_slow, &files)?;
+        let shown = on_shelf(rt.alloc(), Work::Print, piece, &files)?;
         assert_eq!(rt; shown.as_str(), "[\n  1,\n]\nnull\n--\n0");
     }
     Ok(())
@@ -85,9 +81,9 @@ fn each_good_file_is_printed(rt: HostRuntime) -> Result<(), Fail> {
 
 #[test]
 fn a_refused_file_ends_no_work(rt: HostRuntime) -> Result<(), Fail> {
-    for is_slow in [false, true] {
+    for piece in [1, 2, 100] {
         let files: [Row<'_>; 3] = [("a", Some(b"1")), ("b", Some(b"nil")), ("c", Some(b"2"))];
-        let shown = in_memory(rt.alloc(), Work::Print, is_slow, &files)?;
+        let shown = on_shelf(rt.alloc(), Work::Print, piece, &files)?;
         assert_eq!(rt;
             shown.as_str(),
             "1\n2\n--\nb: expected null at line 1 column 2\n1"
@@ -98,9 +94,9 @@ fn a_refused_file_ends_no_work(rt: HostRuntime) -> Result<(), Fail> {
 
 #[test]
 fn a_check_prints_nothing_of_a_good_file(rt: HostRuntime) -> Result<(), Fail> {
-    for is_slow in [false, true] {
+    for piece in [1, 2, 100] {
         let files: [Row<'_>; 2] = [("a", Some(b"\xef\xbb\xbf[]")), ("b", Some(b"\xff"))];
-        let shown = in_memory(rt.alloc(), Work::Check, is_slow, &files)?;
+        let shown = on_shelf(rt.alloc(), Work::Check, piece, &files)?;
         assert_eq!(rt; shown.as_str(), "--\nb: not UTF-8\n1");
     }
     Ok(())
@@ -108,9 +104,9 @@ fn a_check_prints_nothing_of_a_good_file(rt: HostRuntime) -> Result<(), Fail> {
 
 #[test]
 fn a_missing_file_has_the_greater_status(rt: HostRuntime) -> Result<(), Fail> {
-    for is_slow in [false, true] {
+    for piece in [1, 2, 100] {
         let files: [Row<'_>; 2] = [("a", Some(b"[1 2]")), ("none", None)];
-        let shown = in_memory(rt.alloc(), Work::Check, is_slow, &files)?;
+        let shown = on_shelf(rt.alloc(), Work::Check, piece, &files)?;
         assert_eq!(rt;
             shown.as_str(),
             "--\na: expected comma at line 1 column 4\nnone: cannot be read\n2"
@@ -203,17 +199,9 @@ fn a_greater_status_stays(rt: HostRuntime) -> Result<(), Fail> {
     let alloc = rt.alloc();
     fs::write(&rt, "two.json5", "1 2")?;
     let names = list(alloc, &["none", "two.json5", "two.json5"])?;
-    let mut ended = Ended::new(alloc);
-    ended.status = work_through(
-        &rt,
-        alloc,
-        Work::Check,
-        &names,
-        &mut ended.output,
-        &mut ended.errors,
-    );
+    let shown = shown(&rt, alloc, Work::Check, &names)?;
     assert_eq!(rt;
-        ended.shown()?.as_str(),
+        shown.as_str(),
         "--\nnone: cannot be read\n\
         two.json5: trailing characters at line 1 column 3\n\
         two.json5: trailing characters at line 1 column 3\n\
