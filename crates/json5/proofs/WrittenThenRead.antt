@@ -12,7 +12,7 @@ use Rattle.json5_text.specs.Cursor.{IsOutOfMemory}
 use Rattle.json5_de.specs.WholeInputs.{ReadsDocument}
 use Rattle.json5_ser.specs.WrittenTrees.{Written, null, boolean, number, text, array, object, Elements, no_element, element, Fields, no_field, field, named, bad}
 use Rattle.json5_ser.specs.Out.{Out, Stop, whole, invalid_key, too_deep, no_number, piece, stopped, followed_by, ◌then◌, out, written_text, elements_out, fields_out, opened_by, closed_by, element_out, value_part}
-use Rattle.json5_ser.specs.WritableNumbers.{is_writable}
+use Rattle.json5_write.specs.WritableNumbers.{is_writable}
 use Rattle.json5_ser.specs.EscapeFreeMarks.{marks, element_marks, field_marks}
 use Rattle.json5_ser.specs.WholeOutputs.{RefusesToString, StopsAs}
 use Rattle.json5.specs.ReadsBack.{ReadsBack}

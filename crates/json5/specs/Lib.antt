@@ -48,7 +48,7 @@ pub use Rattle.json5_de.specs.Enums
 pub use Rattle.json5_de.specs.Variants
 pub use Rattle.json5_de.specs.Lending
 pub use Rattle.json5_de.specs.WholeInputs
--- Writing.
+-- Writing. Seven modules of json5_ser name the definitions of json5_write again, whose own names a goal shows.
 pub use Rattle.json5_ser.specs.WrittenTrees
 pub use Rattle.json5_ser.specs.ValueTrees
 pub use Rattle.json5_ser.specs.Out
@@ -59,3 +59,10 @@ pub use Rattle.json5_ser.specs.WholeOutputs
 pub use Rattle.json5_ser.specs.WrittenCollections
 pub use Rattle.json5_ser.specs.WrittenKeys
 pub use Rattle.json5_ser.specs.KeyLending
+pub use Rattle.json5_write.specs.WrittenTrees as WriteWrittenTrees
+pub use Rattle.json5_write.specs.ValueTrees as WriteValueTrees
+pub use Rattle.json5_write.specs.Out as WriteOut
+pub use Rattle.json5_write.specs.EscapeFreeMarks as WriteEscapeFreeMarks
+pub use Rattle.json5_write.specs.Writes as WriteWrites
+pub use Rattle.json5_write.specs.Pieces as WritePieces
+pub use Rattle.json5_write.specs.WholeOutputs as WriteWholeOutputs
