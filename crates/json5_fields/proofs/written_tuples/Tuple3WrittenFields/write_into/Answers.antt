@@ -1,0 +1,11 @@
+use Rattle.json5_fields.proofs.FieldsWritten.{then_written, first_refused}
+use Rattle.json5_fields.proofs.written_tuples.Tuple3WrittenFields.write_into.Goals as goal
+
+pub returns-in_err-write_into : goal.returns-in_err-write_into
+returns-in_err-write_into g c = first_refused (g.A.WrittenFields.add c.args.self.now.0) (λ fs. g.B.WrittenFields.add c.args.self.now.1 (g.C.WrittenFields.add c.args.self.now.2 fs)) _ c.from_residual.result c.from_residual.ensures.1 c.in_err-write_into.ensures
+
+pub returns-in_err-write_into-2 : goal.returns-in_err-write_into-2
+returns-in_err-write_into-2 g c = then_written (g.A.WrittenFields.add c.args.self.now.0) (λ fs. g.B.WrittenFields.add c.args.self.now.1 (g.C.WrittenFields.add c.args.self.now.2 fs)) c.from_residual-in_err-write_into-2.result c.in_ok-write_into.ensures (first_refused (g.B.WrittenFields.add c.args.self.now.1) (g.C.WrittenFields.add c.args.self.now.2) _ c.from_residual-in_err-write_into-2.result c.from_residual-in_err-write_into-2.ensures.1 c.in_err-write_into-2.ensures)
+
+pub returns : goal.returns
+returns g c = then_written (g.A.WrittenFields.add c.args.self.now.0) (λ fs. g.B.WrittenFields.add c.args.self.now.1 (g.C.WrittenFields.add c.args.self.now.2 fs)) c.write_into-3.result c.in_ok-write_into.ensures (then_written (g.B.WrittenFields.add c.args.self.now.1) (g.C.WrittenFields.add c.args.self.now.2) c.write_into-3.result c.in_ok-write_into-2.ensures c.write_into-3.ensures)

@@ -1,0 +1,26 @@
+use Rattle.json5_fields.proofs.FieldsWritten.{then_written, first_refused}
+use Rattle.json5_fields.proofs.written_tuples.Tuple8WrittenFields.write_into.Goals as goal
+
+pub returns-in_err-write_into : goal.returns-in_err-write_into
+returns-in_err-write_into g c = first_refused (g.A.WrittenFields.add c.args.self.now.0) (λ fs. g.B.WrittenFields.add c.args.self.now.1 (g.C.WrittenFields.add c.args.self.now.2 (g.D.WrittenFields.add c.args.self.now.3 (g.E.WrittenFields.add c.args.self.now.4 (g.F.WrittenFields.add c.args.self.now.5 (g.G.WrittenFields.add c.args.self.now.6 (g.H.WrittenFields.add c.args.self.now.7 fs))))))) _ c.from_residual.result c.from_residual.ensures.1 c.in_err-write_into.ensures
+
+pub returns-in_err-write_into-2 : goal.returns-in_err-write_into-2
+returns-in_err-write_into-2 g c = then_written (g.A.WrittenFields.add c.args.self.now.0) (λ fs. g.B.WrittenFields.add c.args.self.now.1 (g.C.WrittenFields.add c.args.self.now.2 (g.D.WrittenFields.add c.args.self.now.3 (g.E.WrittenFields.add c.args.self.now.4 (g.F.WrittenFields.add c.args.self.now.5 (g.G.WrittenFields.add c.args.self.now.6 (g.H.WrittenFields.add c.args.self.now.7 fs))))))) c.from_residual-in_err-write_into-2.result c.in_ok-write_into.ensures (first_refused (g.B.WrittenFields.add c.args.self.now.1) (λ fs. g.C.WrittenFields.add c.args.self.now.2 (g.D.WrittenFields.add c.args.self.now.3 (g.E.WrittenFields.add c.args.self.now.4 (g.F.WrittenFields.add c.args.self.now.5 (g.G.WrittenFields.add c.args.self.now.6 (g.H.WrittenFields.add c.args.self.now.7 fs)))))) _ c.from_residual-in_err-write_into-2.result c.from_residual-in_err-write_into-2.ensures.1 c.in_err-write_into-2.ensures)
+
+pub returns-in_err-write_into-3 : goal.returns-in_err-write_into-3
+returns-in_err-write_into-3 g c = then_written (g.A.WrittenFields.add c.args.self.now.0) (λ fs. g.B.WrittenFields.add c.args.self.now.1 (g.C.WrittenFields.add c.args.self.now.2 (g.D.WrittenFields.add c.args.self.now.3 (g.E.WrittenFields.add c.args.self.now.4 (g.F.WrittenFields.add c.args.self.now.5 (g.G.WrittenFields.add c.args.self.now.6 (g.H.WrittenFields.add c.args.self.now.7 fs))))))) c.from_residual-in_err-write_into-3.result c.in_ok-write_into.ensures (then_written (g.B.WrittenFields.add c.args.self.now.1) (λ fs. g.C.WrittenFields.add c.args.self.now.2 (g.D.WrittenFields.add c.args.self.now.3 (g.E.WrittenFields.add c.args.self.now.4 (g.F.WrittenFields.add c.args.self.now.5 (g.G.WrittenFields.add c.args.self.now.6 (g.H.WrittenFields.add c.args.self.now.7 fs)))))) c.from_residual-in_err-write_into-3.result c.in_ok-write_into-2.ensures (first_refused (g.C.WrittenFields.add c.args.self.now.2) (λ fs. g.D.WrittenFields.add c.args.self.now.3 (g.E.WrittenFields.add c.args.self.now.4 (g.F.WrittenFields.add c.args.self.now.5 (g.G.WrittenFields.add c.args.self.now.6 (g.H.WrittenFields.add c.args.self.now.7 fs))))) _ c.from_residual-in_err-write_into-3.result c.from_residual-in_err-write_into-3.ensures.1 c.in_err-write_into-3.ensures))
+
+pub returns-in_err-write_into-4 : goal.returns-in_err-write_into-4
+returns-in_err-write_into-4 g c = then_written (g.A.WrittenFields.add c.args.self.now.0) (λ fs. g.B.WrittenFields.add c.args.self.now.1 (g.C.WrittenFields.add c.args.self.now.2 (g.D.WrittenFields.add c.args.self.now.3 (g.E.WrittenFields.add c.args.self.now.4 (g.F.WrittenFields.add c.args.self.now.5 (g.G.WrittenFields.add c.args.self.now.6 (g.H.WrittenFields.add c.args.self.now.7 fs))))))) c.from_residual-in_err-write_into-4.result c.in_ok-write_into.ensures (then_written (g.B.WrittenFields.add c.args.self.now.1) (λ fs. g.C.WrittenFields.add c.args.self.now.2 (g.D.WrittenFields.add c.args.self.now.3 (g.E.WrittenFields.add c.args.self.now.4 (g.F.WrittenFields.add c.args.self.now.5 (g.G.WrittenFields.add c.args.self.now.6 (g.H.WrittenFields.add c.args.self.now.7 fs)))))) c.from_residual-in_err-write_into-4.result c.in_ok-write_into-2.ensures (then_written (g.C.WrittenFields.add c.args.self.now.2) (λ fs. g.D.WrittenFields.add c.args.self.now.3 (g.E.WrittenFields.add c.args.self.now.4 (g.F.WrittenFields.add c.args.self.now.5 (g.G.WrittenFields.add c.args.self.now.6 (g.H.WrittenFields.add c.args.self.now.7 fs))))) c.from_residual-in_err-write_into-4.result c.in_ok-write_into-3.ensures (first_refused (g.D.WrittenFields.add c.args.self.now.3) (λ fs. g.E.WrittenFields.add c.args.self.now.4 (g.F.WrittenFields.add c.args.self.now.5 (g.G.WrittenFields.add c.args.self.now.6 (g.H.WrittenFields.add c.args.self.now.7 fs)))) _ c.from_residual-in_err-write_into-4.result c.from_residual-in_err-write_into-4.ensures.1 c.in_err-write_into-4.ensures)))
+
+pub returns-in_err-write_into-5 : goal.returns-in_err-write_into-5
+returns-in_err-write_into-5 g c = then_written (g.A.WrittenFields.add c.args.self.now.0) (λ fs. g.B.WrittenFields.add c.args.self.now.1 (g.C.WrittenFields.add c.args.self.now.2 (g.D.WrittenFields.add c.args.self.now.3 (g.E.WrittenFields.add c.args.self.now.4 (g.F.WrittenFields.add c.args.self.now.5 (g.G.WrittenFields.add c.args.self.now.6 (g.H.WrittenFields.add c.args.self.now.7 fs))))))) c.from_residual-in_err-write_into-5.result c.in_ok-write_into.ensures (then_written (g.B.WrittenFields.add c.args.self.now.1) (λ fs. g.C.WrittenFields.add c.args.self.now.2 (g.D.WrittenFields.add c.args.self.now.3 (g.E.WrittenFields.add c.args.self.now.4 (g.F.WrittenFields.add c.args.self.now.5 (g.G.WrittenFields.add c.args.self.now.6 (g.H.WrittenFields.add c.args.self.now.7 fs)))))) c.from_residual-in_err-write_into-5.result c.in_ok-write_into-2.ensures (then_written (g.C.WrittenFields.add c.args.self.now.2) (λ fs. g.D.WrittenFields.add c.args.self.now.3 (g.E.WrittenFields.add c.args.self.now.4 (g.F.WrittenFields.add c.args.self.now.5 (g.G.WrittenFields.add c.args.self.now.6 (g.H.WrittenFields.add c.args.self.now.7 fs))))) c.from_residual-in_err-write_into-5.result c.in_ok-write_into-3.ensures (then_written (g.D.WrittenFields.add c.args.self.now.3) (λ fs. g.E.WrittenFields.add c.args.self.now.4 (g.F.WrittenFields.add c.args.self.now.5 (g.G.WrittenFields.add c.args.self.now.6 (g.H.WrittenFields.add c.args.self.now.7 fs)))) c.from_residual-in_err-write_into-5.result c.in_ok-write_into-4.ensures (first_refused (g.E.WrittenFields.add c.args.self.now.4) (λ fs. g.F.WrittenFields.add c.args.self.now.5 (g.G.WrittenFields.add c.args.self.now.6 (g.H.WrittenFields.add c.args.self.now.7 fs))) _ c.from_residual-in_err-write_into-5.result c.from_residual-in_err-write_into-5.ensures.1 c.in_err-write_into-5.ensures))))
+
+pub returns-in_err-write_into-6 : goal.returns-in_err-write_into-6
+returns-in_err-write_into-6 g c = then_written (g.A.WrittenFields.add c.args.self.now.0) (λ fs. g.B.WrittenFields.add c.args.self.now.1 (g.C.WrittenFields.add c.args.self.now.2 (g.D.WrittenFields.add c.args.self.now.3 (g.E.WrittenFields.add c.args.self.now.4 (g.F.WrittenFields.add c.args.self.now.5 (g.G.WrittenFields.add c.args.self.now.6 (g.H.WrittenFields.add c.args.self.now.7 fs))))))) c.from_residual-in_err-write_into-6.result c.in_ok-write_into.ensures (then_written (g.B.WrittenFields.add c.args.self.now.1) (λ fs. g.C.WrittenFields.add c.args.self.now.2 (g.D.WrittenFields.add c.args.self.now.3 (g.E.WrittenFields.add c.args.self.now.4 (g.F.WrittenFields.add c.args.self.now.5 (g.G.WrittenFields.add c.args.self.now.6 (g.H.WrittenFields.add c.args.self.now.7 fs)))))) c.from_residual-in_err-write_into-6.result c.in_ok-write_into-2.ensures (then_written (g.C.WrittenFields.add c.args.self.now.2) (λ fs. g.D.WrittenFields.add c.args.self.now.3 (g.E.WrittenFields.add c.args.self.now.4 (g.F.WrittenFields.add c.args.self.now.5 (g.G.WrittenFields.add c.args.self.now.6 (g.H.WrittenFields.add c.args.self.now.7 fs))))) c.from_residual-in_err-write_into-6.result c.in_ok-write_into-3.ensures (then_written (g.D.WrittenFields.add c.args.self.now.3) (λ fs. g.E.WrittenFields.add c.args.self.now.4 (g.F.WrittenFields.add c.args.self.now.5 (g.G.WrittenFields.add c.args.self.now.6 (g.H.WrittenFields.add c.args.self.now.7 fs)))) c.from_residual-in_err-write_into-6.result c.in_ok-write_into-4.ensures (then_written (g.E.WrittenFields.add c.args.self.now.4) (λ fs. g.F.WrittenFields.add c.args.self.now.5 (g.G.WrittenFields.add c.args.self.now.6 (g.H.WrittenFields.add c.args.self.now.7 fs))) c.from_residual-in_err-write_into-6.result c.in_ok-write_into-5.ensures (first_refused (g.F.WrittenFields.add c.args.self.now.5) (λ fs. g.G.WrittenFields.add c.args.self.now.6 (g.H.WrittenFields.add c.args.self.now.7 fs)) _ c.from_residual-in_err-write_into-6.result c.from_residual-in_err-write_into-6.ensures.1 c.in_err-write_into-6.ensures)))))
+
+pub returns-in_err-write_into-7 : goal.returns-in_err-write_into-7
+returns-in_err-write_into-7 g c = then_written (g.A.WrittenFields.add c.args.self.now.0) (λ fs. g.B.WrittenFields.add c.args.self.now.1 (g.C.WrittenFields.add c.args.self.now.2 (g.D.WrittenFields.add c.args.self.now.3 (g.E.WrittenFields.add c.args.self.now.4 (g.F.WrittenFields.add c.args.self.now.5 (g.G.WrittenFields.add c.args.self.now.6 (g.H.WrittenFields.add c.args.self.now.7 fs))))))) c.from_residual-in_err-write_into-7.result c.in_ok-write_into.ensures (then_written (g.B.WrittenFields.add c.args.self.now.1) (λ fs. g.C.WrittenFields.add c.args.self.now.2 (g.D.WrittenFields.add c.args.self.now.3 (g.E.WrittenFields.add c.args.self.now.4 (g.F.WrittenFields.add c.args.self.now.5 (g.G.WrittenFields.add c.args.self.now.6 (g.H.WrittenFields.add c.args.self.now.7 fs)))))) c.from_residual-in_err-write_into-7.result c.in_ok-write_into-2.ensures (then_written (g.C.WrittenFields.add c.args.self.now.2) (λ fs. g.D.WrittenFields.add c.args.self.now.3 (g.E.WrittenFields.add c.args.self.now.4 (g.F.WrittenFields.add c.args.self.now.5 (g.G.WrittenFields.add c.args.self.now.6 (g.H.WrittenFields.add c.args.self.now.7 fs))))) c.from_residual-in_err-write_into-7.result c.in_ok-write_into-3.ensures (then_written (g.D.WrittenFields.add c.args.self.now.3) (λ fs. g.E.WrittenFields.add c.args.self.now.4 (g.F.WrittenFields.add c.args.self.now.5 (g.G.WrittenFields.add c.args.self.now.6 (g.H.WrittenFields.add c.args.self.now.7 fs)))) c.from_residual-in_err-write_into-7.result c.in_ok-write_into-4.ensures (then_written (g.E.WrittenFields.add c.args.self.now.4) (λ fs. g.F.WrittenFields.add c.args.self.now.5 (g.G.WrittenFields.add c.args.self.now.6 (g.H.WrittenFields.add c.args.self.now.7 fs))) c.from_residual-in_err-write_into-7.result c.in_ok-write_into-5.ensures (then_written (g.F.WrittenFields.add c.args.self.now.5) (λ fs. g.G.WrittenFields.add c.args.self.now.6 (g.H.WrittenFields.add c.args.self.now.7 fs)) c.from_residual-in_err-write_into-7.result c.in_ok-write_into-6.ensures (first_refused (g.G.WrittenFields.add c.args.self.now.6) (g.H.WrittenFields.add c.args.self.now.7) _ c.from_residual-in_err-write_into-7.result c.from_residual-in_err-write_into-7.ensures.1 c.in_err-write_into-7.ensures))))))
+
+pub returns : goal.returns
+returns g c = then_written (g.A.WrittenFields.add c.args.self.now.0) (λ fs. g.B.WrittenFields.add c.args.self.now.1 (g.C.WrittenFields.add c.args.self.now.2 (g.D.WrittenFields.add c.args.self.now.3 (g.E.WrittenFields.add c.args.self.now.4 (g.F.WrittenFields.add c.args.self.now.5 (g.G.WrittenFields.add c.args.self.now.6 (g.H.WrittenFields.add c.args.self.now.7 fs))))))) c.write_into-8.result c.in_ok-write_into.ensures (then_written (g.B.WrittenFields.add c.args.self.now.1) (λ fs. g.C.WrittenFields.add c.args.self.now.2 (g.D.WrittenFields.add c.args.self.now.3 (g.E.WrittenFields.add c.args.self.now.4 (g.F.WrittenFields.add c.args.self.now.5 (g.G.WrittenFields.add c.args.self.now.6 (g.H.WrittenFields.add c.args.self.now.7 fs)))))) c.write_into-8.result c.in_ok-write_into-2.ensures (then_written (g.C.WrittenFields.add c.args.self.now.2) (λ fs. g.D.WrittenFields.add c.args.self.now.3 (g.E.WrittenFields.add c.args.self.now.4 (g.F.WrittenFields.add c.args.self.now.5 (g.G.WrittenFields.add c.args.self.now.6 (g.H.WrittenFields.add c.args.self.now.7 fs))))) c.write_into-8.result c.in_ok-write_into-3.ensures (then_written (g.D.WrittenFields.add c.args.self.now.3) (λ fs. g.E.WrittenFields.add c.args.self.now.4 (g.F.WrittenFields.add c.args.self.now.5 (g.G.WrittenFields.add c.args.self.now.6 (g.H.WrittenFields.add c.args.self.now.7 fs)))) c.write_into-8.result c.in_ok-write_into-4.ensures (then_written (g.E.WrittenFields.add c.args.self.now.4) (λ fs. g.F.WrittenFields.add c.args.self.now.5 (g.G.WrittenFields.add c.args.self.now.6 (g.H.WrittenFields.add c.args.self.now.7 fs))) c.write_into-8.result c.in_ok-write_into-5.ensures (then_written (g.F.WrittenFields.add c.args.self.now.5) (λ fs. g.G.WrittenFields.add c.args.self.now.6 (g.H.WrittenFields.add c.args.self.now.7 fs)) c.write_into-8.result c.in_ok-write_into-6.ensures (then_written (g.G.WrittenFields.add c.args.self.now.6) (g.H.WrittenFields.add c.args.self.now.7) c.write_into-8.result c.in_ok-write_into-7.ensures c.write_into-8.ensures))))))
