@@ -10,7 +10,6 @@ mod levels;
 mod ports;
 mod reminders;
 mod settings;
-mod settings_written;
 
 ghost use Rattle.std.specs.Prelude.{◌≡◌, true};
 ghost use Rattle.json5.specs.ErrorCode.TheVariants as codes;
@@ -27,8 +26,7 @@ pub use labels::Labels;
 pub use levels::Level;
 pub use ports::{Endpoint, OpenPort, PortRange, endpoint_again};
 pub use reminders::Reminder;
-pub use settings::Settings;
-pub use settings_written::settings_again;
+pub use settings::{Settings, settings_again};
 use std::alloc::Global;
 
 /// Two ends, written as a list: `[low, high]`.
