@@ -1,7 +1,6 @@
 -- What is read of one field, or of some, is read of all.
-use Rattle.std.proofs.Common.{◌≡◌, ◌≢◌, ℕ, Bool, true, false, List, [], ◌∷◌, refl, sym, ap, ◌∙◌, subst, inl, inr, Option, Some, None, Ok, Err}
+use Rattle.std.proofs.Common.{◌≡◌, ℕ, Bool, true, false, List, [], ◌∷◌, refl, sym, ap, ◌∙◌, subst, inl, inr, Option, Some, None, Ok, Err}
 use Rattle.std.proofs.Math.Path.{fun_ext}
-use Rattle.std.proofs.lemmas.Bool.{false_from_ne_true}
 use Rattle.std.proofs.lemmas.Slice.Eq.{bytes_eq-Decides}
 use Rattle.std.specs.Prelude.{Result, IfOk, IsErrAnd, OnOk, is_some, not}
 use Rattle.std.specs.Str.{bytes_eq}
@@ -22,7 +21,7 @@ use Rattle.json5_de.proofs.ElementLoops.{handed_on}
 use Rattle.json5_de.proofs.Structs.{here, takes_field}
 use Rattle.json5_de.proofs.StructFaults.{field_refused}
 use Rattle.json5_fields.specs.Layouts.{Layout, has_name, first_or, and_layout, one_field, required_field, to_first, to_others, named_first, named_second, named_neither, hold, held_step, held_takes, held_passes}
-use Rattle.json5_fields.specs.FieldCalls.{of_type, TakesHere, PassesHere, Tries, Finished, Missed, Finishes}
+use Rattle.json5_fields.specs.FieldCalls.{of_type, TakesHere, Tries, Finished, Missed, Finishes}
 
 -- ---- a step that another one makes
 
@@ -68,7 +67,7 @@ module _ {S U : Type 0} (a : Step S) (b : Step U) (g : S → U) (s : S) (there n
 -- ---- a field, and others
 
 module _ {I S T A B : Type 0} (a : Layout S A) (b : Layout T B) (fa fb : ValueFaults) {name : List ℕ} {old new : MapAccess I} where
-  first_here : {s n : S} {t : T} {result : Result (Unit {0}) Error} → TakesHere a fa s n name old new result → TakesHere (and_layout a b) (or_of fa fb) (s, t) (n, t) name old new result
+  pub first_here : {s n : S} {t : T} {result : Result (Unit {0}) Error} → TakesHere a fa s n name old new result → TakesHere (and_layout a b) (or_of fa fb) (s, t) (n, t) name old new result
   first_here {s = s} {t = t} {result = result} is = record {
     named = named_first a.names b.names name is.named;
     takes = takes_through a.step (first_or a.names a.step b.step) (λ x. (x, t)) s name name (λ v. to_first a b (s, t) name v is.named) is.takes;
@@ -85,13 +84,6 @@ module _ {I S T A B : Type 0} (a : Layout S A) (b : Layout T B) (fa fb : ValueFa
     access = is.access;
     pending = is.pending;
   }
-
-  -- the first took the value, or it was refused there
-  pub first_took : {s n : S} {t : T} → Tries a fa s n name old new (Ok true) → Tries (and_layout a b) (or_of fa fb) (s, t) (n, t) name old new (Ok true)
-  first_took is = first_here is
-
-  pub first_refused : (s n : S) (t : T) (e : Error) (result : Result Bool Error) → IsErrAnd result (λ y. y ≡ e) → Tries a fa s n name old new (Err e) → Tries (and_layout a b) (or_of fa fb) (s, t) (n, t) name old new result
-  first_refused s n t e result is_err is = handed_on (λ r. Tries (and_layout a b) (or_of fa fb) (s, t) (n, t) name old new r) e result is_err (first_here is)
 
 others_from : {I S T A B : Type 0} (a : Layout S A) (b : Layout T B) (fa fb : ValueFaults) (name : List ℕ) (old new : MapAccess I) (s : S) (t m : T) → has_name a.names name ≡ false → (result : Result Bool Error) → Tries b fb t m name old new result → Tries (and_layout a b) (or_of fa fb) (s, t) (s, m) name old new result
 others_from a b fa fb name old new s t m not (Ok true) is = others_here a b fa fb not is
@@ -165,14 +157,6 @@ module _ {V C : Type 0} {content : V → C} {f : Tree → Option C} {refuses : S
         by (Ok done) given = given
         by (Err e) given = tt
 
--- the refusal is handed on
-pub refuses_it : {I S D : Type 0} (l : Layout S D) (faults : ValueFaults) (s n : S) (name : List ℕ) (old new : MapAccess I) (e : Error) (result : Result Bool Error) → IsErrAnd result (λ y. y ≡ e) → TakesHere l faults s n name old new (Err e) → Tries l faults s n name old new result
-refuses_it l faults s n name old new e result is_err is = handed_on (λ r. Tries l faults s n name old new r) e result is_err is
-
--- another name passes
-pub passes_it : {I S D : Type 0} (l : Layout S D) (field : List ℕ) (name : List ℕ) (s : S) (at : MapAccess I) → l.names ≡ field ∷ [] → name ≢ field → PassesHere l s s name at at
-passes_it l field name s at names not = record { other = ap (λ ns. has_name ns name) names ∙ (let differ : bytes_eq name field ≡ false = false_from_ne_true _ (λ e. not ((bytes_eq-Decides name field).0 e)) in rw differ refl); fields = refl; access = refl }
-
 -- a field that has to be there is returned, or it is missing
 pub required_finishes : {I V C : Type 0} (content : V → C) (f : Tree → Option C) (field : List ℕ) {old new : MapAccess I} {o : Option V} (result : Result V Error) → KeepsMap old new → IfOk result (λ v. o ≡ Some v) → FieldRequired (map_state_of old) (map_state_of new) o result
     → Finishes (required_field field f) content (if_some content o) old new result
@@ -187,22 +171,11 @@ required_finishes content f field (Err e) keeps found is = record {
 -- ---- all fields, and what no field is
 
 module _ {I S D : Type 0} (l : Layout S D) (faults : ValueFaults) {s n : S} {name : List ℕ} {old : MapAccess I} where
-  all_take : {new : MapAccess I} {result : Result (Unit {0}) Error} → TakesHere l faults s n name old new result → TakesMember held_step (l, s) (l, n) name (map_state_of old) (map_state_of new) result
+  pub all_take : {new : MapAccess I} {result : Result (Unit {0}) Error} → TakesHere l faults s n name old new result → TakesMember held_step (l, s) (l, n) name (map_state_of old) (map_state_of new) result
   all_take is = takes_through l.step held_step (hold l) s name name (λ t. held_takes l s name t) is.takes
 
-  all_refuse : {new : MapAccess I} {result : Result (Unit {0}) Error} → TakesHere l faults s n name old new result → RefusesMember (or_of faults of_any) held_step (l, s) name (map_state_of old) result
+  pub all_refuse : {new : MapAccess I} {result : Result (Unit {0}) Error} → TakesHere l faults s n name old new result → RefusesMember (or_of faults of_any) held_step (l, s) name (map_state_of old) result
   all_refuse {result = result} is = refused_through l.step held_step (hold l) s name name (λ t. held_takes l s name t) faults (or_of faults of_any) (map_state_of old) result (λ may e fault. inl fault) is.refused
-
-  -- a field here took the value
-  pub took : {new : MapAccess I} → Tries l faults s n name old new (Ok true) → TakesMember held_step (l, s) (l, n) name (map_state_of old) (map_state_of new) (Ok tt)
-  took is = all_take is
-
-  -- it was refused here
-  pub refused_takes : {new : MapAccess I} (e : Error) (result : Result (Unit {0}) Error) → IsErrAnd result (λ y. y ≡ e) → Tries l faults s n name old new (Err e) → TakesMember held_step (l, s) (l, n) name (map_state_of old) (map_state_of new) result
-  refused_takes {new = new} e result is_err is = handed_on (λ r. TakesMember held_step (l, s) (l, n) name (map_state_of old) (map_state_of new) r) e result is_err (all_take is)
-
-  pub refused_here : {new : MapAccess I} (e : Error) (result : Result (Unit {0}) Error) → IsErrAnd result (λ y. y ≡ e) → Tries l faults s n name old new (Err e) → RefusesMember (or_of faults of_any) held_step (l, s) name (map_state_of old) result
-  refused_here e result is_err is = handed_on (λ r. RefusesMember (or_of faults of_any) held_step (l, s) name (map_state_of old) r) e result is_err (all_refuse is)
 
   -- no field has its name, and it is passed over
   pub passes_all : {mid : MapAccess I} {new : MapAccessState} (result : Result (Unit {0}) Error) → Tries l faults s n name old mid (Ok false) → PassesMember (map_state_of mid) new result → TakesMember held_step (l, s) (l, n) name (map_state_of old) new result

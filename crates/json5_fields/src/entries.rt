@@ -65,3 +65,12 @@ impl<'a, T: Serialize> WrittenFields for Given<'a, T> {
         }
     }
 }
+
+/// The fields of what the reference points to.
+impl<'a, F: WrittenFields> WrittenFields for &'a F {
+    ghost add = { λ f. F.add f.now };
+
+    fn write_into<W: Write + Drop>(&self, into: &mut SerializeCollection<'_, W>) -> Result<()> {
+        (**self).write_into(into)
+    }
+}

@@ -105,8 +105,10 @@ impl<I: Input, T: Deserialize<I>> StructFields<I, T> for Required {
         if name != self.0 {
             return Ok(false);
         }
-        map.next_field(name, found)?;
-        Ok(true)
+        match map.next_field(name, found) {
+            Ok(()) => Ok(true),
+            Err(e) => Err(e),
+        }
     }
 
     #[inline(always)]
@@ -157,8 +159,10 @@ impl<I: Input, T: Deserialize<I>> StructFields<I, Option<T>> for Optional {
         if name != self.0 {
             return Ok(false);
         }
-        map.next_field(name, found)?;
-        Ok(true)
+        match map.next_field(name, found) {
+            Ok(()) => Ok(true),
+            Err(e) => Err(e),
+        }
     }
 
     #[inline(always)]
@@ -209,8 +213,10 @@ impl<I: Input, T: Deserialize<I>> StructFields<I, T> for WithDefault<T> {
         if name != self.0 {
             return Ok(false);
         }
-        map.next_field(name, found)?;
-        Ok(true)
+        match map.next_field(name, found) {
+            Ok(()) => Ok(true),
+            Err(e) => Err(e),
+        }
     }
 
     #[inline(always)]

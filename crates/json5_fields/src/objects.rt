@@ -35,10 +35,11 @@ impl<I: Input, V: Drop, F: StructFields<I, V>> Fields<I> for Reading<F, F::Found
 
     #[inline(always)]
     fn read(&mut self, map: &mut MapAccess<'_, I>, name: &str) -> Result<()> {
-        if self.fields.read(&mut self.found, map, name)? {
-            return Ok(());
+        match self.fields.read(&mut self.found, map, name) {
+            Ok(true) => Ok(()),
+            Ok(false) => map.skip_value(),
+            Err(e) => Err(e),
         }
-        map.skip_value()
     }
 }
 

@@ -1,4 +1,4 @@
-//! Tuples of descriptions.
+//! Tuples of descriptions. A tuple of more than two stands for nested pairs.
 
 use crate::fields::StructFields;
 use json5_de::MapAccess;
@@ -43,8 +43,10 @@ impl<I: Input, S: Drop, T: Drop, A: StructFields<I, S>, B: StructFields<I, T>> S
         map: &mut MapAccess<'_, I>,
         name: &str,
     ) -> Result<bool> {
-        if self.0.read(&mut found.0, map, name)? {
-            return Ok(true);
+        match self.0.read(&mut found.0, map, name) {
+            Ok(true) => return Ok(true),
+            Ok(false) => {}
+            Err(e) => return Err(e),
         }
         self.1.read(&mut found.1, map, name)
     }
@@ -70,7 +72,7 @@ impl<
     ghost use Rattle.json5_de.specs.StructFaults.{or_of};
     ghost use Rattle.json5_fields.specs.Layouts.{and_layout};
 
-    type Found = (A::Found, B::Found, C::Found);
+    type Found = (A::Found, (B::Found, C::Found));
 
     ghost Shape = { A.Shape × (B.Shape × C.Shape) };
 
@@ -78,7 +80,7 @@ impl<
 
     ghost State = { A.State × (B.State × C.State) };
 
-    ghost state = { λ s. (A.state s.0, (B.state s.1, C.state s.2)) };
+    ghost state = { λ s. (A.state s.0, (B.state s.1.0, C.state s.1.1)) };
 
     ghost Content = { A.Content × (B.Content × C.Content) };
 
@@ -90,7 +92,7 @@ impl<
 
     #[inline(always)]
     fn start(&self) -> Self::Found {
-        (self.0.start(), self.1.start(), self.2.start())
+        (self.0.start(), (self.1.start(), self.2.start()))
     }
 
     #[inline(always)]
@@ -100,21 +102,29 @@ impl<
         map: &mut MapAccess<'_, I>,
         name: &str,
     ) -> Result<bool> {
-        if self.0.read(&mut found.0, map, name)? {
-            return Ok(true);
+        match self.0.read(&mut found.0, map, name) {
+            Ok(true) => return Ok(true),
+            Ok(false) => {}
+            Err(e) => return Err(e),
         }
-        if self.1.read(&mut found.1, map, name)? {
-            return Ok(true);
+        match self.1.read(&mut found.1.0, map, name) {
+            Ok(true) => return Ok(true),
+            Ok(false) => {}
+            Err(e) => return Err(e),
         }
-        self.2.read(&mut found.2, map, name)
+        self.2.read(&mut found.1.1, map, name)
     }
 
     #[inline(always)]
     fn finish(self, found: Self::Found, map: &mut MapAccess<'_, I>) -> Result<(S, T, U)> {
-        let first = self.0.finish(found.0, map)?;
-        let second = self.1.finish(found.1, map)?;
-        let third = self.2.finish(found.2, map)?;
-        Ok((first, second, third))
+        let (a, b, c) = self;
+        match (a, (b, c)).finish(found, map) {
+            Ok(values) => {
+                let (first, (second, third)) = values;
+                Ok((first, second, third))
+            }
+            Err(e) => Err(e),
+        }
     }
 }
 
@@ -133,7 +143,7 @@ impl<
     ghost use Rattle.json5_de.specs.StructFaults.{or_of};
     ghost use Rattle.json5_fields.specs.Layouts.{and_layout};
 
-    type Found = (A::Found, B::Found, C::Found, D::Found);
+    type Found = (A::Found, (B::Found, (C::Found, D::Found)));
 
     ghost Shape = { A.Shape × (B.Shape × (C.Shape × D.Shape)) };
 
@@ -141,7 +151,7 @@ impl<
 
     ghost State = { A.State × (B.State × (C.State × D.State)) };
 
-    ghost state = { λ s. (A.state s.0, (B.state s.1, (C.state s.2, D.state s.3))) };
+    ghost state = { λ s. (A.state s.0, (B.state s.1.0, (C.state s.1.1.0, D.state s.1.1.1))) };
 
     ghost Content = { A.Content × (B.Content × (C.Content × D.Content)) };
 
@@ -155,9 +165,7 @@ impl<
     fn start(&self) -> Self::Found {
         (
             self.0.start(),
-            self.1.start(),
-            self.2.start(),
-            self.3.start(),
+            (self.1.start(), (self.2.start(), self.3.start())),
         )
     }
 
@@ -168,25 +176,34 @@ impl<
         map: &mut MapAccess<'_, I>,
         name: &str,
     ) -> Result<bool> {
-        if self.0.read(&mut found.0, map, name)? {
-            return Ok(true);
+        match self.0.read(&mut found.0, map, name) {
+            Ok(true) => return Ok(true),
+            Ok(false) => {}
+            Err(e) => return Err(e),
         }
-        if self.1.read(&mut found.1, map, name)? {
-            return Ok(true);
+        match self.1.read(&mut found.1.0, map, name) {
+            Ok(true) => return Ok(true),
+            Ok(false) => {}
+            Err(e) => return Err(e),
         }
-        if self.2.read(&mut found.2, map, name)? {
-            return Ok(true);
+        match self.2.read(&mut found.1.1.0, map, name) {
+            Ok(true) => return Ok(true),
+            Ok(false) => {}
+            Err(e) => return Err(e),
         }
-        self.3.read(&mut found.3, map, name)
+        self.3.read(&mut found.1.1.1, map, name)
     }
 
     #[inline(always)]
     fn finish(self, found: Self::Found, map: &mut MapAccess<'_, I>) -> Result<(S, T, U, V)> {
-        let first = self.0.finish(found.0, map)?;
-        let second = self.1.finish(found.1, map)?;
-        let third = self.2.finish(found.2, map)?;
-        let fourth = self.3.finish(found.3, map)?;
-        Ok((first, second, third, fourth))
+        let (a, b, c, d) = self;
+        match (a, (b, (c, d))).finish(found, map) {
+            Ok(values) => {
+                let (first, (second, (third, fourth))) = values;
+                Ok((first, second, third, fourth))
+            }
+            Err(e) => Err(e),
+        }
     }
 }
 
@@ -207,7 +224,7 @@ impl<
     ghost use Rattle.json5_de.specs.StructFaults.{or_of};
     ghost use Rattle.json5_fields.specs.Layouts.{and_layout};
 
-    type Found = (A::Found, B::Found, C::Found, D::Found, E::Found);
+    type Found = (A::Found, (B::Found, (C::Found, (D::Found, E::Found))));
 
     ghost Shape = { A.Shape × (B.Shape × (C.Shape × (D.Shape × E.Shape))) };
 
@@ -215,7 +232,7 @@ impl<
 
     ghost State = { A.State × (B.State × (C.State × (D.State × E.State))) };
 
-    ghost state = { λ s. (A.state s.0, (B.state s.1, (C.state s.2, (D.state s.3, E.state s.4)))) };
+    ghost state = { λ s. (A.state s.0, (B.state s.1.0, (C.state s.1.1.0, (D.state s.1.1.1.0, E.state s.1.1.1.1)))) };
 
     ghost Content = { A.Content × (B.Content × (C.Content × (D.Content × E.Content))) };
 
@@ -229,10 +246,10 @@ impl<
     fn start(&self) -> Self::Found {
         (
             self.0.start(),
-            self.1.start(),
-            self.2.start(),
-            self.3.start(),
-            self.4.start(),
+            (
+                self.1.start(),
+                (self.2.start(), (self.3.start(), self.4.start())),
+            ),
         )
     }
 
@@ -243,29 +260,39 @@ impl<
         map: &mut MapAccess<'_, I>,
         name: &str,
     ) -> Result<bool> {
-        if self.0.read(&mut found.0, map, name)? {
-            return Ok(true);
+        match self.0.read(&mut found.0, map, name) {
+            Ok(true) => return Ok(true),
+            Ok(false) => {}
+            Err(e) => return Err(e),
         }
-        if self.1.read(&mut found.1, map, name)? {
-            return Ok(true);
+        match self.1.read(&mut found.1.0, map, name) {
+            Ok(true) => return Ok(true),
+            Ok(false) => {}
+            Err(e) => return Err(e),
         }
-        if self.2.read(&mut found.2, map, name)? {
-            return Ok(true);
+        match self.2.read(&mut found.1.1.0, map, name) {
+            Ok(true) => return Ok(true),
+            Ok(false) => {}
+            Err(e) => return Err(e),
         }
-        if self.3.read(&mut found.3, map, name)? {
-            return Ok(true);
+        match self.3.read(&mut found.1.1.1.0, map, name) {
+            Ok(true) => return Ok(true),
+            Ok(false) => {}
+            Err(e) => return Err(e),
         }
-        self.4.read(&mut found.4, map, name)
+        self.4.read(&mut found.1.1.1.1, map, name)
     }
 
     #[inline(always)]
     fn finish(self, found: Self::Found, map: &mut MapAccess<'_, I>) -> Result<(S, T, U, V, W)> {
-        let first = self.0.finish(found.0, map)?;
-        let second = self.1.finish(found.1, map)?;
-        let third = self.2.finish(found.2, map)?;
-        let fourth = self.3.finish(found.3, map)?;
-        let fifth = self.4.finish(found.4, map)?;
-        Ok((first, second, third, fourth, fifth))
+        let (a, b, c, d, e) = self;
+        match (a, (b, (c, (d, e)))).finish(found, map) {
+            Ok(values) => {
+                let (first, (second, (third, (fourth, fifth)))) = values;
+                Ok((first, second, third, fourth, fifth))
+            }
+            Err(e) => Err(e),
+        }
     }
 }
 
@@ -288,7 +315,10 @@ impl<
     ghost use Rattle.json5_de.specs.StructFaults.{or_of};
     ghost use Rattle.json5_fields.specs.Layouts.{and_layout};
 
-    type Found = (A::Found, B::Found, C::Found, D::Found, E::Found, F::Found);
+    type Found = (
+        A::Found,
+        (B::Found, (C::Found, (D::Found, (E::Found, F::Found)))),
+    );
 
     ghost Shape = { A.Shape × (B.Shape × (C.Shape × (D.Shape × (E.Shape × F.Shape)))) };
 
@@ -296,7 +326,7 @@ impl<
 
     ghost State = { A.State × (B.State × (C.State × (D.State × (E.State × F.State)))) };
 
-    ghost state = { λ s. (A.state s.0, (B.state s.1, (C.state s.2, (D.state s.3, (E.state s.4, F.state s.5))))) };
+    ghost state = { λ s. (A.state s.0, (B.state s.1.0, (C.state s.1.1.0, (D.state s.1.1.1.0, (E.state s.1.1.1.1.0, F.state s.1.1.1.1.1))))) };
 
     ghost Content = { A.Content × (B.Content × (C.Content × (D.Content × (E.Content × F.Content)))) };
 
@@ -310,11 +340,13 @@ impl<
     fn start(&self) -> Self::Found {
         (
             self.0.start(),
-            self.1.start(),
-            self.2.start(),
-            self.3.start(),
-            self.4.start(),
-            self.5.start(),
+            (
+                self.1.start(),
+                (
+                    self.2.start(),
+                    (self.3.start(), (self.4.start(), self.5.start())),
+                ),
+            ),
         )
     }
 
@@ -325,33 +357,44 @@ impl<
         map: &mut MapAccess<'_, I>,
         name: &str,
     ) -> Result<bool> {
-        if self.0.read(&mut found.0, map, name)? {
-            return Ok(true);
+        match self.0.read(&mut found.0, map, name) {
+            Ok(true) => return Ok(true),
+            Ok(false) => {}
+            Err(e) => return Err(e),
         }
-        if self.1.read(&mut found.1, map, name)? {
-            return Ok(true);
+        match self.1.read(&mut found.1.0, map, name) {
+            Ok(true) => return Ok(true),
+            Ok(false) => {}
+            Err(e) => return Err(e),
         }
-        if self.2.read(&mut found.2, map, name)? {
-            return Ok(true);
+        match self.2.read(&mut found.1.1.0, map, name) {
+            Ok(true) => return Ok(true),
+            Ok(false) => {}
+            Err(e) => return Err(e),
         }
-        if self.3.read(&mut found.3, map, name)? {
-            return Ok(true);
+        match self.3.read(&mut found.1.1.1.0, map, name) {
+            Ok(true) => return Ok(true),
+            Ok(false) => {}
+            Err(e) => return Err(e),
         }
-        if self.4.read(&mut found.4, map, name)? {
-            return Ok(true);
+        match self.4.read(&mut found.1.1.1.1.0, map, name) {
+            Ok(true) => return Ok(true),
+            Ok(false) => {}
+            Err(e) => return Err(e),
         }
-        self.5.read(&mut found.5, map, name)
+        self.5.read(&mut found.1.1.1.1.1, map, name)
     }
 
     #[inline(always)]
     fn finish(self, found: Self::Found, map: &mut MapAccess<'_, I>) -> Result<(S, T, U, V, W, X)> {
-        let first = self.0.finish(found.0, map)?;
-        let second = self.1.finish(found.1, map)?;
-        let third = self.2.finish(found.2, map)?;
-        let fourth = self.3.finish(found.3, map)?;
-        let fifth = self.4.finish(found.4, map)?;
-        let sixth = self.5.finish(found.5, map)?;
-        Ok((first, second, third, fourth, fifth, sixth))
+        let (a, b, c, d, e, f) = self;
+        match (a, (b, (c, (d, (e, f))))).finish(found, map) {
+            Ok(values) => {
+                let (first, (second, (third, (fourth, (fifth, sixth))))) = values;
+                Ok((first, second, third, fourth, fifth, sixth))
+            }
+            Err(e) => Err(e),
+        }
     }
 }
 
@@ -378,12 +421,10 @@ impl<
 
     type Found = (
         A::Found,
-        B::Found,
-        C::Found,
-        D::Found,
-        E::Found,
-        F::Found,
-        G::Found,
+        (
+            B::Found,
+            (C::Found, (D::Found, (E::Found, (F::Found, G::Found)))),
+        ),
     );
 
     ghost Shape = { A.Shape × (B.Shape × (C.Shape × (D.Shape × (E.Shape × (F.Shape × G.Shape))))) };
@@ -392,7 +433,7 @@ impl<
 
     ghost State = { A.State × (B.State × (C.State × (D.State × (E.State × (F.State × G.State))))) };
 
-    ghost state = { λ s. (A.state s.0, (B.state s.1, (C.state s.2, (D.state s.3, (E.state s.4, (F.state s.5, G.state s.6)))))) };
+    ghost state = { λ s. (A.state s.0, (B.state s.1.0, (C.state s.1.1.0, (D.state s.1.1.1.0, (E.state s.1.1.1.1.0, (F.state s.1.1.1.1.1.0, G.state s.1.1.1.1.1.1)))))) };
 
     ghost Content = { A.Content × (B.Content × (C.Content × (D.Content × (E.Content × (F.Content × G.Content))))) };
 
@@ -406,12 +447,16 @@ impl<
     fn start(&self) -> Self::Found {
         (
             self.0.start(),
-            self.1.start(),
-            self.2.start(),
-            self.3.start(),
-            self.4.start(),
-            self.5.start(),
-            self.6.start(),
+            (
+                self.1.start(),
+                (
+                    self.2.start(),
+                    (
+                        self.3.start(),
+                        (self.4.start(), (self.5.start(), self.6.start())),
+                    ),
+                ),
+            ),
         )
     }
 
@@ -422,25 +467,37 @@ impl<
         map: &mut MapAccess<'_, I>,
         name: &str,
     ) -> Result<bool> {
-        if self.0.read(&mut found.0, map, name)? {
-            return Ok(true);
+        match self.0.read(&mut found.0, map, name) {
+            Ok(true) => return Ok(true),
+            Ok(false) => {}
+            Err(e) => return Err(e),
         }
-        if self.1.read(&mut found.1, map, name)? {
-            return Ok(true);
+        match self.1.read(&mut found.1.0, map, name) {
+            Ok(true) => return Ok(true),
+            Ok(false) => {}
+            Err(e) => return Err(e),
         }
-        if self.2.read(&mut found.2, map, name)? {
-            return Ok(true);
+        match self.2.read(&mut found.1.1.0, map, name) {
+            Ok(true) => return Ok(true),
+            Ok(false) => {}
+            Err(e) => return Err(e),
         }
-        if self.3.read(&mut found.3, map, name)? {
-            return Ok(true);
+        match self.3.read(&mut found.1.1.1.0, map, name) {
+            Ok(true) => return Ok(true),
+            Ok(false) => {}
+            Err(e) => return Err(e),
         }
-        if self.4.read(&mut found.4, map, name)? {
-            return Ok(true);
+        match self.4.read(&mut found.1.1.1.1.0, map, name) {
+            Ok(true) => return Ok(true),
+            Ok(false) => {}
+            Err(e) => return Err(e),
         }
-        if self.5.read(&mut found.5, map, name)? {
-            return Ok(true);
+        match self.5.read(&mut found.1.1.1.1.1.0, map, name) {
+            Ok(true) => return Ok(true),
+            Ok(false) => {}
+            Err(e) => return Err(e),
         }
-        self.6.read(&mut found.6, map, name)
+        self.6.read(&mut found.1.1.1.1.1.1, map, name)
     }
 
     #[inline(always)]
@@ -449,14 +506,14 @@ impl<
         found: Self::Found,
         map: &mut MapAccess<'_, I>,
     ) -> Result<(S, T, U, V, W, X, Y)> {
-        let first = self.0.finish(found.0, map)?;
-        let second = self.1.finish(found.1, map)?;
-        let third = self.2.finish(found.2, map)?;
-        let fourth = self.3.finish(found.3, map)?;
-        let fifth = self.4.finish(found.4, map)?;
-        let sixth = self.5.finish(found.5, map)?;
-        let seventh = self.6.finish(found.6, map)?;
-        Ok((first, second, third, fourth, fifth, sixth, seventh))
+        let (a, b, c, d, e, f, g) = self;
+        match (a, (b, (c, (d, (e, (f, g)))))).finish(found, map) {
+            Ok(values) => {
+                let (first, (second, (third, (fourth, (fifth, (sixth, seventh)))))) = values;
+                Ok((first, second, third, fourth, fifth, sixth, seventh))
+            }
+            Err(e) => Err(e),
+        }
     }
 }
 
@@ -485,13 +542,13 @@ impl<
 
     type Found = (
         A::Found,
-        B::Found,
-        C::Found,
-        D::Found,
-        E::Found,
-        F::Found,
-        G::Found,
-        H::Found,
+        (
+            B::Found,
+            (
+                C::Found,
+                (D::Found, (E::Found, (F::Found, (G::Found, H::Found)))),
+            ),
+        ),
     );
 
     ghost Shape = { A.Shape × (B.Shape × (C.Shape × (D.Shape × (E.Shape × (F.Shape × (G.Shape × H.Shape)))))) };
@@ -500,7 +557,7 @@ impl<
 
     ghost State = { A.State × (B.State × (C.State × (D.State × (E.State × (F.State × (G.State × H.State)))))) };
 
-    ghost state = { λ s. (A.state s.0, (B.state s.1, (C.state s.2, (D.state s.3, (E.state s.4, (F.state s.5, (G.state s.6, H.state s.7))))))) };
+    ghost state = { λ s. (A.state s.0, (B.state s.1.0, (C.state s.1.1.0, (D.state s.1.1.1.0, (E.state s.1.1.1.1.0, (F.state s.1.1.1.1.1.0, (G.state s.1.1.1.1.1.1.0, H.state s.1.1.1.1.1.1.1))))))) };
 
     ghost Content = { A.Content × (B.Content × (C.Content × (D.Content × (E.Content × (F.Content × (G.Content × H.Content)))))) };
 
@@ -514,13 +571,19 @@ impl<
     fn start(&self) -> Self::Found {
         (
             self.0.start(),
-            self.1.start(),
-            self.2.start(),
-            self.3.start(),
-            self.4.start(),
-            self.5.start(),
-            self.6.start(),
-            self.7.start(),
+            (
+                self.1.start(),
+                (
+                    self.2.start(),
+                    (
+                        self.3.start(),
+                        (
+                            self.4.start(),
+                            (self.5.start(), (self.6.start(), self.7.start())),
+                        ),
+                    ),
+                ),
+            ),
         )
     }
 
@@ -531,28 +594,42 @@ impl<
         map: &mut MapAccess<'_, I>,
         name: &str,
     ) -> Result<bool> {
-        if self.0.read(&mut found.0, map, name)? {
-            return Ok(true);
+        match self.0.read(&mut found.0, map, name) {
+            Ok(true) => return Ok(true),
+            Ok(false) => {}
+            Err(e) => return Err(e),
         }
-        if self.1.read(&mut found.1, map, name)? {
-            return Ok(true);
+        match self.1.read(&mut found.1.0, map, name) {
+            Ok(true) => return Ok(true),
+            Ok(false) => {}
+            Err(e) => return Err(e),
         }
-        if self.2.read(&mut found.2, map, name)? {
-            return Ok(true);
+        match self.2.read(&mut found.1.1.0, map, name) {
+            Ok(true) => return Ok(true),
+            Ok(false) => {}
+            Err(e) => return Err(e),
         }
-        if self.3.read(&mut found.3, map, name)? {
-            return Ok(true);
+        match self.3.read(&mut found.1.1.1.0, map, name) {
+            Ok(true) => return Ok(true),
+            Ok(false) => {}
+            Err(e) => return Err(e),
         }
-        if self.4.read(&mut found.4, map, name)? {
-            return Ok(true);
+        match self.4.read(&mut found.1.1.1.1.0, map, name) {
+            Ok(true) => return Ok(true),
+            Ok(false) => {}
+            Err(e) => return Err(e),
         }
-        if self.5.read(&mut found.5, map, name)? {
-            return Ok(true);
+        match self.5.read(&mut found.1.1.1.1.1.0, map, name) {
+            Ok(true) => return Ok(true),
+            Ok(false) => {}
+            Err(e) => return Err(e),
         }
-        if self.6.read(&mut found.6, map, name)? {
-            return Ok(true);
+        match self.6.read(&mut found.1.1.1.1.1.1.0, map, name) {
+            Ok(true) => return Ok(true),
+            Ok(false) => {}
+            Err(e) => return Err(e),
         }
-        self.7.read(&mut found.7, map, name)
+        self.7.read(&mut found.1.1.1.1.1.1.1, map, name)
     }
 
     #[inline(always)]
@@ -561,14 +638,14 @@ impl<
         found: Self::Found,
         map: &mut MapAccess<'_, I>,
     ) -> Result<(S, T, U, V, W, X, Y, Z)> {
-        let first = self.0.finish(found.0, map)?;
-        let second = self.1.finish(found.1, map)?;
-        let third = self.2.finish(found.2, map)?;
-        let fourth = self.3.finish(found.3, map)?;
-        let fifth = self.4.finish(found.4, map)?;
-        let sixth = self.5.finish(found.5, map)?;
-        let seventh = self.6.finish(found.6, map)?;
-        let eighth = self.7.finish(found.7, map)?;
-        Ok((first, second, third, fourth, fifth, sixth, seventh, eighth))
+        let (a, b, c, d, e, f, g, h) = self;
+        match (a, (b, (c, (d, (e, (f, (g, h))))))).finish(found, map) {
+            Ok(values) => {
+                let (first, (second, (third, (fourth, (fifth, (sixth, (seventh, eighth))))))) =
+                    values;
+                Ok((first, second, third, fourth, fifth, sixth, seventh, eighth))
+            }
+            Err(e) => Err(e),
+        }
     }
 }

@@ -1,4 +1,4 @@
-//! Tuples of fields that are written.
+//! Tuples of fields that are written. A tuple of more than two stands for nested pairs.
 
 use crate::entries::WrittenFields;
 use json5_ser::SerializeCollection;
@@ -20,9 +20,7 @@ impl<A: WrittenFields, B: WrittenFields, C: WrittenFields> WrittenFields for (A,
     ghost add = { λ f fs. A.add f.0 (B.add f.1 (C.add f.2 fs)) };
 
     fn write_into<W: Write + Drop>(&self, into: &mut SerializeCollection<'_, W>) -> Result<()> {
-        self.0.write_into(into)?;
-        self.1.write_into(into)?;
-        self.2.write_into(into)
+        (&self.0, (&self.1, &self.2)).write_into(into)
     }
 }
 
@@ -32,10 +30,7 @@ impl<A: WrittenFields, B: WrittenFields, C: WrittenFields, D: WrittenFields> Wri
     ghost add = { λ f fs. A.add f.0 (B.add f.1 (C.add f.2 (D.add f.3 fs))) };
 
     fn write_into<W: Write + Drop>(&self, into: &mut SerializeCollection<'_, W>) -> Result<()> {
-        self.0.write_into(into)?;
-        self.1.write_into(into)?;
-        self.2.write_into(into)?;
-        self.3.write_into(into)
+        (&self.0, (&self.1, (&self.2, &self.3))).write_into(into)
     }
 }
 
@@ -50,11 +45,7 @@ impl<
     ghost add = { λ f fs. A.add f.0 (B.add f.1 (C.add f.2 (D.add f.3 (E.add f.4 fs)))) };
 
     fn write_into<W: Write + Drop>(&self, into: &mut SerializeCollection<'_, W>) -> Result<()> {
-        self.0.write_into(into)?;
-        self.1.write_into(into)?;
-        self.2.write_into(into)?;
-        self.3.write_into(into)?;
-        self.4.write_into(into)
+        (&self.0, (&self.1, (&self.2, (&self.3, &self.4)))).write_into(into)
     }
 }
 
@@ -70,12 +61,7 @@ impl<
     ghost add = { λ f fs. A.add f.0 (B.add f.1 (C.add f.2 (D.add f.3 (E.add f.4 (F.add f.5 fs))))) };
 
     fn write_into<W: Write + Drop>(&self, into: &mut SerializeCollection<'_, W>) -> Result<()> {
-        self.0.write_into(into)?;
-        self.1.write_into(into)?;
-        self.2.write_into(into)?;
-        self.3.write_into(into)?;
-        self.4.write_into(into)?;
-        self.5.write_into(into)
+        (&self.0, (&self.1, (&self.2, (&self.3, (&self.4, &self.5))))).write_into(into)
     }
 }
 
@@ -92,13 +78,11 @@ impl<
     ghost add = { λ f fs. A.add f.0 (B.add f.1 (C.add f.2 (D.add f.3 (E.add f.4 (F.add f.5 (G.add f.6 fs)))))) };
 
     fn write_into<W: Write + Drop>(&self, into: &mut SerializeCollection<'_, W>) -> Result<()> {
-        self.0.write_into(into)?;
-        self.1.write_into(into)?;
-        self.2.write_into(into)?;
-        self.3.write_into(into)?;
-        self.4.write_into(into)?;
-        self.5.write_into(into)?;
-        self.6.write_into(into)
+        (
+            &self.0,
+            (&self.1, (&self.2, (&self.3, (&self.4, (&self.5, &self.6))))),
+        )
+            .write_into(into)
     }
 }
 
@@ -116,13 +100,13 @@ impl<
     ghost add = { λ f fs. A.add f.0 (B.add f.1 (C.add f.2 (D.add f.3 (E.add f.4 (F.add f.5 (G.add f.6 (H.add f.7 fs))))))) };
 
     fn write_into<W: Write + Drop>(&self, into: &mut SerializeCollection<'_, W>) -> Result<()> {
-        self.0.write_into(into)?;
-        self.1.write_into(into)?;
-        self.2.write_into(into)?;
-        self.3.write_into(into)?;
-        self.4.write_into(into)?;
-        self.5.write_into(into)?;
-        self.6.write_into(into)?;
-        self.7.write_into(into)
+        (
+            &self.0,
+            (
+                &self.1,
+                (&self.2, (&self.3, (&self.4, (&self.5, (&self.6, &self.7))))),
+            ),
+        )
+            .write_into(into)
     }
 }

@@ -1,17 +1,19 @@
-use Rattle.json5_fields.proofs.Described.{took, refused_takes, refused_here, passes_all, passed_refused}
+use Rattle.json5_fields.proofs.Described.{all_take, all_refuse, passes_all, passed_refused}
 use Rattle.json5_fields.proofs.objects.ReadingFoundFields.read.Goals as goal
 
-pub returns-in_err-read-clause-takes : goal.returns-in_err-read-clause-takes
-returns-in_err-read-clause-takes g c = refused_takes (g.F.StructFields.layout (g.F.StructFields.shape c.args.self.now.fields)) g.F.StructFields.faults _ _ c.from_residual.ensures.1 c.in_err-read.ensures
+pub returns-in-Ok-true-clause-takes : goal.returns-in-Ok-true-clause-takes
+returns-in-Ok-true-clause-takes g c = all_take (g.F.StructFields.layout (g.F.StructFields.shape c.args.self.now.fields)) g.F.StructFields.faults (rw c.in-Ok-true.field-0-test at c.in-Ok-true.ensures)
 
-pub returns-in_err-read-clause-refused : goal.returns-in_err-read-clause-refused
-returns-in_err-read-clause-refused g c = refused_here (g.F.StructFields.layout (g.F.StructFields.shape c.args.self.now.fields)) g.F.StructFields.faults _ _ c.from_residual.ensures.1 c.in_err-read.ensures
+pub returns-in-Ok-false-clause-takes : goal.returns-in-Ok-false-clause-takes
+returns-in-Ok-false-clause-takes g c =
+    passes_all (g.F.StructFields.layout (g.F.StructFields.shape c.args.self.now.fields)) g.F.StructFields.faults _ (rw c.in-Ok-false.field-0-test at c.in-Ok-false.ensures) c.skip_value.ensures.passes
 
-pub returns-then-branch-clause-takes : goal.returns-then-branch-clause-takes
-returns-then-branch-clause-takes g c = took (g.F.StructFields.layout (g.F.StructFields.shape c.args.self.now.fields)) g.F.StructFields.faults (rw c.if-branch.true at c.in_ok-read.ensures)
+pub returns-in-Ok-false-clause-refused : goal.returns-in-Ok-false-clause-refused
+returns-in-Ok-false-clause-refused g c =
+    passed_refused (g.F.StructFields.layout (g.F.StructFields.shape c.args.self.now.fields)) g.F.StructFields.faults _ (rw c.in-Ok-false.field-0-test at c.in-Ok-false.ensures) c.skip_value.ensures.cause
 
-pub returns-clause-takes : goal.returns-clause-takes
-returns-clause-takes g c = passes_all (g.F.StructFields.layout (g.F.StructFields.shape c.args.self.now.fields)) g.F.StructFields.faults _ (rw c.if-branch.false at c.in_ok-read.ensures) c.skip_value.ensures.passes
+pub returns-in-Err-clause-takes : goal.returns-in-Err-clause-takes
+returns-in-Err-clause-takes g c = all_take (g.F.StructFields.layout (g.F.StructFields.shape c.args.self.now.fields)) g.F.StructFields.faults c.in-Err.ensures
 
-pub returns-clause-refused : goal.returns-clause-refused
-returns-clause-refused g c = passed_refused (g.F.StructFields.layout (g.F.StructFields.shape c.args.self.now.fields)) g.F.StructFields.faults _ (rw c.if-branch.false at c.in_ok-read.ensures) c.skip_value.ensures.cause
+pub returns-in-Err-clause-refused : goal.returns-in-Err-clause-refused
+returns-in-Err-clause-refused g c = all_refuse (g.F.StructFields.layout (g.F.StructFields.shape c.args.self.now.fields)) g.F.StructFields.faults c.in-Err.ensures
