@@ -52,6 +52,7 @@ pub use Rattle.json5_de.specs.WholeInputs
 pub use Rattle.json5_fields.specs.Layouts
 pub use Rattle.json5_fields.specs.Described
 pub use Rattle.json5_fields.specs.FieldCalls
+pub use Rattle.json5_fields.specs.Only
 pub use Rattle.json5_fields.specs.Named
 pub use Rattle.json5_fields.specs.WrittenFields
 -- Writing. Seven modules of json5_ser name the definitions of json5_write again, whose own names a goal shows.

@@ -21,6 +21,8 @@ use Rattle.json5_de.proofs.ElementLoops.{handed_on}
 use Rattle.json5_de.proofs.Structs.{here, takes_field}
 use Rattle.json5_de.proofs.StructFaults.{field_refused}
 use Rattle.json5_fields.specs.Layouts.{Layout, has_name, first_or, and_layout, one_field, required_field, to_first, to_others, named_first, named_second, named_neither, hold, held_step, held_takes, held_passes}
+use Rattle.json5_fields.specs.Only.{only_step, only_takes, only_none, of_unknown}
+use Rattle.json5_de.specs.DeserializeLaw.{IsUnprompted}
 use Rattle.json5_fields.specs.FieldCalls.{of_type, TakesHere, Tries, Finished, Missed, Finishes}
 
 -- ---- a step that another one makes
@@ -190,3 +192,27 @@ module _ {I S D : Type 0} (l : Layout S D) (faults : ValueFaults) {s n : S} {nam
       by : (result : Result (Unit {0}) Error) → RefusesHere (λ s own after. RefusesTree s own) (map_state_of mid) result → RefusesMember (or_of faults of_any) held_step (l, s) name (map_state_of mid) result
       by (Ok done) is = tt
       by (Err e) is = λ live. inr (record { every = λ t. ap is_some (held_passes l s name t passes.other); fault = is live })
+
+-- ---- no other fields
+
+module _ {I S D : Type 0} (l : Layout S D) (faults : ValueFaults) {s n : S} {name : List ℕ} {old : MapAccess I} where
+  pub only_take : {new : MapAccess I} {result : Result (Unit {0}) Error} → TakesHere l faults s n name old new result → TakesMember only_step (l, s) (l, n) name (map_state_of old) (map_state_of new) result
+  only_take is = takes_through l.step only_step (hold l) s name name (λ t. only_takes l s name t is.named) is.takes
+
+  pub only_refuse : {new : MapAccess I} {result : Result (Unit {0}) Error} → TakesHere l faults s n name old new result → RefusesMember (or_of faults of_unknown) only_step (l, s) name (map_state_of old) result
+  only_refuse {result = result} is = refused_through l.step only_step (hold l) s name name (λ t. only_takes l s name t is.named) faults (or_of faults of_unknown) (map_state_of old) result (λ may e fault. inl fault) is.refused
+
+-- a name of none of the fields is refused
+module _ {I S D : Type 0} (l : Layout S D) (faults : ValueFaults) (s n : S) (name : List ℕ) (old mid : MapAccess I) (passes : Tries l faults s n name old mid (Ok false)) (e : Error) where
+  pub unknown_taken : (new : MapAccess I) → (map_state_of new).at.reader.failed ≡ true → IsUnprompted e → TakesMember only_step (l, s) (l, n) name (map_state_of old) (map_state_of new) (Err e)
+  unknown_taken new failed unprompted = record {
+    read = tt;
+    left = λ u escape_free t ps r k is left. let none = only_none l s name t passes.other in absurd (cc (none, is));
+    live = tt;
+    shorter = tt;
+    failed = failed;
+    unprompted = λ live. unprompted;
+  }
+
+  pub unknown_refused : IsOwnAtBracket (map_state_of mid).at e → RefusesMember (or_of faults of_unknown) only_step (l, s) name (map_state_of old) (Err e)
+  unknown_refused own = λ live. inr (record { none = λ t. ap is_some (only_none l s name t passes.other); fault = subst (λ m. IsOwnAtBracket (map_state_of m).at e) passes.access own })
