@@ -90,8 +90,10 @@ impl<I: Input> Deserialize<I> for Port {
     ghost convert = { unsigned_below (2 ^ 16) };
 
     fn deserialize(de: &mut Deserializer<I>) -> Result<Port> {
-        let number = de.deserialize_u16()?;
-        Ok(Port { number })
+        match de.deserialize_u16() {
+            Ok(number) => Ok(Port { number }),
+            Err(e) => Err(e),
+        }
     }
 }
 
@@ -115,8 +117,10 @@ impl<I: Input, T: Deserialize<I>> Deserialize<I> for Point<T> {
     ghost convert = { array_of (first_of T.convert (last_of T.convert)) };
 
     fn deserialize(de: &mut Deserializer<I>) -> Result<Point<T>> {
-        let (x, y) = <(T, T)>::deserialize(de)?;
-        Ok(Point { x, y })
+        match <(T, T)>::deserialize(de) {
+            Ok((x, y)) => Ok(Point { x, y }),
+            Err(e) => Err(e),
+        }
     }
 }
 
