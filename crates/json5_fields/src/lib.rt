@@ -11,6 +11,7 @@
 #![tactic(auto)]
 
 mod entries;
+mod field_names;
 mod fields;
 mod names;
 mod objects;
@@ -20,6 +21,7 @@ mod written_objects;
 mod written_tuples;
 
 pub use entries::{Field, Given, WrittenFields};
+pub use field_names::FieldNames;
 pub use fields::{Optional, Required, StructFields, WithDefault};
 pub use names::one_of_names;
 pub use objects::read_struct;

@@ -10,6 +10,7 @@ ghost use Rattle.json5_fields.specs.Layouts.{all_differ};
 ghost use Rattle.json5_fields.specs.Only.{only_these};
 ghost use Rattle.json5_fields.specs.Described.{RefusesOnly, ReadsOnly};
 
+use crate::field_names::{FieldNames, UnknownField};
 use crate::fields::StructFields;
 use json5_de::{Deserializer, Fields, MapAccess};
 use json5_text::input::Input;
@@ -35,14 +36,19 @@ fn own_fault<I: Input, D: fmt::Display + Drop>(
 
 /// Refuses the field whose key was read last: from here on the access has failed.
 #[cold]
-fn unknown<I: Input>(alloc: Global, map: &mut MapAccess<'_, I>, name: &str) -> Error
+fn unknown<I: Input, F: FieldNames>(
+    alloc: Global,
+    map: &mut MapAccess<'_, I>,
+    name: &str,
+    fields: &F,
+) -> Error
     requires key { KeyPending map.old }
     ensures access { KeepsMap map.old map.new }
     ensures failed { (map_state_of map.new).at.reader.failed ≡ true }
     ensures own { IsOwnAtBracket (map_state_of map.old).at result }
     ensures unprompted { IsUnprompted result }
 {
-    let error = own_fault(alloc, map, format_args!("unknown field `{name}`"));
+    let error = own_fault(alloc, map, UnknownField { name, fields });
     let _ = map.required_field::<bool>(name, None);
     error
 }
@@ -56,7 +62,8 @@ struct ReadingOnly<F, S, V> {
     of: PhantomData<V>,
 }
 
-impl<I: Input, V: Drop, F: StructFields<I, V>> Fields<I> for ReadingOnly<F, F::Found, V> {
+impl<I: Input, V: Drop, F: StructFields<I, V> + FieldNames> Fields<I>
+    for ReadingOnly<F, F::Found, V> {
     ghost use Rattle.json5_de.specs.StructFaults.{or_of};
     ghost use Rattle.json5_fields.specs.Layouts.{Held};
     ghost use Rattle.json5_fields.specs.Only.{only_step, of_unknown};
@@ -73,7 +80,7 @@ impl<I: Input, V: Drop, F: StructFields<I, V>> Fields<I> for ReadingOnly<F, F::F
     fn read(&mut self, map: &mut MapAccess<'_, I>, name: &str) -> Result<()> {
         match self.fields.read(&mut self.found, map, name) {
             Ok(true) => Ok(()),
-            Ok(false) => Err(unknown(self.alloc, map, name)),
+            Ok(false) => Err(unknown(self.alloc, map, name, &self.fields)),
             Err(e) => Err(e),
         }
     }
@@ -81,7 +88,7 @@ impl<I: Input, V: Drop, F: StructFields<I, V>> Fields<I> for ReadingOnly<F, F::F
 
 /// The same as `read_struct_only`, by separate clauses.
 #[inline(always)]
-fn read_only<I: Input, V: Drop, F: StructFields<I, V>>(
+fn read_only<I: Input, V: Drop, F: StructFields<I, V> + FieldNames>(
     de: &mut Deserializer<I>,
     fields: F,
 ) -> Result<V>
@@ -123,9 +130,9 @@ fn read_only<I: Input, V: Drop, F: StructFields<I, V>>(
 ///
 /// # Errors
 ///
-/// - ``unknown field `name` `` at the opening brace; the value stays unread.
+/// - ``unknown field `prot`, expected one of `host`, `port` `` at the opening brace; the value stays unread.
 /// - Those of [`read_struct`](crate::read_struct).
-pub fn read_struct_only<I: Input, V: Drop, F: StructFields<I, V>>(
+pub fn read_struct_only<I: Input, V: Drop, F: StructFields<I, V> + FieldNames>(
     de: &mut Deserializer<I>,
     fields: F,
 ) -> Result<V>
