@@ -2,9 +2,7 @@
 
 ghost use Rattle.std.specs.Prelude.{◌≡◌, length};
 ghost use Rattle.json5_de.specs.Convert.{names_bytes};
-ghost use Rattle.json5_de.specs.DeserializeLaw.{ReadsValue};
-ghost use Rattle.json5_de.specs.TokenKinds.{RefusedAs, variant_kind, escape_free_text};
-ghost use Rattle.json5_fields.specs.Named.{one_named};
+ghost use Rattle.json5_fields.specs.Named.{ReadsOneOf};
 
 use json5_de::Deserializer;
 use json5_text::input::Input;
@@ -26,7 +24,7 @@ pub fn one_of_names<I: Input, T: Copy>(
     values: &[T],
 ) -> Result<T>
     requires { length values.now ≡ length names.now }
-    ensures { ReadsValue (λ v. v) (one_named (names_bytes names.now) values.now) escape_free_text (RefusedAs (variant_kind (names_bytes names.now))) de.old de.new result }
+    ensures { ReadsOneOf (names_bytes names.now) values.now de.old de.new result }
 {
     match de.deserialize_variant(names) {
         Ok(place) => Ok(values[place]),
