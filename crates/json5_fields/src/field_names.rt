@@ -4,6 +4,10 @@ use crate::fields::{Optional, Required, WithDefault};
 use std::fmt;
 
 /// A description whose names can be listed.
+///
+/// ```text
+/// (Required("host"), WithDefault("port", 80))    // `host`, `port`
+/// ```
 pub trait FieldNames {
     /// Writes the names, each between backquotes.
     ///
