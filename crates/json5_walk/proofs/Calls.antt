@@ -38,7 +38,7 @@ use Rattle.json5_walk.specs.declared.place.Place.{Place}
 use Rattle.json5_walk.specs.Nexts.{takes_value}
 use Rattle.json5_walk.specs.Frames.{Frame, in_array, in_object, Fits, At, at_value, at_element, at_key, at_colon, at_comma, next_of, kinds_of, value_frames, CompletesTo}
 use Rattle.json5_walk.specs.Moves.{Stays, TakesValue, takes, Opens, TakesKeyOf, TakesColon, TakesComma, Closes}
-use Rattle.json5_walk.specs.Walks.{kinds_onto, kinds_in, count_in, member_next, may_close, Walked, at_start, room_of, Trail, IsMarked, IsAt, Live, IsWalk, Moved, MovedMarking, Unmarked, IsDocument, Ends}
+use Rattle.json5_walk.specs.Walks.{kinds_onto, kinds_in, count_in, member_next, may_close, Walked, at_start, room_of, Trail, IsMarked, IsAt, Live, IsWalk, Moved, MovedMarking, Unmarked, IsDocument, IsDocumentWithin, Ends}
 use Rattle.json5_walk.proofs.Rests.{append_nil, reads_gap, token_reads, value_kinds, value_count, Move, gap_move, value_completes, value_move, key_move, colon_move, comma_move, open_move, close_move}
 
 -- ---- the open brackets
@@ -133,23 +133,20 @@ keeps_marking {old = old} {new = new} w l k = record {
 
 -- ---- what each call does
 
-pub starts : {bytes : List ℕ} {limit : ℕ} → IsUtf8 bytes → limit ≤ max_depth → IsWalk (at_start bytes limit)
-starts {limit = limit} u l = record {
-  small = l;
-  live = λ h. (
-    record { now = at_value []; marked = None },
-    record {
-      fits = omega arith;
-      is_text = u;
-      front = [];
-      split = refl;
-      is_next = refl;
-      is_kinds = refl;
-      goes = λ z w n (t, r, p, d, (b, is)). subst (λ x. Doc limit z x) (sym is) (phrase_document limit z r t p b (omega (arith, d)));
-      marked = tt;
-    },
-  );
+pub starts_at : {bytes : List ℕ} {limit : ℕ} → IsUtf8 bytes → IsAt (at_start bytes limit) (record { now = at_value []; marked = None })
+starts_at {limit = limit} u = record {
+  fits = omega arith;
+  is_text = u;
+  front = [];
+  split = refl;
+  is_next = refl;
+  is_kinds = refl;
+  goes = λ z w n (t, r, p, d, (b, is)). subst (λ x. Doc limit z x) (sym is) (phrase_document limit z r t p b (omega (arith, d)));
+  marked = tt;
 }
+
+pub starts : {bytes : List ℕ} {limit : ℕ} → IsUtf8 bytes → limit ≤ max_depth → IsWalk (at_start bytes limit)
+starts u l = record { small = l; live = λ h. (record { now = at_value []; marked = None }, starts_at u) }
 
 pub unmarks : {old : Walked} → Unmarked old (record { text = old.text; unread = old.unread; limit = old.limit; kinds = old.kinds; next = old.next; place = None })
 unmarks {old = old} = record { text = refl; limit = refl; same_next = refl; same_kinds = refl; leads = λ s f. record { fits = f.fits; is_text = f.is_text; front = f.front; split = f.split; is_next = f.is_next; is_kinds = f.is_kinds; goes = f.goes; marked = tt } }
@@ -288,7 +285,7 @@ passed {room = room} {old = old} {new = new} g =
 begun : {room : ℕ} {x y : List ℕ} → Passed room x y → x ≡ [] → ⊥
 begun {y = y} p e = let h = val_head p.value in let k : [] ≡ h.char ∷ (h.more ++ y) = sym e ∙ p.split ∙ ap (λ z. z ++ y) h.is in cc
 
-room_fits : (limit n d room : ℕ) → n ≤ limit → room ≡ limit - n → d ≤ room → n + d ≤ limit
+pub room_fits : (limit n d room : ℕ) → n ≤ limit → room ≡ limit - n → d ≤ room → n + d ≤ limit
 room_fits limit n d room l e h = omega (arith, l, e, h)
 
 pub counted : {outer count : ℕ} (i : Option OpenBracket) (bs : List OpenBracket) → count ≡ count_in i outer → outer ≡ length bs → count ≡ length (kinds_in i bs)
@@ -400,8 +397,14 @@ ends {v = v} s is none l f =
       marked = marked_rest v.limit v.text (CompletesTo v.limit s.now v.unread) (λ w. w ≡ t) v.place s.marked c f.marked;
     }
 
-pub is_document : {v : Walked} → IsWalk v → v.next ≡ next.Comma → length v.kinds ≤ 0 → LastBlanks v.unread → IsDocument v
-is_document w is none l = let (s, f) = w.live (subst Live (sym is) tt) in let k = ends s is none l f in (k.tree, k.document)
+pub is_within : {v : Walked} → IsWalk v → v.next ≡ next.Comma → length v.kinds ≤ 0 → LastBlanks v.unread → IsDocumentWithin v.limit v.text
+is_within w is none l = let (s, f) = w.live (subst Live (sym is) tt) in let k = ends s is none l f in (k.tree, k.document)
+
+less_deep : {limit : ℕ} {x : List ℕ} {t : Tree} → limit ≤ max_depth → Doc limit x t → Doc max_depth x t
+less_deep l d = let k = d.shallow in record { before = d.before; text = d.text; after = d.after; whole = d.whole; blank = d.blank; value = d.value; last = d.last; shallow = omega (arith, l, k) }
+
+pub is_document : {v : Walked} → IsWalk v → v.next ≡ next.Comma → length v.kinds ≤ 0 → LastBlanks v.unread → IsDocument v.text
+is_document w is none l = let (t, d) = is_within w is none l in (t, less_deep w.small d)
 
 -- ---- a fork
 
