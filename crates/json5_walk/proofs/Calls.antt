@@ -1,9 +1,9 @@
 -- What each call of a walk does.
-use Rattle.std.proofs.Common.{◌≡◌, ℕ, ◌+◌, ◌≤◌, ◌<◌, ◌-◌, Bool, true, false, List, [], ◌∷◌, ◌++◌, length, refl, ap, sym, ◌∙◌, append_assoc, arith, subst, Option, Some, None, take, drop}
+use Rattle.std.proofs.Common.{◌≡◌, ℕ, ◌+◌, ◌≤◌, ◌<◌, ◌-◌, Bool, true, false, List, [], ◌∷◌, ◌++◌, length, refl, ap, sym, ◌∙◌, append_assoc, arith, subst, Option, Some, None, drop}
 use Rattle.std.specs.Prelude.{slice_get, option_to_list}
-use Rattle.std.specs.Str.{chars, IsUtf8, all_scalars, encode_utf8_all}
-use Rattle.std.proofs.lemmas.Str.{encodes-chars, encodes-append, chars-encodes}
-use Rattle.std.proofs.lemmas.List.{length-append, take_rest}
+use Rattle.std.specs.Str.{chars, IsUtf8, IsCharBoundary, all_scalars, encode_utf8_all}
+use Rattle.std.proofs.lemmas.Str.{encodes-chars, encodes-append, chars-encodes, IsCharBoundary-at_seam}
+use Rattle.std.proofs.lemmas.List.{length-append}
 use Rattle.std.proofs.Math.Seq.{drop-append_seam}
 use Rattle.json5_grammar.specs.Faults.Fronts.{BracketKind}
 use Rattle.json5_grammar.specs.Language.Blanks.{Blanks, LastBlanks, Gap}
@@ -408,11 +408,16 @@ is_document w is none l = let (t, d) = is_within w is none l in (t, less_deep w.
 
 -- ---- a fork
 
-pub rest_unread : (input before unread bytes rest : List ℕ) (offset : ℕ) → IsUtf8 bytes → chars bytes ≡ input → input ≡ before ++ unread → all_scalars unread ≡ true → offset ≡ bytes_in input - bytes_in unread → rest ≡ take (length bytes - offset) (drop offset bytes) → chars rest ≡ unread
-rest_unread input before unread bytes rest offset u i e s n r =
-    let whole : bytes ≡ encode_utf8_all before ++ encode_utf8_all unread = sym (encodes-chars bytes u) ∙ ap encode_utf8_all (i ∙ e) ∙ encodes-append before unread in
-    let size = length-append (encode_utf8_all before) (encode_utf8_all unread) in
-    let total : bytes_in input ≡ bytes_in before + bytes_in unread = ap (λ z. length (encode_utf8_all z)) e ∙ ap length (encodes-append before unread) ∙ size in
-    let there : offset ≡ bytes_in before = omega (arith, n, total) in
-    let dropped : drop offset bytes ≡ encode_utf8_all unread = ap (λ z. drop z bytes) there ∙ ap (drop (bytes_in before)) whole ∙ drop-append_seam (encode_utf8_all before) (encode_utf8_all unread) in
-    ap chars (r ∙ take_rest bytes offset ∙ dropped) ∙ chars-encodes unread s
+-- the offset of what is unread, in the bytes of the input
+module _ (now : Cursor) (bytes : List ℕ) (offset : ℕ) (u : IsUtf8 bytes) (i : chars bytes ≡ now.input) (suffix : (before : List ℕ) × (now.input ≡ before ++ now.unread)) (s : all_scalars now.unread ≡ true) (n : offset ≡ offset_of now) where
+  cut : bytes ≡ encode_utf8_all suffix.0 ++ encode_utf8_all now.unread
+  cut = sym (encodes-chars bytes u) ∙ ap encode_utf8_all (i ∙ suffix.1) ∙ encodes-append suffix.0 now.unread
+
+  at : offset ≡ bytes_in suffix.0
+  at = let total : bytes_in now.input ≡ bytes_in suffix.0 + bytes_in now.unread = ap bytes_in suffix.1 ∙ bytes_joined suffix.0 now.unread in omega (arith, n, total)
+
+  pub offset_seam : IsCharBoundary bytes offset
+  offset_seam = subst (IsCharBoundary bytes) (sym at) (IsCharBoundary-at_seam bytes (encode_utf8_all suffix.0) (encode_utf8_all now.unread) cut (now.unread, (s, refl)))
+
+  pub rest_unread : (rest : List ℕ) → rest ≡ drop offset bytes → chars rest ≡ now.unread
+  rest_unread rest r = ap chars (r ∙ ap (λ z. drop z bytes) at ∙ ap (drop (bytes_in suffix.0)) cut ∙ drop-append_seam (encode_utf8_all suffix.0) (encode_utf8_all now.unread)) ∙ chars-encodes now.unread s
