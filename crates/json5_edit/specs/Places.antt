@@ -23,8 +23,8 @@ pub record IsPart (text : List ℕ) (p : Place) (before old after : List ℕ) : 
 abbrev pub HasPlace : List ℕ → Place → Type 0
 HasPlace text p = (before old after : List ℕ) × IsPart text p before old after
 
--- the place is the value in the document of the tree w that the path leads to, and with any other value in its place the text is a document
--- of the tree with that part alone replaced
+-- the place is the value in the document of the tree w that the path leads to, and with any other value in its place
+-- the text is a document of the tree with that part alone replaced
 pub record IsPlace (text : List ℕ) (path : List Step) (w : Tree) (p : Place) : Type 0 where
   pub before : List ℕ
   pub old : List ℕ

@@ -7,8 +7,8 @@ use Rattle.json5_grammar.specs.Language.Values.{Val}
 use Rattle.json5_edit.specs.Parts.{part, put, positions_of}
 use Rattle.json5_edit.specs.declared.paths.Step.{Step}
 
--- the text `made` is the text with the value that the path leads to replaced by new; both are documents, and the tree is the old one with
--- that part replaced
+-- the text `made` is the text with the value that the path leads to replaced by new; both are documents, and the tree
+-- is the old one with that part replaced
 pub record IsSet (text : List ℕ) (path : List Step) (new made : List ℕ) : Type 0 where
   pub before : List ℕ
   pub old : List ℕ

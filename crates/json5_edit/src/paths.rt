@@ -7,6 +7,8 @@
 /// ```
 #[derive(Clone, Copy, Drop)]
 pub enum Step<'p> {
+    /// To the last member with this key.
     Key(&'p str),
+    /// To the element that so many others come before.
     Index(usize),
 }
