@@ -150,7 +150,7 @@ impl<W: Write + Drop> Printer<W> {
         self.depth = self.depth.saturating_sub(1);
     }
 
-    /// Closes a collection; its bracket is on its own line if something was written in it.
+    /// Closes a collection whose last member has its comma. The bracket is on its own line if there is a member.
     pub fn close(&mut self, has_member: bool, brackets: Brackets) -> Put
         ensures { Puts (closed_by (self.old.depth - 1) has_member (closing (bracket_of brackets))) (after_closing self.old) result self.new }
     {
