@@ -1,0 +1,5 @@
+-- Lists the definitions for comparing lexemes.
+pub mod SameLexemes
+pub mod Lexemes
+pub mod SameSteps
+pub mod Tokens
