@@ -24,13 +24,14 @@ pub fn one_tree_spelled()
     ensures { (ls : List (List ℕ)) (t u : Tree) → Spells ls t → Spells ls u → t ≡ u }
 {}
 
-/// Documents that have the same lexemes have the same tree, with its marks, and so both are nested within either limit.
+/// Documents that have the same lexemes have the same tree, with its marks, and so both are within either limit.
+/// A text with the lexemes of a document needn't be one, since commas are no lexemes: `[1 2]`.
 pub fn same_trees()
     ensures tree { (limit other : ℕ) (x y : List ℕ) (t u : Tree) → Doc limit x t → Doc other y u → HaveSameLexemes x y → t ≡ u }
     ensures document { (limit other : ℕ) (x y : List ℕ) (t u : Tree) → Doc limit x t → Doc other y u → HaveSameLexemes x y → Doc limit y t }
 {}
 
-/// To have the same lexemes is an equivalence: each document has its own, and texts can be swapped and passed over.
+/// To have the same lexemes is an equivalence of documents; the second and the third law hold for any texts.
 pub fn same_lexemes_as()
     ensures itself { (limit : ℕ) (x : List ℕ) (t : Tree) → Doc limit x t → HaveSameLexemes x x }
     ensures swapped { (x y : List ℕ) → HaveSameLexemes x y → HaveSameLexemes y x }
