@@ -26,5 +26,6 @@ pub use files::work_through;
 pub use host_program::{program, words};
 pub use program_runs::answer;
 pub use reports::{report, usage};
-pub use streams::{check, run};
+pub use streams::{check, read_text, run};
 pub use work::Work;
+pub use write_texts::write_texts;
