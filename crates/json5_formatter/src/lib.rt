@@ -18,7 +18,7 @@ mod streams;
 #[cfg(test)]
 mod tests;
 mod work;
-mod write_texts;
+pub mod write_texts;
 
 pub use disk::Disk;
 pub use failure::Failure;
@@ -28,4 +28,3 @@ pub use program_runs::answer;
 pub use reports::{report, usage};
 pub use streams::{check, read_text, run};
 pub use work::Work;
-pub use write_texts::write_texts;

@@ -2,11 +2,12 @@
 
 use crate::files::work_through;
 use crate::options::{Fault, Options};
-use crate::reports::{HELP, VERSION, usage};
+use crate::reports::{HELP, VERSION, no_memory, usage};
 use crate::requests::Request;
 use crate::stores::Store;
 use crate::tidied::read_tidied;
-use json5_formatter::{Failure, report, write_texts};
+use json5_formatter::write_texts::write_texts;
+use json5_formatter::{Failure, report};
 use std::alloc::Global;
 use std::io::{Read, Write};
 
@@ -23,7 +24,7 @@ pub fn answer<S: Store, R: Read, W: Write, E: Write>(
     match Request::of(alloc, list) {
         Ok(request) => answer_request(store, alloc, &request, r, w, e),
         Err(Fault::Unknown) => usage(e),
-        Err(Fault::NoMemory) => report("json5_tidy", &Failure::NoMemory, e),
+        Err(Fault::NoMemory) => no_memory(e),
     }
 }
 

@@ -2,7 +2,8 @@
 
 use crate::blocks::{Block, blocks};
 use crate::hunks::{Texts, hunk_len, write_hunk};
-use json5_formatter::{Failure, write_texts};
+use json5_formatter::Failure;
+use json5_formatter::write_texts::write_texts;
 use std::alloc::Global;
 use std::io::{self, Write};
 

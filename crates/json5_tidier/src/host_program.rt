@@ -1,10 +1,10 @@
 //! The program over the system that it runs on.
 
 use crate::answers::answer;
-use crate::reports::usage;
+use crate::reports::{no_memory, usage};
 use std::alloc::Global;
 use std::env;
-use std::io::{self, BufWriter};
+use std::io::{self, BufWriter, ErrorKind};
 use std::process::ExitCode;
 
 /// How many bytes are written to standard output at once.
@@ -14,6 +14,7 @@ const PIECE: usize = 64 * 1024;
 pub fn program(rt: &HostRuntime) -> ExitCode {
     let status = match given_words(rt) {
         Ok(list) => words(rt, rt.alloc(), list.as_slice()),
+        Err(e) if e.kind() == ErrorKind::OutOfMemory => no_memory(&mut rt.stderr()),
         Err(_) => usage(&mut rt.stderr()),
     };
     ExitCode::from(status)

@@ -1,7 +1,8 @@
 //! The lines on standard error.
 
 use crate::trouble::{Trouble, Unwritten};
-use json5_formatter::{report, write_texts};
+use json5_formatter::report;
+use json5_formatter::write_texts::write_texts;
 use std::io::Write;
 
 /// How the program is called.
@@ -42,6 +43,12 @@ pub(crate) const VERSION: &str = "json5_tidy 1.0.0\n";
 /// Writes how the program is called, as one line, and returns the status 2.
 pub(crate) fn usage<E: Write>(e: &mut E) -> u8 {
     say(e, &[USAGE]);
+    2
+}
+
+/// Writes that memory ran out before any work began, and returns the status 2.
+pub(crate) fn no_memory<E: Write>(e: &mut E) -> u8 {
+    say(e, &["json5_tidy: out of memory\n"]);
     2
 }
 

@@ -68,10 +68,13 @@ fn laid_out_document(alloc: Global, style: Style, text: &str) -> Result<String>
     let Ok(bytes) = laid_out(alloc, style, text.as_bytes()) else {
         return Err(Error::new(ErrorCode::OutOfMemory));
     };
-    match String::from_utf8(bytes) {
-        Ok(tidy) if is_laid_out(alloc, text, tidy.as_str()) => Ok(tidy),
-        _ => copied(alloc, text),
+    let Ok(tidy) = String::from_utf8(bytes) else {
+        return copied(alloc, text);
+    };
+    if is_laid_out(alloc, text, tidy.as_str()) {
+        return Ok(tidy);
     }
+    copied(alloc, text)
 }
 
 /// A copy of the text.
