@@ -1,13 +1,16 @@
 //! The program over its words and its three streams.
 
+ghost use Rattle.json5_tidier.specs.Answers.{AnswersStream};
+
 use crate::files::work_through;
-use crate::options::{Fault, Options};
+use crate::options::Fault;
 use crate::reports::{HELP, VERSION, no_memory, usage};
 use crate::requests::Request;
 use crate::stores::Store;
-use crate::tidied::read_tidied;
-use json5_formatter::write_texts::write_texts;
-use json5_formatter::{Failure, report};
+use crate::streams::tidy_stream;
+use crate::texts::put_texts;
+use json5_formatter::report;
+use json5_tidy::Style;
 use std::alloc::Global;
 use std::io::{Read, Write};
 
@@ -36,37 +39,34 @@ fn answer_request<S: Store, R: Read, W: Write, E: Write>(
     w: &mut W,
     e: &mut E,
 ) -> u8 {
-    let status = match request {
-        Request::Help => finish(write_texts(w, &[HELP]).is_ok(), e),
-        Request::Version => finish(write_texts(w, &[VERSION]).is_ok(), e),
-        Request::Stream(options) => answer_stream(alloc, options, r, w, e),
+    match request {
+        Request::Help => say(HELP, w, e),
+        Request::Version => say(VERSION, w, e),
+        Request::Stream(options) => answer_stream(alloc, options.style, r, w, e),
         Request::Files(files) => work_through(store, alloc, files, w, e),
-    };
-    match w.flush() {
-        Ok(()) => status,
-        Err(_) => status.max(report("output", &Failure::Write, e)),
     }
 }
 
-/// The status after a write, and a line if it failed.
-fn finish<E: Write>(is_written: bool, e: &mut E) -> u8 {
-    if is_written {
-        0
-    } else {
-        report("output", &Failure::Write, e)
+/// Writes the text to `w`, or to `e` that it can't be written.
+fn say<W: Write, E: Write>(text: &str, w: &mut W, e: &mut E) -> u8 {
+    match put_texts(w, &[text]) {
+        Ok(()) => 0,
+        Err(failure) => report("output", &failure, e),
     }
 }
 
 /// Tidies `r` to `w`, and writes to `e` why that ended early, under the name `stdin`.
 fn answer_stream<R: Read, W: Write, E: Write>(
     alloc: Global,
-    options: &Options,
+    style: Style,
     r: &mut R,
     w: &mut W,
     e: &mut E,
-) -> u8 {
-    match read_tidied(alloc, options.style, r) {
-        Ok(tidied) => finish(write_texts(w, &[tidied.after.as_str()]).is_ok(), e),
+) -> u8
+    ensures { AnswersStream (R.remaining r.old) (W.contents w.old) (W.contents w.new) (E.contents e.old) (E.contents e.new) result }
+{
+    match tidy_stream(alloc, style, r, w) {
+        Ok(()) => 0,
         Err(failure) => report("stdin", &failure, e),
     }
 }

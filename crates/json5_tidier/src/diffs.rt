@@ -51,7 +51,7 @@ fn write_diff<W: Write>(
     let mut rest = found;
     for _ in 0..u64::MAX {
         if rest.is_empty() {
-            return Ok(());
+            return w.flush();
         }
         let (hunk, left) = rest.split_at(hunk_len(rest));
         write_hunk(texts, hunk, w)?;

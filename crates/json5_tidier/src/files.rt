@@ -6,11 +6,11 @@ use crate::folders::files_of;
 use crate::reports::report_trouble;
 use crate::requests::FileRequest;
 use crate::stores::Store;
+use crate::texts::put_texts;
 use crate::tidied::{Tidied, read_tidied};
 use crate::trouble::Trouble;
 use crate::work::Work;
 use json5_formatter::Failure;
-use json5_formatter::write_texts::write_texts;
 use json5_tidy::Style;
 use std::alloc::Global;
 use std::io::Write;
@@ -93,41 +93,51 @@ fn work_on<S: Store, W: Write>(
 ) -> Result<Outcome, Trouble> {
     let tidied = read_file(store, alloc, style_for(name, request.options.style), name)?;
     match request.work {
-        Work::Print => done(
-            write_texts(w, &[tidied.after.as_str()]).is_ok(),
-            Outcome::Tidy,
-        ),
+        Work::Print => put(w, &[tidied.after.as_str()], Outcome::Tidy),
         _ if tidied.is_tidy() => Ok(Outcome::Tidy),
-        Work::Check => done(write_texts(w, &[name, "\n"]).is_ok(), Outcome::Untidy),
-        Work::Diff => done(
-            diff(
-                alloc,
-                name,
-                tidied.before.as_str(),
-                tidied.after.as_str(),
-                w,
-            )
-            .is_ok(),
-            Outcome::Untidy,
-        ),
-        Work::Write => match store.replace(
-            alloc,
-            name,
-            tidied.before.as_str(),
-            tidied.after.as_str(),
-        ) {
-            Ok(()) => Ok(Outcome::Tidy),
-            Err(unwritten) => Err(Trouble::Unwritten(unwritten)),
-        },
+        Work::Check => put(w, &[name, "\n"], Outcome::Untidy),
+        Work::Diff => put_diff(alloc, name, &tidied, w),
+        Work::Write => put_file(store, alloc, name, &tidied),
     }
 }
 
-/// The outcome, if what belongs to it was written.
-fn done(is_written: bool, outcome: Outcome) -> Result<Outcome, Trouble> {
-    if is_written {
-        Ok(outcome)
-    } else {
-        Err(Trouble::Failed(Failure::Write))
+/// Writes the texts.
+fn put<W: Write>(w: &mut W, texts: &[&str], outcome: Outcome) -> Result<Outcome, Trouble> {
+    match put_texts(w, texts) {
+        Ok(()) => Ok(outcome),
+        Err(failure) => Err(Trouble::Failed(failure)),
+    }
+}
+
+/// Writes what would change.
+fn put_diff<W: Write>(
+    alloc: Global,
+    name: &str,
+    tidied: &Tidied,
+    w: &mut W,
+) -> Result<Outcome, Trouble> {
+    match diff(
+        alloc,
+        name,
+        tidied.before.as_str(),
+        tidied.after.as_str(),
+        w,
+    ) {
+        Ok(()) => Ok(Outcome::Untidy),
+        Err(failure) => Err(Trouble::Failed(failure)),
+    }
+}
+
+/// Puts the tidied text in the place of the file's.
+fn put_file<S: Store>(
+    store: &S,
+    alloc: Global,
+    name: &str,
+    tidied: &Tidied,
+) -> Result<Outcome, Trouble> {
+    match store.replace(alloc, name, tidied.before.as_str(), tidied.after.as_str()) {
+        Ok(()) => Ok(Outcome::Tidy),
+        Err(unwritten) => Err(Trouble::Unwritten(unwritten)),
     }
 }
 

@@ -1,5 +1,7 @@
 //! The hunks of a unified diff: blocks of lines that differ, with the lines around them.
 
+ghost use Rattle.std.specs.Prelude.{◌<◌, ◌≤◌, length};
+
 use crate::blocks::{Block, Place, Places, after_line, line_of, lines_before};
 use itoa::Buffer;
 use json5_write::write_whole::write_whole;
@@ -16,7 +18,10 @@ pub(crate) struct Texts<'t> {
 }
 
 /// How many of these blocks make the first hunk: so many that few equal lines are between two.
-pub(crate) fn hunk_len(blocks: &[Block]) -> usize {
+pub(crate) fn hunk_len(blocks: &[Block]) -> usize
+    requires { 0 < length blocks.now }
+    ensures { (0 < result) × (result ≤ length blocks.now) }
+{
     let mut count = 1;
     while count < blocks.len() {
         let gap = blocks[count]

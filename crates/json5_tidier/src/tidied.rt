@@ -1,5 +1,9 @@
 //! Reading a text and tidying it.
 
+ghost use Rattle.std.specs.Prelude.{IfOk, IfErr};
+ghost use Rattle.json5_formatter.specs.Runs.{ReadFailure};
+ghost use Rattle.json5_tidier.specs.Tidies.{HoldsTidied};
+
 use json5_formatter::{Failure, read_text};
 use json5_tidy::{Style, tidy_with};
 use std::alloc::Global;
@@ -28,7 +32,10 @@ pub(crate) fn read_tidied<R: Read>(
     alloc: Global,
     style: Style,
     r: &mut R,
-) -> Result<Tidied, Failure> {
+) -> Result<Tidied, Failure>
+    ensures read { IfOk result (HoldsTidied (R.remaining r.old)) }
+    ensures stopped { IfErr result (ReadFailure (R.remaining r.old)) }
+{
     let before = read_text(alloc, r)?;
     match tidy_with(alloc, style, before.as_str()) {
         Ok(after) => Ok(Tidied { before, after }),

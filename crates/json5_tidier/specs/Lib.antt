@@ -1,0 +1,3 @@
+-- Lists the definitions of what the program does.
+pub mod Tidies
+pub mod Answers
