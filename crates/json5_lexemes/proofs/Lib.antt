@@ -6,3 +6,4 @@ pub mod WordParts
 pub mod DocumentLexemes
 pub mod SettledLists
 pub mod SameTrees
+pub mod RunsPassed

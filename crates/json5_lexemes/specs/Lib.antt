@@ -3,3 +3,4 @@ pub mod SameLexemes
 pub mod Lexemes
 pub mod SameSteps
 pub mod Tokens
+pub mod Runs

@@ -2,6 +2,7 @@
 #![tactic(auto)]
 
 pub mod laws;
+mod rest;
 mod same;
 
 pub use same::same_lexemes;

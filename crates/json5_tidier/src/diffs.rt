@@ -1,5 +1,8 @@
 //! What tidying would change, as a unified diff.
 
+ghost use Rattle.std.specs.Prelude.{IfErr};
+ghost use Rattle.json5_tidier.specs.Files.{DiffFailure};
+
 use crate::blocks::{Block, blocks};
 use crate::hunks::{Texts, hunk_len, write_hunk};
 use json5_formatter::Failure;
@@ -24,7 +27,9 @@ pub fn diff<W: Write>(
     before: &str,
     after: &str,
     w: &mut W,
-) -> Result<(), Failure> {
+) -> Result<(), Failure>
+    ensures { IfErr result (DiffFailure (W.contents w.old) (W.contents w.new)) }
+{
     let texts = Texts {
         before: before.as_bytes(),
         after: after.as_bytes(),

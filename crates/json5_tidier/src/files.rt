@@ -1,5 +1,9 @@
 //! One file after another.
 
+ghost use Rattle.std.specs.Prelude.{string_bytes};
+ghost use Rattle.json5_formatter.specs.JoinedTexts.{joined_texts};
+ghost use Rattle.json5_tidier.specs.Files.{PutsDiff, PutsFile, PutsTexts, WorksOn, WorksOnTexts, WorksThrough};
+
 use crate::diffs::diff;
 use crate::endings::style_for;
 use crate::folders::files_of;
@@ -11,7 +15,6 @@ use crate::tidied::{Tidied, read_tidied};
 use crate::trouble::Trouble;
 use crate::work::Work;
 use json5_formatter::Failure;
-use json5_tidy::Style;
 use std::alloc::Global;
 use std::io::Write;
 
@@ -66,18 +69,22 @@ fn work_on_each<S: Store, W: Write, E: Write>(
     names: &[String],
     w: &mut W,
     e: &mut E,
-) -> (u8, bool) {
+) -> (u8, bool)
+    ensures { WorksThrough (S.Disk.opens store.now) (S.replaces store.now) request.now.work (W.contents w.old) (E.contents e.old) names.now (W.contents w.new) (E.contents e.new) result.0 result.1 }
+{
     let mut status: u8 = 0;
     for name in names {
-        match work_on(store, alloc, request, name.as_str(), w) {
-            Ok(Outcome::Tidy) => {}
-            Ok(Outcome::Untidy) => status = status.max(1),
-            Err(trouble) => {
-                status = status.max(report_trouble(name.as_str(), &trouble, e));
-                if matches!(trouble, Trouble::Failed(Failure::Write)) {
-                    return (status, false);
-                }
+        let trouble = match work_on(store, alloc, request, name.as_str(), w) {
+            Ok(Outcome::Tidy) => continue,
+            Ok(Outcome::Untidy) => {
+                status = status.max(1);
+                continue;
             }
+            Err(trouble) => trouble,
+        };
+        status = status.max(report_trouble(name.as_str(), &trouble, e));
+        if trouble.is_failed_write() {
+            return (status, false);
         }
     }
     (status, true)
@@ -90,19 +97,42 @@ fn work_on<S: Store, W: Write>(
     request: &FileRequest,
     name: &str,
     w: &mut W,
-) -> Result<Outcome, Trouble> {
-    let tidied = read_file(store, alloc, style_for(name, request.options.style), name)?;
-    match request.work {
+) -> Result<Outcome, Trouble>
+    ensures { WorksOn (S.Disk.opens store.now name.now) (S.replaces store.now name.now) request.now.work name.now (W.contents w.old) (W.contents w.new) result }
+{
+    let Ok(mut file) = store.open(name) else {
+        return Err(Trouble::Failed(Failure::Read));
+    };
+    match read_tidied(alloc, style_for(name, request.options.style), &mut file) {
+        Ok(tidied) => work_on_texts(store, alloc, request.work, name, &tidied, w),
+        Err(failure) => Err(Trouble::Failed(failure)),
+    }
+}
+
+/// Does the work on the texts of a file.
+fn work_on_texts<S: Store, W: Write>(
+    store: &S,
+    alloc: Global,
+    work: Work,
+    name: &str,
+    tidied: &Tidied,
+    w: &mut W,
+) -> Result<Outcome, Trouble>
+    ensures { WorksOnTexts (S.replaces store.now name.now) work name.now (string_bytes tidied.now.before) (string_bytes tidied.now.after) (W.contents w.old) (W.contents w.new) result }
+{
+    match work {
         Work::Print => put(w, &[tidied.after.as_str()], Outcome::Tidy),
         _ if tidied.is_tidy() => Ok(Outcome::Tidy),
         Work::Check => put(w, &[name, "\n"], Outcome::Untidy),
-        Work::Diff => put_diff(alloc, name, &tidied, w),
-        Work::Write => put_file(store, alloc, name, &tidied),
+        Work::Diff => put_diff(alloc, name, tidied, w),
+        Work::Write => put_file(store, alloc, name, tidied),
     }
 }
 
 /// Writes the texts.
-fn put<W: Write>(w: &mut W, texts: &[&str], outcome: Outcome) -> Result<Outcome, Trouble> {
+fn put<W: Write>(w: &mut W, texts: &[&str], outcome: Outcome) -> Result<Outcome, Trouble>
+    ensures { PutsTexts outcome (joined_texts texts.now) (W.contents w.old) (W.contents w.new) result }
+{
     match put_texts(w, texts) {
         Ok(()) => Ok(outcome),
         Err(failure) => Err(Trouble::Failed(failure)),
@@ -115,7 +145,9 @@ fn put_diff<W: Write>(
     name: &str,
     tidied: &Tidied,
     w: &mut W,
-) -> Result<Outcome, Trouble> {
+) -> Result<Outcome, Trouble>
+    ensures { PutsDiff (W.contents w.old) (W.contents w.new) result }
+{
     match diff(
         alloc,
         name,
@@ -134,25 +166,11 @@ fn put_file<S: Store>(
     alloc: Global,
     name: &str,
     tidied: &Tidied,
-) -> Result<Outcome, Trouble> {
+) -> Result<Outcome, Trouble>
+    ensures { PutsFile (S.replaces store.now name.now (string_bytes tidied.now.before) (string_bytes tidied.now.after)) result }
+{
     match store.replace(alloc, name, tidied.before.as_str(), tidied.after.as_str()) {
         Ok(()) => Ok(Outcome::Tidy),
         Err(unwritten) => Err(Trouble::Unwritten(unwritten)),
-    }
-}
-
-/// Reads the file, and tidies what it holds.
-fn read_file<S: Store>(
-    store: &S,
-    alloc: Global,
-    style: Style,
-    name: &str,
-) -> Result<Tidied, Trouble> {
-    let Ok(mut file) = store.open(name) else {
-        return Err(Trouble::Failed(Failure::Read));
-    };
-    match read_tidied(alloc, style, &mut file) {
-        Ok(tidied) => Ok(tidied),
-        Err(failure) => Err(Trouble::Failed(failure)),
     }
 }

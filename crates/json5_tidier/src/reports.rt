@@ -1,5 +1,10 @@
 //! The lines on standard error.
 
+ghost use Rattle.std.specs.Prelude.{◌≡◌};
+ghost use Rattle.json5_write.specs.Pieces.{AppendsFront};
+ghost use Rattle.json5_formatter.specs.JoinedTexts.{joined_texts};
+ghost use Rattle.json5_tidier.specs.Troubles.{trouble_line, trouble_status, unwritten_line};
+
 use crate::trouble::{Trouble, Unwritten};
 use json5_formatter::report;
 use json5_formatter::write_texts::write_texts;
@@ -53,46 +58,53 @@ pub(crate) fn no_memory<E: Write>(e: &mut E) -> u8 {
 }
 
 /// Writes why the work on this file ended, as one line, and returns the status that the program ends with.
-pub(crate) fn report_trouble<E: Write>(name: &str, trouble: &Trouble, e: &mut E) -> u8 {
+pub(crate) fn report_trouble<E: Write>(name: &str, trouble: &Trouble, e: &mut E) -> u8
+    ensures status { result ≡ trouble_status trouble.now }
+    ensures line { AppendsFront (E.contents e.old) (E.contents e.new) (trouble_line name.now trouble.now) }
+{
     match trouble {
-        Trouble::Failed(failure) => return report(name, failure, e),
+        Trouble::Failed(failure) => report(name, failure, e),
         Trouble::Unwritten(unwritten) => say_unwritten(e, name, unwritten),
-        Trouble::NoFile => say(e, &[name, ": no file to tidy is in it\n"]),
+        Trouble::NoFile => {
+            say(e, &[name, ": no file to tidy is in it\n"]);
+            2
+        }
     }
-    trouble.status()
 }
 
-fn say_unwritten<E: Write>(e: &mut E, name: &str, unwritten: &Unwritten) {
+fn say_unwritten<E: Write>(e: &mut E, name: &str, unwritten: &Unwritten) -> u8
+    ensures status { result ≡ 2 }
+    ensures line { AppendsFront (E.contents e.old) (E.contents e.new) (unwritten_line name.now unwritten.now) }
+{
     match unwritten {
         Unwritten::Refused => say(e, &[name, ": cannot be written\n"]),
         Unwritten::Changed => say(e, &[name, ": changed meanwhile, and was left as it is\n"]),
         Unwritten::NoMemory => say(e, &[name, ": out of memory\n"]),
-        Unwritten::Taken(beside) => {
-            say(
-                e,
-                &[
-                    name,
-                    ": cannot be written: ",
-                    beside.as_str(),
-                    " is there\n",
-                ],
-            )
-        }
-        Unwritten::Remains(beside) => {
-            say(
-                e,
-                &[
-                    name,
-                    ": cannot be written, and ",
-                    beside.as_str(),
-                    " remains\n",
-                ],
-            )
-        }
+        Unwritten::Taken(beside) => say(
+            e,
+            &[
+                name,
+                ": cannot be written: ",
+                beside.as_str(),
+                " is there\n",
+            ],
+        ),
+        Unwritten::Remains(beside) => say(
+            e,
+            &[
+                name,
+                ": cannot be written, and ",
+                beside.as_str(),
+                " remains\n",
+            ],
+        ),
     }
+    2
 }
 
 /// Writes the strings. A failed write changes nothing else.
-fn say<E: Write>(e: &mut E, texts: &[&str]) {
+fn say<E: Write>(e: &mut E, texts: &[&str])
+    ensures { AppendsFront (E.contents e.old) (E.contents e.new) (joined_texts texts.now) }
+{
     let _ = write_texts(e, texts);
 }

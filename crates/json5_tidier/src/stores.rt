@@ -17,8 +17,13 @@ pub enum Entry {
     Other,
 }
 
-/// Where files are found, read and replaced by their names.
+/// Where files are found, read and replaced by their names. `replaces` says what is known of putting a text in the place of that of
+/// the file with a name. Of the files of the system nothing is known, as no contract speaks of them.
 pub trait Store: Disk {
+    ghost use Rattle.std.specs.Prelude.{ℕ, List, OnOk};
+
+    ghost replaces: { Self → List ℕ → List ℕ → List ℕ → Type 0 };
+
     /// Whether the name stands for a folder, or for a link to one.
     fn is_folder(&self, name: &str) -> bool;
 
@@ -37,17 +42,16 @@ pub trait Store: Disk {
     /// # Errors
     ///
     /// Why it wasn't replaced: then the file holds what it held before.
-    fn replace(
-        &self,
-        alloc: Global,
-        name: &str,
-        before: &str,
-        after: &str,
-    ) -> Result<(), Unwritten>;
+    fn replace(&self, alloc: Global, name: &str, before: &str, after: &str) -> Result<(), Unwritten>
+        ensures { OnOk result (replaces self.now name.now before.now after.now) };
 }
 
 /// The files of the system.
 impl<F: Files + AllocGlobal + Clone + Drop> Store for F {
+    ghost use Rattle.std.specs.Prelude.{⊤};
+
+    ghost replaces = { λ _ _ _ _. ⊤ };
+
     fn is_folder(&self, name: &str) -> bool {
         match fs::metadata(self, name) {
             Ok(metadata) => metadata.is_dir(),

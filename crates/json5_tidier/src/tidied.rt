@@ -1,6 +1,6 @@
 //! Reading a text and tidying it.
 
-ghost use Rattle.std.specs.Prelude.{IfOk, IfErr};
+ghost use Rattle.std.specs.Prelude.{◌≡◌, ◌≢◌, true, false, IfOk, IfErr, string_bytes};
 ghost use Rattle.json5_formatter.specs.Runs.{ReadFailure};
 ghost use Rattle.json5_tidier.specs.Tidies.{HoldsTidied};
 
@@ -18,7 +18,10 @@ pub(crate) struct Tidied {
 
 impl Tidied {
     /// Whether the text is tidy.
-    pub(crate) fn is_tidy(&self) -> bool {
+    pub(crate) fn is_tidy(&self) -> bool
+        ensures tidy { result ≡ true → string_bytes self.now.before ≡ string_bytes self.now.after }
+        ensures untidy { result ≡ false → string_bytes self.now.before ≢ string_bytes self.now.after }
+    {
         self.before.as_str() == self.after.as_str()
     }
 }

@@ -1,5 +1,10 @@
 //! Why the work on a file ends early.
 
+ghost use Rattle.std.specs.Prelude.{◌≡◌, ◌≢◌, true, false};
+ghost use Rattle.json5_formatter.specs.declared.failure.Failure.TheVariants as failures;
+ghost use Rattle.json5_tidier.specs.declared.trouble.Trouble.TheVariants as troubles;
+ghost use Rattle.json5_tidier.specs.Troubles.{trouble_status};
+
 use json5_formatter::Failure;
 
 /// Why the work on a file ended.
@@ -30,10 +35,20 @@ pub enum Unwritten {
 
 impl Trouble {
     /// Returns the status that the program ends with: 1 if the fault is one of the text, else 2.
-    pub fn status(&self) -> u8 {
+    pub fn status(&self) -> u8
+        ensures { result ≡ trouble_status self.now }
+    {
         match self {
             Trouble::Failed(failure) => failure.status(),
             Trouble::Unwritten(_) | Trouble::NoFile => 2,
         }
+    }
+
+    /// Whether a write to the output failed, which ends the work.
+    pub(crate) fn is_failed_write(&self) -> bool
+        ensures yes { result ≡ true → self.now ≡ troubles.Failed failures.Write }
+        ensures no { result ≡ false → self.now ≢ troubles.Failed failures.Write }
+    {
+        matches!(self, Trouble::Failed(Failure::Write))
     }
 }

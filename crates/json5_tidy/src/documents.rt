@@ -6,13 +6,11 @@ ghost use Rattle.json5_grammar.specs.Language.Trees.{Tree};
 ghost use Rattle.json5_grammar.specs.Language.Documents.{Doc, max_depth};
 ghost use Rattle.json5_text.specs.Cursor.{IsOutOfMemory};
 ghost use Rattle.json5_format.specs.DocumentReads.{IsRefused};
-ghost use Rattle.json5_lexemes.specs.Lexemes.{HaveSameLexemes};
 ghost use Rattle.json5_tidy.specs.Tidied.{Keeps, IsAlike, IsLaidOut};
 
 use json5_format::check_document;
 use json5_layout::{Style, laid_out};
 use json5_lexemes::same_lexemes;
-use json5_text::scanner::Scanner;
 use json5_types::ErrorCode;
 use json5_types::error::{Error, Result};
 use std::alloc::Global;
@@ -89,20 +87,11 @@ fn copied(alloc: Global, text: &str) -> Result<String>
 }
 
 /// Whether the other text is a document with the same lexemes.
-fn is_laid_out(alloc: Global, text: &str, other: &str) -> bool
+fn is_laid_out<'x>(alloc: Global, text: &'x str, other: &'x str) -> bool
     ensures { IsTrue result → IsLaidOut (chars text.now) (chars other.now) }
 {
     match check_document(alloc, other) {
-        Ok(()) => have_same_lexemes(alloc, text, other),
+        Ok(()) => same_lexemes(text, other),
         Err(_) => false,
     }
-}
-
-/// Whether the texts have the same lexemes.
-fn have_same_lexemes<'x>(alloc: Global, text: &'x str, other: &'x str) -> bool
-    ensures { IsTrue result → HaveSameLexemes (chars text.now) (chars other.now) }
-{
-    let mut left = Scanner::new(alloc, text);
-    let mut right = Scanner::new(alloc, other);
-    same_lexemes(&mut left, &mut right)
 }

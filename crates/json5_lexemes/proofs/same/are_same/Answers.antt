@@ -5,7 +5,7 @@ use Rattle.json5_lexemes.proofs.SameSteps.{none_next}
 use Rattle.json5_lexemes.proofs.same.are_same.Goals as goal
 
 pub returns-in_default : goal.returns-in_default
-returns-in_default g c = λ t.
+returns-in_default c = λ t.
     let left = c.pass_separators.new.text in
     let right = c.pass_separators-in-loop-c.new.text in
     let left_empty : left.unread ≡ [] = none_next left.unread (sym c.in_default.ensures) in
