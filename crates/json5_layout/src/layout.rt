@@ -3,7 +3,7 @@
 ghost use Rattle.std.specs.Prelude.{◌≤◌, ◌<◌, IfOk, length};
 ghost use Rattle.json5_layout.specs.Lexemes.{IsWithin};
 
-use crate::columns::{char_count, fits, is_byte};
+use crate::columns::{char_count, fits};
 use crate::entries::{ends_line, entry_end, has_entry, is_ignore, is_numbers};
 use crate::lexemes::{Kind, Lexeme, lexeme_at};
 use crate::lines::{has_crlf, line_start};
@@ -196,7 +196,7 @@ impl Printer {
     fn put_text(&mut self, bytes: &[u8], lexeme: Lexeme) -> Result<(), AllocError>
         requires { IsWithin bytes.now lexeme }
     {
-        self.text(&bytes[lexeme.start..lexeme.end])?;
+        self.lexeme_text(&bytes[lexeme.start..lexeme.end])?;
         match lexeme.kind {
             Kind::Open => self.open(bytes, lexeme)?,
             Kind::Close => self.close(),
@@ -229,7 +229,7 @@ impl Printer {
     fn open(&mut self, bytes: &[u8], lexeme: Lexeme) -> Result<(), AllocError>
         requires { IsWithin bytes.now lexeme }
     {
-        let is_object = is_byte(&bytes[lexeme.start..lexeme.end], b'{');
+        let is_object = bytes.get(lexeme.start).copied() == Some(b'{');
         let shape = self.shape_of(bytes, lexeme.end, is_object);
         self.frames.push(self.frame)?;
         self.frame = Frame {
@@ -290,7 +290,7 @@ impl Printer {
     }
 
     fn comma(&mut self) -> Result<(), AllocError> {
-        self.text(b",")?;
+        self.byte(b',')?;
         self.place = Place::Entry;
         self.last = Kind::Comma;
         Ok(())
@@ -343,7 +343,7 @@ impl Printer {
         }
         if matches!(self.place, Place::Ended) {
             if !is_line && !starts_line {
-                return self.text(b" ");
+                return self.byte(b' ');
             }
             if self.wants_comma(bytes, comment.end) {
                 self.comma()?;
@@ -381,7 +381,7 @@ impl Printer {
         if !self.starts_line(lines)
             && (matches!(last, Kind::Block) || is_line || ends_line(bytes, end))
         {
-            return self.text(b" ");
+            return self.byte(b' ');
         }
         self.entry_line(lines)
     }
@@ -418,7 +418,7 @@ impl Printer {
     #[inline(always)]
     fn space_before_brace(&mut self) -> Result<(), AllocError> {
         if self.frame.is_object {
-            return self.text(b" ");
+            return self.byte(b' ');
         }
         Ok(())
     }
@@ -438,7 +438,7 @@ impl Printer {
             return Ok(());
         }
         if !starts_line && self.goes_on(last, len) {
-            return self.text(b" ");
+            return self.byte(b' ');
         }
         self.entry_line(lines)
     }
@@ -467,7 +467,7 @@ impl Printer {
         if matches!(self.last, Kind::Open) && !self.frame.is_object {
             return Ok(());
         }
-        self.text(b" ")
+        self.byte(b' ')
     }
 
     /// Within a member: a new line, one level further in, or a space.
@@ -476,7 +476,7 @@ impl Printer {
         if starts_line {
             self.start_line(self.frame.inner.saturating_add(1))
         } else {
-            self.text(b" ")
+            self.byte(b' ')
         }
     }
 
@@ -504,10 +504,10 @@ impl Printer {
     /// Indents by one level.
     fn indent(&mut self) -> Result<(), AllocError> {
         if self.style.indent == 0 {
-            return self.text(b"\t");
+            return self.byte(b'\t');
         }
         for _ in 0..self.style.indent {
-            self.text(b" ")?;
+            self.byte(b' ')?;
         }
         Ok(())
     }
@@ -516,9 +516,23 @@ impl Printer {
         if self.is_crlf {
             self.text(b"\r\n")?;
         } else {
-            self.text(b"\n")?;
+            self.byte(b'\n')?;
         }
         self.line = self.out.len();
+        Ok(())
+    }
+
+    #[inline(always)]
+    fn lexeme_text(&mut self, text: &[u8]) -> Result<(), AllocError> {
+        if text.len() == 1 {
+            return self.byte(text[0]);
+        }
+        self.text(text)
+    }
+
+    #[inline(always)]
+    fn byte(&mut self, byte: u8) -> Result<(), AllocError> {
+        self.out.push(byte)?;
         Ok(())
     }
 

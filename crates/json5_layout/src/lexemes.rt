@@ -80,7 +80,11 @@ fn after_blanks(bytes: &[u8], from: usize) -> (usize, usize)
     let mut at = from;
     let mut lines: usize = 0;
     while at < bytes.len() {
-        if bytes[at] == b' ' {
+        let byte = bytes[at];
+        if byte > b' ' && byte < 128 {
+            return (at, lines);
+        }
+        if byte == b' ' {
             at += 1;
             continue;
         }

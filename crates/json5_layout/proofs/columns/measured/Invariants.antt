@@ -1,5 +1,5 @@
 use Rattle.std.proofs.Common.{◌-◌, ◌≤◌, ◌<◌, length}
-use Rattle.json5_layout.proofs.columns.fits.Given as goal
+use Rattle.json5_layout.proofs.columns.measured.Given as goal
 
 abbrev pub invariant-loop-measure : goal.invariant-loop-measure
 invariant-loop-measure l = l.at ≤ length l.bytes
