@@ -152,6 +152,9 @@ fn string_and_end(bytes: &[u8], from: usize) -> (Kind, usize, bool)
     while at < bytes.len() {
         let byte = bytes[at];
         at += 1;
+        if byte >= b'a' && byte <= b'z' {
+            continue;
+        }
         if byte == quote {
             return (Kind::Word, at, is_broken);
         }
@@ -171,6 +174,11 @@ fn line_comment_end(bytes: &[u8], from: usize) -> usize
     let mut at = from + 1;
     let mut end = at;
     while at < bytes.len() {
+        if bytes[at] > b' ' && bytes[at] < 128 {
+            at += 1;
+            end = at;
+            continue;
+        }
         if line_end_len(bytes, at) > 0 {
             return end;
         }
@@ -214,6 +222,10 @@ fn word_end(bytes: &[u8], from: usize) -> usize
     let mut at = from + 1;
     while at < bytes.len() {
         let byte = bytes[at];
+        if byte >= b'a' && byte <= b'z' {
+            at += 1;
+            continue;
+        }
         if byte < 128 && ends_word(byte) {
             return at;
         }

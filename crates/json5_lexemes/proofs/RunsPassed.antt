@@ -11,8 +11,8 @@ use Rattle.json5_grammar.proofs.BlanksRead.{printable_no_blank}
 use Rattle.json5_text.specs.Cursor.{Cursor}
 use Rattle.json5_lexemes.specs.SameLexemes.{Same, Within, is_separator, is_sign, is_word_part, is_line_part}
 use Rattle.json5_lexemes.specs.SameLexemes as same
-use Rattle.json5_lexemes.specs.SameSteps.{IsFollowed}
-use Rattle.json5_lexemes.specs.Runs.{is_plain, IsRun, PassesRun}
+use Rattle.json5_lexemes.specs.SameSteps.{IsFollowed, PassesWithin}
+use Rattle.json5_lexemes.specs.Runs.{is_plain, is_space, IsRun, IsSpaces, PassesRun, PassesSpaces}
 
 -- ---- counting
 
@@ -116,4 +116,56 @@ followed_run w v left right mid mid_right after after_right step f p =
     record {
       same = λ h. f.same (subst (λ z. Same v z mid_right.unread) (sym p.in_left) (subst (λ z. Same v (p.run ++ after.unread) z) (sym p.in_right) (run_on v step p.run after.unread after_right.unread p.each h)));
       shorter = omega (arith, f.shorter, k);
+    }
+
+-- ---- spaces
+
+pub no_space : (x : List ℕ) → IsSpaces x 0
+no_space x = record { within = omega arith; each = no_char }
+
+pub space_more : (x : List ℕ) (n : ℕ) → n < length x → get_or x n 0 ≡ 32 → IsSpaces x n → IsSpaces x (n + 1)
+space_more x n h is s = record {
+  within = omega (arith, h);
+  each = subst (Each is_space) (sym (take_more x n 0 h)) (each_more is_space (take n x) (get_or x n 0) s.each (rw is refl));
+}
+
+space_below : (c : ℕ) → is_space c ≡ true → c < 128
+space_below c p = grind (arith, nat_tests)
+
+space_separator : (c : ℕ) → is_space c ≡ true → is_separator c ≡ true
+space_separator c p = let is : c ≡ 32 = grind (arith, nat_tests) in rw is refl
+
+spaces_ascii : (xs : List ℕ) → Each is_space xs → IsAscii xs
+spaces_ascii [] no_char i = omega arith
+spaces_ascii (c ∷ xs) (char p e) zero = space_below c p
+spaces_ascii (c ∷ xs) (char p e) (suc i) = spaces_ascii xs e i
+
+pub passes_spaces : (x : List ℕ) (n : ℕ) (old new : Cursor) → IsSpaces x n → old.unread ≡ chars x → new.unread ≡ chars (drop n x) → PassesSpaces old new
+passes_spaces x n old new s a b =
+    let ascii = spaces_ascii (take n x) s.each in
+    record {
+      spaces = take n x;
+      each = s.each;
+      split = a ∙ ap chars (sym (take-append-drop n x)) ∙ chars-append (take n x) (drop n x) (IsUtf8-from_ascii (take n x) ascii) ∙ ap (λ z. z ++ chars (drop n x)) (chars-IsAscii (take n x) ascii) ∙ ap (λ z. take n x ++ z) (sym b);
+    }
+
+pub passes_no_space : (old : Cursor) → PassesSpaces old old
+passes_no_space old = record { spaces = []; each = no_char; split = refl }
+
+left_spaces : (s x y : List ℕ) → Each is_space s → Same Within.between x y → Same Within.between (s ++ x) y
+left_spaces [] x y no_char k = k
+left_spaces (c ∷ s) x y (char p e) k = same.left_separator (space_separator c p) (left_spaces s x y e k)
+
+right_spaces : (s x y : List ℕ) → Each is_space s → Same Within.between x y → Same Within.between x (s ++ y)
+right_spaces [] x y no_char k = k
+right_spaces (c ∷ s) x y (char p e) k = same.right_separator (space_separator c p) (right_spaces s x y e k)
+
+-- spaces after separators
+pub passed_spaces : (old mid new : Cursor) → PassesWithin Within.between old mid → PassesSpaces mid new → PassesWithin Within.between old new
+passed_spaces old mid new p s =
+    let k : length mid.unread ≡ length s.spaces + length new.unread = ap length s.split ∙ length-append s.spaces new.unread in
+    record {
+      left = λ y h. p.left y (subst (λ z. Same Within.between z y) (sym s.split) (left_spaces s.spaces new.unread y s.each h));
+      right = λ x h. p.right x (subst (λ z. Same Within.between x z) (sym s.split) (right_spaces s.spaces x new.unread s.each h));
+      shorter = omega (arith, p.shorter, k);
     }

@@ -1,5 +1,5 @@
--- Letters and digits in front of two texts, which are the same in both.
-use Rattle.std.specs.Prelude.{◌≡◌, ◌≤◌, ℕ, Bool, ◌||◌, List, ◌++◌, length, take}
+-- Letters and digits in front of two texts, which are the same in both, and spaces in front of one.
+use Rattle.std.specs.Prelude.{◌≡◌, ◌≤◌, ℕ, Bool, ◌||◌, ◌==◌, List, ◌++◌, length, take}
 use Rattle.json5_grammar.specs.Language.Characters.{is_in, Each}
 use Rattle.json5_text.specs.Cursor.{Cursor}
 
@@ -20,3 +20,17 @@ pub record PassesRun (left right after after_right : Cursor) : Type 0 where
   pub each : Each is_plain run
   pub in_left : left.unread ≡ run ++ after.unread
   pub in_right : right.unread ≡ run ++ after_right.unread
+
+abbrev pub is_space : ℕ → Bool
+is_space c = c == 32
+
+-- the first n bytes are spaces
+pub record IsSpaces (x : List ℕ) (n : ℕ) : Type 0 where
+  pub within : n ≤ length x
+  pub each : Each is_space (take n x)
+
+-- spaces are passed over
+pub record PassesSpaces (old new : Cursor) : Type 0 where
+  pub spaces : List ℕ
+  pub each : Each is_space spaces
+  pub split : old.unread ≡ spaces ++ new.unread

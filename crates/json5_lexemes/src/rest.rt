@@ -1,7 +1,7 @@
 //! What is left of a text that is compared with another.
 
 ghost use Rattle.std.specs.Prelude.{◌≡◌, ◌≤◌, IsTrue, false, length, slice_get};
-ghost use Rattle.json5_lexemes.specs.Runs.{IsRun, PassesRun, is_plain};
+ghost use Rattle.json5_lexemes.specs.Runs.{IsRun, IsSpaces, PassesRun, PassesSpaces, is_plain};
 ghost use Rattle.json5_lexemes.specs.SameSteps.{Takes};
 
 use std::marker::Model;
@@ -55,6 +55,29 @@ impl<'x> Rest<'x> {
         self.text = rest.as_str();
         true
     }
+}
+
+/// Passes over spaces, if any.
+#[inline(always)]
+pub(crate) fn pass_spaces(text: &mut Rest<'_>)
+    ensures { PassesSpaces text.old text.new }
+{
+    let Some((_, rest)) = text.text.split_at_checked(spaces_len(text.text.as_bytes())) else {
+        return;
+    };
+    text.text = rest;
+}
+
+/// How many spaces are in front.
+#[inline(always)]
+fn spaces_len(bytes: &[u8]) -> usize
+    ensures { IsSpaces bytes.now result }
+{
+    let mut len = 0;
+    while len < bytes.len() && bytes[len] == b' ' {
+        len += 1;
+    }
+    len
 }
 
 /// Passes over letters and digits of ASCII, as long as they are the same in both texts.
