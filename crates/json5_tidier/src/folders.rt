@@ -42,7 +42,8 @@ pub(crate) fn files_of<S: Store>(
     Ok(found)
 }
 
-/// Appends the names of the files below a folder that are sought, in the order of names.
+/// Appends the names of the files below a folder that are sought, in the order of names; and of what can't be read there, so that
+/// reading it says so.
 fn gather_below<S: Store>(
     store: &S,
     alloc: Global,
@@ -51,19 +52,18 @@ fn gather_below<S: Store>(
     found: &mut Vec<String>,
 ) -> Result<(), Trouble> {
     let mut left = Vec::new(alloc);
-    push_entries(store, alloc, folder, &mut left)?;
+    push_entries(store, alloc, folder, &mut left, found)?;
     for _ in 0..u64::MAX {
         let Some(name) = left.pop() else {
             return Ok(());
         };
-        match store.entry(name.as_str()) {
-            Entry::Folder if is_passed_over(name.as_str()) => {}
-            Entry::Folder => push_entries(store, alloc, name.as_str(), &mut left)?,
-            Entry::File if is_sought(name.as_str(), endings) => add_name(
-                alloc,
-                found,
-                name.as_str(),
-            )?,
+        let name = name.as_str();
+        match store.entry(name) {
+            Entry::Folder if !is_passed_over(name) => {
+                push_entries(store, alloc, name, &mut left, found)?;
+            }
+            Entry::File if is_sought(name, endings) => add_name(alloc, found, name)?,
+            Entry::Unknown => add_name(alloc, found, name)?,
             _ => {}
         }
     }
@@ -79,15 +79,17 @@ fn is_passed_over(name: &str) -> bool {
     matches!(last, ".git" | "node_modules")
 }
 
-/// Appends the names of what is in the folder, the last in their order first.
+/// Appends the names of what is in the folder to those that are left, the last in their order first; or the folder's own name to those
+/// that were found, if it can't be read.
 fn push_entries<S: Store>(
     store: &S,
     alloc: Global,
     folder: &str,
     left: &mut Vec<String>,
+    found: &mut Vec<String>,
 ) -> Result<(), Trouble> {
     let Ok(mut names) = store.entries(alloc, folder) else {
-        return Err(Trouble::Failed(Failure::Read));
+        return add_name(alloc, found, folder);
     };
     if names.sort().is_err() {
         return Err(no_memory());

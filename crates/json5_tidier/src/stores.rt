@@ -13,8 +13,10 @@ use std::{fs, io};
 pub enum Entry {
     File,
     Folder,
-    /// A link, a device, or nothing.
+    /// A link, or a device.
     Other,
+    /// The system doesn't say what it is.
+    Unknown,
 }
 
 /// Where files are found, read and replaced by their names. `replaces` says what is known of putting a text in the place of that of
@@ -63,7 +65,8 @@ impl<F: Files + AllocGlobal + Clone + Drop> Store for F {
         match fs::symlink_metadata(self, name) {
             Ok(metadata) if metadata.is_dir() => Entry::Folder,
             Ok(metadata) if metadata.is_file() => Entry::File,
-            _ => Entry::Other,
+            Ok(_) => Entry::Other,
+            Err(_) => Entry::Unknown,
         }
     }
 
