@@ -33,8 +33,9 @@ enum Fit {
     Wide(usize),
 }
 
-/// Whether the collection whose opening bracket ends here can be on one line, with so many characters after that bracket. It can't
-/// if a `//` comment or a line end in a lexeme is in it, or a line ends between a bracket and its first token.
+/// Whether the collection whose opening bracket ends here can be on one line, with so many characters after that
+/// bracket. It can't if a `//` comment or a line end in a lexeme is in it, or a line ends between a bracket and its
+/// first token.
 pub(crate) fn fits(bytes: &[u8], from: usize, room: usize, is_object: bool) -> bool
     requires { from ≤ length bytes.now }
 {
@@ -77,7 +78,8 @@ fn measured(bytes: &[u8], from: usize, room: usize, is_object: bool, counts_char
 }
 
 impl Measure {
-    /// Whether the lexeme can't be on the line: it ends the text or the line, or a line ends in it, or between a bracket and it.
+    /// Whether the lexeme can't be on the line: it ends the text or the line, or a line ends in it, or between a
+    /// bracket and it.
     #[inline(always)]
     fn is_broken_by(&self, lexeme: Lexeme) -> bool
         ensures { (result ≡ false) → is_end lexeme ≡ false }

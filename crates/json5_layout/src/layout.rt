@@ -130,7 +130,8 @@ impl Printer {
         })
     }
 
-    /// Writes a lexeme, or the whole entry that begins with it if that is left as it is. Returns where what it wrote ends.
+    /// Writes a lexeme, or the whole entry that begins with it if that is left as it is. Returns where what it wrote
+    /// ends.
     fn put(&mut self, bytes: &[u8], lexeme: Lexeme) -> Result<usize, AllocError>
         requires inside { IsWithin bytes.now lexeme }
         requires some { lexeme.start < lexeme.end }

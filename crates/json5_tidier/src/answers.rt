@@ -14,8 +14,13 @@ use json5_tidy::Style;
 use std::alloc::Global;
 use std::io::{Read, Write};
 
-/// Does what the words ask for: without a work it tidies `r` to `w`; with a work and files it does the work on each of them; words
-/// that ask for nothing are answered with the usage line. Returns the status that the program ends with.
+/// Does what the words ask for: without a work it tidies `r` to `w`; with a work and files it does the work on each
+/// of them; words that ask for nothing are answered with the usage line. Returns the status that the program ends
+/// with.
+///
+/// ```text
+/// answer(&rt, alloc, list, &mut rt.stdin(), &mut rt.stdout(), &mut rt.stderr())    // 0, 1 or 2
+/// ```
 pub fn answer<S: Store, R: Read, W: Write, E: Write>(
     store: &S,
     alloc: Global,

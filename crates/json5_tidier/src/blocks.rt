@@ -1,6 +1,7 @@
 //! The lines in which a text and the same text tidied differ.
 //!
-//! Tidying changes white space and commas alone. So the lines are aligned by the count of other characters before them, in one pass.
+//! Tidying changes white space and commas alone. So the lines are aligned by the count of other characters before
+//! them, in one pass.
 
 use std::alloc::{AllocError, Global};
 

@@ -10,8 +10,8 @@ use json5_formatter::write_texts::write_texts;
 use std::alloc::Global;
 use std::io::{self, Write};
 
-/// Writes what would change in the file with this name, as a unified diff, which `patch` takes. The texts are those before and after
-/// tidying. Of equal texts nothing is written.
+/// Writes what would change in the file with this name, as a unified diff, which `patch` takes. The texts are those
+/// before and after tidying. Of equal texts nothing is written.
 ///
 /// ```text
 /// diff(alloc, "app.json5", "[1,2]\n", "[1, 2]\n", &mut rt.stdout())?;

@@ -27,8 +27,13 @@ pub(crate) enum Outcome {
     Untidy,
 }
 
-/// Does the work on each file that was named, and on each below the folders that were, in turn, and writes to `e` why it failed on
-/// one. A failed write to `w` ends it; nothing else does. Returns the greatest status that was met, else 0.
+/// Does the work on each file that was named, and on each below the folders that were, in turn, and writes to `e` why
+/// it failed on one. A failed write to `w` ends it; nothing else does. Returns the greatest status that was met, else
+/// 0.
+///
+/// ```text
+/// work_through(&rt, alloc, &request, &mut rt.stdout(), &mut rt.stderr())
+/// ```
 pub fn work_through<S: Store, W: Write, E: Write>(
     store: &S,
     alloc: Global,

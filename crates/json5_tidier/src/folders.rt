@@ -42,8 +42,8 @@ pub(crate) fn files_of<S: Store>(
     Ok(found)
 }
 
-/// Appends the names of the files below a folder that are sought, in the order of names; and of what can't be read there, so that
-/// reading it says so.
+/// Appends the names of the files below a folder that are sought, in the order of names; and of what can't be read
+/// there, so that reading it says so.
 fn gather_below<S: Store>(
     store: &S,
     alloc: Global,
@@ -79,8 +79,8 @@ fn is_passed_over(name: &str) -> bool {
     matches!(last, ".git" | "node_modules")
 }
 
-/// Appends the names of what is in the folder to those that are left, the last in their order first; or the folder's own name to those
-/// that were found, if it can't be read.
+/// Appends the names of what is in the folder to those that are left, the last in their order first; or the folder's
+/// own name to those that were found, if it can't be read.
 fn push_entries<S: Store>(
     store: &S,
     alloc: Global,

@@ -10,7 +10,14 @@ use std::process::ExitCode;
 /// How many bytes are written to standard output at once.
 const PIECE: usize = 64 * 1024;
 
-/// Runs the whole program: `words` of the words after its name, or the usage line where the system doesn't give them as text.
+/// Runs the whole program: [`words`] of the words after its name, or the usage line where the system doesn't give them
+/// as text.
+///
+/// ```text
+/// fn main(rt: HostRuntime) -> ExitCode {
+///     json5_tidier::program(&rt)
+/// }
+/// ```
 pub fn program(rt: &HostRuntime) -> ExitCode {
     let status = match given_words(rt) {
         Ok(list) => words(rt, rt.alloc(), list.as_slice()),
@@ -20,8 +27,12 @@ pub fn program(rt: &HostRuntime) -> ExitCode {
     ExitCode::from(status)
 }
 
-/// Does what the words ask for, on the files that they name or, where there are none, on standard input. Returns the status
-/// that the program ends with. Where there is no memory for a buffer it writes without one.
+/// Does what the words ask for, on the files that they name or, where there are none, on standard input. Returns the
+/// status that the program ends with. Where there is no memory for a buffer it writes without one.
+///
+/// ```text
+/// words(&rt, rt.alloc(), list.as_slice())    // list: `check` and `app.json5`
+/// ```
 pub fn words(rt: &HostRuntime, alloc: Global, list: &[String]) -> u8 {
     let (mut input, mut errors) = (rt.stdin(), rt.stderr());
     match BufWriter::with_capacity(alloc, PIECE, rt.stdout()) {

@@ -1,9 +1,9 @@
 //! What the program json5_tidy does, over readers, writers and a disk.
 //!
-//! Without a work it tidies standard input to standard output. `check FILE...` names each file that isn't tidy, `diff FILE...` writes
-//! what would change, `print FILE...` writes each file tidied, and `write FILE...` tidies each in place. A folder stands for the
-//! files below it. A refusal is one line on standard error. The status is the greatest that was met: 1 where a text is refused or
-//! isn't tidy, 2 for anything else.
+//! Without a work it tidies standard input to standard output. `check FILE...` names each file that isn't tidy, `diff
+//! FILE...` writes what would change, `print FILE...` writes each file tidied, and `write FILE...` tidies each in
+//! place. A folder stands for the files below it. A refusal is one line on standard error. The status is the greatest
+//! that was met: 1 where a text is refused or isn't tidy, 2 for anything else.
 #![tactic(auto)]
 
 mod answers;

@@ -19,8 +19,8 @@ pub enum Entry {
     Unknown,
 }
 
-/// Where files are found, read and replaced by their names. `replaces` says what is known of putting a text in the place of that of
-/// the file with a name. Of the files of the system nothing is known, as no contract speaks of them.
+/// Where files are found, read and replaced by their names. `replaces` says what is known of putting a text in the
+/// place of that of the file with a name. Of the files of the system nothing is known, as no contract speaks of them.
 pub trait Store: Disk {
     ghost use Rattle.std.specs.Prelude.{ℕ, List, OnOk};
 

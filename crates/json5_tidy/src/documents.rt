@@ -32,13 +32,14 @@ pub fn tidy(alloc: Global, text: &str) -> Result<String>
     tidy_with(alloc, Style::usual(), text)
 }
 
-/// Tidies a document: lays it out anew. Each token stays as it is spelled, and each comment as it is, in their order; only white
-/// space and commas change.
+/// Tidies a document: lays it out anew. Each token stays as it is spelled, and each comment as it is, in their order;
+/// only white space and commas change.
 ///
-/// Returns Ok exactly when the text is a document, nested at most 128 deep, unless memory runs out. What is returned is a document
-/// with the same tree and the same lexemes.
+/// Returns Ok exactly when the text is a document, nested at most 128 deep, unless memory runs out. What is returned
+/// is a document with the same tree and the same lexemes.
 ///
-/// What was laid out is read again: where it weren't such a document, the answer would be a copy of the text. No test has met that.
+/// What was laid out is read again: where it weren't such a document, the answer would be a copy of the text. No test
+/// has met that.
 ///
 /// ```text
 /// tidy_with(alloc, Style { last_comma: false, ..Style::usual() }, "[ 1, // one\n]")?    // `[`, `  1 // one` and `]`

@@ -1,4 +1,5 @@
-//! The program json5_tidy, run once with words: what is printed of files, of which one is missing, and the greatest status.
+//! The program json5_tidy, run once with words: what is printed of files, of which one is missing, and the greatest
+//! status.
 #![tactic(auto)]
 
 use std::process::ExitCode;
