@@ -172,7 +172,7 @@ impl Printer {
         let end = entry_end(bytes, lexeme.start, self.frame.is_object).max(lexeme.end);
         self.before_word(lines, lexeme.end.saturating_sub(lexeme.start))?;
         self.text(&bytes[lexeme.start..end])?;
-        self.line = line_start(self.out.as_slice());
+        self.note_lines(&bytes[lexeme.start..end]);
         self.end_value();
         self.last = Kind::Word;
         self.is_ignored = false;
@@ -206,10 +206,19 @@ impl Printer {
             _ => {}
         }
         if lexeme.is_broken {
-            self.line = line_start(self.out.as_slice());
+            self.note_lines(&bytes[lexeme.start..lexeme.end]);
         }
         self.last = lexeme.kind;
         Ok(())
+    }
+
+    /// Notes where the current line begins, after a text that may hold line ends.
+    fn note_lines(&mut self, text: &[u8]) {
+        let start = line_start(text);
+        if start > 0 {
+            let len = text.len().saturating_sub(start);
+            self.line = self.out.len().saturating_sub(len);
+        }
     }
 
     #[inline(always)]

@@ -32,7 +32,7 @@ fn begins_crlf(blanks: &[u8]) -> bool {
     }
 }
 
-/// Where the last line of the text begins.
+/// Where the last line of the text begins, after an LF.
 pub(crate) fn line_start(text: &[u8]) -> usize
     ensures { result ≤ length text.now }
 {
