@@ -34,18 +34,15 @@ fn custom_at(alloc: Global) -> Result<String> {
     Err(Error::custom_at(alloc, place, 17u8)?)
 }
 
-/// What is found in a value of any kind, by key and by index.
+/// The text within two lists, by key and by index.
+fn inner_text(value: &Value) -> Option<&str> {
+    value.get("a")?.get(0usize)?.get(0usize)?.as_str()
+}
+
+/// What is found in a value of any kind.
 fn found(alloc: Global) -> Result<String> {
     let value: Value = taken(alloc, "{a:[{b:'x'},'y'],a:[['z']]}")?;
-    let inner = value.get("a").and_then(|list| list.get(0usize));
-    let text = inner.and_then(|list| list.get(0usize));
-    to_string(
-        alloc,
-        &(
-            text.and_then(|text| text.as_str()),
-            value.get("c").is_none(),
-        ),
-    )
+    to_string(alloc, &(inner_text(&value), value.get("c").is_none()))
 }
 
 /// Values of any kind, one after another, by one reader.

@@ -24,8 +24,10 @@ fn point(alloc: Global) -> Result<String> {
 
 fn ports(alloc: Global) -> Result<String> {
     let ports: Vec<Port> = taken(alloc, "[80,443]")?;
-    let first = ports.first().map(|port| port.number);
-    to_string(alloc, &first)
+    match ports.as_slice() {
+        [first, ..] => to_string(alloc, &first.number),
+        [] => to_string(alloc, &()),
+    }
 }
 
 fn at_most(alloc: Global, text: &str) -> Result<String> {

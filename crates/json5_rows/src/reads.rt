@@ -86,7 +86,7 @@ fn read_other(alloc: Global, name: &str, text: &str) -> Answer {
 /// The place of the text among the variants, which commas separate.
 pub fn read_variant(alloc: Global, variants: &str, text: &str) -> Answer {
     let mut names = Vec::new(alloc);
-    for name in variants.split(',').filter(|name| !name.is_empty()) {
+    for name in variants.split_terminator(',') {
         names.push(name)?;
     }
     let mut de = Deserializer::from_str(alloc, text);

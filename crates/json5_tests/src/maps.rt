@@ -18,15 +18,18 @@ fn object(alloc: Global, count: u32) -> Result<String> {
     Ok(text)
 }
 
+/// How many members each of the three maps holds after it was read from the text.
+fn counts(alloc: Global, text: &str) -> Result<(usize, usize, usize)> {
+    let sorted: BTreeMap<&str, u32> = from_str(alloc, text)?;
+    let in_turn: IndexMap<&str, u32> = from_str(alloc, text)?;
+    let hashed: HashMap<&str, u32> = from_str(alloc, text)?;
+    Ok((sorted.len(), in_turn.len(), hashed.len()))
+}
+
 #[test]
 fn maps_of_10_000_keys_are_read(rt: HostRuntime) -> std::result::Result<(), Fail> {
     let text = object(rt.alloc(), 10_000)?;
-    let sorted: BTreeMap<&str, u32> = from_str(rt.alloc(), text.as_str())?;
-    assert!(rt; sorted.len() == 10_000);
-    let in_turn: IndexMap<&str, u32> = from_str(rt.alloc(), text.as_str())?;
-    assert!(rt; in_turn.len() == 10_000);
-    let hashed: HashMap<&str, u32> = from_str(rt.alloc(), text.as_str())?;
-    assert!(rt; hashed.len() == 10_000);
+    assert!(rt; counts(rt.alloc(), text.as_str())? == (10_000, 10_000, 10_000));
     Ok(())
 }
 

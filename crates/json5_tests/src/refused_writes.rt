@@ -26,15 +26,18 @@ fn brackets(alloc: Global, count: usize) -> Result<String> {
     Ok(text)
 }
 
-/// The lines of two elements within 128 brackets, and of the bracket after them.
-#[test]
-fn the_deepest_lines_have_all_their_spaces(rt: HostRuntime) -> std::result::Result<(), Fail> {
-    let alloc = rt.alloc();
-    let value = within(alloc, from_str(alloc, "[0,1]")?, 127)?;
+/// What is written of two elements within 128 brackets, up to the bracket after them.
+fn deepest_lines(alloc: Global) -> Result<String> {
     let before = brackets(alloc, 128)?;
     let spaces = "  ".repeat(alloc, 127)?;
-    let wanted = format!(in alloc; "{before}0,\n  {spaces}1,\n{spaces}]")?;
-    assert!(rt; to_string(alloc, &value)?.starts_with(wanted.as_str()));
+    Ok(format!(in alloc; "{before}0,\n  {spaces}1,\n{spaces}]")?)
+}
+
+#[test]
+fn the_deepest_lines_have_all_their_spaces(rt: HostRuntime) -> std::result::Result<(), Fail> {
+    let value = within(rt.alloc(), from_str(rt.alloc(), "[0,1]")?, 127)?;
+    let written = to_string(rt.alloc(), &value)?;
+    assert!(rt; written.starts_with(deepest_lines(rt.alloc())?.as_str()));
     Ok(())
 }
 
