@@ -71,7 +71,7 @@ only_memory : (limit : ℕ) (x : List ℕ) (t : Tree) (e : Error) → Doc limit 
 only_memory limit x t e d (inl memory) = memory
 only_memory limit x t e d (inr b) = let clash : got t [] ≡ bad b.reason b.place = sym (document_complete limit x t d) ∙ b.is_bad in absurd (cc)
 
-refused_whole : (limit : ℕ) (x : List ℕ) (e : Error) → BlamesOrMemory x (document limit x) e → ReadsText limit x (Err e)
+pub refused_whole : (limit : ℕ) (x : List ℕ) (e : Error) → BlamesOrMemory x (document limit x) e → ReadsText limit x (Err e)
 refused_whole limit x e b = record { sound = tt; complete = λ t d. only_memory limit x t e d b; refused = is_refused limit x e b }
 
 -- ---- one part after another
@@ -113,40 +113,37 @@ module _ (limit : ℕ) (x : List ℕ) where
     from_value = parts limit x ∙ ap (λ m. and_then m (λ u y. and_then (read limit y) to_end)) (skipped (unread_text x) mid p)
 
     -- the value is refused
-    value_blamed : (e : Error) → BlamesOrMemory mid.input (datum_at limit mid) e → BlamesOrMemory x (document limit x) e
+    pub value_blamed : (e : Error) → BlamesOrMemory mid.input (datum_at limit mid) e → BlamesOrMemory x (document limit x) e
     value_blamed e (inl memory) = inl memory
     value_blamed e (inr b) = inr (blames_as mid.input x (datum_at limit mid) (document limit x) e (input_after mid p) (λ c q is. from_value ∙ datum_bad (read limit mid.unread) c q is) b)
 
     pub value_refused : (e : Error) → BlamesOrMemory mid.input (datum_at limit mid) e → ReadsText limit x (Err e)
     value_refused e b = refused_whole limit x e (value_blamed e b)
 
-    module _ (v : Value) (new : Cursor) (gave : Gave (datum_at limit mid) (value_of v) mid new) where
-      -- the value's tree
-      found : (t : Tree) × (read limit mid.unread ≡ got t new.unread) × (datum_of t ≡ value_of v)
-      found = datum_got (read limit mid.unread) (value_of v) new.unread gave.reads
-
-      from_rest : document limit x ≡ to_end found.0 new.unread
-      from_rest = from_value ∙ ap (λ m. and_then m to_end) found.1
+    -- after the value, whose tree this is
+    module _ (t : Tree) (new : Cursor) (taken : List ℕ) (is : read limit mid.unread ≡ got t new.unread) (took : Took mid taken new) where
+      from_rest : document limit x ≡ to_end t new.unread
+      from_rest = from_value ∙ ap (λ m. and_then m to_end) is
 
       rest_inside : IsInside new
-      rest_inside = ready_after mid new gave.taken (inside_after mid p) gave.took
+      rest_inside = ready_after mid new taken (inside_after mid p) took
 
       rest_input : new.input ≡ x
-      rest_input = gave.took.same ∙ input_after mid p
+      rest_input = took.same ∙ input_after mid p
 
       -- a comment after the value is refused
-      pub rest_refused : (e : Error) → Refused FaultyBlanks new e → ReadsText limit x (Err e)
-      rest_refused e f =
-          refused_whole limit x e (inr (blames_as new.input x (to_end found.0 new.unread) (document limit x) e rest_input (λ c q is. from_rest ∙ is)
-          (blames_refused new (to_end found.0 new.unread) e rest_inside blanks_lack (λ reason place (before, part, shown, k). comment_refused found.0 new.unread reason place (blank_refused k)) f)))
+      pub rest_blamed : (e : Error) → Refused FaultyBlanks new e → BlamesOrMemory x (document limit x) e
+      rest_blamed e f =
+          inr (blames_as new.input x (to_end t new.unread) (document limit x) e rest_input (λ c q is. from_rest ∙ is)
+          (blames_refused new (to_end t new.unread) e rest_inside blanks_lack (λ reason place (before, part, shown, k). comment_refused t new.unread reason place (blank_refused k)) f))
 
       module _ (last : Cursor) (q : SkippedGap new last) where
-        from_end : document limit x ≡ at_end found.0 last.unread
-        from_end = from_rest ∙ ap (λ m. and_then m (λ u r. at_end found.0 r)) (skipped new last q)
+        from_end : document limit x ≡ at_end t last.unread
+        from_end = from_rest ∙ ap (λ m. and_then m (λ u r. at_end t r)) (skipped new last q)
 
         -- nothing follows the blanks
-        pub all_read : slice_get last.unread 0 ≡ None → ReadsText limit x (Ok v)
-        all_read none = read_whole limit x v found.0 (from_end ∙ ap (at_end found.0) (none_next last.unread none)) (sym found.2)
+        pub whole_document : slice_get last.unread 0 ≡ None → document limit x ≡ got t []
+        whole_document none = from_end ∙ ap (at_end t) (none_next last.unread none)
 
         last_inside : IsInside last
         last_inside = let (w, took, g, s) = q in ready_after new last w rest_inside took
@@ -155,16 +152,33 @@ module _ (limit : ℕ) (x : List ℕ) where
         last_input = let (w, took, g, s) = q in took.same ∙ rest_input
 
         -- this character follows them
-        pub character_refused : (c : ℕ) (e : Error) → slice_get last.unread 0 ≡ Some c → kind_of e ≡ code TrailingCharacters → IsPositioned last (Some []) e → ReadsText limit x (Err e)
-        character_refused c e some kind placed = refused_whole limit x e (inr (blames_made x (document limit x) e TrailingCharacters (here last.unread) is (λ k. absurd (cc)) kind there))
+        pub character_blamed : (c : ℕ) (e : Error) → slice_get last.unread 0 ≡ Some c → kind_of e ≡ code TrailingCharacters → IsPositioned last (Some []) e → BlamesOrMemory x (document limit x) e
+        character_blamed c e some kind placed = inr (blames_made x (document limit x) e TrailingCharacters (here last.unread) shown (λ k. absurd (cc)) kind there)
           where
             split : (r : List ℕ) × (last.unread ≡ c ∷ r)
             split = some_next last.unread c some
 
-            is : document limit x ≡ bad (Some TrailingCharacters) (here last.unread)
-            is = from_end ∙ ap (at_end found.0) split.1 ∙ ap (λ z. bad (Some TrailingCharacters) (here z)) (sym split.1)
+            shown : document limit x ≡ bad (Some TrailingCharacters) (here last.unread)
+            shown = from_end ∙ ap (at_end t) split.1 ∙ ap (λ z. bad (Some TrailingCharacters) (here z)) (sym split.1)
 
             there : HasPositionAt x (here last.unread) e
             there =
                 let front = last_inside.before in
                 (front, sym last_input ∙ last_inside.inside, placed front last_inside.inside ∙ ap (λ z. Some (position_after z)) (append-nil front))
+
+    module _ (v : Value) (new : Cursor) (gave : Gave (datum_at limit mid) (value_of v) mid new) where
+      -- the value's tree
+      found : (t : Tree) × (read limit mid.unread ≡ got t new.unread) × (datum_of t ≡ value_of v)
+      found = datum_got (read limit mid.unread) (value_of v) new.unread gave.reads
+
+      -- a comment after the value is refused
+      pub rest_refused : (e : Error) → Refused FaultyBlanks new e → ReadsText limit x (Err e)
+      rest_refused e f = refused_whole limit x e (rest_blamed found.0 new gave.taken found.1 gave.took e f)
+
+      -- nothing follows the blanks
+      pub all_read : (last : Cursor) → SkippedGap new last → slice_get last.unread 0 ≡ None → ReadsText limit x (Ok v)
+      all_read last q none = read_whole limit x v found.0 (whole_document found.0 new gave.taken found.1 gave.took last q none) (sym found.2)
+
+      -- this character follows them
+      pub character_refused : (last : Cursor) → SkippedGap new last → (c : ℕ) (e : Error) → slice_get last.unread 0 ≡ Some c → kind_of e ≡ code TrailingCharacters → IsPositioned last (Some []) e → ReadsText limit x (Err e)
+      character_refused last q c e some kind placed = refused_whole limit x e (character_blamed found.0 new gave.taken found.1 gave.took last q c e some kind placed)

@@ -1,3 +1,4 @@
 -- Lists the lemmas about `format`.
 pub mod DocumentReads
+pub mod DocumentChecks
 pub mod Formats

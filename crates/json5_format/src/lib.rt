@@ -1,7 +1,9 @@
-//! Reads a document as a `Value`, and formats it.
+//! Reads a document as a `Value`, checks it, and formats it.
 //!
 //! It needs no reader of types: a program that reads only values of any kind can do without json5_de.
 #![tactic(auto)]
+
+mod checks;
 
 ghost use Rattle.std.specs.Prelude.{IfOk, IfErr, MatchResult, string_bytes};
 ghost use Rattle.std.specs.Str.{chars};
@@ -11,6 +13,7 @@ ghost use Rattle.json5_text.specs.Cursor.{IsOutOfMemory};
 ghost use Rattle.json5_format.specs.DocumentReads.{IsRefused, IsRefusedWithin, ReadsText};
 ghost use Rattle.json5_format.specs.Formatted.{WritesUnmarked, IsFormatted, IsFormattedWithin};
 
+pub use checks::check_document;
 use json5_text::scanner::Scanner;
 use json5_types::ErrorCode;
 use json5_types::error::Result;

@@ -18,7 +18,7 @@ mod streams;
 #[cfg(test)]
 mod tests;
 mod work;
-mod write_texts;
+pub mod write_texts;
 
 pub use disk::Disk;
 pub use failure::Failure;
@@ -26,5 +26,5 @@ pub use files::work_through;
 pub use host_program::{program, words};
 pub use program_runs::answer;
 pub use reports::{report, usage};
-pub use streams::{check, run};
+pub use streams::{check, read_text, run};
 pub use work::Work;

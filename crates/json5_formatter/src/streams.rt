@@ -65,8 +65,16 @@ fn read_value<R: Read>(alloc: Global, r: &mut R) -> Result<Value, Failure>
     }
 }
 
-/// All that is left of the reader, as a string.
-fn read_text<R: Read>(alloc: Global, r: &mut R) -> Result<String, Failure>
+/// Reads all of `r` as a string.
+///
+/// ```text
+/// let text = read_text(alloc, &mut rt.stdin())?;
+/// ```
+///
+/// # Errors
+///
+/// `NotUtf8`, `NoMemory` and `Read`, as [`run`].
+pub fn read_text<R: Read>(alloc: Global, r: &mut R) -> Result<String, Failure>
     ensures read { IfOk result (λ text. IfSome (R.remaining r.old) (λ bytes. string_bytes text ≡ bytes)) }
     ensures stopped { IfErr result (NoText (R.remaining r.old)) }
 {

@@ -1,0 +1,14 @@
+use Rattle.std.proofs.Common.{◌≡◌, ◌∙◌, ap, sym, drop}
+use Rattle.std.specs.Str.{chars}
+use Rattle.json5_text.specs.Cursor.{Cursor}
+use Rattle.json5_lexemes.proofs.RunsPassed.{passes_spaces, passes_no_space}
+use Rattle.json5_lexemes.proofs.rest.pass_spaces.Goals as goal
+
+pub returns-in_default : goal.returns-in_default
+returns-in_default c = passes_no_space c.args.text.now
+
+pub returns : goal.returns
+returns c =
+    passes_spaces c.as_bytes.result.now c.spaces_len.result c.args.text.now _ c.spaces_len.ensures
+    (ap (λ (z : Cursor). z.unread) (sym c.text.view_is) ∙ ap chars (sym c.as_bytes.ensures.value))
+    (ap chars (c.in-Some.ensures.back ∙ ap (λ z. drop c.spaces_len.result z) (sym c.as_bytes.ensures.value)))

@@ -1,0 +1,6 @@
+-- Lists the definitions for comparing lexemes.
+pub mod SameLexemes
+pub mod Lexemes
+pub mod SameSteps
+pub mod Tokens
+pub mod Runs

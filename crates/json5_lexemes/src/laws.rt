@@ -1,0 +1,39 @@
+//! The laws of lexemes, each the contract of a function that does nothing.
+
+ghost use Rattle.std.specs.Prelude.{◌≡◌, ℕ, List, map};
+ghost use Rattle.json5_grammar.specs.Language.Trees.{Tree};
+ghost use Rattle.json5_grammar.specs.Language.Documents.{Doc};
+ghost use Rattle.json5_lexemes.specs.Lexemes.{Lexemes, HaveSameLexemes};
+ghost use Rattle.json5_lexemes.specs.Tokens.{without_comments, settled, Spells};
+
+/// A document has lexemes, and they spell its tree.
+pub fn document_lexemes()
+    ensures exist { (limit : ℕ) (x : List ℕ) (t : Tree) → Doc limit x t → (ls : List (List ℕ)) × Lexemes x ls }
+    ensures spell { (limit : ℕ) (x : List ℕ) (t : Tree) (ls : List (List ℕ)) → Doc limit x t → Lexemes x ls → Spells ls t }
+{}
+
+/// Any text has at most one list of lexemes, but for blanks at the ends of `//` comments, and so one list of tokens.
+pub fn one_list()
+    ensures lexemes { (x : List ℕ) (l m : List (List ℕ)) → Lexemes x l → Lexemes x m → map settled l ≡ map settled m }
+    ensures tokens { (x : List ℕ) (l m : List (List ℕ)) → Lexemes x l → Lexemes x m → without_comments l ≡ without_comments m }
+    ensures settled { (x : List ℕ) (l : List (List ℕ)) → Lexemes x l → Lexemes x (map settled l) }
+{}
+
+/// Lexemes spell at most one tree.
+pub fn one_tree_spelled()
+    ensures { (ls : List (List ℕ)) (t u : Tree) → Spells ls t → Spells ls u → t ≡ u }
+{}
+
+/// Documents that have the same lexemes have the same tree, with its marks, and so both are within either limit.
+/// A text with the lexemes of a document needn't be one, since commas are no lexemes: `[1 2]`.
+pub fn same_trees()
+    ensures tree { (limit other : ℕ) (x y : List ℕ) (t u : Tree) → Doc limit x t → Doc other y u → HaveSameLexemes x y → t ≡ u }
+    ensures document { (limit other : ℕ) (x y : List ℕ) (t u : Tree) → Doc limit x t → Doc other y u → HaveSameLexemes x y → Doc limit y t }
+{}
+
+/// To have the same lexemes is an equivalence of documents; the second and the third law hold for any texts.
+pub fn same_lexemes_as()
+    ensures itself { (limit : ℕ) (x : List ℕ) (t : Tree) → Doc limit x t → HaveSameLexemes x x }
+    ensures swapped { (x y : List ℕ) → HaveSameLexemes x y → HaveSameLexemes y x }
+    ensures through { (x y z : List ℕ) → HaveSameLexemes x y → HaveSameLexemes y z → HaveSameLexemes x z }
+{}

@@ -1,0 +1,120 @@
+//! What is left of a text that is compared with another.
+
+ghost use Rattle.std.specs.Prelude.{◌≡◌, ◌≤◌, IsTrue, false, length, slice_get};
+ghost use Rattle.json5_lexemes.specs.Runs.{IsRun, IsSpaces, PassesRun, PassesSpaces, is_plain};
+ghost use Rattle.json5_lexemes.specs.SameSteps.{Takes};
+
+use std::marker::Model;
+
+/// What is left of a text.
+#[derive(Drop)]
+pub(crate) struct Rest<'x> {
+    text: &'x str,
+}
+
+impl<'x> Model for Rest<'x> {
+    ghost use Rattle.std.specs.Str.{chars};
+    ghost use Rattle.json5_text.specs.Cursor.{Cursor};
+
+    ghost Value = { Cursor };
+
+    ghost view = { λ s. record { input = chars s.text.now; unread = chars s.text.now } };
+}
+
+impl<'x> Rest<'x> {
+    ghost use Rattle.std.specs.Str.{chars};
+
+    /// The whole text.
+    pub(crate) fn new(text: &'x str) -> Rest<'x>
+        ensures { result.unread ≡ chars text.now }
+    {
+        Rest { text }
+    }
+
+    /// The next character, which stays unread; None at the end.
+    #[inline(always)]
+    pub(crate) fn peek(&self) -> Option<char>
+        ensures { result ≡ slice_get self.now.unread 0 }
+    {
+        self.text.chars().next()
+    }
+
+    /// Takes the character if it is next, and says whether it was.
+    #[inline(always)]
+    pub(crate) fn eat(&mut self, c: char) -> bool
+        ensures taken { IsTrue result → Takes c self.old self.new }
+        ensures kept { (result ≡ false) → self.new ≡ self.old }
+    {
+        let mut rest = self.text.chars();
+        let Some(next) = rest.next() else {
+            return false;
+        };
+        if next != c {
+            return false;
+        }
+        self.text = rest.as_str();
+        true
+    }
+}
+
+/// Passes over spaces, if any.
+#[inline(always)]
+pub(crate) fn pass_spaces(text: &mut Rest<'_>)
+    ensures { PassesSpaces text.old text.new }
+{
+    let Some((_, rest)) = text.text.split_at_checked(spaces_len(text.text.as_bytes())) else {
+        return;
+    };
+    text.text = rest;
+}
+
+/// How many spaces are in front.
+#[inline(always)]
+fn spaces_len(bytes: &[u8]) -> usize
+    ensures { IsSpaces bytes.now result }
+{
+    let mut len = 0;
+    while len < bytes.len() && bytes[len] == b' ' {
+        len += 1;
+    }
+    len
+}
+
+/// Passes over letters and digits of ASCII, as long as they are the same in both texts.
+#[inline(always)]
+pub(crate) fn pass_run<'x>(left: &mut Rest<'x>, right: &mut Rest<'x>)
+    ensures { PassesRun left.old right.old left.new right.new }
+{
+    let len = run_len(left.text.as_bytes(), right.text.as_bytes());
+    let Some((_, left_rest)) = left.text.split_at_checked(len) else {
+        return;
+    };
+    let Some((_, right_rest)) = right.text.split_at_checked(len) else {
+        return;
+    };
+    left.text = left_rest;
+    right.text = right_rest;
+}
+
+/// How many letters and digits in front are the same.
+#[inline(always)]
+fn run_len(left: &[u8], right: &[u8]) -> usize
+    ensures { IsRun left.now right.now result }
+{
+    let mut len = 0;
+    while len < left.len() && len < right.len() {
+        if left[len] != right[len] || !is_plain(left[len]) {
+            return len;
+        }
+        len += 1;
+    }
+    len
+}
+
+/// Whether the byte is a letter or a digit of ASCII.
+#[inline(always)]
+fn is_plain(byte: u8) -> bool
+    ensures { result ≡ is_plain byte }
+{
+    byte >= b'a' && byte <= b'z' || byte >= b'A' && byte <= b'Z' || byte >= b'0' && byte <= b'9'
+}

@@ -1,0 +1,3 @@
+-- Lists the lemmas about the program.
+pub mod LinesJoined
+pub mod FilesWorked

@@ -1,0 +1,5 @@
+-- Lists the definitions of what the program does.
+pub mod Tidies
+pub mod Answers
+pub mod Troubles
+pub mod Files

@@ -1,0 +1,77 @@
+//! The program over its words and its three streams.
+
+ghost use Rattle.json5_tidier.specs.Answers.{AnswersStream};
+
+use crate::files::work_through;
+use crate::options::Fault;
+use crate::reports::{HELP, VERSION, no_memory, usage};
+use crate::requests::Request;
+use crate::stores::Store;
+use crate::streams::tidy_stream;
+use crate::texts::put_texts;
+use json5_formatter::report;
+use json5_tidy::Style;
+use std::alloc::Global;
+use std::io::{Read, Write};
+
+/// Does what the words ask for: without a work it tidies `r` to `w`; with a work and files it does the work on each
+/// of them; words that ask for nothing are answered with the usage line. Returns the status that the program ends
+/// with.
+///
+/// ```text
+/// answer(&rt, alloc, list, &mut rt.stdin(), &mut rt.stdout(), &mut rt.stderr())    // 0, 1 or 2
+/// ```
+pub fn answer<S: Store, R: Read, W: Write, E: Write>(
+    store: &S,
+    alloc: Global,
+    list: &[String],
+    r: &mut R,
+    w: &mut W,
+    e: &mut E,
+) -> u8 {
+    match Request::of(alloc, list) {
+        Ok(request) => answer_request(store, alloc, &request, r, w, e),
+        Err(Fault::Unknown) => usage(e),
+        Err(Fault::NoMemory) => no_memory(e),
+    }
+}
+
+fn answer_request<S: Store, R: Read, W: Write, E: Write>(
+    store: &S,
+    alloc: Global,
+    request: &Request,
+    r: &mut R,
+    w: &mut W,
+    e: &mut E,
+) -> u8 {
+    match request {
+        Request::Help => say(HELP, w, e),
+        Request::Version => say(VERSION, w, e),
+        Request::Stream(options) => answer_stream(alloc, options.style, r, w, e),
+        Request::Files(files) => work_through(store, alloc, files, w, e),
+    }
+}
+
+/// Writes the text to `w`, or to `e` that it can't be written.
+fn say<W: Write, E: Write>(text: &str, w: &mut W, e: &mut E) -> u8 {
+    match put_texts(w, &[text]) {
+        Ok(()) => 0,
+        Err(failure) => report("output", &failure, e),
+    }
+}
+
+/// Tidies `r` to `w`, and writes to `e` why that ended early, under the name `stdin`.
+fn answer_stream<R: Read, W: Write, E: Write>(
+    alloc: Global,
+    style: Style,
+    r: &mut R,
+    w: &mut W,
+    e: &mut E,
+) -> u8
+    ensures { AnswersStream (R.remaining r.old) (W.contents w.old) (W.contents w.new) (E.contents e.old) (E.contents e.new) result }
+{
+    match tidy_stream(alloc, style, r, w) {
+        Ok(()) => 0,
+        Err(failure) => report("stdin", &failure, e),
+    }
+}

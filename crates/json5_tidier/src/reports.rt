@@ -1,0 +1,110 @@
+//! The lines on standard error.
+
+ghost use Rattle.std.specs.Prelude.{◌≡◌};
+ghost use Rattle.json5_write.specs.Pieces.{AppendsFront};
+ghost use Rattle.json5_formatter.specs.JoinedTexts.{joined_texts};
+ghost use Rattle.json5_tidier.specs.Troubles.{trouble_line, trouble_status, unwritten_line};
+
+use crate::trouble::{Trouble, Unwritten};
+use json5_formatter::report;
+use json5_formatter::write_texts::write_texts;
+use std::io::Write;
+
+/// How the program is called.
+pub(crate) const USAGE: &str =
+    "usage: json5_tidy [OPTION...] [check FILE... or diff FILE... or print FILE... or write FILE...]\n";
+
+/// What `--help` writes.
+pub(crate) const HELP: &str =
+    "usage: json5_tidy [OPTION...] [check FILE... or diff FILE... or print FILE... or write FILE...]
+Lays JSON5 out anew, and keeps each comment and each token as it is spelled.
+
+  json5_tidy                tidies standard input to standard output
+  json5_tidy check FILE...  names each file that isn't tidy
+  json5_tidy diff FILE...   writes what would change, as a unified diff
+  json5_tidy print FILE...  writes each file tidied to standard output
+  json5_tidy write FILE...  tidies each file in place
+
+A folder stands for the files below it that end in .json5, in the order of their names.
+Folders named .git or node_modules are passed over, and links too.
+
+  --indent N        N spaces a level, 1 to 16; tab: a tab (2)
+  --width N         characters that a line may have, 1 to 9999 (80)
+  --no-last-comma   no comma after the last of a collection over several lines;
+                    so it is in files that end in .json or .jsonc
+  --ext ENDING      in folders look for files with this ending too
+  --                what follows is no option
+  --help            writes this
+  --version         writes the version
+
+The status is 0 if all is well; 1 if a text is no JSON5, or, at check and diff,
+a file isn't tidy; 2 if a file can't be read or written, memory runs out, or the
+words are wrong.
+";
+
+/// What `--version` writes.
+pub(crate) const VERSION: &str = "json5_tidy 1.0.0\n";
+
+/// Writes how the program is called, as one line, and returns the status 2.
+pub(crate) fn usage<E: Write>(e: &mut E) -> u8 {
+    say(e, &[USAGE]);
+    2
+}
+
+/// Writes that memory ran out before any work began, and returns the status 2.
+pub(crate) fn no_memory<E: Write>(e: &mut E) -> u8 {
+    say(e, &["json5_tidy: out of memory\n"]);
+    2
+}
+
+/// Writes why the work on this file ended, as one line, and returns the status that the program ends with.
+pub(crate) fn report_trouble<E: Write>(name: &str, trouble: &Trouble, e: &mut E) -> u8
+    ensures status { result ≡ trouble_status trouble.now }
+    ensures line { AppendsFront (E.contents e.old) (E.contents e.new) (trouble_line name.now trouble.now) }
+{
+    match trouble {
+        Trouble::Failed(failure) => report(name, failure, e),
+        Trouble::Unwritten(unwritten) => say_unwritten(e, name, unwritten),
+        Trouble::NoFile => {
+            say(e, &[name, ": no file to tidy is in it\n"]);
+            2
+        }
+    }
+}
+
+fn say_unwritten<E: Write>(e: &mut E, name: &str, unwritten: &Unwritten) -> u8
+    ensures status { result ≡ 2 }
+    ensures line { AppendsFront (E.contents e.old) (E.contents e.new) (unwritten_line name.now unwritten.now) }
+{
+    match unwritten {
+        Unwritten::Refused => say(e, &[name, ": cannot be written\n"]),
+        Unwritten::Changed => say(e, &[name, ": changed meanwhile, and was left as it is\n"]),
+        Unwritten::NoMemory => say(e, &[name, ": out of memory\n"]),
+        Unwritten::Taken(beside) => say(
+            e,
+            &[
+                name,
+                ": cannot be written: ",
+                beside.as_str(),
+                " is there\n",
+            ],
+        ),
+        Unwritten::Remains(beside) => say(
+            e,
+            &[
+                name,
+                ": cannot be written, and ",
+                beside.as_str(),
+                " remains\n",
+            ],
+        ),
+    }
+    2
+}
+
+/// Writes the strings. A failed write changes nothing else.
+fn say<E: Write>(e: &mut E, texts: &[&str])
+    ensures { AppendsFront (E.contents e.old) (E.contents e.new) (joined_texts texts.now) }
+{
+    let _ = write_texts(e, texts);
+}

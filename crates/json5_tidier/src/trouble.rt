@@ -1,0 +1,54 @@
+//! Why the work on a file ends early.
+
+ghost use Rattle.std.specs.Prelude.{◌≡◌, ◌≢◌, true, false};
+ghost use Rattle.json5_formatter.specs.declared.failure.Failure.TheVariants as failures;
+ghost use Rattle.json5_tidier.specs.declared.trouble.Trouble.TheVariants as troubles;
+ghost use Rattle.json5_tidier.specs.Troubles.{trouble_status};
+
+use json5_formatter::Failure;
+
+/// Why the work on a file ended.
+#[derive(Drop)]
+pub enum Trouble {
+    /// As json5_fmt's work ends: the text is refused, memory ran out, or a stream failed.
+    Failed(Failure),
+    /// The file wasn't replaced.
+    Unwritten(Unwritten),
+    /// It is a folder, and no file below it has an ending that was asked for.
+    NoFile,
+}
+
+/// Why a file wasn't replaced. It holds what it held before.
+#[derive(Drop)]
+pub enum Unwritten {
+    /// The system refused a step.
+    Refused,
+    /// The file isn't as it was read.
+    Changed,
+    /// A file with the name of the new one is there.
+    Taken(String),
+    /// The system refused a step, and then to remove the new file, which has this name.
+    Remains(String),
+    /// Memory ran out.
+    NoMemory,
+}
+
+impl Trouble {
+    /// Returns the status that the program ends with: 1 if the fault is one of the text, else 2.
+    pub fn status(&self) -> u8
+        ensures { result ≡ trouble_status self.now }
+    {
+        match self {
+            Trouble::Failed(failure) => failure.status(),
+            Trouble::Unwritten(_) | Trouble::NoFile => 2,
+        }
+    }
+
+    /// Whether a write to the output failed, which ends the work.
+    pub(crate) fn is_failed_write(&self) -> bool
+        ensures yes { result ≡ true → self.now ≡ troubles.Failed failures.Write }
+        ensures no { result ≡ false → self.now ≢ troubles.Failed failures.Write }
+    {
+        matches!(self, Trouble::Failed(Failure::Write))
+    }
+}

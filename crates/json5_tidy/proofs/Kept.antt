@@ -1,0 +1,25 @@
+-- What tidying keeps, from what was read of the answer.
+use Rattle.std.proofs.Common.{◌≡◌, ℕ, List, sym, subst, inl, inr}
+use Rattle.std.specs.declared.alloc.Global.{Global}
+use Rattle.std.specs.Prelude.{String, string_bytes, Result, Ok, Err, IfOk}
+use Rattle.std.specs.Str.{chars}
+use Rattle.json5_grammar.specs.Language.Documents.{Doc, max_depth}
+use Rattle.json5_grammar.specs.Language.Trees.{Tree}
+use Rattle.json5_types.specs.declared.error.Error.{Error}
+use Rattle.json5_lexemes.proofs.SameTrees.{same_tree, document_same}
+use Rattle.json5_tidy.specs.Tidied.{Keeps, IsAlike}
+
+keeps : (x y : List ℕ) → (t : Tree) × Doc max_depth x t → IsAlike x y → Keeps x y
+keeps x y (t, d) (inl same) = subst (Keeps x) (sym same) (record { tree = t; before = d; after = d; lexemes = document_same max_depth x t d })
+keeps x y (t, d) (inr laid) =
+    record {
+      tree = t;
+      before = d;
+      after = subst (Doc max_depth y) (sym (same_tree max_depth max_depth x y t laid.tree d laid.document laid.lexemes)) laid.document;
+      lexemes = laid.lexemes;
+    }
+
+pub kept : (x : List ℕ) (result : Result (String Global) Error) → (t : Tree) × Doc max_depth x t → IfOk result (λ s. IsAlike x (chars (string_bytes s)))
+    → IfOk result (λ s. Keeps x (chars (string_bytes s)))
+kept x (Ok s) document alike = keeps x (chars (string_bytes s)) document alike
+kept x (Err e) document alike = tt

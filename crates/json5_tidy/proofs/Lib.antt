@@ -1,0 +1,2 @@
+-- Lists the lemmas about tidying.
+pub mod Kept

@@ -1,0 +1,98 @@
+//! Tidies a document.
+
+ghost use Rattle.std.specs.Prelude.{◌≡◌, IfOk, IfErr, IsTrue, string_bytes};
+ghost use Rattle.std.specs.Str.{chars};
+ghost use Rattle.json5_grammar.specs.Language.Trees.{Tree};
+ghost use Rattle.json5_grammar.specs.Language.Documents.{Doc, max_depth};
+ghost use Rattle.json5_text.specs.Cursor.{IsOutOfMemory};
+ghost use Rattle.json5_format.specs.DocumentReads.{IsRefused};
+ghost use Rattle.json5_tidy.specs.Tidied.{Keeps, IsAlike, IsLaidOut};
+
+use json5_format::check_document;
+use json5_layout::{Style, laid_out};
+use json5_lexemes::same_lexemes;
+use json5_types::ErrorCode;
+use json5_types::error::{Error, Result};
+use std::alloc::Global;
+
+/// Tidies a document in the usual style. It is [`tidy_with`] in [`Style::usual`].
+///
+/// ```text
+/// tidy(alloc, "{a:1,/* b */b:[0x2,]}")?    // `{ a: 1, /* b */ b: [0x2] }` and a line end
+/// ```
+///
+/// # Errors
+///
+/// As [`tidy_with`].
+pub fn tidy(alloc: Global, text: &str) -> Result<String>
+    ensures kept { IfOk result (λ s. Keeps (chars text.now) (chars (string_bytes s))) }
+    ensures complete { (t : Tree) → Doc max_depth (chars text.now) t → IfErr result IsOutOfMemory }
+    ensures refused { IfErr result (IsRefused (chars text.now)) }
+{
+    tidy_with(alloc, Style::usual(), text)
+}
+
+/// Tidies a document: lays it out anew. Each token stays as it is spelled, and each comment as it is, in their order;
+/// only white space and commas change.
+///
+/// Returns Ok exactly when the text is a document, nested at most 128 deep, unless memory runs out. What is returned
+/// is a document with the same tree and the same lexemes.
+///
+/// What was laid out is read again: where it weren't such a document, the answer would be a copy of the text. No test
+/// has met that.
+///
+/// ```text
+/// tidy_with(alloc, Style { last_comma: false, ..Style::usual() }, "[ 1, // one\n]")?    // `[`, `  1 // one` and `]`
+/// ```
+///
+/// # Errors
+///
+/// As `json5_format::format`, with the same positions.
+pub fn tidy_with(alloc: Global, style: Style, text: &str) -> Result<String>
+    ensures kept { IfOk result (λ s. Keeps (chars text.now) (chars (string_bytes s))) }
+    ensures complete { (t : Tree) → Doc max_depth (chars text.now) t → IfErr result IsOutOfMemory }
+    ensures refused { IfErr result (IsRefused (chars text.now)) }
+{
+    match check_document(alloc, text) {
+        Ok(()) => laid_out_document(alloc, style, text),
+        Err(e) => Err(e),
+    }
+}
+
+/// The document laid out, if it is the same document, or the text itself.
+fn laid_out_document(alloc: Global, style: Style, text: &str) -> Result<String>
+    ensures laid_out { IfOk result (λ s. IsAlike (chars text.now) (chars (string_bytes s))) }
+    ensures memory { IfErr result IsOutOfMemory }
+{
+    let Ok(bytes) = laid_out(alloc, style, text.as_bytes()) else {
+        return Err(Error::new(ErrorCode::OutOfMemory));
+    };
+    let Ok(tidy) = String::from_utf8(bytes) else {
+        return copied(alloc, text);
+    };
+    if is_laid_out(alloc, text, tidy.as_str()) {
+        return Ok(tidy);
+    }
+    copied(alloc, text)
+}
+
+/// A copy of the text.
+fn copied(alloc: Global, text: &str) -> Result<String>
+    ensures same { IfOk result (λ s. string_bytes s ≡ text.now) }
+    ensures memory { IfErr result IsOutOfMemory }
+{
+    match String::from_str(alloc, text) {
+        Ok(copy) => Ok(copy),
+        Err(_) => Err(Error::new(ErrorCode::OutOfMemory)),
+    }
+}
+
+/// Whether the other text is a document with the same lexemes.
+fn is_laid_out<'x>(alloc: Global, text: &'x str, other: &'x str) -> bool
+    ensures { IsTrue result → IsLaidOut (chars text.now) (chars other.now) }
+{
+    match check_document(alloc, other) {
+        Ok(()) => same_lexemes(text, other),
+        Err(_) => false,
+    }
+}

@@ -1,0 +1,9 @@
+//! The program json5_tidy, run once with words: what is printed of files, of which one is missing, and the greatest
+//! status.
+#![tactic(auto)]
+
+use std::process::ExitCode;
+
+fn main(rt: HostRuntime) -> ExitCode {
+    json5_tidier::program(&rt)
+}
