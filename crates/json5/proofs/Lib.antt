@@ -5,6 +5,7 @@ pub mod ReadsBack
 pub mod ValuesBack
 pub mod MapsBack
 pub mod WrittenThenRead
+pub mod StructsBack
 -- What proofs of users' types cite.
 pub use Rattle.json5_format.proofs.Formats
 pub use Rattle.json5_grammar.proofs.ObjectsRead

@@ -48,6 +48,13 @@ pub use Rattle.json5_de.specs.Enums
 pub use Rattle.json5_de.specs.Variants
 pub use Rattle.json5_de.specs.Lending
 pub use Rattle.json5_de.specs.WholeInputs
+-- Reading and writing by a description.
+pub use Rattle.json5_fields.specs.Layouts
+pub use Rattle.json5_fields.specs.Described
+pub use Rattle.json5_fields.specs.FieldCalls
+pub use Rattle.json5_fields.specs.Only
+pub use Rattle.json5_fields.specs.Named
+pub use Rattle.json5_fields.specs.WrittenFields
 -- Writing. Seven modules of json5_ser name the definitions of json5_write again, whose own names a goal shows.
 pub use Rattle.json5_ser.specs.WrittenTrees
 pub use Rattle.json5_ser.specs.ValueTrees

@@ -25,6 +25,11 @@ pub use json5_de::{
     Deserialize, DeserializeKey, Deserializer, EnumAccess, IgnoredAny, MapAccess, SeqAccess,
     Spanned, from_str, from_str_within, read,
 };
+pub use json5_fields as fields;
+pub use json5_fields::{
+    Field, Given, Optional, Required, WithDefault, one_of_names, read_struct, read_struct_only,
+    write_struct,
+};
 pub use json5_format::{format, format_within};
 pub use json5_grammar::error_code::ErrorCode;
 pub use json5_grammar::position::Position;

@@ -1,11 +1,8 @@
 -- What the types of this crate accept of what they read.
-use Rattle.std.specs.Prelude.{◌==◌, ℕ, if◌then◌else◌, nat_lt, length, List, [], ◌∷◌, Option, Some, None, codes}
-use Rattle.std.specs.Str.{bytes_eq}
+use Rattle.std.specs.Prelude.{◌==◌, ℕ, if◌then◌else◌, nat_lt, length, List, [], ◌∷◌, Option, Some, None}
 use Rattle.json5.specs.Trees.{Tree, Trees}
 use Rattle.json5.specs.Collections.{contents}
 use Rattle.json5.specs.Refinement.{if_more}
-use Rattle.json5_own_type.specs.declared.levels.Level.{Level}
-use Rattle.json5_own_type.specs.declared.levels.Level.TheVariants.{Low, Middle, High}
 
 -- a number above 0
 abbrev pub above_zero : ℕ → Option ℕ
@@ -19,10 +16,6 @@ ascending (first, last) = if nat_lt last first then None else Some (first, last)
 abbrev pub not_empty : {A : Type 0} → List A → Option (List A)
 not_empty [] = None
 not_empty (x ∷ xs) = Some (x ∷ xs)
-
--- the level of this name
-abbrev pub level_named : List ℕ → Option Level
-level_named s = if bytes_eq s (codes "low") then Some Low else if bytes_eq s (codes "middle") then Some Middle else if bytes_eq s (codes "high") then Some High else None
 
 -- these, where they are at most so many
 abbrev pub if_at_most : {C : Type 0} → ℕ → List C → Option (List C)

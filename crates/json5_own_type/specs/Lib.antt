@@ -2,7 +2,7 @@
 pub mod Accepted
 pub mod Articles
 pub mod Colors
+pub mod Levels
 pub mod Reminders
 pub mod Settings
-pub mod SettingsWritten
 pub mod Endpoints

@@ -1,28 +1,25 @@
--- What a server's settings take of an object, and how they are refused, a field a line.
-use Rattle.std.specs.Prelude.{ℕ, ◌^◌, List, Option, codes}
+-- What is written of a server's settings, and what counts of them.
+use Rattle.std.specs.Prelude.{ℕ, ◌^◌, List, Option, codes, string_bytes}
+use Rattle.std.specs.Str.{chars}
 use Rattle.json5.specs.Trees.{Tree}
-use Rattle.json5.specs.Error.{Error}
-use Rattle.json5.specs.Convert.{text_of, unsigned_below}
+use Rattle.json5.specs.Convert.{unsigned_below}
+use Rattle.json5.specs.ConvertLists.{if_some}
 use Rattle.json5.specs.Refinement.{refined}
-use Rattle.json5.specs.State.{State}
-use Rattle.json5.specs.Plans.{Plan, plan_required, plan_optional, plan_with_default, plan_and}
-use Rattle.json5.specs.StructFaults.{ValueFaults, of_field, or_of, of_any}
+use Rattle.json5.specs.WrittenFields.{field_named, field_given}
+use Rattle.json5.specs.WrittenTrees.{Written, object, no_field, text, natural}
 use Rattle.json5_own_type.specs.Accepted.{above_zero}
+use Rattle.json5_own_type.specs.declared.settings.Settings.{Settings}
 
 -- a port that isn't 0
 abbrev pub port_of : Tree → Option ℕ
 port_of = refined (unsigned_below (2 ^ 16)) above_zero
 
-abbrev pub settings : Plan (Option (List ℕ) × (Option ℕ × Option (List ℕ))) (List ℕ × (ℕ × Option (List ℕ)))
-settings =
-    plan_and (plan_required (codes "host") text_of)
-    (plan_and (plan_with_default 80 (codes "port") port_of)
-    (plan_optional (codes "label") text_of))
+abbrev pub settings_content : Settings → List ℕ × (ℕ × Option (List ℕ))
+settings_content s = (string_bytes s.host, (s.port.number, if_some string_bytes s.label))
 
--- how a value is refused, by its name, given how strings and ports are refused
-abbrev pub settings_faults : (text port : State → Error → State → Type 0) → ValueFaults
-settings_faults text port =
-    or_of (of_field (codes "host") text_of text)
-    (or_of (of_field (codes "port") port_of port)
-    (or_of (of_field (codes "label") text_of text)
-    of_any))
+-- a label that is missing is left out
+abbrev pub settings_tree : Settings → Written
+settings_tree s = object
+    (field_named (codes "host") (text (chars (string_bytes s.host)))
+    (field_named (codes "port") (natural s.port.number)
+    (field_given (λ l. text (chars (string_bytes l))) (codes "label") s.label no_field)))

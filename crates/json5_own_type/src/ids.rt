@@ -24,8 +24,10 @@ impl<I: Input> DeserializeKey<I> for Id {
     ghost convert = { (document_key (natural_kind (2 ^ 32))).convert };
 
     fn deserialize_key(key: &mut MapKey<'_, I>) -> Result<Id> {
-        let number = key.deserialize_u32()?;
-        Ok(Id { number })
+        match key.deserialize_u32() {
+            Ok(number) => Ok(Id { number }),
+            Err(e) => Err(e),
+        }
     }
 }
 

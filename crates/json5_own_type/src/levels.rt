@@ -1,6 +1,7 @@
 //! Levels, each by its name.
 
-use json5::{Deserialize, Deserializer, Error, Input, Result, Spanned};
+use json5::{Deserialize, Deserializer, Input, Result, Serialize, Serializer, one_of_names};
+use std::io::Write;
 
 /// How much is said.
 #[derive(Clone, Copy, Debug, PartialEq, Eq)]
@@ -15,29 +16,41 @@ pub enum Level {
 
 /// A string that names a level; another one is refused at its position.
 impl<I: Input> Deserialize<I> for Level {
-    ghost use Rattle.json5.specs.Convert.{text_of};
-    ghost use Rattle.json5.specs.Refinement.{refined, RefusesOwn};
+    ghost use Rattle.json5.specs.Named.{one_named};
+    ghost use Rattle.json5.specs.TokenKinds.{RefusedAs, variant_kind, escape_free_text};
     ghost use Rattle.json5_own_type.specs.declared.levels.Level.{Level};
-    ghost use Rattle.json5_own_type.specs.Accepted.{level_named};
+    ghost use Rattle.json5_own_type.specs.Levels.{level_names, levels};
 
     ghost Content = { Level };
 
     ghost content = { λ l. l };
 
-    ghost convert = { refined text_of level_named };
+    ghost convert = { one_named level_names levels };
 
-    ghost refuses = { RefusesOwn text_of level_named ⟦<Spanned<String> as Deserialize<I>>⟧.refuses };
+    ghost allocation_free = { escape_free_text };
+
+    ghost refuses = { RefusedAs (variant_kind level_names) };
 
     fn deserialize(de: &mut Deserializer<I>) -> Result<Level> {
-        let name = Spanned::<String>::deserialize(de)?;
-        match name.value.as_str() {
-            "low" => Ok(Level::Low),
-            "middle" => Ok(Level::Middle),
-            "high" => Ok(Level::High),
-            _ => {
-                let place = de.position_of(name.start);
-                Err(Error::custom_at(de.allocator(), place, "expected low, middle or high")?)
-            }
+        one_of_names(
+            de,
+            &["low", "middle", "high"],
+            &[Level::Low, Level::Middle, Level::High],
+        )
+    }
+}
+
+/// Its name: `'low'`.
+impl Serialize for Level {
+    ghost use Rattle.json5_own_type.specs.Levels.{level_tree};
+
+    ghost tree = { level_tree };
+
+    fn serialize<W: Write + Drop>(&self, ser: &mut Serializer<W>) -> Result<()> {
+        match self {
+            Level::Low => ser.serialize_unit_variant("Level", 0, "low"),
+            Level::Middle => ser.serialize_unit_variant("Level", 1, "middle"),
+            Level::High => ser.serialize_unit_variant("Level", 2, "high"),
         }
     }
 }

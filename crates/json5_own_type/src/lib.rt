@@ -10,7 +10,6 @@ mod levels;
 mod ports;
 mod reminders;
 mod settings;
-mod settings_written;
 
 ghost use Rattle.std.specs.Prelude.{◌≡◌, true};
 ghost use Rattle.json5.specs.ErrorCode.TheVariants as codes;
@@ -27,8 +26,7 @@ pub use labels::Labels;
 pub use levels::Level;
 pub use ports::{Endpoint, OpenPort, PortRange, endpoint_again};
 pub use reminders::Reminder;
-pub use settings::Settings;
-pub use settings_written::settings_again;
+pub use settings::{Settings, settings_again};
 use std::alloc::Global;
 
 /// Two ends, written as a list: `[low, high]`.
@@ -92,8 +90,10 @@ impl<I: Input> Deserialize<I> for Port {
     ghost convert = { unsigned_below (2 ^ 16) };
 
     fn deserialize(de: &mut Deserializer<I>) -> Result<Port> {
-        let number = de.deserialize_u16()?;
-        Ok(Port { number })
+        match de.deserialize_u16() {
+            Ok(number) => Ok(Port { number }),
+            Err(e) => Err(e),
+        }
     }
 }
 
@@ -117,8 +117,10 @@ impl<I: Input, T: Deserialize<I>> Deserialize<I> for Point<T> {
     ghost convert = { array_of (first_of T.convert (last_of T.convert)) };
 
     fn deserialize(de: &mut Deserializer<I>) -> Result<Point<T>> {
-        let (x, y) = <(T, T)>::deserialize(de)?;
-        Ok(Point { x, y })
+        match <(T, T)>::deserialize(de) {
+            Ok((x, y)) => Ok(Point { x, y }),
+            Err(e) => Err(e),
+        }
     }
 }
 

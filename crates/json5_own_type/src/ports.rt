@@ -81,8 +81,10 @@ impl<I: Input> Deserialize<I> for Endpoint {
     ghost refuses = { ⟦<(String, OpenPort) as Deserialize<I>>⟧.refuses };
 
     fn deserialize(de: &mut Deserializer<I>) -> Result<Endpoint> {
-        let (host, port) = <(String, OpenPort)>::deserialize(de)?;
-        Ok(Endpoint { host, port })
+        match <(String, OpenPort)>::deserialize(de) {
+            Ok((host, port)) => Ok(Endpoint { host, port }),
+            Err(e) => Err(e),
+        }
     }
 }
 

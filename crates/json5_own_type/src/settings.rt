@@ -1,8 +1,17 @@
-//! What a server is started with.
+//! What a server is started with, read and written by a description of its fields.
+
+ghost use Rattle.std.specs.Prelude.{◌≡◌, ◌<◌, MatchResult};
+ghost use Rattle.json5.specs.Cursor.{IsOutOfMemory};
+ghost use Rattle.json5_own_type.specs.Settings.{settings_content};
 
 use crate::ports::OpenPort;
-use json5::de::Fields;
-use json5::{Deserialize, Deserializer, Input, MapAccess, Result};
+use json5::fields::StructFields;
+use json5::{
+    Deserialize, Deserializer, Field, Given, Input, Optional, Required, Result, Serialize,
+    Serializer, WithDefault, from_str, read_struct, to_string, write_struct,
+};
+use std::alloc::Global;
+use std::io::Write;
 
 /// What a server is started with, written as an object: `{ host: 'localhost', port: 8080 }`.
 #[derive(Drop)]
@@ -15,67 +24,57 @@ pub struct Settings {
     pub label: Option<String>,
 }
 
-/// The fields, as far as they were read.
-#[derive(Drop)]
-struct Found {
-    host: Option<String>,
-    port: Option<OpenPort>,
-    label: Option<String>,
-}
+/// How each field is described, and what its value is.
+type Parts = (Required, WithDefault<OpenPort>, Optional);
 
-impl<I: Input> Fields<I> for Found {
-    ghost use Rattle.std.specs.Prelude.{ℕ, List, Option, string_bytes};
-    ghost use Rattle.json5.specs.ConvertLists.{if_some};
-    ghost use Rattle.json5_own_type.specs.Settings.{settings, settings_faults};
+type Values = (String, OpenPort, Option<String>);
 
-    ghost Content = { Option (List ℕ) × (Option ℕ × Option (List ℕ)) };
+/// An object; an unknown field is passed over, and a field that comes twice is refused.
+impl<I: Input> Deserialize<I> for Settings {
+    ghost use Rattle.std.specs.Prelude.{codes};
+    ghost use Rattle.json5.specs.Collections.{object_of};
+    ghost use Rattle.json5.specs.Described.{RefusesDescribed};
 
-    ghost content = { λ f. (if_some string_bytes f.host, (if_some (λ p. p.number) f.port, if_some string_bytes f.label)) };
+    ghost Content = { ⟦<Parts as StructFields<I, Values>>⟧.Content };
 
-    ghost step = { settings.step };
+    ghost content = { λ s. ⟦<Parts as StructFields<I, Values>>⟧.content (s.host, s.port, s.label) };
 
-    ghost refuses = { settings_faults ⟦<String as Deserialize<I>>⟧.refuses ⟦<OpenPort as Deserialize<I>>⟧.refuses };
+    ghost convert = { object_of (⟦<Parts as StructFields<I, Values>>⟧.layout (codes "host", ((codes "port", 80), codes "label"))).convert };
 
-    fn read(&mut self, map: &mut MapAccess<'_, I>, name: &str) -> Result<()> {
-        match name {
-            "host" => map.next_field(name, &mut self.host),
-            "port" => map.next_field(name, &mut self.port),
-            "label" => map.next_field(name, &mut self.label),
-            _ => map.skip_value(),
+    ghost refuses = { RefusesDescribed (⟦<Parts as StructFields<I, Values>>⟧.layout (codes "host", ((codes "port", 80), codes "label"))) ⟦<Parts as StructFields<I, Values>>⟧.faults };
+
+    fn deserialize(de: &mut Deserializer<I>) -> Result<Settings> {
+        let port = WithDefault("port", OpenPort { number: 80 });
+        match read_struct(de, (Required("host"), port, Optional("label"))) {
+            Ok((host, port, label)) => Ok(Settings { host, port, label }),
+            Err(e) => Err(e),
         }
     }
 }
 
-/// An object; an unknown field is passed over, and a field that comes twice is refused.
-impl<I: Input> Deserialize<I> for Settings {
-    ghost use Rattle.std.specs.Prelude.{ℕ, List, Option, string_bytes};
-    ghost use Rattle.json5.specs.Collections.{object_of};
-    ghost use Rattle.json5.specs.ConvertLists.{if_some};
-    ghost use Rattle.json5.specs.StructFaults.{RefusesStruct};
-    ghost use Rattle.json5_own_type.specs.Settings.{settings};
+/// An object of the host, the port, and the label if there is one.
+impl Serialize for Settings {
+    ghost use Rattle.json5_own_type.specs.Settings.{settings_tree};
 
-    ghost Content = { List ℕ × (ℕ × Option (List ℕ)) };
+    ghost tree = { settings_tree };
 
-    ghost content = { λ s. (string_bytes s.host, (s.port.number, if_some string_bytes s.label)) };
-
-    ghost convert = { object_of settings.convert };
-
-    ghost refuses = { RefusesStruct settings ⟦<Found as Fields<I>>⟧.refuses };
-
-    fn deserialize(de: &mut Deserializer<I>) -> Result<Settings> {
-        let mut found = Found {
-            host: None,
-            port: None,
-            label: None,
-        };
-        let mut map = de.deserialize_struct("Settings", &["host", "port", "label"])?;
-        map.read_fields(&mut found)?;
-        let host = map.required_field("host", found.host)?;
-        map.end()?;
-        Ok(Settings {
-            host,
-            port: found.port.unwrap_or(OpenPort { number: 80 }),
-            label: found.label,
-        })
+    fn serialize<W: Write + Drop>(&self, ser: &mut Serializer<W>) -> Result<()> {
+        let fields = (
+            Field("host", &self.host),
+            Field("port", &self.port),
+            Given("label", &self.label),
+        );
+        write_struct(ser, &fields)
     }
+}
+
+/// The settings that are read from their own text. They are the same, unless memory runs out.
+pub fn settings_again(alloc: Global, settings: &Settings) -> Result<Settings>
+    requires open { 0 < settings.now.port.number }
+    ensures { MatchResult result (λ s. settings_content s ≡ settings_content settings.now) IsOutOfMemory }
+{
+    // What is read here is known to be in range.
+    let _number = settings.port.number;
+    let text = to_string(alloc, settings)?;
+    from_str(alloc, text.as_str())
 }

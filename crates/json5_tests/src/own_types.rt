@@ -56,12 +56,12 @@ fn others_are_refused(alloc: Global) -> Result<bool> {
             && refuses::<Level>(
                 alloc,
                 " 'highest'",
-                "expected low, middle or high at line 1 column 2",
+                "unknown variant `highest`, expected one of `low`, `middle`, `high` at line 1 column 2",
             )?
             && refuses::<Vec<Level>>(
                 alloc,
                 "['low',\n'']",
-                "expected low, middle or high at line 2 column 1",
+                "unknown variant ``, expected one of `low`, `middle`, `high` at line 2 column 1",
             )?,
     )
 }

@@ -1,0 +1,218 @@
+-- What is read of one field, or of some, is read of all.
+use Rattle.std.proofs.Common.{◌≡◌, ℕ, Bool, true, false, List, [], ◌∷◌, refl, sym, ap, ◌∙◌, subst, inl, inr, Option, Some, None, Ok, Err}
+use Rattle.std.proofs.Math.Path.{fun_ext}
+use Rattle.std.proofs.lemmas.Slice.Eq.{bytes_eq-Decides}
+use Rattle.std.specs.Prelude.{Result, IfOk, IsErrAnd, OnOk, is_some, not}
+use Rattle.std.specs.Str.{bytes_eq}
+use Rattle.json5_grammar.specs.Language.Trees.{Tree, Members}
+use Rattle.json5_grammar.specs.Model.Collections.{joint, snoc_member}
+use Rattle.json5_types.specs.declared.error.Error.{Error}
+use Rattle.json5_de.specs.State.{State}
+use Rattle.json5_de.specs.AnyTree.{RefusesTree}
+use Rattle.json5_de.specs.ConvertLists.{if_some}
+use Rattle.json5_de.specs.Refinement.{if_more}
+use Rattle.json5_de.specs.Objects.{MapAccessState, MembersRead}
+use Rattle.json5_de.specs.Fields.{IsOwnAtBracket, FieldRead, FieldRequired, RefusesHere}
+use Rattle.json5_de.specs.Plans.{Step, at_name, run, TakesMember, LeavesTaken, PassesMember}
+use Rattle.json5_de.specs.StructFaults.{ValueFaults, or_of, of_any, may_stand, RefusesMember}
+use Rattle.json5_de.specs.Lending.{map_state_of, KeepsMap, NoKeyPending, TakesPendingKey}
+use Rattle.json5_de.specs.declared.map.MapAccess.{MapAccess}
+use Rattle.json5_de.proofs.ElementLoops.{handed_on}
+use Rattle.json5_de.proofs.Structs.{here, takes_field}
+use Rattle.json5_de.proofs.StructFaults.{field_refused}
+use Rattle.json5_fields.specs.Layouts.{Layout, has_name, first_or, and_layout, one_field, required_field, to_first, to_others, named_first, named_second, named_neither, hold, held_step, held_takes, held_passes}
+use Rattle.json5_fields.specs.Only.{only_step, only_takes, only_none, of_unknown}
+use Rattle.json5_de.specs.DeserializeLaw.{IsUnprompted}
+use Rattle.json5_fields.specs.FieldCalls.{of_type, TakesHere, Tries, Finished, Missed, Finishes}
+
+-- ---- a step that another one makes
+
+some_made : {A B : Type 0} (g : A → B) (o : Option A) → is_some (if_some g o) ≡ is_some o
+some_made g None = refl
+some_made g (Some a) = refl
+
+made_of : {S U : Type 0} (g : S → U) (m : U) (o : Option S) → if_some g o ≡ Some m → (c : S) × (o ≡ Some c) × (m ≡ g c)
+made_of g m None is = absurd (cc)
+made_of g m (Some c) is = (c, refl, cc is)
+
+module _ {S U : Type 0} (a : Step S) (b : Step U) (g : S → U) (s : S) (there name : List ℕ) (same : (t : Tree) → b (g s) name t ≡ if_some g (a s there t)) where
+  pub takes_through : {n : S} {old new : MapAccessState} {result : Result (Unit {0}) Error} → TakesMember a s n there old new result → TakesMember b (g s) (g n) name old new result
+  takes_through {n = n} {old = old} {new = new} {result = result} is = record {
+    read = reads result is.read;
+    left = λ u escape_free t ps r m takes left. let (c, at, made) = made_of g m (a s there t) (sym (same t) ∙ takes) in leaves result c m ps r made (is.left u escape_free t ps r c at left);
+    live = is.live;
+    shorter = is.shorter;
+    failed = is.failed;
+    unprompted = is.unprompted;
+  }
+    where
+      reads : (result : Result (Unit {0}) Error)
+          → OnOk result ((t : Tree) × (a s there t ≡ Some n) × ((from : State) (ps : Members) (u : List ℕ) (escape_free : Bool) → MembersRead from ps (Some (u, escape_free)) old → MembersRead from (snoc_member ps u escape_free t) None new))
+          → OnOk result ((t : Tree) × (b (g s) name t ≡ Some (g n)) × ((from : State) (ps : Members) (u : List ℕ) (escape_free : Bool) → MembersRead from ps (Some (u, escape_free)) old → MembersRead from (snoc_member ps u escape_free t) None new))
+      reads (Ok done) (t, is, on) = (t, same t ∙ ap (if_some g) is, on)
+      reads (Err e) read = tt
+
+      leaves : (result : Result (Unit {0}) Error) (c : S) (m : U) (ps : Members) (r : List ℕ) → m ≡ g c → LeavesTaken n c ps r new result → LeavesTaken (g n) m ps r new result
+      leaves (Ok done) c m ps r made (one, others) = (made ∙ ap g one, others)
+      leaves (Err e) c m ps r made memory = memory
+
+  same_may : may_stand b (g s) name ≡ may_stand a s there
+  same_may = fun_ext (λ t. ap is_some (same t) ∙ some_made g (a s there t))
+
+  pub refused_through : (fa fb : ValueFaults) (old : MapAccessState) (result : Result (Unit {0}) Error) → ((may : Tree → Bool) (e : Error) → fa there may old e → fb name may old e) → RefusesMember fa a s there old result → RefusesMember fb b (g s) name old result
+  refused_through fa fb old result one is = by result is
+    where
+      by : (result : Result (Unit {0}) Error) → RefusesMember fa a s there old result → RefusesMember fb b (g s) name old result
+      by (Ok done) is = tt
+      by (Err e) is = λ live. one (may_stand b (g s) name) e (subst (λ may. fa there may old e) (sym same_may) (is live))
+
+-- ---- a field, and others
+
+module _ {I S T A B : Type 0} (a : Layout S A) (b : Layout T B) (fa fb : ValueFaults) {name : List ℕ} {old new : MapAccess I} where
+  pub first_here : {s n : S} {t : T} {result : Result (Unit {0}) Error} → TakesHere a fa s n name old new result → TakesHere (and_layout a b) (or_of fa fb) (s, t) (n, t) name old new result
+  first_here {s = s} {t = t} {result = result} is = record {
+    named = named_first a.names b.names name is.named;
+    takes = takes_through a.step (first_or a.names a.step b.step) (λ x. (x, t)) s name name (λ v. to_first a b (s, t) name v is.named) is.takes;
+    refused = refused_through a.step (first_or a.names a.step b.step) (λ x. (x, t)) s name name (λ v. to_first a b (s, t) name v is.named) fa (or_of fa fb) (map_state_of old) result (λ may e fault. inl fault) is.refused;
+    access = is.access;
+    pending = is.pending;
+  }
+
+  others_here : {s : S} {t m : T} → has_name a.names name ≡ false → {result : Result (Unit {0}) Error} → TakesHere b fb t m name old new result → TakesHere (and_layout a b) (or_of fa fb) (s, t) (s, m) name old new result
+  others_here {s = s} {t = t} not {result = result} is = record {
+    named = named_second a.names b.names name is.named;
+    takes = takes_through b.step (first_or a.names a.step b.step) (λ x. (s, x)) t name name (λ v. to_others a b (s, t) name v not) is.takes;
+    refused = refused_through b.step (first_or a.names a.step b.step) (λ x. (s, x)) t name name (λ v. to_others a b (s, t) name v not) fb (or_of fa fb) (map_state_of old) result (λ may e fault. inr fault) is.refused;
+    access = is.access;
+    pending = is.pending;
+  }
+
+others_from : {I S T A B : Type 0} (a : Layout S A) (b : Layout T B) (fa fb : ValueFaults) (name : List ℕ) (old new : MapAccess I) (s : S) (t m : T) → has_name a.names name ≡ false → (result : Result Bool Error) → Tries b fb t m name old new result → Tries (and_layout a b) (or_of fa fb) (s, t) (s, m) name old new result
+others_from a b fa fb name old new s t m not (Ok true) is = others_here a b fa fb not is
+others_from a b fa fb name old new s t m not (Ok false) is = record { other = named_neither a.names b.names name not is.other; fields = ap (λ x. (s, x)) is.fields; access = is.access }
+others_from a b fa fb name old new s t m not (Err e) is = others_here a b fa fb not is
+
+-- the first has no such name, and the others were tried
+pub others_try : {I S T A B : Type 0} (a : Layout S A) (b : Layout T B) (fa fb : ValueFaults) {s n : S} (t m : T) {name : List ℕ} {old mid : MapAccess I} (new : MapAccess I) (result : Result Bool Error) → Tries a fa s n name old mid (Ok false) → Tries b fb t m name mid new result
+    → Tries (and_layout a b) (or_of fa fb) (s, t) (n, m) name old new result
+others_try a b fa fb {s = s} {n = n} t m {name = name} {old = old} {mid = mid} new result passes is =
+    subst (λ x. Tries (and_layout a b) (or_of fa fb) (s, t) (x, m) name old new result) (sym passes.fields)
+    (others_from a b fa fb name old new s t m passes.other result (subst (λ x. Tries b fb t m name x new result) passes.access is))
+
+-- ---- the values
+
+joint_none : {A B : Type 0} (o : Option A) → joint {V = B} o None ≡ None
+joint_none None = refl
+joint_none (Some a) = refl
+
+module _ {I S T A B : Type 0} (a : Layout S A) (b : Layout T B) {s : S} {t : T} {old new : MapAccess I} where
+  pub both_finish : {mid : MapAccess I} {c : A} {d : B} → Finished a s c old mid → Finished b t d mid new → Finished (and_layout a b) (s, t) (c, d) old new
+  both_finish first others = record { built = rw (first.built, others.built) refl; same = others.same ∙ first.same; same_reference = others.same_reference ∙ first.same_reference }
+
+  pub first_missed : {e : Error} → Missed a s old new e → Missed (and_layout a b) (s, t) old new e
+  first_missed is = record {
+    missing = λ live. let (none, own) = is.missing live in (rw none refl, own);
+    unprompted = is.unprompted;
+    same_text = is.same_text;
+    same_reference = is.same_reference;
+  }
+
+  pub others_missed : {mid : MapAccess I} {c : A} {e : Error} → Finished a s c old mid → Missed b t mid new e → Missed (and_layout a b) (s, t) old new e
+  others_missed {e = e} first is = record {
+    missing = λ live. let (none, own) = is.missing (ap (λ (m : MapAccessState). m.at.reader.failed) first.same ∙ live) in (ap (joint (a.build s)) none ∙ joint_none (a.build s), subst (λ m. IsOwnAtBracket m.at e) first.same own);
+    unprompted = λ live. is.unprompted (ap (λ (m : MapAccessState). m.at.reader.failed) first.same ∙ live);
+    same_text = is.same_text ∙ ap (λ (m : MapAccessState). m.at.reader.input) first.same;
+    same_reference = is.same_reference ∙ first.same_reference;
+  }
+
+-- a field is missing
+pub missed : {I S D V : Type 0} (l : Layout S D) (content : V → D) {s : S} {old new : MapAccess I} (e : Error) (result : Result V Error) → IsErrAnd result (λ y. y ≡ e) → Missed l s old new e → Finishes l content s old new result
+missed l content {s = s} {old = old} {new = new} e result is_err is = handed_on (λ r. Finishes l content s old new r) e result is_err is
+
+-- ---- one field
+
+-- a test that they differ failed
+pub same_name : (u n : List ℕ) (r : Bool) → r ≡ not (bytes_eq u n) → r ≡ false → u ≡ n
+same_name u n r is fails = by (bytes_eq u n) refl (sym is ∙ fails)
+  where
+    by : (b : Bool) → bytes_eq u n ≡ b → not b ≡ false → u ≡ n
+    by true equal f = (bytes_eq-Decides u n).0 equal
+    by false equal f = absurd (cc)
+
+has_it : {name field : List ℕ} → name ≡ field → has_name (field ∷ []) name ≡ true
+has_it {name = name} {field = field} same = let equal : bytes_eq name field ≡ true = (bytes_eq-Decides name field).1 same in rw equal refl
+
+module _ {V C : Type 0} {content : V → C} {f : Tree → Option C} {refuses : State → Error → State → Type 0} {field name : List ℕ} {o n : Option V} where
+  field_takes : {old new : MapAccessState} {result : Result (Unit {0}) Error} → name ≡ field → FieldRead content f refuses old new o n result → TakesMember (at_name f field) (if_some content o) (if_some content n) name old new result
+  field_takes {old = old} {new = new} {result = result} same is = subst (λ w. TakesMember (at_name f w) (if_some content o) (if_some content n) name old new result) same (takes_field None here is)
+
+  field_refuses : {old new : MapAccessState} {result : Result (Unit {0}) Error} → name ≡ field → FieldRead content f refuses old new o n result → RefusesMember (of_type f refuses) (at_name f field) (if_some content o) name old result
+  field_refuses {old = old} {result = result} same is = subst (λ w. RefusesMember (of_type f refuses) (at_name f w) (if_some content o) name old result) same (field_refused (of_type f refuses) None here (λ may e fault. fault) is)
+
+  module _ {I D : Type 0} {old new : MapAccess I} {build : Option C → Option D} {convert : Members → Option D} {says : (ps : Members) → convert ps ≡ if_more build (run (at_name f field) None ps)} where
+    -- its value was read, or refused
+    pub takes_it : {result : Result (Unit {0}) Error} → name ≡ field → FieldRead content f refuses (map_state_of old) (map_state_of new) o n result → KeepsMap old new → TakesPendingKey old new result
+        → TakesHere (one_field field f build convert says) (of_type f refuses) (if_some content o) (if_some content n) name old new result
+    takes_it {result = result} same is keeps pending = record { named = has_it same; takes = field_takes same is; refused = field_refuses same is; access = keeps; pending = by result pending.given }
+      where
+        by : (result : Result (Unit {0}) Error) → IfOk result (λ v. (map_state_of new).pending ≡ false) → OnOk result (NoKeyPending new)
+        by (Ok done) given = given
+        by (Err e) given = tt
+
+-- a field that has to be there is returned, or it is missing
+pub required_finishes : {I V C : Type 0} (content : V → C) (f : Tree → Option C) (field : List ℕ) {old new : MapAccess I} {o : Option V} (result : Result V Error) → KeepsMap old new → IfOk result (λ v. o ≡ Some v) → FieldRequired (map_state_of old) (map_state_of new) o result
+    → Finishes (required_field field f) content (if_some content o) old new result
+required_finishes content f field (Ok v) keeps found is = record { built = ap (if_some content) found; same = is.same; same_reference = keeps.same_reference }
+required_finishes content f field (Err e) keeps found is = record {
+  missing = λ live. let (none, own) = is.missing live in (ap (if_some content) none, own);
+  unprompted = is.unprompted;
+  same_text = keeps.same_text;
+  same_reference = keeps.same_reference;
+}
+
+-- ---- all fields, and what no field is
+
+module _ {I S D : Type 0} (l : Layout S D) (faults : ValueFaults) {s n : S} {name : List ℕ} {old : MapAccess I} where
+  pub all_take : {new : MapAccess I} {result : Result (Unit {0}) Error} → TakesHere l faults s n name old new result → TakesMember held_step (l, s) (l, n) name (map_state_of old) (map_state_of new) result
+  all_take is = takes_through l.step held_step (hold l) s name name (λ t. held_takes l s name t) is.takes
+
+  pub all_refuse : {new : MapAccess I} {result : Result (Unit {0}) Error} → TakesHere l faults s n name old new result → RefusesMember (or_of faults of_any) held_step (l, s) name (map_state_of old) result
+  all_refuse {result = result} is = refused_through l.step held_step (hold l) s name name (λ t. held_takes l s name t) faults (or_of faults of_any) (map_state_of old) result (λ may e fault. inl fault) is.refused
+
+  -- no field has its name, and it is passed over
+  pub passes_all : {mid : MapAccess I} {new : MapAccessState} (result : Result (Unit {0}) Error) → Tries l faults s n name old mid (Ok false) → PassesMember (map_state_of mid) new result → TakesMember held_step (l, s) (l, n) name (map_state_of old) new result
+  passes_all {mid = mid} {new = new} result passes is =
+      let over : TakesMember held_step (l, s) (l, s) name (map_state_of mid) new result = takes_through (λ (x : Unit {0}) u t. Some x) held_step (λ x. (l, s)) tt [] name (λ t. held_passes l s name t passes.other) is in
+      let there : TakesMember held_step (l, s) (l, s) name (map_state_of old) new result = subst (λ m. TakesMember held_step (l, s) (l, s) name (map_state_of m) new result) passes.access over in
+      subst (λ x. TakesMember held_step (l, s) (l, x) name (map_state_of old) new result) (sym passes.fields) there
+
+  pub passed_refused : {mid : MapAccess I} (result : Result (Unit {0}) Error) → Tries l faults s n name old mid (Ok false) → RefusesHere (λ s own after. RefusesTree s own) (map_state_of mid) result → RefusesMember (or_of faults of_any) held_step (l, s) name (map_state_of old) result
+  passed_refused {mid = mid} result passes is = subst (λ m. RefusesMember (or_of faults of_any) held_step (l, s) name (map_state_of m) result) passes.access (by result is)
+    where
+      by : (result : Result (Unit {0}) Error) → RefusesHere (λ s own after. RefusesTree s own) (map_state_of mid) result → RefusesMember (or_of faults of_any) held_step (l, s) name (map_state_of mid) result
+      by (Ok done) is = tt
+      by (Err e) is = λ live. inr (record { every = λ t. ap is_some (held_passes l s name t passes.other); fault = is live })
+
+-- ---- no other fields
+
+module _ {I S D : Type 0} (l : Layout S D) (faults : ValueFaults) {s n : S} {name : List ℕ} {old : MapAccess I} where
+  pub only_take : {new : MapAccess I} {result : Result (Unit {0}) Error} → TakesHere l faults s n name old new result → TakesMember only_step (l, s) (l, n) name (map_state_of old) (map_state_of new) result
+  only_take is = takes_through l.step only_step (hold l) s name name (λ t. only_takes l s name t is.named) is.takes
+
+  pub only_refuse : {new : MapAccess I} {result : Result (Unit {0}) Error} → TakesHere l faults s n name old new result → RefusesMember (or_of faults of_unknown) only_step (l, s) name (map_state_of old) result
+  only_refuse {result = result} is = refused_through l.step only_step (hold l) s name name (λ t. only_takes l s name t is.named) faults (or_of faults of_unknown) (map_state_of old) result (λ may e fault. inl fault) is.refused
+
+-- a name of none of the fields is refused
+module _ {I S D : Type 0} (l : Layout S D) (faults : ValueFaults) (s n : S) (name : List ℕ) (old mid : MapAccess I) (passes : Tries l faults s n name old mid (Ok false)) (e : Error) where
+  pub unknown_taken : (new : MapAccess I) → (map_state_of new).at.reader.failed ≡ true → IsUnprompted e → TakesMember only_step (l, s) (l, n) name (map_state_of old) (map_state_of new) (Err e)
+  unknown_taken new failed unprompted = record {
+    read = tt;
+    left = λ u escape_free t ps r k is left. let none = only_none l s name t passes.other in absurd (cc (none, is));
+    live = tt;
+    shorter = tt;
+    failed = failed;
+    unprompted = λ live. unprompted;
+  }
+
+  pub unknown_refused : IsOwnAtBracket (map_state_of mid).at e → RefusesMember (or_of faults of_unknown) only_step (l, s) name (map_state_of old) (Err e)
+  unknown_refused own = λ live. inr (record { none = λ t. ap is_some (only_none l s name t passes.other); fault = subst (λ m. IsOwnAtBracket (map_state_of m).at e) passes.access own })

@@ -1,0 +1,19 @@
+use Rattle.json5_fields.proofs.Described.{only_take, only_refuse, unknown_taken, unknown_refused}
+use Rattle.json5_fields.proofs.only.ReadingOnlyFoundFields.read.Goals as goal
+
+pub returns-in-Ok-true-clause-takes : goal.returns-in-Ok-true-clause-takes
+returns-in-Ok-true-clause-takes g c = only_take (g.F.StructFields.layout (g.F.StructFields.shape c.args.self.now.fields)) g.F.StructFields.faults (rw c.in-Ok-true.field-0-test at c.in-Ok-true.ensures)
+
+pub returns-in-Ok-false-clause-takes : goal.returns-in-Ok-false-clause-takes
+returns-in-Ok-false-clause-takes g c =
+    unknown_taken (g.F.StructFields.layout (g.F.StructFields.shape c.args.self.now.fields)) g.F.StructFields.faults _ _ _ _ _ (rw c.in-Ok-false.field-0-test at c.in-Ok-false.ensures) c.unknown.result c.unknown.new.map c.unknown.ensures.failed c.unknown.ensures.unprompted
+
+pub returns-in-Ok-false-clause-refused : goal.returns-in-Ok-false-clause-refused
+returns-in-Ok-false-clause-refused g c =
+    unknown_refused (g.F.StructFields.layout (g.F.StructFields.shape c.args.self.now.fields)) g.F.StructFields.faults _ _ _ _ _ (rw c.in-Ok-false.field-0-test at c.in-Ok-false.ensures) c.unknown.result c.unknown.ensures.own
+
+pub returns-in-Err-clause-takes : goal.returns-in-Err-clause-takes
+returns-in-Err-clause-takes g c = only_take (g.F.StructFields.layout (g.F.StructFields.shape c.args.self.now.fields)) g.F.StructFields.faults c.in-Err.ensures
+
+pub returns-in-Err-clause-refused : goal.returns-in-Err-clause-refused
+returns-in-Err-clause-refused g c = only_refuse (g.F.StructFields.layout (g.F.StructFields.shape c.args.self.now.fields)) g.F.StructFields.faults c.in-Err.ensures

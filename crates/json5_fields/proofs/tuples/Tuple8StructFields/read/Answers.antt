@@ -1,0 +1,50 @@
+use Rattle.std.proofs.Common.{true, Ok, Err}
+use Rattle.json5_de.specs.StructFaults.{or_of}
+use Rattle.json5_fields.specs.Layouts.{and_layout}
+use Rattle.json5_fields.proofs.Described.{first_here, others_try}
+use Rattle.json5_fields.proofs.tuples.Tuple8StructFields.read.Goals as goal
+
+pub returns-in-Ok-true : goal.returns-in-Ok-true
+returns-in-Ok-true g c = first_here (g.A.StructFields.layout (g.A.StructFields.shape c.args.self.now.0)) (and_layout (g.B.StructFields.layout (g.B.StructFields.shape c.args.self.now.1)) (and_layout (g.C.StructFields.layout (g.C.StructFields.shape c.args.self.now.2)) (and_layout (g.D.StructFields.layout (g.D.StructFields.shape c.args.self.now.3)) (and_layout (g.E.StructFields.layout (g.E.StructFields.shape c.args.self.now.4)) (and_layout (g.F.StructFields.layout (g.F.StructFields.shape c.args.self.now.5)) (and_layout (g.G.StructFields.layout (g.G.StructFields.shape c.args.self.now.6)) (g.H.StructFields.layout (g.H.StructFields.shape c.args.self.now.7)))))))) g.A.StructFields.faults (or_of g.B.StructFields.faults (or_of g.C.StructFields.faults (or_of g.D.StructFields.faults (or_of g.E.StructFields.faults (or_of g.F.StructFields.faults (or_of g.G.StructFields.faults g.H.StructFields.faults)))))) (rw c.in-Ok-true.field-0-test at c.in-Ok-true.ensures)
+
+pub returns-in-Err : goal.returns-in-Err
+returns-in-Err g c = first_here (g.A.StructFields.layout (g.A.StructFields.shape c.args.self.now.0)) (and_layout (g.B.StructFields.layout (g.B.StructFields.shape c.args.self.now.1)) (and_layout (g.C.StructFields.layout (g.C.StructFields.shape c.args.self.now.2)) (and_layout (g.D.StructFields.layout (g.D.StructFields.shape c.args.self.now.3)) (and_layout (g.E.StructFields.layout (g.E.StructFields.shape c.args.self.now.4)) (and_layout (g.F.StructFields.layout (g.F.StructFields.shape c.args.self.now.5)) (and_layout (g.G.StructFields.layout (g.G.StructFields.shape c.args.self.now.6)) (g.H.StructFields.layout (g.H.StructFields.shape c.args.self.now.7)))))))) g.A.StructFields.faults (or_of g.B.StructFields.faults (or_of g.C.StructFields.faults (or_of g.D.StructFields.faults (or_of g.E.StructFields.faults (or_of g.F.StructFields.faults (or_of g.G.StructFields.faults g.H.StructFields.faults)))))) c.in-Err.ensures
+
+pub returns-in-Ok-true-read : goal.returns-in-Ok-true-read
+returns-in-Ok-true-read g c = others_try (g.A.StructFields.layout (g.A.StructFields.shape c.args.self.now.0)) (and_layout (g.B.StructFields.layout (g.B.StructFields.shape c.args.self.now.1)) (and_layout (g.C.StructFields.layout (g.C.StructFields.shape c.args.self.now.2)) (and_layout (g.D.StructFields.layout (g.D.StructFields.shape c.args.self.now.3)) (and_layout (g.E.StructFields.layout (g.E.StructFields.shape c.args.self.now.4)) (and_layout (g.F.StructFields.layout (g.F.StructFields.shape c.args.self.now.5)) (and_layout (g.G.StructFields.layout (g.G.StructFields.shape c.args.self.now.6)) (g.H.StructFields.layout (g.H.StructFields.shape c.args.self.now.7)))))))) g.A.StructFields.faults (or_of g.B.StructFields.faults (or_of g.C.StructFields.faults (or_of g.D.StructFields.faults (or_of g.E.StructFields.faults (or_of g.F.StructFields.faults (or_of g.G.StructFields.faults g.H.StructFields.faults)))))) _ _ _ (Ok true) (rw c.in-Ok-false.field-0-test at c.in-Ok-false.ensures) (first_here (g.B.StructFields.layout (g.B.StructFields.shape c.args.self.now.1)) (and_layout (g.C.StructFields.layout (g.C.StructFields.shape c.args.self.now.2)) (and_layout (g.D.StructFields.layout (g.D.StructFields.shape c.args.self.now.3)) (and_layout (g.E.StructFields.layout (g.E.StructFields.shape c.args.self.now.4)) (and_layout (g.F.StructFields.layout (g.F.StructFields.shape c.args.self.now.5)) (and_layout (g.G.StructFields.layout (g.G.StructFields.shape c.args.self.now.6)) (g.H.StructFields.layout (g.H.StructFields.shape c.args.self.now.7))))))) g.B.StructFields.faults (or_of g.C.StructFields.faults (or_of g.D.StructFields.faults (or_of g.E.StructFields.faults (or_of g.F.StructFields.faults (or_of g.G.StructFields.faults g.H.StructFields.faults))))) (rw c.in-Ok-true-read.field-0-test at c.in-Ok-true-read.ensures))
+
+pub returns-in-Err-read : goal.returns-in-Err-read
+returns-in-Err-read g c = others_try (g.A.StructFields.layout (g.A.StructFields.shape c.args.self.now.0)) (and_layout (g.B.StructFields.layout (g.B.StructFields.shape c.args.self.now.1)) (and_layout (g.C.StructFields.layout (g.C.StructFields.shape c.args.self.now.2)) (and_layout (g.D.StructFields.layout (g.D.StructFields.shape c.args.self.now.3)) (and_layout (g.E.StructFields.layout (g.E.StructFields.shape c.args.self.now.4)) (and_layout (g.F.StructFields.layout (g.F.StructFields.shape c.args.self.now.5)) (and_layout (g.G.StructFields.layout (g.G.StructFields.shape c.args.self.now.6)) (g.H.StructFields.layout (g.H.StructFields.shape c.args.self.now.7)))))))) g.A.StructFields.faults (or_of g.B.StructFields.faults (or_of g.C.StructFields.faults (or_of g.D.StructFields.faults (or_of g.E.StructFields.faults (or_of g.F.StructFields.faults (or_of g.G.StructFields.faults g.H.StructFields.faults)))))) _ _ _ (Err c.in-Err-read.e) (rw c.in-Ok-false.field-0-test at c.in-Ok-false.ensures) (first_here (g.B.StructFields.layout (g.B.StructFields.shape c.args.self.now.1)) (and_layout (g.C.StructFields.layout (g.C.StructFields.shape c.args.self.now.2)) (and_layout (g.D.StructFields.layout (g.D.StructFields.shape c.args.self.now.3)) (and_layout (g.E.StructFields.layout (g.E.StructFields.shape c.args.self.now.4)) (and_layout (g.F.StructFields.layout (g.F.StructFields.shape c.args.self.now.5)) (and_layout (g.G.StructFields.layout (g.G.StructFields.shape c.args.self.now.6)) (g.H.StructFields.layout (g.H.StructFields.shape c.args.self.now.7))))))) g.B.StructFields.faults (or_of g.C.StructFields.faults (or_of g.D.StructFields.faults (or_of g.E.StructFields.faults (or_of g.F.StructFields.faults (or_of g.G.StructFields.faults g.H.StructFields.faults))))) c.in-Err-read.ensures)
+
+pub returns-in-Ok-true-read-2 : goal.returns-in-Ok-true-read-2
+returns-in-Ok-true-read-2 g c = others_try (g.A.StructFields.layout (g.A.StructFields.shape c.args.self.now.0)) (and_layout (g.B.StructFields.layout (g.B.StructFields.shape c.args.self.now.1)) (and_layout (g.C.StructFields.layout (g.C.StructFields.shape c.args.self.now.2)) (and_layout (g.D.StructFields.layout (g.D.StructFields.shape c.args.self.now.3)) (and_layout (g.E.StructFields.layout (g.E.StructFields.shape c.args.self.now.4)) (and_layout (g.F.StructFields.layout (g.F.StructFields.shape c.args.self.now.5)) (and_layout (g.G.StructFields.layout (g.G.StructFields.shape c.args.self.now.6)) (g.H.StructFields.layout (g.H.StructFields.shape c.args.self.now.7)))))))) g.A.StructFields.faults (or_of g.B.StructFields.faults (or_of g.C.StructFields.faults (or_of g.D.StructFields.faults (or_of g.E.StructFields.faults (or_of g.F.StructFields.faults (or_of g.G.StructFields.faults g.H.StructFields.faults)))))) _ _ _ (Ok true) (rw c.in-Ok-false.field-0-test at c.in-Ok-false.ensures) (others_try (g.B.StructFields.layout (g.B.StructFields.shape c.args.self.now.1)) (and_layout (g.C.StructFields.layout (g.C.StructFields.shape c.args.self.now.2)) (and_layout (g.D.StructFields.layout (g.D.StructFields.shape c.args.self.now.3)) (and_layout (g.E.StructFields.layout (g.E.StructFields.shape c.args.self.now.4)) (and_layout (g.F.StructFields.layout (g.F.StructFields.shape c.args.self.now.5)) (and_layout (g.G.StructFields.layout (g.G.StructFields.shape c.args.self.now.6)) (g.H.StructFields.layout (g.H.StructFields.shape c.args.self.now.7))))))) g.B.StructFields.faults (or_of g.C.StructFields.faults (or_of g.D.StructFields.faults (or_of g.E.StructFields.faults (or_of g.F.StructFields.faults (or_of g.G.StructFields.faults g.H.StructFields.faults))))) _ _ _ (Ok true) (rw c.in-Ok-false-read.field-0-test at c.in-Ok-false-read.ensures) (first_here (g.C.StructFields.layout (g.C.StructFields.shape c.args.self.now.2)) (and_layout (g.D.StructFields.layout (g.D.StructFields.shape c.args.self.now.3)) (and_layout (g.E.StructFields.layout (g.E.StructFields.shape c.args.self.now.4)) (and_layout (g.F.StructFields.layout (g.F.StructFields.shape c.args.self.now.5)) (and_layout (g.G.StructFields.layout (g.G.StructFields.shape c.args.self.now.6)) (g.H.StructFields.layout (g.H.StructFields.shape c.args.self.now.7)))))) g.C.StructFields.faults (or_of g.D.StructFields.faults (or_of g.E.StructFields.faults (or_of g.F.StructFields.faults (or_of g.G.StructFields.faults g.H.StructFields.faults)))) (rw c.in-Ok-true-read-2.field-0-test at c.in-Ok-true-read-2.ensures)))
+
+pub returns-in-Err-read-2 : goal.returns-in-Err-read-2
+returns-in-Err-read-2 g c = others_try (g.A.StructFields.layout (g.A.StructFields.shape c.args.self.now.0)) (and_layout (g.B.StructFields.layout (g.B.StructFields.shape c.args.self.now.1)) (and_layout (g.C.StructFields.layout (g.C.StructFields.shape c.args.self.now.2)) (and_layout (g.D.StructFields.layout (g.D.StructFields.shape c.args.self.now.3)) (and_layout (g.E.StructFields.layout (g.E.StructFields.shape c.args.self.now.4)) (and_layout (g.F.StructFields.layout (g.F.StructFields.shape c.args.self.now.5)) (and_layout (g.G.StructFields.layout (g.G.StructFields.shape c.args.self.now.6)) (g.H.StructFields.layout (g.H.StructFields.shape c.args.self.now.7)))))))) g.A.StructFields.faults (or_of g.B.StructFields.faults (or_of g.C.StructFields.faults (or_of g.D.StructFields.faults (or_of g.E.StructFields.faults (or_of g.F.StructFields.faults (or_of g.G.StructFields.faults g.H.StructFields.faults)))))) _ _ _ (Err c.in-Err-read-2.e) (rw c.in-Ok-false.field-0-test at c.in-Ok-false.ensures) (others_try (g.B.StructFields.layout (g.B.StructFields.shape c.args.self.now.1)) (and_layout (g.C.StructFields.layout (g.C.StructFields.shape c.args.self.now.2)) (and_layout (g.D.StructFields.layout (g.D.StructFields.shape c.args.self.now.3)) (and_layout (g.E.StructFields.layout (g.E.StructFields.shape c.args.self.now.4)) (and_layout (g.F.StructFields.layout (g.F.StructFields.shape c.args.self.now.5)) (and_layout (g.G.StructFields.layout (g.G.StructFields.shape c.args.self.now.6)) (g.H.StructFields.layout (g.H.StructFields.shape c.args.self.now.7))))))) g.B.StructFields.faults (or_of g.C.StructFields.faults (or_of g.D.StructFields.faults (or_of g.E.StructFields.faults (or_of g.F.StructFields.faults (or_of g.G.StructFields.faults g.H.StructFields.faults))))) _ _ _ (Err c.in-Err-read-2.e) (rw c.in-Ok-false-read.field-0-test at c.in-Ok-false-read.ensures) (first_here (g.C.StructFields.layout (g.C.StructFields.shape c.args.self.now.2)) (and_layout (g.D.StructFields.layout (g.D.StructFields.shape c.args.self.now.3)) (and_layout (g.E.StructFields.layout (g.E.StructFields.shape c.args.self.now.4)) (and_layout (g.F.StructFields.layout (g.F.StructFields.shape c.args.self.now.5)) (and_layout (g.G.StructFields.layout (g.G.StructFields.shape c.args.self.now.6)) (g.H.StructFields.layout (g.H.StructFields.shape c.args.self.now.7)))))) g.C.StructFields.faults (or_of g.D.StructFields.faults (or_of g.E.StructFields.faults (or_of g.F.StructFields.faults (or_of g.G.StructFields.faults g.H.StructFields.faults)))) c.in-Err-read-2.ensures))
+
+pub returns-in-Ok-true-read-3 : goal.returns-in-Ok-true-read-3
+returns-in-Ok-true-read-3 g c = others_try (g.A.StructFields.layout (g.A.StructFields.shape c.args.self.now.0)) (and_layout (g.B.StructFields.layout (g.B.StructFields.shape c.args.self.now.1)) (and_layout (g.C.StructFields.layout (g.C.StructFields.shape c.args.self.now.2)) (and_layout (g.D.StructFields.layout (g.D.StructFields.shape c.args.self.now.3)) (and_layout (g.E.StructFields.layout (g.E.StructFields.shape c.args.self.now.4)) (and_layout (g.F.StructFields.layout (g.F.StructFields.shape c.args.self.now.5)) (and_layout (g.G.StructFields.layout (g.G.StructFields.shape c.args.self.now.6)) (g.H.StructFields.layout (g.H.StructFields.shape c.args.self.now.7)))))))) g.A.StructFields.faults (or_of g.B.StructFields.faults (or_of g.C.StructFields.faults (or_of g.D.StructFields.faults (or_of g.E.StructFields.faults (or_of g.F.StructFields.faults (or_of g.G.StructFields.faults g.H.StructFields.faults)))))) _ _ _ (Ok true) (rw c.in-Ok-false.field-0-test at c.in-Ok-false.ensures) (others_try (g.B.StructFields.layout (g.B.StructFields.shape c.args.self.now.1)) (and_layout (g.C.StructFields.layout (g.C.StructFields.shape c.args.self.now.2)) (and_layout (g.D.StructFields.layout (g.D.StructFields.shape c.args.self.now.3)) (and_layout (g.E.StructFields.layout (g.E.StructFields.shape c.args.self.now.4)) (and_layout (g.F.StructFields.layout (g.F.StructFields.shape c.args.self.now.5)) (and_layout (g.G.StructFields.layout (g.G.StructFields.shape c.args.self.now.6)) (g.H.StructFields.layout (g.H.StructFields.shape c.args.self.now.7))))))) g.B.StructFields.faults (or_of g.C.StructFields.faults (or_of g.D.StructFields.faults (or_of g.E.StructFields.faults (or_of g.F.StructFields.faults (or_of g.G.StructFields.faults g.H.StructFields.faults))))) _ _ _ (Ok true) (rw c.in-Ok-false-read.field-0-test at c.in-Ok-false-read.ensures) (others_try (g.C.StructFields.layout (g.C.StructFields.shape c.args.self.now.2)) (and_layout (g.D.StructFields.layout (g.D.StructFields.shape c.args.self.now.3)) (and_layout (g.E.StructFields.layout (g.E.StructFields.shape c.args.self.now.4)) (and_layout (g.F.StructFields.layout (g.F.StructFields.shape c.args.self.now.5)) (and_layout (g.G.StructFields.layout (g.G.StructFields.shape c.args.self.now.6)) (g.H.StructFields.layout (g.H.StructFields.shape c.args.self.now.7)))))) g.C.StructFields.faults (or_of g.D.StructFields.faults (or_of g.E.StructFields.faults (or_of g.F.StructFields.faults (or_of g.G.StructFields.faults g.H.StructFields.faults)))) _ _ _ (Ok true) (rw c.in-Ok-false-read-2.field-0-test at c.in-Ok-false-read-2.ensures) (first_here (g.D.StructFields.layout (g.D.StructFields.shape c.args.self.now.3)) (and_layout (g.E.StructFields.layout (g.E.StructFields.shape c.args.self.now.4)) (and_layout (g.F.StructFields.layout (g.F.StructFields.shape c.args.self.now.5)) (and_layout (g.G.StructFields.layout (g.G.StructFields.shape c.args.self.now.6)) (g.H.StructFields.layout (g.H.StructFields.shape c.args.self.now.7))))) g.D.StructFields.faults (or_of g.E.StructFields.faults (or_of g.F.StructFields.faults (or_of g.G.StructFields.faults g.H.StructFields.faults))) (rw c.in-Ok-true-read-3.field-0-test at c.in-Ok-true-read-3.ensures))))
+
+pub returns-in-Err-read-3 : goal.returns-in-Err-read-3
+returns-in-Err-read-3 g c = others_try (g.A.StructFields.layout (g.A.StructFields.shape c.args.self.now.0)) (and_layout (g.B.StructFields.layout (g.B.StructFields.shape c.args.self.now.1)) (and_layout (g.C.StructFields.layout (g.C.StructFields.shape c.args.self.now.2)) (and_layout (g.D.StructFields.layout (g.D.StructFields.shape c.args.self.now.3)) (and_layout (g.E.StructFields.layout (g.E.StructFields.shape c.args.self.now.4)) (and_layout (g.F.StructFields.layout (g.F.StructFields.shape c.args.self.now.5)) (and_layout (g.G.StructFields.layout (g.G.StructFields.shape c.args.self.now.6)) (g.H.StructFields.layout (g.H.StructFields.shape c.args.self.now.7)))))))) g.A.StructFields.faults (or_of g.B.StructFields.faults (or_of g.C.StructFields.faults (or_of g.D.StructFields.faults (or_of g.E.StructFields.faults (or_of g.F.StructFields.faults (or_of g.G.StructFields.faults g.H.StructFields.faults)))))) _ _ _ (Err c.in-Err-read-3.e) (rw c.in-Ok-false.field-0-test at c.in-Ok-false.ensures) (others_try (g.B.StructFields.layout (g.B.StructFields.shape c.args.self.now.1)) (and_layout (g.C.StructFields.layout (g.C.StructFields.shape c.args.self.now.2)) (and_layout (g.D.StructFields.layout (g.D.StructFields.shape c.args.self.now.3)) (and_layout (g.E.StructFields.layout (g.E.StructFields.shape c.args.self.now.4)) (and_layout (g.F.StructFields.layout (g.F.StructFields.shape c.args.self.now.5)) (and_layout (g.G.StructFields.layout (g.G.StructFields.shape c.args.self.now.6)) (g.H.StructFields.layout (g.H.StructFields.shape c.args.self.now.7))))))) g.B.StructFields.faults (or_of g.C.StructFields.faults (or_of g.D.StructFields.faults (or_of g.E.StructFields.faults (or_of g.F.StructFields.faults (or_of g.G.StructFields.faults g.H.StructFields.faults))))) _ _ _ (Err c.in-Err-read-3.e) (rw c.in-Ok-false-read.field-0-test at c.in-Ok-false-read.ensures) (others_try (g.C.StructFields.layout (g.C.StructFields.shape c.args.self.now.2)) (and_layout (g.D.StructFields.layout (g.D.StructFields.shape c.args.self.now.3)) (and_layout (g.E.StructFields.layout (g.E.StructFields.shape c.args.self.now.4)) (and_layout (g.F.StructFields.layout (g.F.StructFields.shape c.args.self.now.5)) (and_layout (g.G.StructFields.layout (g.G.StructFields.shape c.args.self.now.6)) (g.H.StructFields.layout (g.H.StructFields.shape c.args.self.now.7)))))) g.C.StructFields.faults (or_of g.D.StructFields.faults (or_of g.E.StructFields.faults (or_of g.F.StructFields.faults (or_of g.G.StructFields.faults g.H.StructFields.faults)))) _ _ _ (Err c.in-Err-read-3.e) (rw c.in-Ok-false-read-2.field-0-test at c.in-Ok-false-read-2.ensures) (first_here (g.D.StructFields.layout (g.D.StructFields.shape c.args.self.now.3)) (and_layout (g.E.StructFields.layout (g.E.StructFields.shape c.args.self.now.4)) (and_layout (g.F.StructFields.layout (g.F.StructFields.shape c.args.self.now.5)) (and_layout (g.G.StructFields.layout (g.G.StructFields.shape c.args.self.now.6)) (g.H.StructFields.layout (g.H.StructFields.shape c.args.self.now.7))))) g.D.StructFields.faults (or_of g.E.StructFields.faults (or_of g.F.StructFields.faults (or_of g.G.StructFields.faults g.H.StructFields.faults))) c.in-Err-read-3.ensures)))
+
+pub returns-in-Ok-true-read-4 : goal.returns-in-Ok-true-read-4
+returns-in-Ok-true-read-4 g c = others_try (g.A.StructFields.layout (g.A.StructFields.shape c.args.self.now.0)) (and_layout (g.B.StructFields.layout (g.B.StructFields.shape c.args.self.now.1)) (and_layout (g.C.StructFields.layout (g.C.StructFields.shape c.args.self.now.2)) (and_layout (g.D.StructFields.layout (g.D.StructFields.shape c.args.self.now.3)) (and_layout (g.E.StructFields.layout (g.E.StructFields.shape c.args.self.now.4)) (and_layout (g.F.StructFields.layout (g.F.StructFields.shape c.args.self.now.5)) (and_layout (g.G.StructFields.layout (g.G.StructFields.shape c.args.self.now.6)) (g.H.StructFields.layout (g.H.StructFields.shape c.args.self.now.7)))))))) g.A.StructFields.faults (or_of g.B.StructFields.faults (or_of g.C.StructFields.faults (or_of g.D.StructFields.faults (or_of g.E.StructFields.faults (or_of g.F.StructFields.faults (or_of g.G.StructFields.faults g.H.StructFields.faults)))))) _ _ _ (Ok true) (rw c.in-Ok-false.field-0-test at c.in-Ok-false.ensures) (others_try (g.B.StructFields.layout (g.B.StructFields.shape c.args.self.now.1)) (and_layout (g.C.StructFields.layout (g.C.StructFields.shape c.args.self.now.2)) (and_layout (g.D.StructFields.layout (g.D.StructFields.shape c.args.self.now.3)) (and_layout (g.E.StructFields.layout (g.E.StructFields.shape c.args.self.now.4)) (and_layout (g.F.StructFields.layout (g.F.StructFields.shape c.args.self.now.5)) (and_layout (g.G.StructFields.layout (g.G.StructFields.shape c.args.self.now.6)) (g.H.StructFields.layout (g.H.StructFields.shape c.args.self.now.7))))))) g.B.StructFields.faults (or_of g.C.StructFields.faults (or_of g.D.StructFields.faults (or_of g.E.StructFields.faults (or_of g.F.StructFields.faults (or_of g.G.StructFields.faults g.H.StructFields.faults))))) _ _ _ (Ok true) (rw c.in-Ok-false-read.field-0-test at c.in-Ok-false-read.ensures) (others_try (g.C.StructFields.layout (g.C.StructFields.shape c.args.self.now.2)) (and_layout (g.D.StructFields.layout (g.D.StructFields.shape c.args.self.now.3)) (and_layout (g.E.StructFields.layout (g.E.StructFields.shape c.args.self.now.4)) (and_layout (g.F.StructFields.layout (g.F.StructFields.shape c.args.self.now.5)) (and_layout (g.G.StructFields.layout (g.G.StructFields.shape c.args.self.now.6)) (g.H.StructFields.layout (g.H.StructFields.shape c.args.self.now.7)))))) g.C.StructFields.faults (or_of g.D.StructFields.faults (or_of g.E.StructFields.faults (or_of g.F.StructFields.faults (or_of g.G.StructFields.faults g.H.StructFields.faults)))) _ _ _ (Ok true) (rw c.in-Ok-false-read-2.field-0-test at c.in-Ok-false-read-2.ensures) (others_try (g.D.StructFields.layout (g.D.StructFields.shape c.args.self.now.3)) (and_layout (g.E.StructFields.layout (g.E.StructFields.shape c.args.self.now.4)) (and_layout (g.F.StructFields.layout (g.F.StructFields.shape c.args.self.now.5)) (and_layout (g.G.StructFields.layout (g.G.StructFields.shape c.args.self.now.6)) (g.H.StructFields.layout (g.H.StructFields.shape c.args.self.now.7))))) g.D.StructFields.faults (or_of g.E.StructFields.faults (or_of g.F.StructFields.faults (or_of g.G.StructFields.faults g.H.StructFields.faults))) _ _ _ (Ok true) (rw c.in-Ok-false-read-3.field-0-test at c.in-Ok-false-read-3.ensures) (first_here (g.E.StructFields.layout (g.E.StructFields.shape c.args.self.now.4)) (and_layout (g.F.StructFields.layout (g.F.StructFields.shape c.args.self.now.5)) (and_layout (g.G.StructFields.layout (g.G.StructFields.shape c.args.self.now.6)) (g.H.StructFields.layout (g.H.StructFields.shape c.args.self.now.7)))) g.E.StructFields.faults (or_of g.F.StructFields.faults (or_of g.G.StructFields.faults g.H.StructFields.faults)) (rw c.in-Ok-true-read-4.field-0-test at c.in-Ok-true-read-4.ensures)))))
+
+pub returns-in-Err-read-4 : goal.returns-in-Err-read-4
+returns-in-Err-read-4 g c = others_try (g.A.StructFields.layout (g.A.StructFields.shape c.args.self.now.0)) (and_layout (g.B.StructFields.layout (g.B.StructFields.shape c.args.self.now.1)) (and_layout (g.C.StructFields.layout (g.C.StructFields.shape c.args.self.now.2)) (and_layout (g.D.StructFields.layout (g.D.StructFields.shape c.args.self.now.3)) (and_layout (g.E.StructFields.layout (g.E.StructFields.shape c.args.self.now.4)) (and_layout (g.F.StructFields.layout (g.F.StructFields.shape c.args.self.now.5)) (and_layout (g.G.StructFields.layout (g.G.StructFields.shape c.args.self.now.6)) (g.H.StructFields.layout (g.H.StructFields.shape c.args.self.now.7)))))))) g.A.StructFields.faults (or_of g.B.StructFields.faults (or_of g.C.StructFields.faults (or_of g.D.StructFields.faults (or_of g.E.StructFields.faults (or_of g.F.StructFields.faults (or_of g.G.StructFields.faults g.H.StructFields.faults)))))) _ _ _ (Err c.in-Err-read-4.e) (rw c.in-Ok-false.field-0-test at c.in-Ok-false.ensures) (others_try (g.B.StructFields.layout (g.B.StructFields.shape c.args.self.now.1)) (and_layout (g.C.StructFields.layout (g.C.StructFields.shape c.args.self.now.2)) (and_layout (g.D.StructFields.layout (g.D.StructFields.shape c.args.self.now.3)) (and_layout (g.E.StructFields.layout (g.E.StructFields.shape c.args.self.now.4)) (and_layout (g.F.StructFields.layout (g.F.StructFields.shape c.args.self.now.5)) (and_layout (g.G.StructFields.layout (g.G.StructFields.shape c.args.self.now.6)) (g.H.StructFields.layout (g.H.StructFields.shape c.args.self.now.7))))))) g.B.StructFields.faults (or_of g.C.StructFields.faults (or_of g.D.StructFields.faults (or_of g.E.StructFields.faults (or_of g.F.StructFields.faults (or_of g.G.StructFields.faults g.H.StructFields.faults))))) _ _ _ (Err c.in-Err-read-4.e) (rw c.in-Ok-false-read.field-0-test at c.in-Ok-false-read.ensures) (others_try (g.C.StructFields.layout (g.C.StructFields.shape c.args.self.now.2)) (and_layout (g.D.StructFields.layout (g.D.StructFields.shape c.args.self.now.3)) (and_layout (g.E.StructFields.layout (g.E.StructFields.shape c.args.self.now.4)) (and_layout (g.F.StructFields.layout (g.F.StructFields.shape c.args.self.now.5)) (and_layout (g.G.StructFields.layout (g.G.StructFields.shape c.args.self.now.6)) (g.H.StructFields.layout (g.H.StructFields.shape c.args.self.now.7)))))) g.C.StructFields.faults (or_of g.D.StructFields.faults (or_of g.E.StructFields.faults (or_of g.F.StructFields.faults (or_of g.G.StructFields.faults g.H.StructFields.faults)))) _ _ _ (Err c.in-Err-read-4.e) (rw c.in-Ok-false-read-2.field-0-test at c.in-Ok-false-read-2.ensures) (others_try (g.D.StructFields.layout (g.D.StructFields.shape c.args.self.now.3)) (and_layout (g.E.StructFields.layout (g.E.StructFields.shape c.args.self.now.4)) (and_layout (g.F.StructFields.layout (g.F.StructFields.shape c.args.self.now.5)) (and_layout (g.G.StructFields.layout (g.G.StructFields.shape c.args.self.now.6)) (g.H.StructFields.layout (g.H.StructFields.shape c.args.self.now.7))))) g.D.StructFields.faults (or_of g.E.StructFields.faults (or_of g.F.StructFields.faults (or_of g.G.StructFields.faults g.H.StructFields.faults))) _ _ _ (Err c.in-Err-read-4.e) (rw c.in-Ok-false-read-3.field-0-test at c.in-Ok-false-read-3.ensures) (first_here (g.E.StructFields.layout (g.E.StructFields.shape c.args.self.now.4)) (and_layout (g.F.StructFields.layout (g.F.StructFields.shape c.args.self.now.5)) (and_layout (g.G.StructFields.layout (g.G.StructFields.shape c.args.self.now.6)) (g.H.StructFields.layout (g.H.StructFields.shape c.args.self.now.7)))) g.E.StructFields.faults (or_of g.F.StructFields.faults (or_of g.G.StructFields.faults g.H.StructFields.faults)) c.in-Err-read-4.ensures))))
+
+pub returns-in-Ok-true-read-5 : goal.returns-in-Ok-true-read-5
+returns-in-Ok-true-read-5 g c = others_try (g.A.StructFields.layout (g.A.StructFields.shape c.args.self.now.0)) (and_layout (g.B.StructFields.layout (g.B.StructFields.shape c.args.self.now.1)) (and_layout (g.C.StructFields.layout (g.C.StructFields.shape c.args.self.now.2)) (and_layout (g.D.StructFields.layout (g.D.StructFields.shape c.args.self.now.3)) (and_layout (g.E.StructFields.layout (g.E.StructFields.shape c.args.self.now.4)) (and_layout (g.F.StructFields.layout (g.F.StructFields.shape c.args.self.now.5)) (and_layout (g.G.StructFields.layout (g.G.StructFields.shape c.args.self.now.6)) (g.H.StructFields.layout (g.H.StructFields.shape c.args.self.now.7)))))))) g.A.StructFields.faults (or_of g.B.StructFields.faults (or_of g.C.StructFields.faults (or_of g.D.StructFields.faults (or_of g.E.StructFields.faults (or_of g.F.StructFields.faults (or_of g.G.StructFields.faults g.H.StructFields.faults)))))) _ _ _ (Ok true) (rw c.in-Ok-false.field-0-test at c.in-Ok-false.ensures) (others_try (g.B.StructFields.layout (g.B.StructFields.shape c.args.self.now.1)) (and_layout (g.C.StructFields.layout (g.C.StructFields.shape c.args.self.now.2)) (and_layout (g.D.StructFields.layout (g.D.StructFields.shape c.args.self.now.3)) (and_layout (g.E.StructFields.layout (g.E.StructFields.shape c.args.self.now.4)) (and_layout (g.F.StructFields.layout (g.F.StructFields.shape c.args.self.now.5)) (and_layout (g.G.StructFields.layout (g.G.StructFields.shape c.args.self.now.6)) (g.H.StructFields.layout (g.H.StructFields.shape c.args.self.now.7))))))) g.B.StructFields.faults (or_of g.C.StructFields.faults (or_of g.D.StructFields.faults (or_of g.E.StructFields.faults (or_of g.F.StructFields.faults (or_of g.G.StructFields.faults g.H.StructFields.faults))))) _ _ _ (Ok true) (rw c.in-Ok-false-read.field-0-test at c.in-Ok-false-read.ensures) (others_try (g.C.StructFields.layout (g.C.StructFields.shape c.args.self.now.2)) (and_layout (g.D.StructFields.layout (g.D.StructFields.shape c.args.self.now.3)) (and_layout (g.E.StructFields.layout (g.E.StructFields.shape c.args.self.now.4)) (and_layout (g.F.StructFields.layout (g.F.StructFields.shape c.args.self.now.5)) (and_layout (g.G.StructFields.layout (g.G.StructFields.shape c.args.self.now.6)) (g.H.StructFields.layout (g.H.StructFields.shape c.args.self.now.7)))))) g.C.StructFields.faults (or_of g.D.StructFields.faults (or_of g.E.StructFields.faults (or_of g.F.StructFields.faults (or_of g.G.StructFields.faults g.H.StructFields.faults)))) _ _ _ (Ok true) (rw c.in-Ok-false-read-2.field-0-test at c.in-Ok-false-read-2.ensures) (others_try (g.D.StructFields.layout (g.D.StructFields.shape c.args.self.now.3)) (and_layout (g.E.StructFields.layout (g.E.StructFields.shape c.args.self.now.4)) (and_layout (g.F.StructFields.layout (g.F.StructFields.shape c.args.self.now.5)) (and_layout (g.G.StructFields.layout (g.G.StructFields.shape c.args.self.now.6)) (g.H.StructFields.layout (g.H.StructFields.shape c.args.self.now.7))))) g.D.StructFields.faults (or_of g.E.StructFields.faults (or_of g.F.StructFields.faults (or_of g.G.StructFields.faults g.H.StructFields.faults))) _ _ _ (Ok true) (rw c.in-Ok-false-read-3.field-0-test at c.in-Ok-false-read-3.ensures) (others_try (g.E.StructFields.layout (g.E.StructFields.shape c.args.self.now.4)) (and_layout (g.F.StructFields.layout (g.F.StructFields.shape c.args.self.now.5)) (and_layout (g.G.StructFields.layout (g.G.StructFields.shape c.args.self.now.6)) (g.H.StructFields.layout (g.H.StructFields.shape c.args.self.now.7)))) g.E.StructFields.faults (or_of g.F.StructFields.faults (or_of g.G.StructFields.faults g.H.StructFields.faults)) _ _ _ (Ok true) (rw c.in-Ok-false-read-4.field-0-test at c.in-Ok-false-read-4.ensures) (first_here (g.F.StructFields.layout (g.F.StructFields.shape c.args.self.now.5)) (and_layout (g.G.StructFields.layout (g.G.StructFields.shape c.args.self.now.6)) (g.H.StructFields.layout (g.H.StructFields.shape c.args.self.now.7))) g.F.StructFields.faults (or_of g.G.StructFields.faults g.H.StructFields.faults) (rw c.in-Ok-true-read-5.field-0-test at c.in-Ok-true-read-5.ensures))))))
+
+pub returns-in-Err-read-5 : goal.returns-in-Err-read-5
+returns-in-Err-read-5 g c = others_try (g.A.StructFields.layout (g.A.StructFields.shape c.args.self.now.0)) (and_layout (g.B.StructFields.layout (g.B.StructFields.shape c.args.self.now.1)) (and_layout (g.C.StructFields.layout (g.C.StructFields.shape c.args.self.now.2)) (and_layout (g.D.StructFields.layout (g.D.StructFields.shape c.args.self.now.3)) (and_layout (g.E.StructFields.layout (g.E.StructFields.shape c.args.self.now.4)) (and_layout (g.F.StructFields.layout (g.F.StructFields.shape c.args.self.now.5)) (and_layout (g.G.StructFields.layout (g.G.StructFields.shape c.args.self.now.6)) (g.H.StructFields.layout (g.H.StructFields.shape c.args.self.now.7)))))))) g.A.StructFields.faults (or_of g.B.StructFields.faults (or_of g.C.StructFields.faults (or_of g.D.StructFields.faults (or_of g.E.StructFields.faults (or_of g.F.StructFields.faults (or_of g.G.StructFields.faults g.H.StructFields.faults)))))) _ _ _ (Err c.in-Err-read-5.e) (rw c.in-Ok-false.field-0-test at c.in-Ok-false.ensures) (others_try (g.B.StructFields.layout (g.B.StructFields.shape c.args.self.now.1)) (and_layout (g.C.StructFields.layout (g.C.StructFields.shape c.args.self.now.2)) (and_layout (g.D.StructFields.layout (g.D.StructFields.shape c.args.self.now.3)) (and_layout (g.E.StructFields.layout (g.E.StructFields.shape c.args.self.now.4)) (and_layout (g.F.StructFields.layout (g.F.StructFields.shape c.args.self.now.5)) (and_layout (g.G.StructFields.layout (g.G.StructFields.shape c.args.self.now.6)) (g.H.StructFields.layout (g.H.StructFields.shape c.args.self.now.7))))))) g.B.StructFields.faults (or_of g.C.StructFields.faults (or_of g.D.StructFields.faults (or_of g.E.StructFields.faults (or_of g.F.StructFields.faults (or_of g.G.StructFields.faults g.H.StructFields.faults))))) _ _ _ (Err c.in-Err-read-5.e) (rw c.in-Ok-false-read.field-0-test at c.in-Ok-false-read.ensures) (others_try (g.C.StructFields.layout (g.C.StructFields.shape c.args.self.now.2)) (and_layout (g.D.StructFields.layout (g.D.StructFields.shape c.args.self.now.3)) (and_layout (g.E.StructFields.layout (g.E.StructFields.shape c.args.self.now.4)) (and_layout (g.F.StructFields.layout (g.F.StructFields.shape c.args.self.now.5)) (and_layout (g.G.StructFields.layout (g.G.StructFields.shape c.args.self.now.6)) (g.H.StructFields.layout (g.H.StructFields.shape c.args.self.now.7)))))) g.C.StructFields.faults (or_of g.D.StructFields.faults (or_of g.E.StructFields.faults (or_of g.F.StructFields.faults (or_of g.G.StructFields.faults g.H.StructFields.faults)))) _ _ _ (Err c.in-Err-read-5.e) (rw c.in-Ok-false-read-2.field-0-test at c.in-Ok-false-read-2.ensures) (others_try (g.D.StructFields.layout (g.D.StructFields.shape c.args.self.now.3)) (and_layout (g.E.StructFields.layout (g.E.StructFields.shape c.args.self.now.4)) (and_layout (g.F.StructFields.layout (g.F.StructFields.shape c.args.self.now.5)) (and_layout (g.G.StructFields.layout (g.G.StructFields.shape c.args.self.now.6)) (g.H.StructFields.layout (g.H.StructFields.shape c.args.self.now.7))))) g.D.StructFields.faults (or_of g.E.StructFields.faults (or_of g.F.StructFields.faults (or_of g.G.StructFields.faults g.H.StructFields.faults))) _ _ _ (Err c.in-Err-read-5.e) (rw c.in-Ok-false-read-3.field-0-test at c.in-Ok-false-read-3.ensures) (others_try (g.E.StructFields.layout (g.E.StructFields.shape c.args.self.now.4)) (and_layout (g.F.StructFields.layout (g.F.StructFields.shape c.args.self.now.5)) (and_layout (g.G.StructFields.layout (g.G.StructFields.shape c.args.self.now.6)) (g.H.StructFields.layout (g.H.StructFields.shape c.args.self.now.7)))) g.E.StructFields.faults (or_of g.F.StructFields.faults (or_of g.G.StructFields.faults g.H.StructFields.faults)) _ _ _ (Err c.in-Err-read-5.e) (rw c.in-Ok-false-read-4.field-0-test at c.in-Ok-false-read-4.ensures) (first_here (g.F.StructFields.layout (g.F.StructFields.shape c.args.self.now.5)) (and_layout (g.G.StructFields.layout (g.G.StructFields.shape c.args.self.now.6)) (g.H.StructFields.layout (g.H.StructFields.shape c.args.self.now.7))) g.F.StructFields.faults (or_of g.G.StructFields.faults g.H.StructFields.faults) c.in-Err-read-5.ensures)))))
+
+pub returns-in-Ok-true-read-6 : goal.returns-in-Ok-true-read-6
+returns-in-Ok-true-read-6 g c = others_try (g.A.StructFields.layout (g.A.StructFields.shape c.args.self.now.0)) (and_layout (g.B.StructFields.layout (g.B.StructFields.shape c.args.self.now.1)) (and_layout (g.C.StructFields.layout (g.C.StructFields.shape c.args.self.now.2)) (and_layout (g.D.StructFields.layout (g.D.StructFields.shape c.args.self.now.3)) (and_layout (g.E.StructFields.layout (g.E.StructFields.shape c.args.self.now.4)) (and_layout (g.F.StructFields.layout (g.F.StructFields.shape c.args.self.now.5)) (and_layout (g.G.StructFields.layout (g.G.StructFields.shape c.args.self.now.6)) (g.H.StructFields.layout (g.H.StructFields.shape c.args.self.now.7)))))))) g.A.StructFields.faults (or_of g.B.StructFields.faults (or_of g.C.StructFields.faults (or_of g.D.StructFields.faults (or_of g.E.StructFields.faults (or_of g.F.StructFields.faults (or_of g.G.StructFields.faults g.H.StructFields.faults)))))) _ _ _ (Ok true) (rw c.in-Ok-false.field-0-test at c.in-Ok-false.ensures) (others_try (g.B.StructFields.layout (g.B.StructFields.shape c.args.self.now.1)) (and_layout (g.C.StructFields.layout (g.C.StructFields.shape c.args.self.now.2)) (and_layout (g.D.StructFields.layout (g.D.StructFields.shape c.args.self.now.3)) (and_layout (g.E.StructFields.layout (g.E.StructFields.shape c.args.self.now.4)) (and_layout (g.F.StructFields.layout (g.F.StructFields.shape c.args.self.now.5)) (and_layout (g.G.StructFields.layout (g.G.StructFields.shape c.args.self.now.6)) (g.H.StructFields.layout (g.H.StructFields.shape c.args.self.now.7))))))) g.B.StructFields.faults (or_of g.C.StructFields.faults (or_of g.D.StructFields.faults (or_of g.E.StructFields.faults (or_of g.F.StructFields.faults (or_of g.G.StructFields.faults g.H.StructFields.faults))))) _ _ _ (Ok true) (rw c.in-Ok-false-read.field-0-test at c.in-Ok-false-read.ensures) (others_try (g.C.StructFields.layout (g.C.StructFields.shape c.args.self.now.2)) (and_layout (g.D.StructFields.layout (g.D.StructFields.shape c.args.self.now.3)) (and_layout (g.E.StructFields.layout (g.E.StructFields.shape c.args.self.now.4)) (and_layout (g.F.StructFields.layout (g.F.StructFields.shape c.args.self.now.5)) (and_layout (g.G.StructFields.layout (g.G.StructFields.shape c.args.self.now.6)) (g.H.StructFields.layout (g.H.StructFields.shape c.args.self.now.7)))))) g.C.StructFields.faults (or_of g.D.StructFields.faults (or_of g.E.StructFields.faults (or_of g.F.StructFields.faults (or_of g.G.StructFields.faults g.H.StructFields.faults)))) _ _ _ (Ok true) (rw c.in-Ok-false-read-2.field-0-test at c.in-Ok-false-read-2.ensures) (others_try (g.D.StructFields.layout (g.D.StructFields.shape c.args.self.now.3)) (and_layout (g.E.StructFields.layout (g.E.StructFields.shape c.args.self.now.4)) (and_layout (g.F.StructFields.layout (g.F.StructFields.shape c.args.self.now.5)) (and_layout (g.G.StructFields.layout (g.G.StructFields.shape c.args.self.now.6)) (g.H.StructFields.layout (g.H.StructFields.shape c.args.self.now.7))))) g.D.StructFields.faults (or_of g.E.StructFields.faults (or_of g.F.StructFields.faults (or_of g.G.StructFields.faults g.H.StructFields.faults))) _ _ _ (Ok true) (rw c.in-Ok-false-read-3.field-0-test at c.in-Ok-false-read-3.ensures) (others_try (g.E.StructFields.layout (g.E.StructFields.shape c.args.self.now.4)) (and_layout (g.F.StructFields.layout (g.F.StructFields.shape c.args.self.now.5)) (and_layout (g.G.StructFields.layout (g.G.StructFields.shape c.args.self.now.6)) (g.H.StructFields.layout (g.H.StructFields.shape c.args.self.now.7)))) g.E.StructFields.faults (or_of g.F.StructFields.faults (or_of g.G.StructFields.faults g.H.StructFields.faults)) _ _ _ (Ok true) (rw c.in-Ok-false-read-4.field-0-test at c.in-Ok-false-read-4.ensures) (others_try (g.F.StructFields.layout (g.F.StructFields.shape c.args.self.now.5)) (and_layout (g.G.StructFields.layout (g.G.StructFields.shape c.args.self.now.6)) (g.H.StructFields.layout (g.H.StructFields.shape c.args.self.now.7))) g.F.StructFields.faults (or_of g.G.StructFields.faults g.H.StructFields.faults) _ _ _ (Ok true) (rw c.in-Ok-false-read-5.field-0-test at c.in-Ok-false-read-5.ensures) (first_here (g.G.StructFields.layout (g.G.StructFields.shape c.args.self.now.6)) (g.H.StructFields.layout (g.H.StructFields.shape c.args.self.now.7)) g.G.StructFields.faults g.H.StructFields.faults (rw c.in-Ok-true-read-6.field-0-test at c.in-Ok-true-read-6.ensures)))))))
+
+pub returns-in-Err-read-6 : goal.returns-in-Err-read-6
+returns-in-Err-read-6 g c = others_try (g.A.StructFields.layout (g.A.StructFields.shape c.args.self.now.0)) (and_layout (g.B.StructFields.layout (g.B.StructFields.shape c.args.self.now.1)) (and_layout (g.C.StructFields.layout (g.C.StructFields.shape c.args.self.now.2)) (and_layout (g.D.StructFields.layout (g.D.StructFields.shape c.args.self.now.3)) (and_layout (g.E.StructFields.layout (g.E.StructFields.shape c.args.self.now.4)) (and_layout (g.F.StructFields.layout (g.F.StructFields.shape c.args.self.now.5)) (and_layout (g.G.StructFields.layout (g.G.StructFields.shape c.args.self.now.6)) (g.H.StructFields.layout (g.H.StructFields.shape c.args.self.now.7)))))))) g.A.StructFields.faults (or_of g.B.StructFields.faults (or_of g.C.StructFields.faults (or_of g.D.StructFields.faults (or_of g.E.StructFields.faults (or_of g.F.StructFields.faults (or_of g.G.StructFields.faults g.H.StructFields.faults)))))) _ _ _ (Err c.in-Err-read-6.e) (rw c.in-Ok-false.field-0-test at c.in-Ok-false.ensures) (others_try (g.B.StructFields.layout (g.B.StructFields.shape c.args.self.now.1)) (and_layout (g.C.StructFields.layout (g.C.StructFields.shape c.args.self.now.2)) (and_layout (g.D.StructFields.layout (g.D.StructFields.shape c.args.self.now.3)) (and_layout (g.E.StructFields.layout (g.E.StructFields.shape c.args.self.now.4)) (and_layout (g.F.StructFields.layout (g.F.StructFields.shape c.args.self.now.5)) (and_layout (g.G.StructFields.layout (g.G.StructFields.shape c.args.self.now.6)) (g.H.StructFields.layout (g.H.StructFields.shape c.args.self.now.7))))))) g.B.StructFields.faults (or_of g.C.StructFields.faults (or_of g.D.StructFields.faults (or_of g.E.StructFields.faults (or_of g.F.StructFields.faults (or_of g.G.StructFields.faults g.H.StructFields.faults))))) _ _ _ (Err c.in-Err-read-6.e) (rw c.in-Ok-false-read.field-0-test at c.in-Ok-false-read.ensures) (others_try (g.C.StructFields.layout (g.C.StructFields.shape c.args.self.now.2)) (and_layout (g.D.StructFields.layout (g.D.StructFields.shape c.args.self.now.3)) (and_layout (g.E.StructFields.layout (g.E.StructFields.shape c.args.self.now.4)) (and_layout (g.F.StructFields.layout (g.F.StructFields.shape c.args.self.now.5)) (and_layout (g.G.StructFields.layout (g.G.StructFields.shape c.args.self.now.6)) (g.H.StructFields.layout (g.H.StructFields.shape c.args.self.now.7)))))) g.C.StructFields.faults (or_of g.D.StructFields.faults (or_of g.E.StructFields.faults (or_of g.F.StructFields.faults (or_of g.G.StructFields.faults g.H.StructFields.faults)))) _ _ _ (Err c.in-Err-read-6.e) (rw c.in-Ok-false-read-2.field-0-test at c.in-Ok-false-read-2.ensures) (others_try (g.D.StructFields.layout (g.D.StructFields.shape c.args.self.now.3)) (and_layout (g.E.StructFields.layout (g.E.StructFields.shape c.args.self.now.4)) (and_layout (g.F.StructFields.layout (g.F.StructFields.shape c.args.self.now.5)) (and_layout (g.G.StructFields.layout (g.G.StructFields.shape c.args.self.now.6)) (g.H.StructFields.layout (g.H.StructFields.shape c.args.self.now.7))))) g.D.StructFields.faults (or_of g.E.StructFields.faults (or_of g.F.StructFields.faults (or_of g.G.StructFields.faults g.H.StructFields.faults))) _ _ _ (Err c.in-Err-read-6.e) (rw c.in-Ok-false-read-3.field-0-test at c.in-Ok-false-read-3.ensures) (others_try (g.E.StructFields.layout (g.E.StructFields.shape c.args.self.now.4)) (and_layout (g.F.StructFields.layout (g.F.StructFields.shape c.args.self.now.5)) (and_layout (g.G.StructFields.layout (g.G.StructFields.shape c.args.self.now.6)) (g.H.StructFields.layout (g.H.StructFields.shape c.args.self.now.7)))) g.E.StructFields.faults (or_of g.F.StructFields.faults (or_of g.G.StructFields.faults g.H.StructFields.faults)) _ _ _ (Err c.in-Err-read-6.e) (rw c.in-Ok-false-read-4.field-0-test at c.in-Ok-false-read-4.ensures) (others_try (g.F.StructFields.layout (g.F.StructFields.shape c.args.self.now.5)) (and_layout (g.G.StructFields.layout (g.G.StructFields.shape c.args.self.now.6)) (g.H.StructFields.layout (g.H.StructFields.shape c.args.self.now.7))) g.F.StructFields.faults (or_of g.G.StructFields.faults g.H.StructFields.faults) _ _ _ (Err c.in-Err-read-6.e) (rw c.in-Ok-false-read-5.field-0-test at c.in-Ok-false-read-5.ensures) (first_here (g.G.StructFields.layout (g.G.StructFields.shape c.args.self.now.6)) (g.H.StructFields.layout (g.H.StructFields.shape c.args.self.now.7)) g.G.StructFields.faults g.H.StructFields.faults c.in-Err-read-6.ensures))))))
+
+pub returns : goal.returns
+returns g c = others_try (g.A.StructFields.layout (g.A.StructFields.shape c.args.self.now.0)) (and_layout (g.B.StructFields.layout (g.B.StructFields.shape c.args.self.now.1)) (and_layout (g.C.StructFields.layout (g.C.StructFields.shape c.args.self.now.2)) (and_layout (g.D.StructFields.layout (g.D.StructFields.shape c.args.self.now.3)) (and_layout (g.E.StructFields.layout (g.E.StructFields.shape c.args.self.now.4)) (and_layout (g.F.StructFields.layout (g.F.StructFields.shape c.args.self.now.5)) (and_layout (g.G.StructFields.layout (g.G.StructFields.shape c.args.self.now.6)) (g.H.StructFields.layout (g.H.StructFields.shape c.args.self.now.7)))))))) g.A.StructFields.faults (or_of g.B.StructFields.faults (or_of g.C.StructFields.faults (or_of g.D.StructFields.faults (or_of g.E.StructFields.faults (or_of g.F.StructFields.faults (or_of g.G.StructFields.faults g.H.StructFields.faults)))))) _ _ _ c.read-8.result (rw c.in-Ok-false.field-0-test at c.in-Ok-false.ensures) (others_try (g.B.StructFields.layout (g.B.StructFields.shape c.args.self.now.1)) (and_layout (g.C.StructFields.layout (g.C.StructFields.shape c.args.self.now.2)) (and_layout (g.D.StructFields.layout (g.D.StructFields.shape c.args.self.now.3)) (and_layout (g.E.StructFields.layout (g.E.StructFields.shape c.args.self.now.4)) (and_layout (g.F.StructFields.layout (g.F.StructFields.shape c.args.self.now.5)) (and_layout (g.G.StructFields.layout (g.G.StructFields.shape c.args.self.now.6)) (g.H.StructFields.layout (g.H.StructFields.shape c.args.self.now.7))))))) g.B.StructFields.faults (or_of g.C.StructFields.faults (or_of g.D.StructFields.faults (or_of g.E.StructFields.faults (or_of g.F.StructFields.faults (or_of g.G.StructFields.faults g.H.StructFields.faults))))) _ _ _ c.read-8.result (rw c.in-Ok-false-read.field-0-test at c.in-Ok-false-read.ensures) (others_try (g.C.StructFields.layout (g.C.StructFields.shape c.args.self.now.2)) (and_layout (g.D.StructFields.layout (g.D.StructFields.shape c.args.self.now.3)) (and_layout (g.E.StructFields.layout (g.E.StructFields.shape c.args.self.now.4)) (and_layout (g.F.StructFields.layout (g.F.StructFields.shape c.args.self.now.5)) (and_layout (g.G.StructFields.layout (g.G.StructFields.shape c.args.self.now.6)) (g.H.StructFields.layout (g.H.StructFields.shape c.args.self.now.7)))))) g.C.StructFields.faults (or_of g.D.StructFields.faults (or_of g.E.StructFields.faults (or_of g.F.StructFields.faults (or_of g.G.StructFields.faults g.H.StructFields.faults)))) _ _ _ c.read-8.result (rw c.in-Ok-false-read-2.field-0-test at c.in-Ok-false-read-2.ensures) (others_try (g.D.StructFields.layout (g.D.StructFields.shape c.args.self.now.3)) (and_layout (g.E.StructFields.layout (g.E.StructFields.shape c.args.self.now.4)) (and_layout (g.F.StructFields.layout (g.F.StructFields.shape c.args.self.now.5)) (and_layout (g.G.StructFields.layout (g.G.StructFields.shape c.args.self.now.6)) (g.H.StructFields.layout (g.H.StructFields.shape c.args.self.now.7))))) g.D.StructFields.faults (or_of g.E.StructFields.faults (or_of g.F.StructFields.faults (or_of g.G.StructFields.faults g.H.StructFields.faults))) _ _ _ c.read-8.result (rw c.in-Ok-false-read-3.field-0-test at c.in-Ok-false-read-3.ensures) (others_try (g.E.StructFields.layout (g.E.StructFields.shape c.args.self.now.4)) (and_layout (g.F.StructFields.layout (g.F.StructFields.shape c.args.self.now.5)) (and_layout (g.G.StructFields.layout (g.G.StructFields.shape c.args.self.now.6)) (g.H.StructFields.layout (g.H.StructFields.shape c.args.self.now.7)))) g.E.StructFields.faults (or_of g.F.StructFields.faults (or_of g.G.StructFields.faults g.H.StructFields.faults)) _ _ _ c.read-8.result (rw c.in-Ok-false-read-4.field-0-test at c.in-Ok-false-read-4.ensures) (others_try (g.F.StructFields.layout (g.F.StructFields.shape c.args.self.now.5)) (and_layout (g.G.StructFields.layout (g.G.StructFields.shape c.args.self.now.6)) (g.H.StructFields.layout (g.H.StructFields.shape c.args.self.now.7))) g.F.StructFields.faults (or_of g.G.StructFields.faults g.H.StructFields.faults) _ _ _ c.read-8.result (rw c.in-Ok-false-read-5.field-0-test at c.in-Ok-false-read-5.ensures) (others_try (g.G.StructFields.layout (g.G.StructFields.shape c.args.self.now.6)) (g.H.StructFields.layout (g.H.StructFields.shape c.args.self.now.7)) g.G.StructFields.faults g.H.StructFields.faults _ _ _ c.read-8.result (rw c.in-Ok-false-read-6.field-0-test at c.in-Ok-false-read-6.ensures) c.read-8.ensures))))))

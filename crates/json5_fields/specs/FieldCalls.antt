@@ -1,0 +1,53 @@
+-- What the calls for a description of fields mean.
+use Rattle.std.specs.Prelude.{◌≡◌, ℕ, Bool, true, false, List, Option, Some, None, Result, Ok, Err, OnOk}
+use Rattle.json5_grammar.specs.Language.Trees.{Tree}
+use Rattle.json5_types.specs.declared.error.Error.{Error}
+use Rattle.json5_de.specs.State.{State, SameText}
+use Rattle.json5_de.specs.DeserializeLaw.{IsUnprompted}
+use Rattle.json5_de.specs.Fields.{IsOwnAtBracket}
+use Rattle.json5_de.specs.Plans.{TakesMember}
+use Rattle.json5_de.specs.StructFaults.{ValueFaults, of_field, RefusesMember}
+use Rattle.json5_de.specs.Lending.{map_state_of, KeepsMap, NoKeyPending, HoldsTheSameMap}
+use Rattle.json5_de.specs.declared.map.MapAccess.{MapAccess}
+use Rattle.json5_fields.specs.Layouts.{Layout, has_name}
+
+-- the faults of a field of this type, by whatever name
+abbrev pub of_type : {C : Type 0} → (Tree → Option C) → (State → Error → State → Type 0) → ValueFaults
+of_type convert refuses name may old e = of_field name convert refuses name may old e
+
+-- the value of the key that was read is that of a field here: s is what was read of the fields before, n after it
+pub record TakesHere {I S D : Type 0} (l : Layout S D) (faults : ValueFaults) (s n : S) (name : List ℕ) (old new : MapAccess I) (result : Result (Unit {0}) Error) : Type 0 where
+  pub named : has_name l.names name ≡ true
+  pub takes : TakesMember l.step s n name (map_state_of old) (map_state_of new) result
+  pub refused : RefusesMember faults l.step s name (map_state_of old) result
+  pub access : KeepsMap old new
+  pub pending : OnOk result (NoKeyPending new)
+
+-- no field here has its name, and nothing happened
+pub record PassesHere {I S D : Type 0} (l : Layout S D) (s n : S) (name : List ℕ) (old new : MapAccess I) : Type 0 where
+  pub other : has_name l.names name ≡ false
+  pub fields : n ≡ s
+  pub access : new ≡ old
+
+-- says whether a field here has the name; if so, its value was read
+abbrev pub Tries : {I S D : Type 0} → Layout S D → ValueFaults → S → S → List ℕ → MapAccess I → MapAccess I → Result Bool Error → Type 0
+Tries l faults s n name old new (Ok true) = TakesHere l faults s n name old new (Ok tt)
+Tries l faults s n name old new (Ok false) = PassesHere l s n name old new
+Tries l faults s n name old new (Err e) = TakesHere l faults s n name old new (Err e)
+
+-- what was read makes d
+pub record Finished {I S D : Type 0} (l : Layout S D) (s : S) (d : D) (old new : MapAccess I) : Type 0 where
+  pub built : l.build s ≡ Some d
+  pub same : map_state_of new ≡ map_state_of old
+  pub same_reference : HoldsTheSameMap old new
+
+-- a field is missing
+pub record Missed {I S D : Type 0} (l : Layout S D) (s : S) (old new : MapAccess I) (e : Error) : Type 0 where
+  pub missing : (map_state_of old).at.reader.failed ≡ false → (l.build s ≡ None) × IsOwnAtBracket (map_state_of old).at e
+  pub unprompted : (map_state_of old).at.reader.failed ≡ false → IsUnprompted e
+  pub same_text : SameText (map_state_of old).at.reader (map_state_of new).at.reader
+  pub same_reference : HoldsTheSameMap old new
+
+abbrev pub Finishes : {I S D V : Type 0} → Layout S D → (V → D) → S → MapAccess I → MapAccess I → Result V Error → Type 0
+Finishes l content s old new (Ok v) = Finished l s (content v) old new
+Finishes l content s old new (Err e) = Missed l s old new e

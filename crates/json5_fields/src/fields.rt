@@ -1,0 +1,227 @@
+//! One field of a struct, and what a description of fields has to say.
+
+ghost use Rattle.std.specs.Prelude.{◌≡◌};
+
+use json5_de::{Deserialize, MapAccess};
+use json5_text::input::Input;
+use json5_types::error::Result;
+
+/// A description of the fields of a struct, whose values are a `V`: one field, or a tuple of descriptions.
+///
+/// ```text
+/// (Required("host"), WithDefault("port", 80), Optional("label"))    // V is (String, u16, Option<String>)
+/// ```
+pub trait StructFields<I: Input, V: Drop>: Sized + Drop {
+    ghost use Rattle.json5_de.specs.StructFaults.{ValueFaults};
+    ghost use Rattle.json5_de.specs.Lending.{KeyPending};
+    ghost use Rattle.json5_fields.specs.Layouts.{Layout};
+    ghost use Rattle.json5_fields.specs.FieldCalls.{Tries, Finishes};
+
+    /// The values that were read so far.
+    type Found: Drop;
+
+    // What it says: names, and what the defaults mean.
+    ghost Shape: { Type 0 };
+
+    ghost shape: { Self → Shape };
+
+    // What of the values that were read so far counts.
+    ghost State: { Type 0 };
+
+    ghost state: { Self.Found → State };
+
+    // What of the values of all fields counts.
+    ghost Content: { Type 0 };
+
+    ghost content: { V → Content };
+
+    // The names, and what the fields take of an object.
+    ghost layout: { Shape → Layout State Content };
+
+    // How values are refused.
+    ghost faults: { ValueFaults };
+
+    /// No value yet.
+    fn start(&self) -> Self::Found
+        ensures { state result ≡ (layout (shape self.now)).start };
+
+    /// Reads the value of the key that was read last if a field here has this name. Says whether one has.
+    ///
+    /// # Errors
+    ///
+    /// Those of [`MapAccess::next_field`].
+    fn read(&self, found: &mut Self::Found, map: &mut MapAccess<'_, I>, name: &str) -> Result<bool>
+        requires key { KeyPending map.old }
+        ensures { Tries (layout (shape self.now)) faults (state found.old) (state found.new) name.now map.old map.new result };
+
+    /// The values, once all members are read.
+    ///
+    /// # Errors
+    ///
+    /// Those of [`MapAccess::required_field`].
+    fn finish(self, found: Self::Found, map: &mut MapAccess<'_, I>) -> Result<V>
+        ensures { Finishes (layout (shape self)) content (state found) map.old map.new result };
+}
+
+/// A field that has to be there, by its name.
+///
+/// ```text
+/// let host: String = read_struct(de, Required("host"))?;    // of `{host: 'localhost'}`
+/// ```
+#[derive(Clone, Copy)]
+pub struct Required(pub &'static str);
+
+impl<I: Input, T: Deserialize<I>> StructFields<I, T> for Required {
+    ghost use Rattle.std.specs.Prelude.{ℕ, List, Option};
+    ghost use Rattle.json5_de.specs.ConvertLists.{if_some};
+    ghost use Rattle.json5_fields.specs.Layouts.{required_field};
+    ghost use Rattle.json5_fields.specs.FieldCalls.{of_type};
+
+    type Found = Option<T>;
+
+    ghost Shape = { List ℕ };
+
+    ghost shape = { λ f. f.0.now };
+
+    ghost State = { Option T.Content };
+
+    ghost state = { if_some T.content };
+
+    ghost Content = { T.Content };
+
+    ghost content = { T.content };
+
+    ghost layout = { λ name. required_field name T.convert };
+
+    ghost faults = { of_type T.convert T.refuses };
+
+    #[inline(always)]
+    fn start(&self) -> Option<T> {
+        None
+    }
+
+    #[inline(always)]
+    fn read(&self, found: &mut Option<T>, map: &mut MapAccess<'_, I>, name: &str) -> Result<bool> {
+        if name != self.0 {
+            return Ok(false);
+        }
+        match map.next_field(name, found) {
+            Ok(()) => Ok(true),
+            Err(e) => Err(e),
+        }
+    }
+
+    #[inline(always)]
+    fn finish(self, found: Option<T>, map: &mut MapAccess<'_, I>) -> Result<T> {
+        map.required_field(self.0, found)
+    }
+}
+
+/// A field that may be missing, which is then None.
+///
+/// ```text
+/// let label: Option<String> = read_struct(de, Optional("label"))?;    // None of `{}`
+/// ```
+#[derive(Clone, Copy)]
+pub struct Optional(pub &'static str);
+
+impl<I: Input, T: Deserialize<I>> StructFields<I, Option<T>> for Optional {
+    ghost use Rattle.std.specs.Prelude.{ℕ, List, Option};
+    ghost use Rattle.json5_de.specs.ConvertLists.{if_some};
+    ghost use Rattle.json5_fields.specs.Layouts.{optional_field};
+    ghost use Rattle.json5_fields.specs.FieldCalls.{of_type};
+
+    type Found = Option<T>;
+
+    ghost Shape = { List ℕ };
+
+    ghost shape = { λ f. f.0.now };
+
+    ghost State = { Option T.Content };
+
+    ghost state = { if_some T.content };
+
+    ghost Content = { Option T.Content };
+
+    ghost content = { if_some T.content };
+
+    ghost layout = { λ name. optional_field name T.convert };
+
+    ghost faults = { of_type T.convert T.refuses };
+
+    #[inline(always)]
+    fn start(&self) -> Option<T> {
+        None
+    }
+
+    #[inline(always)]
+    fn read(&self, found: &mut Option<T>, map: &mut MapAccess<'_, I>, name: &str) -> Result<bool> {
+        if name != self.0 {
+            return Ok(false);
+        }
+        match map.next_field(name, found) {
+            Ok(()) => Ok(true),
+            Err(e) => Err(e),
+        }
+    }
+
+    #[inline(always)]
+    fn finish(self, found: Option<T>, _map: &mut MapAccess<'_, I>) -> Result<Option<T>> {
+        Ok(found)
+    }
+}
+
+/// A field that may be missing, which is then the default.
+///
+/// ```text
+/// let port: u16 = read_struct(de, WithDefault("port", 80))?;    // 80 of `{}`
+/// ```
+#[derive(Drop)]
+pub struct WithDefault<T>(pub &'static str, pub T);
+
+impl<I: Input, T: Deserialize<I>> StructFields<I, T> for WithDefault<T> {
+    ghost use Rattle.std.specs.Prelude.{ℕ, List, Option};
+    ghost use Rattle.json5_de.specs.ConvertLists.{if_some};
+    ghost use Rattle.json5_fields.specs.Layouts.{field_or};
+    ghost use Rattle.json5_fields.specs.FieldCalls.{of_type};
+
+    type Found = Option<T>;
+
+    ghost Shape = { List ℕ × T.Content };
+
+    ghost shape = { λ f. (f.0.now, T.content f.1) };
+
+    ghost State = { Option T.Content };
+
+    ghost state = { if_some T.content };
+
+    ghost Content = { T.Content };
+
+    ghost content = { T.content };
+
+    ghost layout = { λ s. field_or s.1 s.0 T.convert };
+
+    ghost faults = { of_type T.convert T.refuses };
+
+    #[inline(always)]
+    fn start(&self) -> Option<T> {
+        None
+    }
+
+    #[inline(always)]
+    fn read(&self, found: &mut Option<T>, map: &mut MapAccess<'_, I>, name: &str) -> Result<bool> {
+        if name != self.0 {
+            return Ok(false);
+        }
+        match map.next_field(name, found) {
+            Ok(()) => Ok(true),
+            Err(e) => Err(e),
+        }
+    }
+
+    #[inline(always)]
+    fn finish(self, found: Option<T>, _map: &mut MapAccess<'_, I>) -> Result<T> {
+        let WithDefault(_, default) = self;
+        Ok(found.unwrap_or(default))
+    }
+}

@@ -1,0 +1,29 @@
+//! Structs and enums by a description: their fields and names, which are a value of a type that json5 knows.
+//!
+//! ```text
+//! match read_struct(de, (Required("host"), WithDefault("port", 80), Optional("label"))) {
+//!     Ok((host, port, label)) => Ok(Server { host, port, label }),
+//!     Err(e) => Err(e),
+//! }
+//!
+//! write_struct(ser, &(Field("host", &self.host), Field("port", &self.port), Given("label", &self.label)))
+//! ```
+#![tactic(auto)]
+
+mod entries;
+mod field_names;
+mod fields;
+mod names;
+mod objects;
+mod only;
+mod tuples;
+mod written_objects;
+mod written_tuples;
+
+pub use entries::{Field, Given, WrittenFields};
+pub use field_names::FieldNames;
+pub use fields::{Optional, Required, StructFields, WithDefault};
+pub use names::one_of_names;
+pub use objects::read_struct;
+pub use only::read_struct_only;
+pub use written_objects::write_struct;

@@ -1,0 +1,99 @@
+//! A struct is read by the description of its fields.
+
+ghost use Rattle.std.specs.Prelude.{◌≡◌, true, IfOk, IfErr};
+ghost use Rattle.json5_grammar.specs.Model.Collections.{object_of};
+ghost use Rattle.json5_de.specs.State.{SameText};
+ghost use Rattle.json5_de.specs.DeserializeLaw.{Gives, Completes, Unprompted};
+ghost use Rattle.json5_fields.specs.Layouts.{all_differ};
+ghost use Rattle.json5_fields.specs.Described.{RefusesDescribed, ReadsDescribed};
+
+use crate::fields::StructFields;
+use json5_de::{Deserializer, Fields, MapAccess};
+use json5_text::input::Input;
+use json5_types::error::Result;
+use std::marker::PhantomData;
+
+/// A description, and the values that were read so far.
+#[derive(Drop)]
+struct Reading<F, S, V> {
+    fields: F,
+    found: S,
+    of: PhantomData<V>,
+}
+
+impl<I: Input, V: Drop, F: StructFields<I, V>> Fields<I> for Reading<F, F::Found, V> {
+    ghost use Rattle.json5_de.specs.StructFaults.{or_of, of_any};
+    ghost use Rattle.json5_fields.specs.Layouts.{Held, held_step};
+
+    ghost Content = { Held F.State F.Content };
+
+    ghost content = { λ r. (F.layout (F.shape r.fields), F.state r.found) };
+
+    ghost step = { held_step };
+
+    ghost refuses = { or_of F.faults of_any };
+
+    #[inline(always)]
+    fn read(&mut self, map: &mut MapAccess<'_, I>, name: &str) -> Result<()> {
+        match self.fields.read(&mut self.found, map, name) {
+            Ok(true) => Ok(()),
+            Ok(false) => map.skip_value(),
+            Err(e) => Err(e),
+        }
+    }
+}
+
+/// The same as `read_struct`, by separate clauses.
+#[inline(always)]
+fn read_object<I: Input, V: Drop, F: StructFields<I, V>>(
+    de: &mut Deserializer<I>,
+    fields: F,
+) -> Result<V>
+    requires { all_differ (F.layout (F.shape fields)).names ≡ true }
+    ensures sound { IfOk result (λ v. Gives F.content (object_of (F.layout (F.shape fields)).convert) de.old de.new v) }
+    ensures complete { Completes (object_of (F.layout (F.shape fields)).convert) de.old result }
+    ensures refused { IfErr result (λ e. RefusesDescribed (F.layout (F.shape fields)) F.faults de.old e de.new) }
+    ensures unprompted { Unprompted de.old result }
+    ensures same_text { SameText de.old de.new }
+{
+    let found = fields.start();
+    let mut reading = Reading {
+        fields,
+        found,
+        of: PhantomData,
+    };
+    let mut map = de.deserialize_map()?;
+    map.read_fields(&mut reading)?;
+    let Reading {
+        fields,
+        found,
+        of: _,
+    } = reading;
+    let output = fields.finish(found, &mut map)?;
+    map.end()?;
+    Ok(output)
+}
+
+/// Reads an object into the values of these fields. An unknown field is passed over, a repeated one is refused.
+///
+/// ```text
+/// match read_struct(de, (Required("host"), WithDefault("port", 80), Optional("label"))) {
+///     Ok((host, port, label)) => Ok(Server { host, port, label }),
+///     Err(e) => Err(e),
+/// }
+/// ```
+///
+/// # Errors
+///
+/// - Those of [`Deserializer::deserialize_map`], [`MapAccess::read_fields`] and [`MapAccess::end`].
+/// - ``missing field `name` `` and ``duplicate field `name` `` at the opening brace.
+/// - The faults of the fields' types.
+pub fn read_struct<I: Input, V: Drop, F: StructFields<I, V>>(
+    de: &mut Deserializer<I>,
+    fields: F,
+) -> Result<V>
+    requires { all_differ (F.layout (F.shape fields)).names ≡ true }
+    ensures { ReadsDescribed F.content (F.layout (F.shape fields)) F.faults de.old de.new result }
+{
+    read_object(de, fields)
+}

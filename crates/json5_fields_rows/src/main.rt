@@ -1,0 +1,50 @@
+//! Answers rows of structs that are read by descriptions: stdin has a type and a text in each line, and stdout what is read, written
+//! again, or why it is refused.
+#![tactic(auto)]
+
+mod types;
+
+use json5::{Deserialize, Result, Serialize};
+use std::alloc::Global;
+use std::io::{self, BufRead, BufReader, BufWriter, Write};
+use types::{Long, Only, Prefixes};
+
+/// What is written of the value that is read.
+fn again<'a, T: Deserialize<&'a str> + Serialize + Drop>(
+    alloc: Global,
+    text: &'a str,
+) -> Result<String> {
+    let value = json5::from_str::<T>(alloc, text)?;
+    json5::to_string(alloc, &value)
+}
+
+fn answer(alloc: Global, name: &str, text: &str) -> Result<String> {
+    match name {
+        "prefixes" => again::<Prefixes>(alloc, text),
+        "only" => again::<Only>(alloc, text),
+        "both" => again::<Vec<Only>>(alloc, text),
+        _ => again::<Long>(alloc, text),
+    }
+}
+
+fn main(rt: HostRuntime) -> io::Result<()> {
+    let alloc = rt.alloc();
+    let mut output = BufWriter::new(alloc, rt.stdout())?;
+    for line in BufReader::new(alloc, rt.stdin())?.lines(alloc) {
+        let line = line?;
+        let Some((name, text)) = line.as_str().split_once('|') else {
+            continue;
+        };
+        match answer(alloc, name, text) {
+            Ok(written) => {
+                write!(output, "{name}|{text} =>")?;
+                for word in written.as_str().split_whitespace() {
+                    write!(output, " {word}")?;
+                }
+                writeln!(output, "")?
+            }
+            Err(fault) => writeln!(output, "{name}|{text} => {fault}")?,
+        }
+    }
+    output.flush()
+}
