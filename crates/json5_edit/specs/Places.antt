@@ -1,0 +1,52 @@
+-- Where a path leads in a text.
+use Rattle.std.specs.Prelude.{◌≡◌, ℕ, ◌≤◌, List, ◌++◌, Option, Some, None, MatchOption, option_map}
+use Rattle.std.specs.Str.{chars}
+use Rattle.json5_grammar.specs.Language.Documents.{Doc, max_depth}
+use Rattle.json5_grammar.specs.Language.Trees.{Tree, depth}
+use Rattle.json5_grammar.specs.Language.Values.{Val}
+use Rattle.json5_text.specs.Outcome.{bytes_in}
+use Rattle.json5_walk.specs.declared.place.Place.{Place}
+use Rattle.json5_edit.specs.Parts.{part, put, positions_of}
+use Rattle.json5_edit.specs.declared.places.Span.{Span}
+use Rattle.json5_edit.specs.declared.paths.Step.{Step}
+
+-- these characters are a value, without blanks or comments around it, in which so many brackets may be open at once
+abbrev pub IsValue : ℕ → List ℕ → Type 0
+IsValue room x = (t : Tree) × Val x t × (depth t ≤ room)
+
+-- the place is `old` between these characters of the text
+pub record IsPart (text : List ℕ) (p : Place) (before old after : List ℕ) : Type 0 where
+  pub whole : chars text ≡ before ++ (old ++ after)
+  pub starts : p.start ≡ bytes_in before
+  pub ends : p.end ≡ bytes_in (before ++ old)
+
+abbrev pub HasPlace : List ℕ → Place → Type 0
+HasPlace text p = (before old after : List ℕ) × IsPart text p before old after
+
+-- the place is the value in the document of the tree w that the path leads to, and with any other value in its place
+-- the text is a document of the tree with that part alone replaced
+pub record IsPlace (text : List ℕ) (path : List Step) (w : Tree) (p : Place) : Type 0 where
+  pub before : List ℕ
+  pub old : List ℕ
+  pub after : List ℕ
+  pub cut : IsPart text p before old after
+  pub small : p.room ≤ max_depth
+  pub tree : Tree
+  pub value : Val old tree
+  pub positions : List ℕ
+  pub led : positions_of path w ≡ Some positions
+  pub there : part positions w ≡ Some tree
+  pub welcome : (new : List ℕ) (t : Tree) → Val new t → depth t ≤ p.room → Doc max_depth (before ++ (new ++ after)) (put positions w t)
+
+-- the text is a document, and the place is where the path leads in it: there is one exactly where it leads somewhere
+pub record Leads (text : List ℕ) (path : List Step) (place : Option Place) : Type 0 where
+  pub tree : Tree
+  pub document : Doc max_depth (chars text) tree
+  pub placed : MatchOption place (positions_of path tree ≡ None) (IsPlace text path tree)
+
+abbrev pub span_of : Place → Span
+span_of p = record { start = p.start; end = p.end }
+
+-- the span is that place's
+abbrev pub LeadsTo : List ℕ → List Step → Option Span → Type 0
+LeadsTo text path span = (place : Option Place) × Leads text path place × (span ≡ option_map span_of place)

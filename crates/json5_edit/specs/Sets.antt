@@ -1,0 +1,27 @@
+-- A text with one value replaced.
+use Rattle.std.specs.Prelude.{◌≡◌, ℕ, List, ◌++◌, Some}
+use Rattle.std.specs.Str.{chars}
+use Rattle.json5_grammar.specs.Language.Documents.{Doc, max_depth}
+use Rattle.json5_grammar.specs.Language.Trees.{Tree}
+use Rattle.json5_grammar.specs.Language.Values.{Val}
+use Rattle.json5_edit.specs.Parts.{part, put, positions_of}
+use Rattle.json5_edit.specs.declared.paths.Step.{Step}
+
+-- the text `made` is the text with the value that the path leads to replaced by new; both are documents, and the tree
+-- is the old one with that part replaced
+pub record IsSet (text : List ℕ) (path : List Step) (new made : List ℕ) : Type 0 where
+  pub before : List ℕ
+  pub old : List ℕ
+  pub after : List ℕ
+  pub was : text ≡ before ++ (old ++ after)
+  pub now : made ≡ before ++ (new ++ after)
+  pub tree : Tree
+  pub old_tree : Tree
+  pub new_tree : Tree
+  pub positions : List ℕ
+  pub led : positions_of path tree ≡ Some positions
+  pub old_value : Val (chars old) old_tree
+  pub new_value : Val (chars new) new_tree
+  pub there : part positions tree ≡ Some old_tree
+  pub document : Doc max_depth (chars text) tree
+  pub still : Doc max_depth (chars made) (put positions tree new_tree)

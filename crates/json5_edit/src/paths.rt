@@ -1,0 +1,14 @@
+//! Paths into a value.
+
+/// A step of a path: to a member, of equal keys the last, or to an element, counted from 0.
+///
+/// ```text
+/// [Step::Key("ports"), Step::Index(1)]    // the 443 of `{ ports: [80, 443] }`
+/// ```
+#[derive(Clone, Copy, Drop)]
+pub enum Step<'p> {
+    /// To the last member with this key.
+    Key(&'p str),
+    /// To the element that so many others come before.
+    Index(usize),
+}

@@ -1,0 +1,43 @@
+-- What each token makes of where a walk is.
+use Rattle.std.specs.Prelude.{◌≡◌, ℕ, ◌≤◌, Bool, true, List, ◌∷◌, ◌++◌}
+use Rattle.std.specs.Str.{encode_utf8_all}
+use Rattle.json5_grammar.specs.Language.Trees.{Tree, depth, array, object, Trees, Members, no_more, no_member}
+use Rattle.json5_grammar.specs.Language.Values.{Val}
+use Rattle.json5_grammar.specs.Model.Collections.{snoc, snoc_member}
+use Rattle.json5_value.specs.declared.brackets.BracketKind.{BracketKind as Kind}
+use Rattle.json5_value.specs.declared.brackets.BracketKind.TheVariants as kind
+use Rattle.json5_walk.specs.Nexts.{takes_value}
+use Rattle.json5_walk.specs.Frames.{Frame, in_array, in_object, At, at_value, at_element, at_key, at_colon, at_comma, next_of, value_frames}
+
+-- blanks
+pub data Stays : At → At → Type 0 where
+  stays : (a : At) → Stays a a
+
+-- a value in front of x, before y, in which at most so many brackets are open at once
+pub data TakesValue (room : ℕ) (x y : List ℕ) : At → At → Type 0 where
+  takes : (a : At) (t : Tree) (s : List ℕ) → true ≡ takes_value (next_of a) → x ≡ s ++ y → Val s t → depth t ≤ room → TakesValue room x y a (at_comma t (value_frames a))
+
+-- an opening bracket
+pub data Opens : Kind → At → At → Type 0 where
+  opens_array : (a : At) → true ≡ takes_value (next_of a) → Opens kind.Array a (at_element no_more (value_frames a))
+  opens_object : (a : At) → true ≡ takes_value (next_of a) → Opens kind.Object a (at_key no_member (value_frames a))
+
+-- a key, whose text has these bytes
+pub data TakesKeyOf (bytes : List ℕ) : At → At → Type 0 where
+  takes_key : (ps : Members) (u : List ℕ) (escape_free : Bool) (o : List Frame) → bytes ≡ encode_utf8_all u → TakesKeyOf bytes (at_key ps o) (at_colon ps u escape_free o)
+
+-- a colon
+pub data TakesColon : At → At → Type 0 where
+  takes_colon : (ps : Members) (u : List ℕ) (escape_free : Bool) (o : List Frame) → TakesColon (at_colon ps u escape_free o) (at_value (in_object ps u escape_free ∷ o))
+
+-- a comma
+pub data TakesComma : At → At → Type 0 where
+  after_element : (ts : Trees) (t : Tree) (o : List Frame) → TakesComma (at_comma t (in_array ts ∷ o)) (at_element (snoc ts t) o)
+  after_member : (ps : Members) (u : List ℕ) (escape_free : Bool) (t : Tree) (o : List Frame) → TakesComma (at_comma t (in_object ps u escape_free ∷ o)) (at_key (snoc_member ps u escape_free t) o)
+
+-- a closing bracket
+pub data Closes : At → At → Type 0 where
+  closes_elements : (ts : Trees) (o : List Frame) → Closes (at_element ts o) (at_comma (array ts) o)
+  closes_array : (ts : Trees) (t : Tree) (o : List Frame) → Closes (at_comma t (in_array ts ∷ o)) (at_comma (array (snoc ts t)) o)
+  closes_members : (ps : Members) (o : List Frame) → Closes (at_key ps o) (at_comma (object ps) o)
+  closes_object : (ps : Members) (u : List ℕ) (escape_free : Bool) (t : Tree) (o : List Frame) → Closes (at_comma t (in_object ps u escape_free ∷ o)) (at_comma (object (snoc_member ps u escape_free t)) o)
