@@ -1,0 +1,4 @@
+-- Lists the definitions for reports.
+pub mod Places
+pub mod Excerpts
+pub mod Reports

@@ -1,0 +1,217 @@
+//! A report of a fault.
+
+ghost use Rattle.std.specs.Prelude.{◌≡◌, Some, IfOk, string_bytes};
+
+use crate::excerpt::Excerpt;
+use crate::fault::Fault;
+use crate::found::Found;
+use crate::hints::remark_of;
+use crate::message::message_of;
+use crate::path::path_of;
+use crate::place::{offset_of, position_of, utf16_column};
+use crate::trail::Trail;
+use json5_types::Position;
+use json5_types::error::{Error, Result};
+use std::alloc::{AllocError, Global};
+use std::fmt;
+
+/// How many columns of a line are shown if no width is named.
+const WIDTH: usize = 100;
+
+/// What is shown to a person whose text was refused.
+///
+/// It prints the place, the path of the value there, the message, and the line with the part at fault underlined and a
+/// hint, without a line end after it:
+///
+/// ```text
+/// settings.json5:5:11: server.port: expected number, found a string
+///   |
+/// 5 |     port: '8443',
+///   |           ^^^^^^ numbers are written without quotes
+/// ```
+#[derive(Debug, Drop)]
+pub struct Report {
+    /// The name of the text, as it was given.
+    pub name: String,
+    /// Where the fault is, in bytes.
+    pub offset: usize,
+    /// Its line and its column, in characters, both counted from 0.
+    pub position: Position,
+    /// How many units of UTF-16 come before it in its line.
+    pub utf16_column: usize,
+    /// The path of the value that it lies in, such as `server.routes[1].methods`; nothing for the document itself.
+    pub path: String,
+    /// What is said of it, such as `expected number, found a string`.
+    pub message: String,
+    /// What to write instead, where that is certain.
+    pub hint: Option<String>,
+    excerpt: Excerpt,
+}
+
+impl Report {
+    ghost use Rattle.json5_report.specs.Reports.{IsReportOf};
+
+    /// Makes the report of an error of reading this text. The name is that of the file. A fault without a position is
+    /// placed where the text ends.
+    ///
+    /// ```text
+    /// match json5::from_str::<Settings>(alloc, text) {
+    ///     Ok(settings) => ..
+    ///     Err(error) => println!(rt; "{}", Report::new(alloc, "settings.json5", text, &error)?)?,
+    /// }
+    /// ```
+    ///
+    /// # Errors
+    ///
+    /// - `OutOfMemory`, without a position, where a request for memory was refused.
+    pub fn new(alloc: Global, name: &str, text: &str, error: &Error) -> Result<Report>
+        ensures { IfOk result (IsReportOf name.now text.now error.now) }
+    {
+        Report::within(alloc, WIDTH, name, text, error)
+    }
+
+    /// Makes the same report, and shows so many columns of a line at most.
+    ///
+    /// ```text
+    /// Report::within(alloc, 120, "settings.json5", text, &error)?
+    /// ```
+    ///
+    /// # Errors
+    ///
+    /// As [`new`](Report::new).
+    pub fn within(
+        alloc: Global,
+        width: usize,
+        name: &str,
+        text: &str,
+        error: &Error,
+    ) -> Result<Report>
+        ensures { IfOk result (IsReportOf name.now text.now error.now) }
+    {
+        let position = position_of(text, error);
+        let offset = offset_of(text, position);
+        let trail = Trail::before(alloc, text, offset)?;
+        let found = found_at(text, offset, &trail);
+        let fault = Fault {
+            text,
+            offset,
+            code: error.code(),
+            message: error.message(),
+            found,
+            trail: &trail,
+        };
+        let remark = remark_of(alloc, &fault)?;
+        let hint = match remark.advice {
+            Some(advice) => Some(format!(in alloc; "{advice}")?),
+            None => None,
+        };
+        Ok(Report {
+            name: String::from_str(alloc, name)?,
+            offset,
+            position,
+            utf16_column: utf16_column(text, offset),
+            path: path_of(alloc, text, offset, &trail)?,
+            message: message_of(alloc, error, found)?,
+            excerpt: Excerpt::of(
+                alloc,
+                width,
+                text,
+                remark.start,
+                remark.end,
+                hint.as_ref().map(String::as_str),
+            )?,
+            hint,
+        })
+    }
+
+    /// The same report in colours, for a terminal. The place has none, so that it can be found.
+    ///
+    /// ```text
+    /// println!(rt; "{}", report.coloured())?
+    /// ```
+    pub fn coloured(&self) -> Coloured<'_>
+        ensures { result.report.now ≡ self.now }
+    {
+        Coloured { report: self }
+    }
+
+    fn lead(&self) -> Lead<'_>
+        ensures { result.path.now ≡ string_bytes self.now.path }
+    {
+        Lead {
+            path: self.path.as_str(),
+        }
+    }
+}
+
+/// What is found at the offset.
+fn found_at<'t>(text: &'t str, offset: usize, trail: &Trail) -> Found<'t> {
+    let is_inside = match trail.last {
+        Some(last) => last.holds(offset),
+        None => false,
+    };
+    Found::at(text, offset, is_inside)
+}
+
+/// Prints the place, which is `NAME:LINE:COLUMN`, the path, the message, and the line with the part at fault underlined and
+/// the hint. There is no line end after it.
+impl fmt::Display for Report {
+    ghost use Rattle.json5_report.specs.Reports.{report_text};
+
+    ghost output = { λ r. Some (report_text r) };
+
+    fn fmt<W: fmt::Write>(&self, f: &mut fmt::Formatter<W>) -> fmt::Result {
+        let name = self.name.as_str();
+        let line = self.position.line as u128 + 1;
+        let column = self.position.column as u128 + 1;
+        let lead = self.lead();
+        let message = self.message.as_str();
+        let excerpt = &self.excerpt;
+        write!(f, "{name}:{line}:{column}: {lead}{message}{excerpt}")
+    }
+}
+
+/// A report that prints in colours.
+#[derive(Clone, Copy)]
+pub struct Coloured<'r> {
+    report: &'r Report,
+}
+
+/// Prints the report with the message bold, the margin blue and the underline and the hint red. The place has no colour.
+impl fmt::Display for Coloured<'_> {
+    ghost use Rattle.json5_report.specs.Reports.{coloured_text};
+
+    ghost output = { λ c. Some (coloured_text c.report.now) };
+
+    fn fmt<W: fmt::Write>(&self, f: &mut fmt::Formatter<W>) -> fmt::Result {
+        let report = self.report;
+        let name = report.name.as_str();
+        let line = report.position.line as u128 + 1;
+        let column = report.position.column as u128 + 1;
+        let lead = report.lead();
+        let message = report.message.as_str();
+        let excerpt = report.excerpt.coloured();
+        write!(f, "{name}:{line}:{column}: {lead}\u{1b}[1m{message}\u{1b}[0m{excerpt}")
+    }
+}
+
+/// A path in front of a message.
+#[derive(Clone, Copy)]
+struct Lead<'r> {
+    path: &'r str,
+}
+
+/// Prints the path, a colon and a space, or nothing for the document itself.
+impl fmt::Display for Lead<'_> {
+    ghost use Rattle.json5_report.specs.Reports.{lead_text};
+
+    ghost output = { λ l. Some (lead_text l.path.now) };
+
+    fn fmt<W: fmt::Write>(&self, f: &mut fmt::Formatter<W>) -> fmt::Result {
+        let path = self.path;
+        if path.is_empty() {
+            return Ok(());
+        }
+        write!(f, "{path}: ")
+    }
+}
