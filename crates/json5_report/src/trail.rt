@@ -42,16 +42,15 @@ impl Trail {
     /// The trail of the lexemes that begin before the offset.
     pub(crate) fn before(alloc: Global, text: &str, offset: usize) -> Result<Trail, AllocError> {
         let mut trail = Trail::new(alloc);
-        let mut at = 0;
+        let mut next = lexeme_at(text, 0);
         for _ in 0..text.len() {
-            trail.next = lexeme_at(text, at);
-            if trail.next.start >= offset {
+            if next.start >= offset || next.kind == Kind::End {
                 break;
             }
-            at = trail.next.end;
-            trail.take(text, trail.next)?;
+            trail.take(text, next)?;
+            next = lexeme_at(text, next.end);
         }
-        trail.next = lexeme_at(text, at);
+        trail.next = next;
         Ok(trail)
     }
 

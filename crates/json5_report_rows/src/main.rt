@@ -3,7 +3,7 @@
 
 mod faults;
 
-use faults::error_of;
+use faults::{count_in, error_of};
 use json5_format::read_document;
 use json5_report::Report;
 use json5_types::error::Error;
@@ -56,10 +56,16 @@ fn outcome_of(alloc: Global, base: &str, row: &Value) -> Result<Option<String>, 
     } else {
         format!(in alloc; "{report}")?
     };
-    if shown.as_str() == lines_in(alloc, row)?.as_str() {
+    if shown.as_str() == lines_in(alloc, row)?.as_str() && is_placed(&report, row) {
         return Ok(None);
     }
     Ok(Some(shown))
+}
+
+/// Whether the report has the offset and the column of the row, where that names them.
+fn is_placed(report: &Report, row: &Value) -> bool {
+    count_in(row, "offset").unwrap_or(report.offset) == report.offset
+        && count_in(row, "utf16").unwrap_or(report.utf16_column) == report.utf16_column
 }
 
 /// The text of a row: its own, or the common one with a part changed.
@@ -89,7 +95,7 @@ fn lines_in(alloc: Global, row: &Value) -> Result<String, AllocError> {
 }
 
 fn width_of(row: &Value) -> usize {
-    faults::count_in(row, "width").unwrap_or(80)
+    count_in(row, "width").unwrap_or(100)
 }
 
 /// The text of a field; none if it has no text.
