@@ -1,5 +1,5 @@
 -- Where a fault is in a text.
-use Rattle.std.specs.Prelude.{◌≡◌, ◌≤◌, ◌×◌, ◌++◌, ℕ, List, take, length, Option, Some, None}
+use Rattle.std.specs.Prelude.{◌≡◌, ◌≤◌, ◌+◌, ◌++◌, ℕ, List, take, length, Option, Some, None, codes, decimal}
 use Rattle.std.specs.Str.{chars}
 use Rattle.json5_grammar.specs.declared.position.Position.{Position}
 use Rattle.json5_grammar.specs.Faults.Positions.{position_after}
@@ -17,3 +17,7 @@ HasPosition text p = (before after : List ℕ) × (chars text ≡ before ++ afte
 pub record IsOffsetOf (text : List ℕ) (p : Position) (offset : ℕ) : Type 0 where
   pub within : offset ≤ length text
   pub at : HasPosition text p → position_after (chars (take offset text)) ≡ p
+
+-- `NAME:LINE:COLUMN`, counted from 1
+abbrev pub place_text : List ℕ → Position → List ℕ
+place_text name p = name ++ codes ":" ++ decimal (p.line + 1) ++ codes ":" ++ decimal (p.column + 1)

@@ -1,8 +1,9 @@
 //! The line of a text that a report shows, cut to a width, with a part of it underlined.
 
-ghost use Rattle.std.specs.Prelude.{◌≡◌, Some};
+ghost use Rattle.std.specs.Prelude.{Some};
 
 use crate::lexemes::line_len;
+use crate::painted::{BLUE, Painted, RED};
 use crate::place::line_start;
 use crate::widths::{text_width, width_of};
 use json5_types::Position;
@@ -56,12 +57,6 @@ impl Excerpt {
             marks: marks_of(alloc, line, window, hint)?,
         })
     }
-
-    pub(crate) fn coloured(&self) -> ColouredExcerpt<'_>
-        ensures { result.excerpt.now ≡ self.now }
-    {
-        ColouredExcerpt { excerpt: self }
-    }
 }
 
 /// Prints a line end, an empty line with its margin, the line, and the underline with the hint.
@@ -71,10 +66,8 @@ impl fmt::Display for Excerpt {
     ghost output = { λ e. Some (excerpt_text e) };
 
     fn fmt<W: fmt::Write>(&self, f: &mut fmt::Formatter<W>) -> fmt::Result {
-        let margin = self.margin.as_str();
-        let numbered = self.numbered.as_str();
-        let line = self.line.as_str();
-        let marks = self.marks.as_str();
+        let (margin, numbered) = (&self.margin, &self.numbered);
+        let (line, marks) = (&self.line, &self.marks);
         write!(f, "\n{margin}\n{numbered}{line}\n{margin}{marks}")
     }
 }
@@ -82,7 +75,7 @@ impl fmt::Display for Excerpt {
 /// An excerpt that prints in colours.
 #[derive(Clone, Copy)]
 pub(crate) struct ColouredExcerpt<'e> {
-    excerpt: &'e Excerpt,
+    pub(crate) excerpt: &'e Excerpt,
 }
 
 /// Prints the same with the margin blue, and the underline and the hint red.
@@ -92,14 +85,21 @@ impl fmt::Display for ColouredExcerpt<'_> {
     ghost output = { λ e. Some (coloured_excerpt_text e.excerpt.now) };
 
     fn fmt<W: fmt::Write>(&self, f: &mut fmt::Formatter<W>) -> fmt::Result {
-        let margin = self.excerpt.margin.as_str();
-        let numbered = self.excerpt.numbered.as_str();
-        let line = self.excerpt.line.as_str();
-        let marks = self.excerpt.marks.as_str();
-        write!(
-            f,
-            "\n\u{1b}[34m{margin}\n{numbered}\u{1b}[0m{line}\n\u{1b}[34m{margin}\u{1b}[31m{marks}\u{1b}[0m"
-        )
+        let excerpt = self.excerpt;
+        let margin = Painted {
+            colour: BLUE,
+            text: &excerpt.margin,
+        };
+        let numbered = Painted {
+            colour: BLUE,
+            text: &excerpt.numbered,
+        };
+        let line = &excerpt.line;
+        let marks = Painted {
+            colour: RED,
+            text: &excerpt.marks,
+        };
+        write!(f, "\n{margin}\n{numbered}{line}\n{margin}{marks}")
     }
 }
 

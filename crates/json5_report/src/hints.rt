@@ -11,10 +11,7 @@ use json5_types::ErrorCode;
 use std::alloc::{AllocError, Global};
 
 /// The part at fault, and a hint if one is certain.
-pub(crate) fn remark_of<'t>(
-    alloc: Global,
-    fault: &Fault<'t>,
-) -> Result<Remark<'t>, AllocError> {
+pub(crate) fn remark_of<'t>(alloc: Global, fault: &Fault<'t>) -> Result<Remark<'t>, AllocError> {
     match fault.code {
         None => custom_remark(alloc, fault),
         Some(_) if fault.is_end() => end_remark(alloc, fault),
@@ -30,10 +27,7 @@ fn end_remark<'t>(alloc: Global, fault: &Fault<'t>) -> Result<Remark<'t>, AllocE
     };
     match fault.code {
         Some(ErrorCode::EofParsingString | ErrorCode::EofParsingEscapeSequence)
-            if last.kind == Kind::Text =>
-        {
-            Ok(Remark::of(last, Advice::CloseQuote))
-        }
+            if last.kind == Kind::Text => { Ok(Remark::of(last, Advice::CloseQuote)) }
         Some(ErrorCode::EofParsingComment) => Ok(open_comment(fault)),
         _ => Ok(open_bracket(fault)),
     }
@@ -156,7 +150,10 @@ fn comma_remark<'t>(fault: &Fault<'t>) -> Remark<'t> {
 /// What is said of a word whose beginning is a number or a literal.
 fn word_remark<'t>(fault: &Fault<'t>, word: Lexeme) -> Remark<'t> {
     let text = word.of(fault.text);
-    let is_number = matches!(text.as_bytes().first(), Some(b'0'..=b'9' | b'+' | b'-' | b'.'));
+    let is_number = matches!(
+        text.as_bytes().first(),
+        Some(b'0'..=b'9' | b'+' | b'-' | b'.')
+    );
     if is_number && text.contains('_') {
         return Remark::of(word, Advice::DropUnderscore);
     }

@@ -13,6 +13,7 @@ mod lexemes;
 mod members;
 mod message;
 mod near;
+mod painted;
 mod path;
 mod place;
 mod report;

@@ -16,7 +16,8 @@ pub(crate) fn near_name<'m>(
     alloc: Global,
     message: &'m str,
 ) -> Result<Option<&'m str>, AllocError> {
-    let (Some(name), Some((_, known))) = (name_in(message), message.split_once(", expected ")) else {
+    let (Some(name), Some((_, known))) = (name_in(message), message.split_once(", expected "))
+    else {
         return Ok(None);
     };
     let mut least = (name.len() / 3).min(2);

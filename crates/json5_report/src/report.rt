@@ -2,11 +2,12 @@
 
 ghost use Rattle.std.specs.Prelude.{◌≡◌, Some, IfOk, string_bytes};
 
-use crate::excerpt::Excerpt;
+use crate::excerpt::{ColouredExcerpt, Excerpt};
 use crate::fault::Fault;
 use crate::found::Found;
 use crate::hints::remark_of;
 use crate::message::message_of;
+use crate::painted::{BOLD, Painted};
 use crate::path::path_of;
 use crate::place::{offset_of, position_of, utf16_column};
 use crate::trail::Trail;
@@ -134,14 +135,6 @@ impl Report {
     {
         Coloured { report: self }
     }
-
-    fn lead(&self) -> Lead<'_>
-        ensures { result.path.now ≡ string_bytes self.now.path }
-    {
-        Lead {
-            path: self.path.as_str(),
-        }
-    }
 }
 
 /// What is found at the offset.
@@ -161,20 +154,21 @@ impl fmt::Display for Report {
     ghost output = { λ r. Some (report_text r) };
 
     fn fmt<W: fmt::Write>(&self, f: &mut fmt::Formatter<W>) -> fmt::Result {
-        let name = self.name.as_str();
-        let line = self.position.line as u128 + 1;
-        let column = self.position.column as u128 + 1;
-        let lead = self.lead();
-        let message = self.message.as_str();
-        let excerpt = &self.excerpt;
-        write!(f, "{name}:{line}:{column}: {lead}{message}{excerpt}")
+        let place = Place {
+            name: &self.name,
+            position: self.position,
+        };
+        let lead = Lead { path: &self.path };
+        let (message, excerpt) = (&self.message, &self.excerpt);
+        write!(f, "{place}: {lead}{message}{excerpt}")
     }
 }
 
 /// A report that prints in colours.
 #[derive(Clone, Copy)]
 pub struct Coloured<'r> {
-    report: &'r Report,
+    /// The report.
+    pub report: &'r Report,
 }
 
 /// Prints the report with the message bold, the margin blue and the underline and the hint red. The place has no colour.
@@ -185,30 +179,57 @@ impl fmt::Display for Coloured<'_> {
 
     fn fmt<W: fmt::Write>(&self, f: &mut fmt::Formatter<W>) -> fmt::Result {
         let report = self.report;
-        let name = report.name.as_str();
-        let line = report.position.line as u128 + 1;
-        let column = report.position.column as u128 + 1;
-        let lead = report.lead();
-        let message = report.message.as_str();
-        let excerpt = report.excerpt.coloured();
-        write!(f, "{name}:{line}:{column}: {lead}\u{1b}[1m{message}\u{1b}[0m{excerpt}")
+        let place = Place {
+            name: &report.name,
+            position: report.position,
+        };
+        let lead = Lead { path: &report.path };
+        let message = Painted {
+            colour: BOLD,
+            text: &report.message,
+        };
+        let excerpt = ColouredExcerpt {
+            excerpt: &report.excerpt,
+        };
+        write!(f, "{place}: {lead}{message}{excerpt}")
+    }
+}
+
+/// Where a fault is.
+#[derive(Clone, Copy)]
+struct Place<'r> {
+    name: &'r String,
+    position: Position,
+}
+
+/// Prints `NAME:LINE:COLUMN`, counted from 1.
+impl fmt::Display for Place<'_> {
+    ghost use Rattle.json5_report.specs.Places.{place_text};
+
+    ghost output = { λ p. Some (place_text (string_bytes p.name.now) p.position) };
+
+    fn fmt<W: fmt::Write>(&self, f: &mut fmt::Formatter<W>) -> fmt::Result {
+        let name = self.name;
+        let line = self.position.line as u128 + 1;
+        let column = self.position.column as u128 + 1;
+        write!(f, "{name}:{line}:{column}")
     }
 }
 
 /// A path in front of a message.
 #[derive(Clone, Copy)]
 struct Lead<'r> {
-    path: &'r str,
+    path: &'r String,
 }
 
 /// Prints the path, a colon and a space, or nothing for the document itself.
 impl fmt::Display for Lead<'_> {
     ghost use Rattle.json5_report.specs.Reports.{lead_text};
 
-    ghost output = { λ l. Some (lead_text l.path.now) };
+    ghost output = { λ l. Some (lead_text (string_bytes l.path.now)) };
 
     fn fmt<W: fmt::Write>(&self, f: &mut fmt::Formatter<W>) -> fmt::Result {
-        let path = self.path;
+        let path = self.path.as_str();
         if path.is_empty() {
             return Ok(());
         }

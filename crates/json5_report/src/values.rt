@@ -66,7 +66,9 @@ fn member_advice<'t>(fault: &Fault<'t>) -> Option<Advice<'t>> {
 fn text_advice<'t>(fault: &Fault<'t>) -> Option<Advice<'t>> {
     let word = fault.token()?.of(fault.text);
     match fault.found {
-        Found::Name(_) | Found::Number => Some(literal_advice(word).unwrap_or(Advice::QuoteText(word))),
+        Found::Name(_) | Found::Number => Some(literal_advice(word).unwrap_or(Advice::QuoteText(
+            word,
+        ))),
         Found::Character(',' | '}' | ']') => Some(Advice::AddValue),
         _ => None,
     }
