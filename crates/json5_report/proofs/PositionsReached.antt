@@ -1,7 +1,7 @@
 -- Counting characters up to a position: what was counted so far, and whether the position still lies ahead.
-use Rattle.std.proofs.Common.{◌≡◌, ◌≤◌, ◌<◌, ℕ, ◌+◌, Bool, false, List, [], ◌∷◌, ◌++◌, length, take, IsUtf8, refl, ap, sym, ◌∙◌, subst, absurd, arith}
+use Rattle.std.proofs.Common.{◌≡◌, ◌≤◌, ◌<◌, ℕ, ◌+◌, Bool, false, List, [], ◌∷◌, ◌++◌, length, take, IsUtf8, refl, ap, sym, ◌∙◌, subst, arith}
 use Rattle.std.specs.Prelude.{◌==◌}
-use Rattle.std.specs.Char.{IsScalar, scalar, encode_utf8, len_utf8}
+use Rattle.std.specs.Char.{IsScalar, encode_utf8, len_utf8}
 use Rattle.std.specs.Str.{chars, all_scalars}
 use Rattle.std.proofs.lemmas.Bool.{and_parts}
 use Rattle.std.proofs.lemmas.Str.{IsUtf8-append, IsUtf8-encode, IsUtf8-nil, IsUtf8-past_char, chars-append, chars-nil, chars_past_char, length-encode, len_utf8_bounds, scalars-chars}
@@ -67,7 +67,13 @@ counted_end text rest p cr offset (taken, whole, size, utf8, count) =
 -- what comes next is a character
 pub scalar_ahead : (rest left : List ℕ) (c : ℕ) → IsUtf8 rest → rest ≡ encode_utf8 c ++ left → IsScalar c
 scalar_ahead rest left c utf8 split =
-    (and_parts (scalar c) (all_scalars (chars left)) (sym (ap all_scalars (chars_past_char rest left c utf8 split)) ∙ scalars-chars rest utf8)).0
+    (and_parts _ (all_scalars (chars left)) (sym (ap all_scalars (chars_past_char rest left c utf8 split)) ∙ scalars-chars rest utf8)).0
+
+pub same_place : (p q : Position) → p.line ≡ q.line → p.column ≡ q.column → p ≡ q
+same_place p q l k = ap (λ x. place x p.column) l ∙ ap (λ y. place q.line y) k
+  where
+    place : ℕ → ℕ → Position
+    place x y = record { line = x; column = y }
 
 -- ---- the walk over the characters, with what is left of them
 

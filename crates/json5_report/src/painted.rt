@@ -23,6 +23,7 @@ impl fmt::Display for Painted<'_> {
 
     ghost output = { λ p. Some (painted_text p.colour (string_bytes p.text.now)) };
 
+    #[tactic(auto, unfolding(crate::specs::Painted::painted_text))]
     fn fmt<W: fmt::Write>(&self, f: &mut fmt::Formatter<W>) -> fmt::Result {
         let (colour, text) = (self.colour, self.text);
         write!(f, "\u{1b}[{colour}m{text}\u{1b}[0m")

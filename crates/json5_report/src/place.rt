@@ -1,6 +1,6 @@
 //! Where a fault is in a text.
 
-ghost use Rattle.std.specs.Prelude.{◌≡◌, ◌+◌, ◌<◌};
+ghost use Rattle.std.specs.Prelude.{◌≡◌, ◌+◌, ◌<◌, false, IsTrue};
 ghost use Rattle.json5_types.specs.Errors.{error_position};
 ghost use Rattle.json5_grammar.specs.Model.PositionSteps.{position_step};
 ghost use Rattle.json5_report.specs.Places.{IsOffsetOf, shown_position};
@@ -28,7 +28,7 @@ pub(crate) fn offset_of(text: &str, wanted: Position) -> usize
     let mut is_after_cr = false;
     for c in text.chars() {
         let next = stepped(position, is_after_cr, c);
-        if position == wanted && next != position {
+        if is_passed(position, next, wanted) {
             return offset;
         }
         position = next;
@@ -36,6 +36,16 @@ pub(crate) fn offset_of(text: &str, wanted: Position) -> usize
         offset += c.len_utf8();
     }
     offset
+}
+
+/// Whether the position is the wanted one, and the next one isn't. (The one after a CR LF is that after its CR.)
+fn is_passed(position: Position, next: Position, wanted: Position) -> bool
+    ensures found { IsTrue result → ((position.line ≡ wanted.line) × (position.column ≡ wanted.column)) }
+    ensures passed { result ≡ false → position.line ≡ wanted.line → position.column ≡ wanted.column
+        → ((next.line ≡ position.line) × (next.column ≡ position.column)) }
+{
+    let is_wanted = position.line == wanted.line && position.column == wanted.column;
+    is_wanted && (next.line != position.line || next.column != position.column)
 }
 
 /// The position after one more character; `is_after_cr` says that a CR is right before it.
