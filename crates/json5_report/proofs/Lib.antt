@@ -1,0 +1,2 @@
+-- Lists the lemmas for reports.
+pub mod PositionsReached

@@ -1,0 +1,5 @@
+-- Lists the definitions for reports.
+pub mod Places
+pub mod Painted
+pub mod Excerpts
+pub mod Reports

@@ -1,0 +1,193 @@
+//! Which part of a text a report underlines, and what it says of it.
+
+use crate::advice::Advice;
+use crate::custom::custom_remark;
+use crate::fault::{Fault, Remark};
+use crate::found::Found;
+use crate::lexemes::{Kind, Lexeme, lexeme_at};
+use crate::trail::Trail;
+use crate::values::value_advice;
+use json5_types::ErrorCode;
+use std::alloc::{AllocError, Global};
+
+/// The part at fault, and a hint if one is certain.
+pub(crate) fn remark_of<'t>(alloc: Global, fault: &Fault<'t>) -> Result<Remark<'t>, AllocError> {
+    match fault.code {
+        None => custom_remark(alloc, fault),
+        Some(_) if fault.is_end() => end_remark(alloc, fault),
+        Some(code) => Ok(code_remark(fault, code)),
+    }
+}
+
+/// The same where the text ends too early: what isn't closed.
+fn end_remark<'t>(alloc: Global, fault: &Fault<'t>) -> Result<Remark<'t>, AllocError> {
+    let trail = Trail::before(alloc, fault.text, fault.text.len())?;
+    let Some(last) = trail.last else {
+        return Ok(fault.remark(Advice::NoValue));
+    };
+    match fault.code {
+        Some(ErrorCode::EofParsingString | ErrorCode::EofParsingEscapeSequence)
+            if last.kind == Kind::Text => { Ok(Remark::of(last, Advice::CloseQuote)) }
+        Some(ErrorCode::EofParsingComment) => Ok(open_comment(fault)),
+        _ => Ok(open_bracket(fault)),
+    }
+}
+
+/// The comment that isn't closed.
+fn open_comment<'t>(fault: &Fault<'t>) -> Remark<'t> {
+    match fault.text.rfind("/*") {
+        Some(start) => Remark {
+            start,
+            end: start.saturating_add(2),
+            advice: Some(Advice::EndComment),
+        },
+        None => open_bracket(fault),
+    }
+}
+
+/// The bracket at the place of the fault, which isn't closed.
+fn open_bracket<'t>(fault: &Fault<'t>) -> Remark<'t> {
+    match fault.token() {
+        Some(token) if token.kind == Kind::Open => {
+            Remark::of(token, Advice::NeverClosed(token.of(fault.text)))
+        }
+        _ => fault.plain(),
+    }
+}
+
+/// The part at fault of a text that doesn't end too early, by the fault's code.
+fn code_remark<'t>(fault: &Fault<'t>, code: ErrorCode) -> Remark<'t> {
+    if let Some(advice) = sign_advice(fault) {
+        return fault.remark(advice);
+    }
+    match code {
+        ErrorCode::ExpectedColon => colon_remark(fault),
+        ErrorCode::ExpectedComma => comma_remark(fault),
+        ErrorCode::ExpectedIdentifier => key_remark(fault),
+        ErrorCode::LineTerminatorInString => quote_remark(fault),
+        ErrorCode::TrailingCharacters => trailing_remark(fault),
+        ErrorCode::InvalidEscapeSequence => Remark {
+            start: fault.offset,
+            end: fault.offset.saturating_add(2),
+            advice: Some(Advice::EscapeBackslash),
+        },
+        _ => match value_advice(fault, code) {
+            Some(advice) => fault.remark(advice),
+            None => fault.plain(),
+        },
+    }
+}
+
+/// What is said of some signs wherever they are found: those of other languages' comments and quotes, a byte order
+/// mark, and a bracket that closes another.
+fn sign_advice<'t>(fault: &Fault<'t>) -> Option<Advice<'t>> {
+    let token = fault.token()?;
+    let text = token.of(fault.text);
+    if token.kind == Kind::Close {
+        return bracket_advice(fault, text);
+    }
+    if is_after_byte_order_mark(fault) {
+        return Some(Advice::DropByteOrderMark);
+    }
+    if token.kind != Kind::Word {
+        return None;
+    }
+    if text.starts_with('#') || text.starts_with("--") {
+        return Some(Advice::CommentSign);
+    }
+    match text.chars().next() {
+        Some('\u{2018}'..='\u{201f}' | '«' | '»' | '`' | '´') => Some(Advice::PlainQuotes),
+        _ => None,
+    }
+}
+
+/// What is said of a closing bracket.
+fn bracket_advice<'t>(fault: &Fault<'t>, closing: &str) -> Option<Advice<'t>> {
+    let Some(open) = fault.trail.brackets.last() else {
+        return Some(Advice::DropBracket);
+    };
+    if (closing == "}") == open.is_object {
+        return None;
+    }
+    let bracket = if open.is_object { "{" } else { "[" };
+    Some(Advice::CloseFirst(bracket, fault.line_of(open.start)))
+}
+
+/// Whether a byte order mark is right before the fault, between two tokens.
+fn is_after_byte_order_mark(fault: &Fault<'_>) -> bool {
+    match fault.trail.last {
+        Some(last) => fault
+            .text
+            .get(last.end..fault.offset)
+            .unwrap_or("")
+            .ends_with('\u{feff}'),
+        None => false,
+    }
+}
+
+fn colon_remark<'t>(fault: &Fault<'t>) -> Remark<'t> {
+    if let Some(word) = fault.word_inside() {
+        return Remark::of(word, Advice::QuoteKey(word.of(fault.text)));
+    }
+    match fault.found {
+        Found::Character('=') => fault.remark(Advice::UseColon),
+        Found::Character(_) => fault.plain(),
+        _ => fault.after_last(Advice::AddColon),
+    }
+}
+
+fn comma_remark<'t>(fault: &Fault<'t>) -> Remark<'t> {
+    if let Some(word) = fault.word_inside() {
+        return word_remark(fault, word);
+    }
+    match fault.found {
+        Found::Character(';') => fault.remark(Advice::UseComma),
+        Found::Character(_) => fault.plain(),
+        _ => fault.after_last(Advice::AddComma),
+    }
+}
+
+/// What is said of a word whose beginning is a number or a literal.
+fn word_remark<'t>(fault: &Fault<'t>, word: Lexeme) -> Remark<'t> {
+    let text = word.of(fault.text);
+    let is_number = matches!(
+        text.as_bytes().first(),
+        Some(b'0'..=b'9' | b'+' | b'-' | b'.')
+    );
+    if is_number && text.contains('_') {
+        return Remark::of(word, Advice::DropUnderscore);
+    }
+    if is_number {
+        return Remark::of(word, Advice::DropUnit(text));
+    }
+    Remark::of(word, Advice::QuoteText(text))
+}
+
+/// What is said where a key is expected: a word before a colon needs quotes.
+fn key_remark<'t>(fault: &Fault<'t>) -> Remark<'t> {
+    match fault.token() {
+        Some(token) if token.kind == Kind::Word && fault.is_key(token) => {
+            Remark::of(token, Advice::QuoteKey(token.of(fault.text)))
+        }
+        _ => fault.plain(),
+    }
+}
+
+/// The string that a line ends in.
+fn quote_remark<'t>(fault: &Fault<'t>) -> Remark<'t> {
+    match fault.trail.last {
+        Some(last) => Remark::of(last, Advice::CloseQuote),
+        None => fault.plain(),
+    }
+}
+
+/// What is said of what follows the document's value.
+fn trailing_remark<'t>(fault: &Fault<'t>) -> Remark<'t> {
+    if let Some(word) = fault.word_inside() {
+        return word_remark(fault, word);
+    }
+    match fault.found {
+        Found::Character(':') => fault.remark(Advice::UseBracesOfFile),
+        _ => fault.remark(Advice::OneValue),
+    }
+}

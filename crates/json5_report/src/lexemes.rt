@@ -1,0 +1,142 @@
+//! The lexemes of a text that may be faulty: its tokens and its comments, one after another.
+
+use json5_text::char::{is_json5_line_terminator, is_json5_whitespace};
+
+/// What kind of lexeme it is.
+#[derive(Clone, Copy, Debug, PartialEq, Eq)]
+pub(crate) enum Kind {
+    /// `[` or `{`.
+    Open,
+    /// `]` or `}`.
+    Close,
+    Colon,
+    Comma,
+    /// A string. One that isn't closed ends with its line.
+    Text,
+    /// Any other run of characters: a number, a literal, a name, or what is none of them.
+    Word,
+    Comment,
+    /// The end of the text.
+    End,
+}
+
+/// A lexeme, from one offset to another.
+#[derive(Clone, Copy, Debug)]
+pub(crate) struct Lexeme {
+    pub(crate) kind: Kind,
+    pub(crate) start: usize,
+    pub(crate) end: usize,
+}
+
+impl Lexeme {
+    /// The characters of the lexeme.
+    pub(crate) fn of(self, text: &str) -> &str {
+        text.get(self.start..self.end).unwrap_or("")
+    }
+
+    /// Whether the offset lies in it, past its first character.
+    pub(crate) fn holds(self, offset: usize) -> bool {
+        self.start < offset && offset < self.end
+    }
+}
+
+/// The lexeme in front, from this offset on.
+pub(crate) fn lexeme_at(text: &str, from: usize) -> Lexeme {
+    let rest = text.get(from..).unwrap_or("");
+    let blanks = blanks_len(rest);
+    let rest = rest.get(blanks..).unwrap_or("");
+    let (kind, len) = kind_and_len(rest);
+    let start = from.saturating_add(blanks);
+    Lexeme {
+        kind,
+        start,
+        end: start.saturating_add(len),
+    }
+}
+
+/// The kind and the length of the lexeme that the text begins with.
+fn kind_and_len(text: &str) -> (Kind, usize) {
+    match text.chars().next() {
+        None => (Kind::End, 0),
+        Some('[' | '{') => (Kind::Open, 1),
+        Some(']' | '}') => (Kind::Close, 1),
+        Some(':') => (Kind::Colon, 1),
+        Some(',') => (Kind::Comma, 1),
+        Some(quote @ ('"' | '\'')) => (Kind::Text, string_len(text, quote)),
+        Some('/') if text.starts_with("//") => (Kind::Comment, line_len(text)),
+        Some('/') if text.starts_with("/*") => (Kind::Comment, block_len(text)),
+        Some(_) => (Kind::Word, word_len(text)),
+    }
+}
+
+/// How long the blanks in front are.
+fn blanks_len(text: &str) -> usize {
+    for (index, c) in text.char_indices() {
+        if !is_json5_whitespace(c) {
+            return index;
+        }
+    }
+    text.len()
+}
+
+/// How long the line in front is, without its end.
+pub(crate) fn line_len(text: &str) -> usize {
+    for (index, c) in text.char_indices() {
+        if is_json5_line_terminator(c) {
+            return index;
+        }
+    }
+    text.len()
+}
+
+/// How long the string is that the text begins with; up to the end of its line if it isn't closed.
+fn string_len(text: &str, quote: char) -> usize {
+    // The opening quote itself is passed over as an escaped character is.
+    let mut is_escaped = true;
+    for (index, c) in text.char_indices() {
+        if is_escaped {
+            is_escaped = c == '\r' && is_line_feed(text, index);
+            continue;
+        }
+        if c == quote {
+            return index.saturating_add(1);
+        }
+        if matches!(c, '\n' | '\r') {
+            return index;
+        }
+        is_escaped = c == '\\';
+    }
+    text.len()
+}
+
+/// Whether an LF follows the byte at this offset.
+fn is_line_feed(text: &str, offset: usize) -> bool {
+    text.as_bytes().get(offset.saturating_add(1)).copied() == Some(b'\n')
+}
+
+/// How long the `/* */` comment is that the text begins with.
+fn block_len(text: &str) -> usize {
+    match text.get(2..).unwrap_or("").find("*/") {
+        Some(index) => index.saturating_add(4),
+        None => text.len(),
+    }
+}
+
+/// How long the word is that the text begins with; it has a character at least.
+fn word_len(text: &str) -> usize {
+    for (index, c) in text.char_indices() {
+        if index > 0 && ends_word(c) {
+            return index;
+        }
+    }
+    text.len()
+}
+
+/// Whether the character is in no word, unless it is the first.
+fn ends_word(c: char) -> bool {
+    is_json5_whitespace(c)
+        || matches!(
+            c,
+            '[' | ']' | '{' | '}' | ':' | ',' | '"' | '\'' | '/' | ';' | '=' | '#'
+        )
+}

@@ -1,0 +1,44 @@
+//! The names in a message, and the nearest of those that are known.
+
+use std::alloc::{AllocError, Global};
+use strsim::osa_distance;
+
+/// The name in the message: what stands first between backquotes.
+pub(crate) fn name_in(message: &str) -> Option<&str> {
+    let (_, rest) = message.split_once('`')?;
+    let (name, _) = rest.split_once('`')?;
+    Some(name)
+}
+
+/// The known name that is nearest to the first one of the message, if one is near: its letters in other case, or one letter
+/// away of three at least, or two of six.
+pub(crate) fn near_name<'m>(
+    alloc: Global,
+    message: &'m str,
+) -> Result<Option<&'m str>, AllocError> {
+    let (Some(name), Some((_, known))) = (name_in(message), message.split_once(", expected "))
+    else {
+        return Ok(None);
+    };
+    let mut least = (name.len() / 3).min(2);
+    let mut near = None;
+    let mut is_known = false;
+    for part in known.split('`') {
+        if is_known {
+            let distance = distance_of(alloc, name, part)?;
+            if distance < least || distance == least && near.is_none() {
+                (near, least) = (Some(part), distance);
+            }
+        }
+        is_known = !is_known;
+    }
+    Ok(near)
+}
+
+/// How many letters the names differ in; 0 if only in case.
+fn distance_of(alloc: Global, name: &str, known: &str) -> Result<usize, AllocError> {
+    if name.eq_ignore_ascii_case(known) {
+        return Ok(0);
+    }
+    osa_distance(alloc, name, known)
+}

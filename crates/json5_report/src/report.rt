@@ -1,0 +1,238 @@
+//! A report of a fault.
+
+ghost use Rattle.std.specs.Prelude.{◌≡◌, Some, IfOk, string_bytes};
+
+use crate::excerpt::{ColouredExcerpt, Excerpt};
+use crate::fault::Fault;
+use crate::found::Found;
+use crate::hints::remark_of;
+use crate::message::message_of;
+use crate::painted::{BOLD, Painted};
+use crate::path::path_of;
+use crate::place::{offset_of, position_of, utf16_column};
+use crate::trail::Trail;
+use json5_types::Position;
+use json5_types::error::{Error, Result};
+use std::alloc::{AllocError, Global};
+use std::fmt;
+
+/// How many columns of a line are shown if no width is named.
+const WIDTH: usize = 100;
+
+/// What is shown to a person whose text was refused.
+///
+/// It prints the place, the path of the value there, the message, and the line with the part at fault underlined and a
+/// hint, without a line end after it:
+///
+/// ```text
+/// settings.json5:5:11: server.port: expected number, found a string
+///   |
+/// 5 |     port: '8443',
+///   |           ^^^^^^ numbers are written without quotes
+/// ```
+#[derive(Debug, Drop)]
+pub struct Report {
+    /// The name of the text, as it was given.
+    pub name: String,
+    /// Where the fault is, in bytes.
+    pub offset: usize,
+    /// Its line and its column, in characters, both counted from 0.
+    pub position: Position,
+    /// How many units of UTF-16 come before it in its line.
+    pub utf16_column: usize,
+    /// The path of the value that it lies in, such as `server.routes[1].methods`; nothing for the document itself.
+    pub path: String,
+    /// What is said of it, such as `expected number, found a string`.
+    pub message: String,
+    /// What to write instead, where that is certain.
+    pub hint: Option<String>,
+    excerpt: Excerpt,
+}
+
+impl Report {
+    ghost use Rattle.json5_report.specs.Reports.{IsReportOf};
+
+    /// Makes the report of an error of reading this text. The name is that of the file. A fault without a position is
+    /// placed where the text ends.
+    ///
+    /// ```text
+    /// match json5::from_str::<Settings>(alloc, text) {
+    ///     Ok(settings) => ..
+    ///     Err(error) => println!(rt; "{}", Report::new(alloc, "settings.json5", text, &error)?)?,
+    /// }
+    /// ```
+    ///
+    /// # Errors
+    ///
+    /// - `OutOfMemory`, without a position, where a request for memory was refused.
+    pub fn new(alloc: Global, name: &str, text: &str, error: &Error) -> Result<Report>
+        ensures { IfOk result (IsReportOf name.now text.now error.now) }
+    {
+        Report::within(alloc, WIDTH, name, text, error)
+    }
+
+    /// Makes the same report, and shows so many columns of a line at most.
+    ///
+    /// ```text
+    /// Report::within(alloc, 120, "settings.json5", text, &error)?
+    /// ```
+    ///
+    /// # Errors
+    ///
+    /// As [`new`](Report::new).
+    pub fn within(
+        alloc: Global,
+        width: usize,
+        name: &str,
+        text: &str,
+        error: &Error,
+    ) -> Result<Report>
+        ensures { IfOk result (IsReportOf name.now text.now error.now) }
+    {
+        let position = position_of(text, error);
+        let offset = offset_of(text, position);
+        let trail = Trail::before(alloc, text, offset)?;
+        let found = found_at(text, offset, &trail);
+        let fault = Fault {
+            text,
+            offset,
+            code: error.code(),
+            message: error.message(),
+            found,
+            trail: &trail,
+        };
+        let remark = remark_of(alloc, &fault)?;
+        let hint = match remark.advice {
+            Some(advice) => Some(format!(in alloc; "{advice}")?),
+            None => None,
+        };
+        Ok(Report {
+            name: String::from_str(alloc, name)?,
+            offset,
+            position,
+            utf16_column: utf16_column(text, offset),
+            path: path_of(alloc, text, offset, &trail)?,
+            message: message_of(alloc, error, found)?,
+            excerpt: Excerpt::of(
+                alloc,
+                width,
+                text,
+                remark.start,
+                remark.end,
+                hint.as_ref().map(String::as_str),
+            )?,
+            hint,
+        })
+    }
+
+    /// The same report in colours, for a terminal. The place has none, so that it can be found.
+    ///
+    /// ```text
+    /// println!(rt; "{}", report.coloured())?
+    /// ```
+    pub fn coloured(&self) -> Coloured<'_>
+        ensures { result.report.now ≡ self.now }
+    {
+        Coloured { report: self }
+    }
+}
+
+/// What is found at the offset.
+fn found_at<'t>(text: &'t str, offset: usize, trail: &Trail) -> Found<'t> {
+    let is_inside = match trail.last {
+        Some(last) => last.holds(offset),
+        None => false,
+    };
+    Found::at(text, offset, is_inside)
+}
+
+/// Prints the place, which is `NAME:LINE:COLUMN`, the path, the message, and the line with the part at fault underlined and
+/// the hint. There is no line end after it.
+impl fmt::Display for Report {
+    ghost use Rattle.json5_report.specs.Reports.{report_text};
+
+    ghost output = { λ r. Some (report_text r) };
+
+    fn fmt<W: fmt::Write>(&self, f: &mut fmt::Formatter<W>) -> fmt::Result {
+        let place = Place {
+            name: &self.name,
+            position: self.position,
+        };
+        let lead = Lead { path: &self.path };
+        let (message, excerpt) = (&self.message, &self.excerpt);
+        write!(f, "{place}: {lead}{message}{excerpt}")
+    }
+}
+
+/// A report that prints in colours.
+#[derive(Clone, Copy)]
+pub struct Coloured<'r> {
+    /// The report.
+    pub report: &'r Report,
+}
+
+/// Prints the report with the message bold, the margin blue and the underline and the hint red. The place has no colour.
+impl fmt::Display for Coloured<'_> {
+    ghost use Rattle.json5_report.specs.Reports.{coloured_text};
+
+    ghost output = { λ c. Some (coloured_text c.report.now) };
+
+    fn fmt<W: fmt::Write>(&self, f: &mut fmt::Formatter<W>) -> fmt::Result {
+        let report = self.report;
+        let place = Place {
+            name: &report.name,
+            position: report.position,
+        };
+        let lead = Lead { path: &report.path };
+        let message = Painted {
+            colour: BOLD,
+            text: &report.message,
+        };
+        let excerpt = ColouredExcerpt {
+            excerpt: &report.excerpt,
+        };
+        write!(f, "{place}: {lead}{message}{excerpt}")
+    }
+}
+
+/// Where a fault is.
+#[derive(Clone, Copy)]
+struct Place<'r> {
+    name: &'r String,
+    position: Position,
+}
+
+/// Prints `NAME:LINE:COLUMN`, counted from 1.
+impl fmt::Display for Place<'_> {
+    ghost use Rattle.json5_report.specs.Places.{place_text};
+
+    ghost output = { λ p. Some (place_text (string_bytes p.name.now) p.position) };
+
+    fn fmt<W: fmt::Write>(&self, f: &mut fmt::Formatter<W>) -> fmt::Result {
+        let name = self.name;
+        let line = self.position.line as u128 + 1;
+        let column = self.position.column as u128 + 1;
+        write!(f, "{name}:{line}:{column}")
+    }
+}
+
+/// A path in front of a message.
+#[derive(Clone, Copy)]
+struct Lead<'r> {
+    path: &'r String,
+}
+
+/// Prints the path, a colon and a space, or nothing for the document itself.
+impl fmt::Display for Lead<'_> {
+    ghost use Rattle.json5_report.specs.Reports.{lead_text};
+
+    ghost output = { λ l. Some (lead_text (string_bytes l.path.now)) };
+
+    fn fmt<W: fmt::Write>(&self, f: &mut fmt::Formatter<W>) -> fmt::Result {
+        let path = self.path.as_str();
+        if path.is_empty() {
+            return Ok(());
+        }
+        write!(f, "{path}: ")
+    }
+}
