@@ -2,6 +2,7 @@
 
 use json5_edit::{EditError, Step};
 use json5_edit_path::PathError;
+use json5_tidier::Unwritten;
 use std::io::Write;
 
 /// How the program is called.
@@ -50,4 +51,18 @@ pub(crate) fn nowhere<E: Write>(file: &str, step: &Step<'_>, e: &mut E) -> u8 {
         }
     };
     1
+}
+
+/// Writes why the file wasn't replaced, in the words of json5_tidy, and returns the status 2.
+pub(crate) fn unwritten<E: Write>(file: &str, why: &Unwritten, e: &mut E) -> u8 {
+    let _ = match why {
+        Unwritten::Refused => writeln!(e, "{file}: cannot be written"),
+        Unwritten::Changed => writeln!(e, "{file}: changed meanwhile, and was left as it is"),
+        Unwritten::NoMemory => writeln!(e, "{file}: out of memory"),
+        Unwritten::Taken(beside) => writeln!(e, "{file}: cannot be written: {beside} is there"),
+        Unwritten::Remains(beside) => {
+            writeln!(e, "{file}: cannot be written, and {beside} remains")
+        }
+    };
+    2
 }

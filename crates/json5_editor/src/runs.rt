@@ -1,12 +1,12 @@
 //! A request, from reading the text to writing what was made.
 
 use crate::edits::{made, steps_that_lead};
-use crate::lines::{nowhere, refused, wrong_path};
+use crate::lines::{nowhere, refused, unwritten, wrong_path};
 use crate::requests::{Request, Work};
 use json5_edit::{EditError, Step};
 use json5_edit_path::Path;
 use json5_formatter::{Disk, Failure, read_text, report};
-use json5_tidier::{Store, Trouble, report_trouble};
+use json5_tidier::Store;
 use std::io::Write;
 
 /// Does what is asked for, and returns the status that the program ends with.
@@ -63,11 +63,7 @@ fn put(rt: &HostRuntime, request: &Request<'_>, old: &str, new: &str) -> u8 {
         _ if old == new => 0,
         _ => match rt.replace(rt.alloc(), request.file, old, new) {
             Ok(()) => 0,
-            Err(unwritten) => report_trouble(
-                request.file,
-                &Trouble::Unwritten(unwritten),
-                &mut rt.stderr(),
-            ),
+            Err(why) => unwritten(request.file, &why, &mut rt.stderr()),
         },
     }
 }

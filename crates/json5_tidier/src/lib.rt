@@ -31,7 +31,6 @@ pub use diffs::diff;
 pub use files::work_through;
 pub use host_program::{program, words};
 pub use options::Options;
-pub use reports::report_trouble;
 pub use requests::{FileRequest, Request};
 pub use stores::{Entry, Store};
 pub use streams::tidy_stream;

@@ -58,11 +58,7 @@ pub(crate) fn no_memory<E: Write>(e: &mut E) -> u8 {
 }
 
 /// Writes why the work on this file ended, as one line, and returns the status that the program ends with.
-///
-/// ```text
-/// app.json5: changed meanwhile, and was left as it is
-/// ```
-pub fn report_trouble<E: Write>(name: &str, trouble: &Trouble, e: &mut E) -> u8
+pub(crate) fn report_trouble<E: Write>(name: &str, trouble: &Trouble, e: &mut E) -> u8
     ensures status { result ≡ trouble_status trouble.now }
     ensures line { AppendsFront (E.contents e.old) (E.contents e.new) (trouble_line name.now trouble.now) }
 {
