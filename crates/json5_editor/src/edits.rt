@@ -32,7 +32,7 @@ fn value_at(alloc: Global, text: &str, steps: &[Step<'_>]) -> Result<String> {
     let Some(value) = text.get(span.start..span.end) else {
         return Err(EditError::Failed);
     };
-    match [value, "\n"].as_slice().concat(alloc) {
+    match format!(in alloc; "{value}\n") {
         Ok(made) => Ok(made),
         Err(_) => Err(EditError::NoMemory),
     }
