@@ -1,5 +1,5 @@
 -- Names that are left to look at, and what they stand for.
-use Rattle.std.proofs.Common.{◌≡◌, ℕ, List, [], ◌∷◌, ◌++◌, map, refl, sym, ap, ◌∙◌, subst, append_assoc, Option, cond}
+use Rattle.std.proofs.Common.{◌≡◌, ℕ, List, [], ◌∷◌, ◌++◌, refl, sym, ap, ◌∙◌, subst, append_assoc, Option, cond}
 use Rattle.std.specs.declared.alloc.Global.{Global}
 use Rattle.std.specs.Prelude.{String, string_bytes, string_cmp, Some, None, reverse, Result, Ok, Err, OnOk, is_ok}
 use Rattle.std.specs.List.Sorted.{IsPermutation, IsSorted}
@@ -7,7 +7,7 @@ use Rattle.std.proofs.lemmas.List.{map-append, reverse-append, reverse-reverse, 
 use Rattle.std.proofs.lemmas.List.Sorted.{IsPermutation-map}
 use Rattle.json5_tidier.specs.declared.stores.Entry.{Entry}
 use Rattle.json5_tidier.specs.declared.stores.Entry.TheVariants as entry
-use Rattle.json5_tidier.specs.Folders.{AreBelow, none, file, unsought, unknown, other, passed, folder, IsBelow, unread, read, IsSought, IsPassedOver, names_of}
+use Rattle.json5_tidier.specs.Folders.{AreBelow, none, file, unsought, unknown, other, passed, folder, unread, read, IsPassedOver, names_of}
 use Rattle.json5_tidier.specs.FolderSteps.{Leads, Opens, Gathering, Gathers, left_of}
 
 pub on_ok : {T E P Q : Type 0} (r : Result T E) → (P → Q) → OnOk r P → OnOk r Q

@@ -1,6 +1,6 @@
 -- How the names that are left to look at, and the files that were found, go on.
 use Rattle.std.specs.declared.alloc.Global.{Global}
-use Rattle.std.specs.Prelude.{◌≡◌, ℕ, List, [], ◌∷◌, ◌++◌, map, reverse, Option, String}
+use Rattle.std.specs.Prelude.{◌≡◌, ℕ, List, ◌++◌, reverse, Option, String}
 use Rattle.json5_tidier.specs.declared.stores.Entry.{Entry}
 use Rattle.json5_tidier.specs.Folders.{AreBelow, IsBelow, names_of}
 

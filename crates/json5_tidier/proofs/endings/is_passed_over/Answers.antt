@@ -1,4 +1,4 @@
-use Rattle.std.proofs.Common.{inl, inr, sym, true≢false, ⊎_elim}
+use Rattle.std.proofs.Common.{inl, inr, ⊎_elim}
 use lib.Chars.{codes}
 use Rattle.json5_tidier.proofs.NamesEnded.{ends_decided}
 use Rattle.json5_tidier.proofs.endings.is_passed_over.Goals as goal

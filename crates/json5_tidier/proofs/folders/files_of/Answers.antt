@@ -1,4 +1,4 @@
-use Rattle.std.proofs.Common.{sym, subst, ap, ◌∙◌, List, ℕ, ◌++◌, ◌∷◌, []}
+use Rattle.std.proofs.Common.{sym, subst, ap, ◌∙◌, ◌++◌, ◌∷◌, []}
 use Rattle.json5_tidier.specs.Folders.{itself, below, IsBelow, StandsFor, names_of}
 use Rattle.json5_tidier.proofs.folders.files_of.Goals as goal
 

@@ -1,5 +1,3 @@
-use Rattle.std.proofs.Common.{List, ℕ, ◌≡◌, ◌∙◌, ap, refl}
-use Rattle.std.specs.Prelude.{Result, Ok, Err, OnOk}
 use Rattle.json5_tidier.proofs.FoldersOpened.{on_ok, appended, opens_unread, opens_read}
 use Rattle.json5_tidier.proofs.folders.push_entries.Goals as goal
 
