@@ -1,6 +1,6 @@
 -- The place that was found, and another value in it.
 use Rattle.std.proofs.Common.{◌≡◌, ◌&&◌, ℕ, ◌≤◌, ◌-◌, Bool, true, false, List, [], ◌∷◌, ◌++◌, length, refl, ap, sym, ◌∙◌, append_assoc, subst, Option, Some, None, arith, take, drop}
-use Rattle.std.specs.Prelude.{option_map, MatchOption, slice_get, IfOk, Result, Ok, Err}
+use Rattle.std.specs.Prelude.{option_map, MatchOption, slice_get, slice_range, IfOk, Result, Ok, Err}
 use Rattle.std.specs.Str.{chars, IsUtf8, IsCharBoundary, all_scalars, encode_utf8_all}
 use Rattle.std.proofs.lemmas.Str.{encodes-chars, encodes-append, chars-encodes, scalars-chars, chars-append, IsCharBoundary-at_seam}
 use Rattle.std.proofs.Math.Utf8.{scalar}
@@ -18,7 +18,7 @@ use Rattle.json5_walk.specs.Frames.{Frame, in_array, in_object, ClosesTo, At, at
 use Rattle.json5_walk.specs.Moves.{Stays, stays}
 use Rattle.json5_walk.specs.Walks.{Walked, at_start, Trail, Marked, IsMarked, IsAt, Moved, Ends}
 use Rattle.json5_walk.proofs.Rests.{append_nil, value_completes}
-use Rattle.json5_walk.proofs.Calls.{starts_at, passed, room_fits}
+use Rattle.json5_walk.proofs.Calls.{starts_at, passed, room_fits, bytes_joined}
 use Rattle.json5_edit.specs.Parts.{part, part_at, part_under, put, put_at, put_under, count, count_members, positions, positions_of}
 use Rattle.json5_edit.specs.Places.{IsValue, IsPart, HasPlace, IsPlace, Leads}
 use Rattle.json5_edit.specs.Seeks.{Finds, Seeks}
@@ -93,7 +93,7 @@ placed limit bytes path w None (Some o) l f q = absurd q
 placed limit bytes path w (Some p) None l f q = absurd q
 placed limit bytes path w (Some p) (Some o) l f q = is_place limit bytes path w p o l (somewhere path w o f) q
 
-same_tree : {t w : Tree} → at_comma t [] ≡ at_comma w [] → t ≡ w
+pub same_tree : {t w : Tree} → at_comma t [] ≡ at_comma w [] → t ≡ w
 same_tree e = cc
 
 at_first : {v : Walked} {a : At} {m : Option (List Frame)} {o : List Frame} → Stays (at_value o) a → IsAt v (record { now = a; marked = m }) → IsAt v (record { now = at_value o; marked = m })
@@ -120,18 +120,18 @@ both : (x y : Bool) → (x && y) ≡ true → (x ≡ true) × (y ≡ true)
 both true y e = (refl, e)
 both false y e = absurd (cc)
 
-scalars_left : (xs ys : List ℕ) → all_scalars (xs ++ ys) ≡ true → all_scalars xs ≡ true
+pub scalars_left : (xs ys : List ℕ) → all_scalars (xs ++ ys) ≡ true → all_scalars xs ≡ true
 scalars_left [] ys e = refl
 scalars_left (c ∷ xs) ys e = let k = both (scalar c) (all_scalars (xs ++ ys)) e in rw (k.0, scalars_left xs ys k.1) refl
 
-scalars_right : (xs ys : List ℕ) → all_scalars (xs ++ ys) ≡ true → all_scalars ys ≡ true
+pub scalars_right : (xs ys : List ℕ) → all_scalars (xs ++ ys) ≡ true → all_scalars ys ≡ true
 scalars_right [] ys e = e
 scalars_right (c ∷ xs) ys e = scalars_right xs ys (both (scalar c) (all_scalars (xs ++ ys)) e).1
 
-bytes_cut : (bytes x y : List ℕ) → IsUtf8 bytes → chars bytes ≡ x ++ y → bytes ≡ encode_utf8_all x ++ encode_utf8_all y
+pub bytes_cut : (bytes x y : List ℕ) → IsUtf8 bytes → chars bytes ≡ x ++ y → bytes ≡ encode_utf8_all x ++ encode_utf8_all y
 bytes_cut bytes x y u e = sym (encodes-chars bytes u) ∙ ap encode_utf8_all e ∙ encodes-append x y
 
-encoded : (x : List ℕ) → all_scalars x ≡ true → IsUtf8 (encode_utf8_all x)
+pub encoded : (x : List ℕ) → all_scalars x ≡ true → IsUtf8 (encode_utf8_all x)
 encoded x s = (x, (s, refl))
 
 seam : (bytes x y : List ℕ) → IsUtf8 bytes → chars bytes ≡ x ++ y → IsCharBoundary bytes (bytes_in x)
@@ -154,6 +154,25 @@ pub after_there : {bytes before old after : List ℕ} {p : Place} → IsUtf8 byt
 after_there {bytes = bytes} {before = before} {old = old} {after = after} {p = p} u cut =
     ap (λ n. drop n bytes) cut.ends ∙ ap (drop (bytes_in (before ++ old))) (bytes_cut bytes (before ++ old) after u (whole_cut cut)) ∙ drop-append_seam (encode_utf8_all (before ++ old)) (encode_utf8_all after)
 
+-- the text between two others
+pub slice_there : (bytes before old after : List ℕ) → IsUtf8 bytes → chars bytes ≡ before ++ (old ++ after) → slice_range bytes (bytes_in before) (bytes_in (before ++ old)) ≡ encode_utf8_all old
+slice_there bytes before old after u e =
+    let size : bytes_in (before ++ old) - bytes_in before ≡ bytes_in old = let j = bytes_joined before old in omega (arith, j) in
+    let rest : drop (bytes_in before) bytes ≡ encode_utf8_all old ++ encode_utf8_all after =
+    ap (drop (bytes_in before)) (bytes_cut bytes before (old ++ after) u e) ∙ drop-append_seam (encode_utf8_all before) (encode_utf8_all (old ++ after)) ∙ encodes-append old after in
+    ap (λ n. take n (drop (bytes_in before) bytes)) size ∙ ap (take (bytes_in old)) rest ∙ take-append_seam (encode_utf8_all old) (encode_utf8_all after)
+
+pub part_there : {bytes part before old after : List ℕ} {p : Place} → IsUtf8 bytes → part ≡ slice_range bytes p.start p.end → IsPart bytes p before old after → part ≡ encode_utf8_all old
+part_there {bytes = bytes} {before = before} {old = old} {after = after} {p = p} u e cut =
+    e ∙ ap (λ n. slice_range bytes n p.end) cut.starts ∙ ap (slice_range bytes (bytes_in before)) cut.ends ∙ slice_there bytes before old after u cut.whole
+
+pub is_part_text : {bytes : List ℕ} {p : Place} → IsUtf8 bytes → HasPlace bytes p → (p.start ≤ p.end → IsCharBoundary bytes p.start → IsCharBoundary bytes p.end → ⊥) → ⊥
+is_part_text {bytes = bytes} {p = p} u (before, old, after, cut) k =
+    let j = bytes_joined before old in
+    let s = cut.starts in
+    let e = cut.ends in
+    k (omega (arith, j, s, e)) (starts_there u (before, old, after, cut)) (ends_there u (before, old, after, cut))
+
 -- ---- the text that is made
 
 nothing_next : (x : List ℕ) → slice_get x 0 ≡ None → x ≡ []
@@ -171,8 +190,8 @@ pub ok_then : {A B : Type 0} {P Q : A → Type 0} (r : Result A B) → ((a : A) 
 ok_then (Ok a) k p = k a p
 ok_then (Err e) k p = tt
 
-pub set_is : (bytes new made : List ℕ) (path : List Step) (p : Place) → IsUtf8 bytes → IsUtf8 new → Leads bytes path (Some p) → IsValue p.room (chars new) → ((before old after : List ℕ) → IsPart bytes p before old after → made ≡ encode_utf8_all before ++ (new ++ encode_utf8_all after)) → IsSet bytes path new made
-set_is bytes new made path p u v leads (t, val, d) k =
+pub set_at : (bytes new made : List ℕ) (path : List Step) (p : Place) → IsUtf8 bytes → IsUtf8 new → (leads : Leads bytes path (Some p)) → IsValue p.room (chars new) → ((before old after : List ℕ) → IsPart bytes p before old after → made ≡ encode_utf8_all before ++ (new ++ encode_utf8_all after)) → (s : IsSet bytes path new made) × (s.old ≡ encode_utf8_all leads.placed.old)
+set_at bytes new made path p u v leads (t, val, d) k =
     let q = leads.placed in
     let b = q.before in
     let o = q.old in
@@ -187,21 +206,26 @@ set_is bytes new made path p u v leads (t, val, d) k =
     ap chars now ∙ chars-append (encode_utf8_all b) (new ++ encode_utf8_all a) (encoded b b_scalars)
     ∙ ap (λ z. z ++ chars (new ++ encode_utf8_all a)) (chars-encodes b b_scalars)
     ∙ ap (λ z. b ++ z) (chars-append new (encode_utf8_all a) v)
-    ∙ ap (λ z. b ++ (chars new ++ z)) (chars-encodes a a_scalars) in
-    record {
-      before = encode_utf8_all b;
-      old = encode_utf8_all o;
-      after = encode_utf8_all a;
-      was = bytes_cut bytes b (o ++ a) u q.cut.whole ∙ ap (λ z. encode_utf8_all b ++ z) (encodes-append o a);
-      now = now;
-      tree = leads.tree;
-      old_tree = q.tree;
-      new_tree = t;
-      positions = q.positions;
-      led = q.led;
-      old_value = subst (λ z. Val z q.tree) (sym (chars-encodes o o_scalars)) q.value;
-      new_value = val;
-      there = q.there;
-      document = leads.document;
-      still = subst (λ z. Doc max_depth z (put q.positions leads.tree t)) (sym whole) (q.welcome (chars new) t val d);
-    }
+    ∙ ap (λ z. b ++ (chars new ++ z)) (chars-encodes a a_scalars) in (
+      record {
+        before = encode_utf8_all b;
+        old = encode_utf8_all o;
+        after = encode_utf8_all a;
+        was = bytes_cut bytes b (o ++ a) u q.cut.whole ∙ ap (λ z. encode_utf8_all b ++ z) (encodes-append o a);
+        now = now;
+        tree = leads.tree;
+        old_tree = q.tree;
+        new_tree = t;
+        positions = q.positions;
+        led = q.led;
+        old_value = subst (λ z. Val z q.tree) (sym (chars-encodes o o_scalars)) q.value;
+        new_value = val;
+        there = q.there;
+        document = leads.document;
+        still = subst (λ z. Doc max_depth z (put q.positions leads.tree t)) (sym whole) (q.welcome (chars new) t val d);
+      },
+      refl,
+    )
+
+pub set_is : (bytes new made : List ℕ) (path : List Step) (p : Place) → IsUtf8 bytes → IsUtf8 new → Leads bytes path (Some p) → IsValue p.room (chars new) → ((before old after : List ℕ) → IsPart bytes p before old after → made ≡ encode_utf8_all before ++ (new ++ encode_utf8_all after)) → IsSet bytes path new made
+set_is bytes new made path p u v leads k made_is = (set_at bytes new made path p u v leads k made_is).0

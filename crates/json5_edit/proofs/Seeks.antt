@@ -26,7 +26,7 @@ use Rattle.json5_edit.proofs.PartsFound.{count_snoc, found_element, same_element
 
 -- ---- one step after another
 
-stayed : {x a : At} {m : Option (List Frame)} {v : Walked} → Stays x a → IsAt v (record { now = a; marked = m }) → IsAt v (record { now = x; marked = m })
+pub stayed : {x a : At} {m : Option (List Frame)} {v : Walked} → Stays x a → IsAt v (record { now = a; marked = m }) → IsAt v (record { now = x; marked = m })
 stayed (stays a) f = f
 
 pub after_gap : {old mid new : Walked} {Step : At → At → Type 0} → Moved Stays old mid → Moved Step mid new → Moved Step old new
@@ -36,7 +36,7 @@ after_gap p q = record {
   leads = λ s f. let (a, is, g) = p.leads s f in q.leads s (stayed is g);
 }
 
-before_gap : {old mid new : Walked} {Step : At → At → Type 0} → Moved Step old mid → Moved Stays mid new → Moved Step old new
+pub before_gap : {old mid new : Walked} {Step : At → At → Type 0} → Moved Step old mid → Moved Stays mid new → Moved Step old new
 before_gap p q = record {
   text = q.text ∙ p.text;
   limit = q.limit ∙ p.limit;
@@ -66,13 +66,13 @@ named key p gap q last h =
 
 -- ---- what a step makes of where the walk is
 
-value_taken : {room : ℕ} {x y : List ℕ} {a b : At} → TakesValue room x y a b → (t : Tree) × (s : List ℕ) × (b ≡ at_comma t (value_frames a)) × (true ≡ takes_value (next_of a)) × (x ≡ s ++ y) × Val s t × (depth t ≤ room)
+pub value_taken : {room : ℕ} {x y : List ℕ} {a b : At} → TakesValue room x y a b → (t : Tree) × (s : List ℕ) × (b ≡ at_comma t (value_frames a)) × (true ≡ takes_value (next_of a)) × (x ≡ s ++ y) × Val s t × (depth t ≤ room)
 value_taken (takes a t s d e v h) = (t, s, refl, d, e, v, h)
 
-array_opened : {a b : At} → Opens kind.Array a b → b ≡ at_element no_more (value_frames a)
+pub array_opened : {a b : At} → Opens kind.Array a b → b ≡ at_element no_more (value_frames a)
 array_opened (opens_array a v) = refl
 
-object_opened : {a b : At} → Opens kind.Object a b → b ≡ at_key no_member (value_frames a)
+pub object_opened : {a b : At} → Opens kind.Object a b → b ≡ at_key no_member (value_frames a)
 object_opened (opens_object a v) = refl
 
 elements_closed : {ts : Trees} {o : List Frame} {b : At} → Closes (at_element ts o) b → b ≡ at_comma (array ts) o
@@ -96,7 +96,7 @@ comma_in_object (after_member ps u e t o) = refl
 name_gives : {key : List ℕ} {same : Bool} {ps : Members} {o : List Frame} {b : At} → TakesName key same (at_key ps o) b → (u : List ℕ) × (e : Bool) × (b ≡ at_value (in_object ps u e ∷ o)) × (same ≡ pointwise nat_eq (encode_utf8_all u) key)
 name_gives (takes_name ps u e o h) = (u, e, refl, h)
 
-there : {v : Walked} {a b : At} {m : Option (List Frame)} → a ≡ b → IsAt v (record { now = a; marked = m }) → IsAt v (record { now = b; marked = m })
+pub there : {v : Walked} {a b : At} {m : Option (List Frame)} → a ≡ b → IsAt v (record { now = a; marked = m }) → IsAt v (record { now = b; marked = m })
 there {v = v} {m = m} e f = subst (λ a. IsAt v (record { now = a; marked = m })) e f
 
 -- ---- values that aren't gone into

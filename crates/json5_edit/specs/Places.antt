@@ -1,5 +1,5 @@
 -- Where a path leads in a text.
-use Rattle.std.specs.Prelude.{◌≡◌, ℕ, ◌≤◌, List, ◌++◌, Option, Some, None, MatchOption, option_map}
+use Rattle.std.specs.Prelude.{◌≡◌, ℕ, ◌≤◌, List, ◌++◌, Option, Some, None, MatchOption, option_map, ⊤}
 use Rattle.std.specs.Str.{chars}
 use Rattle.json5_grammar.specs.Language.Documents.{Doc, max_depth}
 use Rattle.json5_grammar.specs.Language.Trees.{Tree, depth}
@@ -7,6 +7,8 @@ use Rattle.json5_grammar.specs.Language.Values.{Val}
 use Rattle.json5_text.specs.Outcome.{bytes_in}
 use Rattle.json5_walk.specs.declared.place.Place.{Place}
 use Rattle.json5_edit.specs.Parts.{part, put, positions_of}
+use Rattle.json5_edit.specs.declared.faults.EditError.{EditError}
+use Rattle.json5_edit.specs.declared.faults.EditError.TheVariants as error
 use Rattle.json5_edit.specs.declared.places.Span.{Span}
 use Rattle.json5_edit.specs.declared.paths.Step.{Step}
 
@@ -43,6 +45,15 @@ pub record Leads (text : List ℕ) (path : List Step) (place : Option Place) : T
   pub tree : Tree
   pub document : Doc max_depth (chars text) tree
   pub placed : MatchOption place (positions_of path tree ≡ None) (IsPlace text path tree)
+
+-- the text is a document, and the path leads nowhere in it
+abbrev pub LeadsNowhere : List ℕ → List Step → Type 0
+LeadsNowhere text path = (t : Tree) × Doc max_depth (chars text) t × (positions_of path t ≡ None)
+
+-- an edit is refused at its path only where that leads nowhere
+abbrev pub RefusesPath : List ℕ → List Step → EditError → Type 0
+RefusesPath text path error.Nowhere = LeadsNowhere text path
+RefusesPath text path _ = ⊤
 
 abbrev pub span_of : Place → Span
 span_of p = record { start = p.start; end = p.end }

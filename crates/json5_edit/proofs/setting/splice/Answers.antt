@@ -9,7 +9,7 @@ split_at-requires c = starts_there c.utf8.text c.requires
 pub split_at-requires-2 : goal.split_at-requires-2
 split_at-requires-2 c = ends_there c.utf8.text c.requires
 
-pub returns : goal.returns
-returns c = ok_then c.join.result (λ made e before old after cut.
+pub returns-clause-spliced : goal.returns-clause-spliced
+returns-clause-spliced c = ok_then c.join.result (λ made e before old after cut.
     e ∙ ap (λ z. z ++ (c.args.new.now ++ c.split_at-2.result.1.now)) (c.split_at.ensures.front ∙ before_there c.utf8.text cut)
-    ∙ ap (λ z. encode_utf8_all before ++ (c.args.new.now ++ z)) (c.split_at-2.ensures.back ∙ after_there c.utf8.text cut)) c.join.ensures
+    ∙ ap (λ z. encode_utf8_all before ++ (c.args.new.now ++ z)) (c.split_at-2.ensures.back ∙ after_there c.utf8.text cut)) c.join.ensures.joined

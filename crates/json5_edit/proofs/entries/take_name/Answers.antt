@@ -1,0 +1,6 @@
+use Rattle.json5_edit.proofs.EntriesPassed.{name_moves}
+use Rattle.std.proofs.Common.{refl}
+use Rattle.json5_edit.proofs.entries.take_name.Goals as goal
+
+pub returns : goal.returns
+returns c = name_moves c.in_ok-key.ensures c.in_ok-gap.ensures (c.if-not-colon.ensures refl) c.in_ok-gap-2.ensures

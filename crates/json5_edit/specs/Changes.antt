@@ -1,0 +1,60 @@
+-- A text with a collection changed.
+use Rattle.std.specs.Prelude.{◌≡◌, ℕ, List, [], ◌∷◌, ◌++◌, Some}
+use Rattle.std.specs.Str.{chars}
+use Rattle.json5_grammar.specs.Language.Documents.{Doc, max_depth}
+use Rattle.json5_grammar.specs.Language.Trees.{Tree}
+use Rattle.json5_grammar.specs.Language.Values.{Val}
+use Rattle.json5_value.specs.declared.brackets.BracketKind.{BracketKind as Kind}
+use Rattle.json5_value.specs.declared.brackets.BracketKind.TheVariants as kind
+use Rattle.json5_edit.specs.Comparing.{IsWithout, IsWithLast, IsRenamed}
+use Rattle.json5_edit.specs.Parts.{part, put, positions_of}
+use Rattle.json5_edit.specs.declared.paths.Step.{Step}
+
+-- ---- collections alone
+
+-- both texts are documents, and the trees are so changed
+abbrev pub ChangesBy : (Tree → Tree → Type 0) → List ℕ → List ℕ → Type 0
+ChangesBy Change old new = (t : Tree) × (u : Tree) × Doc max_depth (chars old) t × Doc max_depth (chars new) u × Change t u
+
+-- one entry more, the last, with the value that these bytes spell
+abbrev pub Gains : Kind → List ℕ → List ℕ → Tree → Tree → Type 0
+Gains k key value t u = (v : Tree) × Val (chars value) v × IsWithLast k key v t u
+
+-- ---- whole texts
+
+-- the text `made` is the text with the collection that the path leads to changed so; both are documents, and the tree
+-- is the old one with that part replaced
+pub record IsChanged (Change : Tree → Tree → Type 0) (text : List ℕ) (path : List Step) (made : List ℕ) : Type 0 where
+  pub before : List ℕ
+  pub old : List ℕ
+  pub new : List ℕ
+  pub after : List ℕ
+  pub was : text ≡ before ++ (old ++ after)
+  pub now : made ≡ before ++ (new ++ after)
+  pub tree : Tree
+  pub old_tree : Tree
+  pub new_tree : Tree
+  pub positions : List ℕ
+  pub led : positions_of path tree ≡ Some positions
+  pub old_value : Val (chars old) old_tree
+  pub new_value : Val (chars new) new_tree
+  pub there : part positions tree ≡ Some old_tree
+  pub document : Doc max_depth (chars text) tree
+  pub still : Doc max_depth (chars made) (put positions tree new_tree)
+  pub changed : Change old_tree new_tree
+
+-- without the entry that the path leads to
+abbrev pub IsRemoved : List ℕ → List Step → List ℕ → Type 0
+IsRemoved text path made = (outer : List Step) × (s : Step) × (path ≡ outer ++ (s ∷ [])) × IsChanged (IsWithout s) text outer made
+
+-- with one more element at the end of the array that the path leads to
+abbrev pub IsPushed : List ℕ → List Step → List ℕ → List ℕ → Type 0
+IsPushed text path value made = IsChanged (Gains kind.Array [] value) text path made
+
+-- with one more member, the last, of the object that the path leads to
+abbrev pub IsInserted : List ℕ → List Step → List ℕ → List ℕ → List ℕ → Type 0
+IsInserted text path key value made = IsChanged (Gains kind.Object key value) text path made
+
+-- with another key for the member that the path leads to
+abbrev pub IsRekeyed : List ℕ → List Step → List ℕ → List ℕ → Type 0
+IsRekeyed text path key made = (outer : List Step) × (s : Step) × (path ≡ outer ++ (s ∷ [])) × IsChanged (IsRenamed s key) text outer made

@@ -1,0 +1,88 @@
+//! Why an edit isn't made.
+
+ghost use Rattle.std.specs.Prelude.{◌≢◌};
+ghost use Rattle.json5_edit.specs.declared.faults.EditError.TheVariants as edit_errors;
+
+use json5_types::ErrorCode;
+use json5_types::error::Error;
+use std::fmt;
+
+/// Why an edit isn't made. Nothing is changed then.
+///
+/// ```text
+/// set(alloc, "{}", &[Step::Key("port")], "80")    // Err(EditError::Nowhere)
+/// ```
+#[derive(Debug, Drop)]
+pub enum EditError {
+    /// The text is no document.
+    Text(Error),
+    /// The path leads nowhere.
+    Nowhere,
+    /// What is to be put there isn't one value alone, or is nested too deep for its place.
+    Value(Error),
+    /// A member with the key is there already.
+    Taken,
+    /// The step goes to a member, and the value that it starts from is no object.
+    NotObject,
+    /// The step goes to an element, and the value that it starts from is no array.
+    NotArray,
+    /// The path has no step, or its last one goes to an element and not to a member.
+    NoKey,
+    /// Memory ran out.
+    NoMemory,
+    /// The text that was made didn't read as it should.
+    Failed,
+}
+
+/// What an edit returns: the new text, or why it isn't made.
+pub type Result<T> = std::result::Result<T, EditError>;
+
+impl EditError {
+    /// Returns the error of an edit whose reading of the document ended with this fault.
+    ///
+    /// ```text
+    /// EditError::of_text(error)    // NoMemory where memory ran out, else Text
+    /// ```
+    pub fn of_text(error: Error) -> EditError
+        ensures { result ≢ edit_errors.Nowhere }
+    {
+        match error.code() {
+            Some(ErrorCode::OutOfMemory) => EditError::NoMemory,
+            _ => EditError::Text(error),
+        }
+    }
+
+    /// The error that reading what is to be put there ended with.
+    pub(crate) fn of_value(error: Error) -> EditError
+        ensures { result ≢ edit_errors.Nowhere }
+    {
+        match error.code() {
+            Some(ErrorCode::OutOfMemory) => EditError::NoMemory,
+            _ => EditError::Value(error),
+        }
+    }
+
+    /// The error that reading what was made ended with.
+    pub(crate) fn of_made(error: Error) -> EditError {
+        match error.code() {
+            Some(ErrorCode::OutOfMemory) => EditError::NoMemory,
+            _ => EditError::Failed,
+        }
+    }
+}
+
+impl fmt::Display for EditError {
+    fn fmt<W: fmt::Write>(&self, f: &mut fmt::Formatter<W>) -> fmt::Result {
+        match self {
+            EditError::Text(error) => write!(f, "{error}"),
+            EditError::Nowhere => write!(f, "the path leads nowhere"),
+            EditError::Value(error) => write!(f, "the value that is to be put there: {error}"),
+            EditError::Taken => write!(f, "a member with this key is there already"),
+            EditError::NotObject => write!(f, "the path goes to a member of what is no object"),
+            EditError::NotArray => write!(f, "the path goes to an element of what is no array"),
+            EditError::NoKey => write!(f, "the path doesn't end in a key"),
+            EditError::NoMemory => write!(f, "out of memory"),
+            EditError::Failed => write!(f, "the edit can't be made"),
+        }
+    }
+}

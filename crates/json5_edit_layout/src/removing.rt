@@ -1,0 +1,124 @@
+//! A collection's text without one of its entries.
+
+use crate::gaps::{Care, Gap, between};
+use crate::lines::after_empty_line;
+use crate::spots::{Around, Spot, find_around};
+use json5_types::ErrorCode;
+use json5_types::error::{Error, Result};
+use std::alloc::Global;
+
+/// What goes: a part, and the comma at an offset before it.
+#[derive(Clone, Copy, Drop)]
+struct Cut {
+    comma: Option<usize>,
+    start: usize,
+    end: usize,
+}
+
+/// Returns the collection's text without the entry with this index: without its comma, the comments that belong to it,
+/// and its line, if it has one to itself.
+///
+/// ```text
+/// without_entry(alloc, Care::Lines, "{ a: 1, /* b */ b: 2 }", 1)?    // { a: 1 }
+/// ```
+///
+/// # Errors
+///
+/// - `Failed`, if there is no such entry.
+/// - As reading, if the text is no value; `OutOfMemory` where there is no memory for the text.
+pub fn without_entry(alloc: Global, care: Care, text: &str, index: usize) -> Result<String> {
+    let around = find_around(alloc, text, index)?;
+    let Some(here) = around.here else {
+        return Err(Error::new(ErrorCode::Failed));
+    };
+    let cut = cut_of(care, text, around, here);
+    let (comma, from) = match cut.comma {
+        Some(comma) => (comma, comma.saturating_add(1)),
+        None => (cut.start, cut.start),
+    };
+    joined(
+        alloc,
+        &[
+            between(text, 0, comma),
+            between(text, from, cut.start),
+            between(text, cut.end, text.len()),
+        ],
+    )
+}
+
+/// The texts one after another.
+pub(crate) fn joined(alloc: Global, parts: &[&str]) -> Result<String> {
+    match parts.concat(alloc) {
+        Ok(made) => Ok(made),
+        Err(_) => Err(Error::new(ErrorCode::OutOfMemory)),
+    }
+}
+
+/// What goes with the entry.
+fn cut_of(care: Care, text: &str, around: Around, here: Spot) -> Cut {
+    let from = match around.before {
+        Some(spot) => spot.full_end(),
+        None => 1,
+    };
+    let until = match around.after {
+        Some(spot) => spot.start,
+        None => around.close,
+    };
+    let left = Gap::of(care, text, from, here.start);
+    let right = Gap::of(care, text, here.full_end(), until);
+    let (start, end) = part(text, around, from, left, right);
+    if around.count == 1 && !has_comment(text, 1, start) && !has_comment(text, end, around.close) {
+        return Cut {
+            comma: None,
+            start: 1,
+            end: around.close,
+        };
+    }
+    match comma_before(around, here) {
+        Some(comma) if start == from => Cut {
+            comma: None,
+            start: comma,
+            end,
+        },
+        comma => Cut { comma, start, end },
+    }
+}
+
+/// The comma before the last entry, which goes with it if it has none itself.
+fn comma_before(around: Around, here: Spot) -> Option<usize> {
+    if around.after.is_some() || here.comma.is_some() {
+        return None;
+    }
+    around.before?.comma
+}
+
+/// From where to where it goes, by the lines that it shares with others.
+fn part(text: &str, around: Around, from: usize, left: Gap, right: Gap) -> (usize, usize) {
+    let is_last = around.after.is_none();
+    match (left.line_end, right.line_end) {
+        (Some(_), Some(_)) => lines(text, around, left, right),
+        (_, None) if !is_last => (left.own, right.first),
+        (Some(at), None) if left.tail == from && left.lead == left.next_line => (at, right.tail),
+        (Some(_), None) => (left.own, right.tail),
+        (None, Some(_)) => (from, right.tail),
+        (None, None) => (from, right.tail),
+    }
+}
+
+/// From where to where its lines go, with an empty line where two would meet or one would stand beside a bracket.
+fn lines(text: &str, around: Around, left: Gap, right: Gap) -> (usize, usize) {
+    let is_after_empty = left.lead > left.next_line;
+    let closes = around.after.is_none() && right.last_line == right.next_line;
+    if closes && is_after_empty && !has_comment(text, left.next_line, left.lead) {
+        return (left.next_line, right.next_line);
+    }
+    if is_after_empty || around.before.is_none() {
+        return (left.lead, after_empty_line(text, right.next_line));
+    }
+    (left.lead, right.next_line)
+}
+
+/// Whether a comment stands between these offsets, which hold blanks and comments alone.
+fn has_comment(text: &str, from: usize, until: usize) -> bool {
+    between(text, from, until).contains('/')
+}
