@@ -1,5 +1,5 @@
 -- What is written of a value is the written text of its tree, and the document of that tree.
-use Rattle.std.proofs.Common.{◌≡◌, ℕ, List, Option, Result, Ok, Err, refl}
+use Rattle.std.proofs.Common.{ℕ, List, Option, Result, Ok, Err, refl}
 use Rattle.std.specs.Prelude.{OnOk, IfOk, String, string_bytes}
 use Rattle.std.specs.Str.{encode_utf8_all}
 use Rattle.std.specs.declared.alloc.Global.{Global}

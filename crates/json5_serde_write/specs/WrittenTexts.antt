@@ -1,10 +1,10 @@
 -- What is written of a type that says nothing of its values.
-use Rattle.std.specs.Prelude.{◌≡◌, ℕ, List, Option}
-use Rattle.std.specs.Str.{chars, encode_utf8_all}
+use Rattle.std.specs.Prelude.{ℕ, List, Option}
+use Rattle.std.specs.Str.{chars}
 use Rattle.std.specs.Io.KnownBytes.{Appends}
 use Rattle.json5_grammar.specs.Language.Documents.{Doc}
 use Rattle.json5_write.specs.EscapeFreeMarks.{marks}
-use Rattle.json5_write.specs.Out.{text_within, whole}
+use Rattle.json5_write.specs.Out.{text_within}
 use Rattle.json5_write.specs.WholeOutputs.{IsText}
 use Rattle.json5_write.specs.WrittenTrees.{Written}
 
