@@ -308,7 +308,7 @@ utf8_len bytes u = ap length (sym (encodes-chars bytes u))
 pub bytes_joined : (xs ys : List ℕ) → bytes_in (xs ++ ys) ≡ bytes_in xs + bytes_in ys
 bytes_joined xs ys = ap length (encodes-append xs ys) ∙ length-append (encode_utf8_all xs) (encode_utf8_all ys)
 
-bytes_before : (bytes front y : List ℕ) → IsUtf8 bytes → chars bytes ≡ front ++ y → length bytes - bytes_in y ≡ bytes_in front
+pub bytes_before : (bytes front y : List ℕ) → IsUtf8 bytes → chars bytes ≡ front ++ y → length bytes - bytes_in y ≡ bytes_in front
 bytes_before bytes front y u e =
     let a : length bytes ≡ bytes_in front + bytes_in y = utf8_len bytes u ∙ ap bytes_in e ∙ bytes_joined front y in
     omega (arith, a)
