@@ -41,12 +41,6 @@ pub struct Strict {
 }
 
 #[derive(Debug, Drop, PartialEq, Serialize, Deserialize)]
-pub struct W {
-    a: i32,
-    b: i32,
-}
-
-#[derive(Debug, Drop, PartialEq, Serialize, Deserialize)]
 pub enum E {
     W { a: i32, b: i32 },
     X(i32, i32),
