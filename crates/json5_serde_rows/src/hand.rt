@@ -4,7 +4,7 @@ use serde::{Described, Deserialize, Deserializer, Format, Name, Serialize, Seria
 use std::alloc::Global;
 
 /// Passes over any value.
-#[derive(Debug, Drop, PartialEq)]
+#[derive(Drop)]
 pub struct Skip;
 
 impl<'de> Deserialize<'de> for Skip {
@@ -18,7 +18,7 @@ impl<'de> Deserialize<'de> for Skip {
 }
 
 /// Reads nothing.
-#[derive(Debug, Drop, PartialEq)]
+#[derive(Drop)]
 pub struct Unread;
 
 impl<'de> Deserialize<'de> for Unread {
@@ -32,7 +32,7 @@ impl<'de> Deserialize<'de> for Unread {
 }
 
 /// Leaves an array open.
-#[derive(Debug, Drop, PartialEq)]
+#[derive(Drop)]
 pub struct Half;
 
 impl<'de> Deserialize<'de> for Half {
@@ -46,7 +46,7 @@ impl<'de> Deserialize<'de> for Half {
 }
 
 /// Reads two values where one stands.
-#[derive(Debug, Drop, PartialEq)]
+#[derive(Drop)]
 pub struct Twice;
 
 impl<'de> Deserialize<'de> for Twice {
@@ -61,7 +61,7 @@ impl<'de> Deserialize<'de> for Twice {
 }
 
 /// Reads a value where a key comes.
-#[derive(Debug, Drop, PartialEq)]
+#[derive(Drop)]
 pub struct Keyless;
 
 impl<'de> Deserialize<'de> for Keyless {
@@ -76,7 +76,7 @@ impl<'de> Deserialize<'de> for Keyless {
 }
 
 /// Asks an array for keys.
-#[derive(Debug, Drop, PartialEq)]
+#[derive(Drop)]
 pub struct Mixed;
 
 impl<'de> Deserialize<'de> for Mixed {
@@ -93,7 +93,7 @@ impl<'de> Deserialize<'de> for Mixed {
 }
 
 /// Reads a value, comes back and reads it again.
-#[derive(Debug, Drop, PartialEq)]
+#[derive(Drop)]
 pub struct Second;
 
 impl<'de> Deserialize<'de> for Second {
@@ -113,7 +113,7 @@ impl<'de> Deserialize<'de> for Second {
 }
 
 /// Comes back to a mark that it gave up.
-#[derive(Debug, Drop, PartialEq)]
+#[derive(Drop)]
 pub struct Lost;
 
 impl<'de> Deserialize<'de> for Lost {
@@ -130,7 +130,7 @@ impl<'de> Deserialize<'de> for Lost {
 }
 
 /// Closes an array that it didn't open.
-#[derive(Debug, Drop, PartialEq)]
+#[derive(Drop)]
 pub struct Unopened;
 
 impl Described for Unopened {}
@@ -142,7 +142,7 @@ impl Serialize for Unopened {
 }
 
 /// Leaves an array open.
-#[derive(Debug, Drop, PartialEq)]
+#[derive(Drop)]
 pub struct Unclosed;
 
 impl Described for Unclosed {}
@@ -154,7 +154,7 @@ impl Serialize for Unclosed {
 }
 
 /// Sends two values where one stands.
-#[derive(Debug, Drop, PartialEq)]
+#[derive(Drop)]
 pub struct Pair;
 
 impl Described for Pair {}
@@ -167,7 +167,7 @@ impl Serialize for Pair {
 }
 
 /// Sends a member's value without its key.
-#[derive(Debug, Drop, PartialEq)]
+#[derive(Drop)]
 pub struct Nameless;
 
 impl Described for Nameless {}

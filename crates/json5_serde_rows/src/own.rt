@@ -4,7 +4,7 @@ use json5_serde::{ByteBuf, Decimal, Value, Whole};
 use serde::{Deserialize, Deserializer, Format, Serialize};
 use std::alloc::Global;
 
-#[derive(Debug, Drop, PartialEq, Serialize, Deserialize)]
+#[derive(Drop, PartialEq, Serialize, Deserialize)]
 pub struct Order {
     #[serde(with = "json5_serde::value")]
     pub price: Decimal,
@@ -17,7 +17,7 @@ pub struct Order {
 }
 
 /// Bytes that are borrowed from the text, which has none.
-#[derive(Debug, Drop, PartialEq)]
+#[derive(Drop)]
 pub struct Blob<'a>(&'a [u8]);
 
 impl<'de> Deserialize<'de> for Blob<'de> {
@@ -30,7 +30,7 @@ impl<'de> Deserialize<'de> for Blob<'de> {
 }
 
 /// A text as it stands.
-#[derive(Debug, Drop, PartialEq)]
+#[derive(Drop)]
 pub struct Raw<'a>(pub &'a str);
 
 impl<'de> Deserialize<'de> for Raw<'de> {

@@ -5,16 +5,16 @@ use std::alloc::Global;
 use std::borrow::CowStr;
 use std::collections::BTreeMap;
 
-#[derive(Debug, Drop, PartialEq, Serialize, Deserialize)]
+#[derive(Drop, PartialEq, Serialize, Deserialize)]
 pub struct UnitStruct;
 
-#[derive(Debug, Drop, PartialEq, Serialize, Deserialize)]
+#[derive(Drop, PartialEq, Serialize, Deserialize)]
 pub struct Newtype(bool);
 
-#[derive(Debug, Drop, PartialEq, Serialize, Deserialize)]
+#[derive(Drop, PartialEq, Serialize, Deserialize)]
 pub struct TupleStruct(char, i32, bool);
 
-#[derive(Debug, Drop, PartialEq, Serialize, Deserialize)]
+#[derive(Drop, Serialize, Deserialize)]
 #[serde(rename_all = "kebab-case")]
 pub struct Image<'a> {
     width: usize,
@@ -22,25 +22,25 @@ pub struct Image<'a> {
     aspect_ratio: &'a str,
 }
 
-#[derive(Debug, Drop, PartialEq, Serialize, Deserialize)]
+#[derive(Drop, Serialize, Deserialize)]
 pub struct Example<'a> {
     image: Image<'a>,
 }
 
-#[derive(Debug, Drop, PartialEq, Serialize, Deserialize)]
+#[derive(Drop, PartialEq, Serialize, Deserialize)]
 pub struct Person {
     name: String,
     age: u32,
 }
 
-#[derive(Debug, Drop, PartialEq, Serialize, Deserialize)]
+#[derive(Drop, PartialEq, Serialize, Deserialize)]
 #[serde(deny_unknown_fields)]
 pub struct Strict {
     name: String,
     age: u32,
 }
 
-#[derive(Debug, Drop, PartialEq, Serialize, Deserialize)]
+#[derive(Drop, PartialEq, Serialize, Deserialize)]
 pub enum E {
     W { a: i32, b: i32 },
     X(i32, i32),
@@ -48,14 +48,14 @@ pub enum E {
     Z,
 }
 
-#[derive(Debug, Drop, PartialEq, Eq, PartialOrd, Ord, Serialize, Deserialize)]
+#[derive(Drop, PartialEq, Eq, PartialOrd, Ord, Serialize, Deserialize)]
 pub enum K {
     A,
     B,
     C(()),
 }
 
-#[derive(Debug, Drop, PartialEq, Serialize, Deserialize)]
+#[derive(Drop, PartialEq, Serialize, Deserialize)]
 pub enum External {
     #[serde(rename = "req")]
     Request { id: String, method: String },
@@ -63,7 +63,7 @@ pub enum External {
     Response { id: String, result: () },
 }
 
-#[derive(Debug, Drop, PartialEq, Serialize, Deserialize)]
+#[derive(Drop, PartialEq, Serialize, Deserialize)]
 #[serde(tag = "type")]
 pub enum Internal {
     #[serde(rename = "req")]
@@ -72,7 +72,7 @@ pub enum Internal {
     Response { id: String, result: () },
 }
 
-#[derive(Debug, Drop, PartialEq, Serialize, Deserialize)]
+#[derive(Drop, PartialEq, Serialize, Deserialize)]
 #[serde(tag = "type", content = "value")]
 pub enum Adjacent {
     #[serde(rename = "req")]
@@ -81,7 +81,7 @@ pub enum Adjacent {
     Response { id: String, result: () },
 }
 
-#[derive(Debug, Drop, PartialEq, Serialize, Deserialize)]
+#[derive(Drop, PartialEq, Serialize, Deserialize)]
 #[serde(untagged)]
 pub enum Untagged {
     #[serde(rename = "req")]
@@ -90,12 +90,12 @@ pub enum Untagged {
     Response { id: String, result: () },
 }
 
-#[derive(Debug, Drop, PartialEq, Serialize, Deserialize)]
+#[derive(Drop, PartialEq, Serialize, Deserialize)]
 pub struct WrappedF64 {
     value: f64,
 }
 
-#[derive(Debug, Drop, PartialEq, Serialize, Deserialize)]
+#[derive(Drop, PartialEq, Serialize, Deserialize)]
 #[serde(tag = "type")]
 pub enum Wrapped {
     #[serde(rename = "req")]
@@ -104,7 +104,7 @@ pub enum Wrapped {
     Response { id: WrappedF64, result: () },
 }
 
-#[derive(Debug, Drop, PartialEq, Serialize, Deserialize)]
+#[derive(Drop, PartialEq, Serialize, Deserialize)]
 #[serde(untagged)]
 pub enum Port {
     Number(u16),
@@ -112,7 +112,7 @@ pub enum Port {
     Range(u16, u16),
 }
 
-#[derive(Debug, Drop, PartialEq, Serialize, Deserialize)]
+#[derive(Drop, PartialEq, Serialize, Deserialize)]
 #[serde(recursive)]
 pub struct Folder {
     size: u64,
@@ -124,7 +124,7 @@ pub fn eighty() -> u16 {
     80
 }
 
-#[derive(Debug, Drop, PartialEq, Serialize, Deserialize)]
+#[derive(Drop, Serialize, Deserialize)]
 #[serde(rename_all = "camelCase")]
 pub struct Site<'a> {
     host_name: CowStr<'a>,
@@ -139,7 +139,7 @@ pub struct Site<'a> {
     weights: BTreeMap<u8, f64>,
 }
 
-#[derive(Debug, Drop, PartialEq, Serialize, Deserialize)]
+#[derive(Drop, Serialize, Deserialize)]
 pub struct Bounds {
     #[serde(default)]
     low: i8,
@@ -147,7 +147,7 @@ pub struct Bounds {
     high: u128,
 }
 
-#[derive(Debug, Drop, PartialEq)]
+#[derive(Drop)]
 pub struct Bytes(Vec<u8>);
 
 impl<'de> Deserialize<'de> for Bytes {
