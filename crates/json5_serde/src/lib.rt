@@ -9,7 +9,7 @@
 //! ```
 //!
 //! What is read is a document, and what is written reads back, whatever the type does: both are proved. What a value has to
-//! do with its text isn't: the crate's rows test that. [`json5`] proves it too, of types that are described by their fields.
+//! do with its text isn't. [`json5`] proves that too, of types that are described by their fields.
 #![tactic(auto)]
 
 pub mod value;
