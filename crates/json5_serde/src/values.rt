@@ -1,0 +1,23 @@
+//! Reading what a `Value` holds.
+
+use json5_serde_read::from_str_owned;
+use json5_types::error::Result;
+use json5_types::nesting::Limit;
+use json5_types::value::Value;
+use serde::DeserializeOwned;
+use std::alloc::Global;
+
+/// Reads a `T` from what a `Value` holds: it writes the value, and reads the text. So positions are those of that text.
+///
+/// ```text
+/// let server: Server = json5_serde::from_value(alloc, &value)?;
+/// ```
+///
+/// # Errors
+///
+/// - `TooDeep`, without a position, for a value with more than 128 brackets open at once.
+/// - As [`from_str_owned`], with positions in the written text.
+pub fn from_value<T: DeserializeOwned>(alloc: Global, value: &Value) -> Result<T> {
+    let text = json5_ser::to_string(alloc, value)?;
+    from_str_owned(alloc, Limit::full(), text.as_str())
+}

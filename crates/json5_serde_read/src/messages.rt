@@ -1,0 +1,152 @@
+//! The errors that a caller gets, with their words.
+
+use crate::fault::{Fault, Wanted};
+use json5_grammar::position::Position;
+use json5_text::scanner::Scanner;
+use json5_types::error::{Error, Result};
+use json5_types::number::Number;
+use std::alloc::Global;
+
+/// The fault as the caller sees it.
+pub(crate) fn told(alloc: Global, text: &str, fault: Fault) -> Error {
+    match fault {
+        Fault::Scanned(error, base) => match error.position() {
+            Some(place) => error.at(after(position(text, base), place)),
+            None => error,
+        },
+        Fault::Code(code, None) => Error::new(code),
+        Fault::Code(code, Some(at)) => Error::new_at(position(text, at), code),
+        Fault::Misplaced(at) => custom(alloc, text, at, "a step was called out of its place"),
+        Fault::Unread(at) => custom(alloc, text, at, "a type did not read its value to the end"),
+        Fault::Misfit(at, expected) => misfit(alloc, text, at, expected),
+        Fault::BorrowedBytes(at) => custom(alloc, text, at, "bytes can't be borrowed from a text"),
+        Fault::UnknownVariant(at, expected) => unknown_variant(alloc, text, at, &expected),
+        Fault::UnknownKey(at) => match named(alloc, text, at) {
+            Ok(found) => custom(alloc, text, at, format_args!("unknown field `{found}`")),
+            Err(_) => custom(alloc, text, at, "unknown field"),
+        },
+        Fault::Missing(at, field) => {
+            let field = words(&field);
+            custom(alloc, text, at, format_args!("missing field `{field}`"))
+        }
+        Fault::Duplicate(at, field) => {
+            let field = words(&field);
+            custom(alloc, text, at, format_args!("duplicate field `{field}`"))
+        }
+        Fault::WrongLength(at) => custom(alloc, text, at, "invalid length"),
+        Fault::Custom(at, message) => {
+            let message = words(&message);
+            custom(alloc, text, at, message)
+        }
+    }
+}
+
+/// A custom fault at an offset; `OutOfMemory` where its message takes more than there is.
+pub(crate) fn custom<D: std::fmt::Display + Drop>(
+    alloc: Global,
+    text: &str,
+    offset: usize,
+    message: D,
+) -> Error {
+    match Error::custom_at(alloc, position(text, offset), message) {
+        Ok(error) => error,
+        Err(error) => error,
+    }
+}
+
+/// The position of an offset in bytes.
+fn position(text: &str, offset: usize) -> Position {
+    match text.split_at_checked(offset) {
+        Some((before, _)) => Position::after(before),
+        None => Position::after(text),
+    }
+}
+
+/// The position that is so far after another.
+fn after(base: Position, then: Position) -> Position {
+    if then.line == 0 {
+        Position {
+            line: base.line,
+            column: base.column.saturating_add(then.column),
+        }
+    } else {
+        Position {
+            line: base.line.saturating_add(then.line),
+            column: then.column,
+        }
+    }
+}
+
+fn words(known: &Option<String>) -> &str {
+    match known {
+        Some(words) => words.as_str(),
+        None => "",
+    }
+}
+
+/// A value at the offset that isn't what was wanted.
+fn misfit(alloc: Global, text: &str, at: usize, wanted: Wanted) -> Error {
+    let found = match (shown(alloc, text, at), named(alloc, text, at)) {
+        (Ok(found), _) => found,
+        (Err(_), Ok(key)) => match format!(in alloc; "key `{key}`") {
+            Ok(found) => found,
+            Err(error) => return Error::from(error),
+        },
+        _ => return custom(alloc, text, at, "invalid value"),
+    };
+    let expected = match wanted {
+        Wanted::Null => "null",
+        Wanted::Integer => "an integer",
+        Wanted::NotNegative => "an integer that is not negative",
+        Wanted::In64Bits => "an integer of 64 bits",
+        Wanted::In128Bits => "an integer of 128 bits",
+        Wanted::Character => "a character",
+        Wanted::BorrowedText => "a text without an escape",
+        Wanted::Another => return custom(alloc, text, at, format_args!("invalid value: {found}")),
+    };
+    custom(
+        alloc,
+        text,
+        at,
+        format_args!("invalid value: {found}, expected {expected}"),
+    )
+}
+
+fn unknown_variant(alloc: Global, text: &str, at: usize, expected: &Option<String>) -> Error {
+    let Ok(found) = named(alloc, text, at) else {
+        return custom(alloc, text, at, "unknown variant");
+    };
+    match expected {
+        Some(expected) => {
+            let message = format_args!("unknown variant `{found}`, {expected}");
+            custom(alloc, text, at, message)
+        }
+        None => custom(alloc, text, at, format_args!("unknown variant `{found}`")),
+    }
+}
+
+/// The value or the key at the offset, as a fault names it.
+fn shown(alloc: Global, text: &str, offset: usize) -> Result<String> {
+    let mut scanner = Scanner::new(alloc, text.get(offset..).unwrap_or(""));
+    match scanner.peek() {
+        Some('"' | '\'') => {
+            let string = scanner.string_owned()?;
+            Ok(format!(in alloc; "string {:?}", string.as_str())?)
+        }
+        Some('n') => Ok(String::from_str(alloc, "null")?),
+        Some('t' | 'f') => Ok(String::from_str(alloc, "boolean")?),
+        Some('[') => Ok(String::from_str(alloc, "array")?),
+        Some('{') => Ok(String::from_str(alloc, "object")?),
+        _ => match scanner.number()? {
+            Number::Whole(whole) => Ok(format!(in alloc; "integer `{whole}`")?),
+            Number::Decimal(decimal) => Ok(format!(in alloc; "decimal `{decimal}`")?),
+        },
+    }
+}
+
+/// The text of the string or the key at the offset.
+fn named(alloc: Global, text: &str, offset: usize) -> Result<String> {
+    let mut scanner = Scanner::new(alloc, text.get(offset..).unwrap_or(""));
+    let key = scanner.key()?;
+    Ok(String::from_str(alloc, scanner.text_of(&key))?)
+}

@@ -1,0 +1,158 @@
+//! The answers by the name of a type.
+
+use crate::hand::*;
+use crate::own::{Blob, Order, Raw};
+use crate::settings::Config;
+use crate::types::*;
+use json5_serde::{Error, Limit, Result};
+use serde::{Deserialize, DeserializeOwned, Serialize};
+use std::alloc::Global;
+use std::borrow::CowStr;
+use std::collections::BTreeMap;
+
+/// The words of a text, each after a blank: what is written has a line for each member.
+fn words(alloc: Global, text: &str) -> Result<String> {
+    let mut words = String::new(alloc);
+    for word in text.split_whitespace() {
+        words.push(' ')?;
+        words.push_str(word)?;
+    }
+    Ok(words)
+}
+
+/// What is written of what is read.
+fn again<'a, T: Deserialize<'a> + Serialize>(alloc: Global, text: &'a str) -> Result<String> {
+    let value = json5_serde::from_str::<T>(alloc, text)?;
+    words(alloc, json5_serde::to_string(alloc, &value)?.as_str())
+}
+
+/// The same, where it reads back as the same value, and from the `Value` as well.
+fn back<T: DeserializeOwned + Serialize + PartialEq>(alloc: Global, text: &str) -> Result<String> {
+    let value = json5_serde::from_str_owned::<T>(alloc, Limit::full(), text)?;
+    let written = json5_serde::to_vec(alloc, &value)?;
+    let second = json5_serde::from_reader::<T, _>(alloc, Limit::full(), &mut written.as_slice())?;
+    let third = json5_serde::from_value::<T>(alloc, &json5_serde::to_value(alloc, &value)?)?;
+    if value != second || value != third {
+        return Err(Error::custom(alloc, "it doesn't read back")?);
+    }
+    let mut output = Vec::new(alloc);
+    json5_serde::to_writer(alloc, &mut output, &second)?;
+    words(alloc, std::str::from_utf8(&output).unwrap_or(""))
+}
+
+/// That it is read.
+fn read<'a, T: Deserialize<'a>>(alloc: Global, text: &'a str) -> Result<String> {
+    let _ = json5_serde::from_str::<T>(alloc, text)?;
+    Ok(String::from_str(alloc, " read")?)
+}
+
+/// What is written of a value that no text is read for.
+fn send<T: Serialize>(alloc: Global, value: &T) -> Result<String> {
+    words(alloc, json5_serde::to_string(alloc, value)?.as_str())
+}
+
+/// The text of a value as it stands.
+fn raw(alloc: Global, text: &str) -> Result<String> {
+    let value = json5_serde::from_str::<Raw>(alloc, text)?;
+    words(alloc, value.0)
+}
+
+/// Whether derived types refuse what json5 refuses, and with the same fault.
+fn same(alloc: Global, text: &str) -> Result<String> {
+    let here = json5_serde::from_str::<Skip>(alloc, text).err();
+    let there = json5_de::from_str::<json5_de::IgnoredAny>(alloc, text).err();
+    if here == there {
+        return Ok(String::from_str(alloc, " same")?);
+    }
+    Err(here.or(there).unwrap())
+}
+
+/// What a row answers.
+pub fn answer(alloc: Global, name: &str, line: &str) -> Result<String> {
+    let text = line.replace(alloc, "␤", "\n")?;
+    let text = text.as_str();
+    match name {
+        "()" => back::<()>(alloc, text),
+        "UnitStruct" => back::<UnitStruct>(alloc, text),
+        "bool" => back::<bool>(alloc, text),
+        "Newtype" => back::<Newtype>(alloc, text),
+        "f64" => again::<f64>(alloc, text),
+        "f32" => again::<f32>(alloc, text),
+        "i8" => back::<i8>(alloc, text),
+        "u8" => back::<u8>(alloc, text),
+        "u32" => back::<u32>(alloc, text),
+        "i64" => back::<i64>(alloc, text),
+        "u64" => back::<u64>(alloc, text),
+        "u128" => back::<u128>(alloc, text),
+        "i128" => back::<i128>(alloc, text),
+        "&str" => again::<&str>(alloc, text),
+        "char" => back::<char>(alloc, text),
+        "String" => back::<String>(alloc, text),
+        "CowStr" => again::<CowStr>(alloc, text),
+        "Bytes" => again::<Bytes>(alloc, text),
+        "Blob" => read::<Blob>(alloc, text),
+        "Raw" => raw(alloc, text),
+        _ => lists(alloc, name, text),
+    }
+}
+
+fn lists(alloc: Global, name: &str, text: &str) -> Result<String> {
+    match name {
+        "Vec<()>" => back::<Vec<()>>(alloc, text),
+        "Vec<i32>" => back::<Vec<i32>>(alloc, text),
+        "Vec<char>" => back::<Vec<char>>(alloc, text),
+        "Vec<Vec<i32>>" => back::<Vec<Vec<i32>>>(alloc, text),
+        "(i32, i32)" => back::<(i32, i32)>(alloc, text),
+        "(char, i32, &str)" => again::<(char, i32, &str)>(alloc, text),
+        "TupleStruct" => back::<TupleStruct>(alloc, text),
+        "Option<bool>" => back::<Option<bool>>(alloc, text),
+        "BTreeMap<&str, usize>" => again::<BTreeMap<&str, usize>>(alloc, text),
+        "BTreeMap<String, u8>" => back::<BTreeMap<String, u8>>(alloc, text),
+        "BTreeMap<u8, &str>" => again::<BTreeMap<u8, &str>>(alloc, text),
+        "BTreeMap<bool, &str>" => again::<BTreeMap<bool, &str>>(alloc, text),
+        "BTreeMap<(), &str>" => again::<BTreeMap<(), &str>>(alloc, text),
+        "BTreeMap<Option<char>, u8>" => again::<BTreeMap<Option<char>, u8>>(alloc, text),
+        "BTreeMap<K, u8>" => back::<BTreeMap<K, u8>>(alloc, text),
+        _ => structs(alloc, name, text),
+    }
+}
+
+fn structs(alloc: Global, name: &str, text: &str) -> Result<String> {
+    match name {
+        "Example" => again::<Example>(alloc, text),
+        "Person" => back::<Person>(alloc, text),
+        "Vec<Person>" => back::<Vec<Person>>(alloc, text),
+        "Strict" => back::<Strict>(alloc, text),
+        "E" => back::<E>(alloc, text),
+        "External" => back::<External>(alloc, text),
+        "Internal" => back::<Internal>(alloc, text),
+        "Wrapped" => back::<Wrapped>(alloc, text),
+        "Adjacent" => back::<Adjacent>(alloc, text),
+        "Untagged" => back::<Untagged>(alloc, text),
+        "Vec<Port>" => back::<Vec<Port>>(alloc, text),
+        "Folder" => back::<Folder>(alloc, text),
+        "Site" => again::<Site>(alloc, text),
+        "Config" => back::<Config>(alloc, text),
+        "Order" => back::<Order>(alloc, text),
+        _ => by_hand(alloc, name, text),
+    }
+}
+
+fn by_hand(alloc: Global, name: &str, text: &str) -> Result<String> {
+    match name {
+        "same" => same(alloc, text),
+        "Skip" => read::<Skip>(alloc, text),
+        "Unread" => read::<Unread>(alloc, text),
+        "Half" => read::<Half>(alloc, text),
+        "Twice" => read::<Twice>(alloc, text),
+        "Keyless" => read::<Keyless>(alloc, text),
+        "Mixed" => read::<Mixed>(alloc, text),
+        "Second" => read::<Second>(alloc, text),
+        "Lost" => read::<Lost>(alloc, text),
+        "Unopened" => send(alloc, &Unopened),
+        "Unclosed" => send(alloc, &Unclosed),
+        "Pair" => send(alloc, &Pair),
+        "Nameless" => send(alloc, &Nameless),
+        _ => Err(Error::custom(alloc, "no such type")?),
+    }
+}

@@ -1,0 +1,2 @@
+-- Lists the lemmas about what is written of a value.
+pub mod Written

@@ -1,0 +1,2 @@
+-- Lists what contracts say of what is written.
+pub mod WrittenTexts

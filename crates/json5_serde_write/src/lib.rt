@@ -1,0 +1,18 @@
+//! Any type that has `serde`'s `Serialize`, written as JSON5. `json5_serde` is the crate to use: it reads such types too.
+//!
+//! ```text
+//! #[derive(Drop, Serialize)]
+//! struct Server { host: String, port: u16 }
+//!
+//! let text = json5_serde::to_string(alloc, &server)?;
+//! ```
+#![tactic(auto)]
+
+mod builder;
+mod raw;
+mod write;
+
+pub use raw::raw_number;
+pub use write::{
+    to_string, to_string_within, to_value, to_vec, to_vec_within, to_writer, to_writer_within,
+};

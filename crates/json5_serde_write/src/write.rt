@@ -1,0 +1,135 @@
+//! Writing a whole value.
+
+ghost use Rattle.std.specs.Prelude.{string_bytes, IfOk, OnOk};
+ghost use Rattle.json5_grammar.specs.Language.Documents.{max_depth};
+ghost use Rattle.json5_serde_write.specs.WrittenTexts.{IsWrittenWithin, WritesSome};
+
+use crate::builder::Builder;
+use json5_types::error::Result;
+use json5_types::nesting::Limit;
+use json5_types::value::Value;
+use serde::Serialize;
+use std::alloc::Global;
+use std::io::Write;
+
+/// Returns the value that a type sends.
+///
+/// ```text
+/// let value = json5_serde::to_value(alloc, &server)?;    // an object of two members
+/// ```
+///
+/// # Errors
+///
+/// - `TooDeep` for a value with more than 128 brackets open at once.
+/// - `InvalidKey` for a key that is an array, an object or None.
+/// - A custom fault of the type, or where it sends what is no value.
+/// - `OutOfMemory` where a request for memory was refused.
+pub fn to_value<T: Serialize>(alloc: Global, value: &T) -> Result<Value> {
+    let mut builder = Builder::new(alloc);
+    value.serialize(&mut builder)?;
+    builder.finish()
+}
+
+/// Returns the text of what a type sends: each element and member on its own line, as [`json5::to_string`] has it.
+///
+/// It is the written text of some tree, and reads back as that tree.
+///
+/// ```text
+/// let text = json5_serde::to_string(alloc, &server)?;
+/// ```
+///
+/// # Errors
+///
+/// As [`to_value`].
+pub fn to_string<T: Serialize>(alloc: Global, value: &T) -> Result<String>
+    ensures { IfOk result (λ s. IsWrittenWithin max_depth (string_bytes s)) }
+{
+    to_string_within(alloc, Limit::full(), value)
+}
+
+/// Returns the text of what a type sends, with no more brackets open at once than the limit.
+///
+/// ```text
+/// json5_serde::to_string_within(alloc, Limit::new(1).unwrap(), &server)?
+/// ```
+///
+/// # Errors
+///
+/// As [`to_value`], and `TooDeep` for a value that opens more brackets than the limit.
+#[tactic(auto, using(crate::proofs::Written::text_written))]
+pub fn to_string_within<T: Serialize>(alloc: Global, limit: Limit, value: &T) -> Result<String>
+    ensures { IfOk result (λ s. IsWrittenWithin limit (string_bytes s)) }
+{
+    let tree = to_value(alloc, value)?;
+    json5_ser::to_string_within(alloc, limit, &tree)
+}
+
+/// Returns the bytes of the text of what a type sends, which are UTF-8.
+///
+/// ```text
+/// let bytes = json5_serde::to_vec(alloc, &server)?;
+/// ```
+///
+/// # Errors
+///
+/// As [`to_value`].
+pub fn to_vec<T: Serialize>(alloc: Global, value: &T) -> Result<Vec<u8>>
+    ensures { IfOk result (λ v. IsWrittenWithin max_depth v.items) }
+{
+    to_vec_within(alloc, Limit::full(), value)
+}
+
+/// Returns the bytes of the text of what a type sends, with no more brackets open at once than the limit.
+///
+/// ```text
+/// json5_serde::to_vec_within(alloc, Limit::new(1).unwrap(), &server)?
+/// ```
+///
+/// # Errors
+///
+/// As [`to_string_within`].
+pub fn to_vec_within<T: Serialize>(alloc: Global, limit: Limit, value: &T) -> Result<Vec<u8>>
+    ensures { IfOk result (λ v. IsWrittenWithin limit v.items) }
+{
+    Ok(to_string_within(alloc, limit, value)?.into_bytes())
+}
+
+/// Writes the text of what a type sends to a writer, in pieces. `flush` isn't called.
+///
+/// ```text
+/// json5_serde::to_writer(alloc, &mut rt.stdout(), &server)?;
+/// ```
+///
+/// # Errors
+///
+/// As [`to_writer_within`].
+pub fn to_writer<T: Serialize, W: Write>(alloc: Global, w: &mut W, value: &T) -> Result<()>
+    ensures { OnOk result (WritesSome max_depth (W.contents w.old) (W.contents w.new)) }
+{
+    to_writer_within(alloc, w, Limit::full(), value)
+}
+
+/// Writes the text of what a type sends to a writer, with no more brackets open at once than the limit. `flush` isn't
+/// called.
+///
+/// ```text
+/// json5_serde::to_writer_within(alloc, &mut rt.stdout(), Limit::new(1).unwrap(), &server)?;
+/// ```
+///
+/// # Errors
+///
+/// - As [`to_value`]: nothing is written then.
+/// - `TooDeep` at the bracket past the limit: the writer holds exactly the text before it.
+/// - A failed write, which has no code, where the writer failed or took no bytes: it holds a prefix of the text.
+#[tactic(auto, using(crate::proofs::Written::text_sent))]
+pub fn to_writer_within<T: Serialize, W: Write>(
+    alloc: Global,
+    w: &mut W,
+    limit: Limit,
+    value: &T,
+) -> Result<()>
+    ensures { OnOk result (WritesSome limit (W.contents w.old) (W.contents w.new)) }
+{
+    let tree = to_value(alloc, value)?;
+    json5_ser::to_writer_within(w, limit, &tree)
+}
