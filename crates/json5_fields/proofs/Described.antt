@@ -1,5 +1,5 @@
 -- What is read of one field, or of some, is read of all.
-use Rattle.std.proofs.Common.{◌≡◌, ℕ, Bool, true, false, List, [], ◌∷◌, refl, sym, ap, ◌∙◌, subst, inl, inr, Option, Some, None, Ok, Err}
+use Rattle.std.proofs.Common.{◌≡◌, ◌⊎◌, ℕ, Bool, true, false, List, [], ◌∷◌, refl, sym, ap, ◌∙◌, subst, inl, inr, Option, Some, None, Ok, Err}
 use Rattle.std.proofs.Math.Path.{fun_ext}
 use Rattle.std.proofs.lemmas.Slice.Eq.{bytes_eq-Decides}
 use Rattle.std.specs.Prelude.{Result, IfOk, IsErrAnd, OnOk, is_some, not}
@@ -7,6 +7,7 @@ use Rattle.std.specs.Str.{bytes_eq}
 use Rattle.json5_grammar.specs.Language.Trees.{Tree, Members}
 use Rattle.json5_grammar.specs.Model.Collections.{joint, snoc_member}
 use Rattle.json5_types.specs.declared.error.Error.{Error}
+use Rattle.json5_text.specs.Cursor.{IsOutOfMemory}
 use Rattle.json5_de.specs.State.{State}
 use Rattle.json5_de.specs.AnyTree.{RefusesTree}
 use Rattle.json5_de.specs.ConvertLists.{if_some}
@@ -31,7 +32,7 @@ some_made : {A B : Type 0} (g : A → B) (o : Option A) → is_some (if_some g o
 some_made g None = refl
 some_made g (Some a) = refl
 
-made_of : {S U : Type 0} (g : S → U) (m : U) (o : Option S) → if_some g o ≡ Some m → (c : S) × (o ≡ Some c) × (m ≡ g c)
+pub made_of : {S U : Type 0} (g : S → U) (m : U) (o : Option S) → if_some g o ≡ Some m → (c : S) × (o ≡ Some c) × (m ≡ g c)
 made_of g m None is = absurd (cc)
 made_of g m (Some c) is = (c, refl, cc is)
 
@@ -110,20 +111,28 @@ module _ {I S T A B : Type 0} (a : Layout S A) (b : Layout T B) {s : S} {t : T} 
   both_finish first others = record { built = rw (first.built, others.built) refl; same = others.same ∙ first.same; same_reference = others.same_reference ∙ first.same_reference }
 
   pub first_missed : {e : Error} → Missed a s old new e → Missed (and_layout a b) (s, t) old new e
-  first_missed is = record {
-    missing = λ live. let (none, own) = is.missing live in (rw none refl, own);
+  first_missed {e = e} is = record {
+    missing = λ live. let (none, own) = is.missing live in (by none, own);
     unprompted = is.unprompted;
     same_text = is.same_text;
     same_reference = is.same_reference;
   }
+    where
+      by : (a.build s ≡ None) ⊎ IsOutOfMemory e → (joint (a.build s) (b.build t) ≡ None) ⊎ IsOutOfMemory e
+      by (inl none) = inl (rw none refl)
+      by (inr memory) = inr memory
 
   pub others_missed : {mid : MapAccess I} {c : A} {e : Error} → Finished a s c old mid → Missed b t mid new e → Missed (and_layout a b) (s, t) old new e
   others_missed {e = e} first is = record {
-    missing = λ live. let (none, own) = is.missing (ap (λ (m : MapAccessState). m.at.reader.failed) first.same ∙ live) in (ap (joint (a.build s)) none ∙ joint_none (a.build s), subst (λ m. IsOwnAtBracket m.at e) first.same own);
+    missing = λ live. let (none, own) = is.missing (ap (λ (m : MapAccessState). m.at.reader.failed) first.same ∙ live) in (by none, subst (λ m. IsOwnAtBracket m.at e) first.same own);
     unprompted = λ live. is.unprompted (ap (λ (m : MapAccessState). m.at.reader.failed) first.same ∙ live);
     same_text = is.same_text ∙ ap (λ (m : MapAccessState). m.at.reader.input) first.same;
     same_reference = is.same_reference ∙ first.same_reference;
   }
+    where
+      by : (b.build t ≡ None) ⊎ IsOutOfMemory e → (joint (a.build s) (b.build t) ≡ None) ⊎ IsOutOfMemory e
+      by (inl none) = inl (ap (joint (a.build s)) none ∙ joint_none (a.build s))
+      by (inr memory) = inr memory
 
 -- a field is missing
 pub missed : {I S D V : Type 0} (l : Layout S D) (content : V → D) {s : S} {old new : MapAccess I} (e : Error) (result : Result V Error) → IsErrAnd result (λ y. y ≡ e) → Missed l s old new e → Finishes l content s old new result
@@ -164,7 +173,7 @@ pub required_finishes : {I V C : Type 0} (content : V → C) (f : Tree → Optio
     → Finishes (required_field field f) content (if_some content o) old new result
 required_finishes content f field (Ok v) keeps found is = record { built = ap (if_some content) found; same = is.same; same_reference = keeps.same_reference }
 required_finishes content f field (Err e) keeps found is = record {
-  missing = λ live. let (none, own) = is.missing live in (ap (if_some content) none, own);
+  missing = λ live. let (none, own) = is.missing live in (inl (ap (if_some content) none), own);
   unprompted = is.unprompted;
   same_text = keeps.same_text;
   same_reference = keeps.same_reference;

@@ -2,3 +2,5 @@
 pub mod Described
 pub mod NamedValues
 pub mod FieldsWritten
+pub mod EnumsRead
+pub mod DescribedFaults

@@ -1,7 +1,8 @@
 -- What the calls for a description of fields mean.
-use Rattle.std.specs.Prelude.{◌≡◌, ℕ, Bool, true, false, List, Option, Some, None, Result, Ok, Err, OnOk}
+use Rattle.std.specs.Prelude.{◌≡◌, ◌⊎◌, ℕ, Bool, true, false, List, Option, Some, None, Result, Ok, Err, OnOk}
 use Rattle.json5_grammar.specs.Language.Trees.{Tree}
 use Rattle.json5_types.specs.declared.error.Error.{Error}
+use Rattle.json5_text.specs.Cursor.{IsOutOfMemory}
 use Rattle.json5_de.specs.State.{State, SameText}
 use Rattle.json5_de.specs.DeserializeLaw.{IsUnprompted}
 use Rattle.json5_de.specs.Fields.{IsOwnAtBracket}
@@ -41,9 +42,9 @@ pub record Finished {I S D : Type 0} (l : Layout S D) (s : S) (d : D) (old new :
   pub same : map_state_of new ≡ map_state_of old
   pub same_reference : HoldsTheSameMap old new
 
--- a field is missing
+-- a field is missing, or a default couldn't be made
 pub record Missed {I S D : Type 0} (l : Layout S D) (s : S) (old new : MapAccess I) (e : Error) : Type 0 where
-  pub missing : (map_state_of old).at.reader.failed ≡ false → (l.build s ≡ None) × IsOwnAtBracket (map_state_of old).at e
+  pub missing : (map_state_of old).at.reader.failed ≡ false → ((l.build s ≡ None) ⊎ IsOutOfMemory e) × IsOwnAtBracket (map_state_of old).at e
   pub unprompted : (map_state_of old).at.reader.failed ≡ false → IsUnprompted e
   pub same_text : SameText (map_state_of old).at.reader (map_state_of new).at.reader
   pub same_reference : HoldsTheSameMap old new

@@ -5,6 +5,7 @@ ghost use Rattle.std.specs.Prelude.{◌≡◌};
 use json5_de::{Deserialize, MapAccess};
 use json5_text::input::Input;
 use json5_types::error::Result;
+use std::alloc::Global;
 
 /// A description of the fields of a struct, whose values are a `V`: one field, or a tuple of descriptions.
 ///
@@ -58,8 +59,9 @@ pub trait StructFields<I: Input, V: Drop>: Sized + Drop {
     ///
     /// # Errors
     ///
-    /// Those of [`MapAccess::required_field`].
-    fn finish(self, found: Self::Found, map: &mut MapAccess<'_, I>) -> Result<V>
+    /// - Those of [`MapAccess::required_field`].
+    /// - `OutOfMemory` for a default that is made.
+    fn finish(self, found: Self::Found, map: &mut MapAccess<'_, I>, alloc: Global) -> Result<V>
         ensures { Finishes (layout (shape self)) content (state found) map.old map.new result };
 }
 
@@ -112,7 +114,7 @@ impl<I: Input, T: Deserialize<I>> StructFields<I, T> for Required {
     }
 
     #[inline(always)]
-    fn finish(self, found: Option<T>, map: &mut MapAccess<'_, I>) -> Result<T> {
+    fn finish(self, found: Option<T>, map: &mut MapAccess<'_, I>, _alloc: Global) -> Result<T> {
         map.required_field(self.0, found)
     }
 }
@@ -166,7 +168,12 @@ impl<I: Input, T: Deserialize<I>> StructFields<I, Option<T>> for Optional {
     }
 
     #[inline(always)]
-    fn finish(self, found: Option<T>, _map: &mut MapAccess<'_, I>) -> Result<Option<T>> {
+    fn finish(
+        self,
+        found: Option<T>,
+        _map: &mut MapAccess<'_, I>,
+        _alloc: Global,
+    ) -> Result<Option<T>> {
         Ok(found)
     }
 }
@@ -220,7 +227,7 @@ impl<I: Input, T: Deserialize<I>> StructFields<I, T> for WithDefault<T> {
     }
 
     #[inline(always)]
-    fn finish(self, found: Option<T>, _map: &mut MapAccess<'_, I>) -> Result<T> {
+    fn finish(self, found: Option<T>, _map: &mut MapAccess<'_, I>, _alloc: Global) -> Result<T> {
         let WithDefault(_, default) = self;
         Ok(found.unwrap_or(default))
     }

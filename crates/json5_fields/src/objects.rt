@@ -57,6 +57,7 @@ fn read_object<I: Input, V: Drop, F: StructFields<I, V>>(
     ensures same_text { SameText de.old de.new }
 {
     let found = fields.start();
+    let alloc = de.allocator();
     let mut reading = Reading {
         fields,
         found,
@@ -69,7 +70,7 @@ fn read_object<I: Input, V: Drop, F: StructFields<I, V>>(
         found,
         of: _,
     } = reading;
-    let output = fields.finish(found, &mut map)?;
+    let output = fields.finish(found, &mut map, alloc)?;
     map.end()?;
     Ok(output)
 }

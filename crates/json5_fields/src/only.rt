@@ -100,10 +100,11 @@ fn read_only<I: Input, V: Drop, F: StructFields<I, V> + FieldNames>(
     ensures same_text { SameText de.old de.new }
 {
     let found = fields.start();
+    let alloc = de.allocator();
     let mut reading = ReadingOnly {
         fields,
         found,
-        alloc: de.allocator(),
+        alloc,
         of: PhantomData,
     };
     let mut map = de.deserialize_map()?;
@@ -114,7 +115,7 @@ fn read_only<I: Input, V: Drop, F: StructFields<I, V> + FieldNames>(
         alloc: _,
         of: _,
     } = reading;
-    let output = fields.finish(found, &mut map)?;
+    let output = fields.finish(found, &mut map, alloc)?;
     map.end()?;
     Ok(output)
 }

@@ -4,6 +4,7 @@ use crate::fields::StructFields;
 use json5_de::MapAccess;
 use json5_text::input::Input;
 use json5_types::error::Result;
+use std::alloc::Global;
 
 /// Two descriptions.
 impl<I: Input, S: Drop, T: Drop, A: StructFields<I, S>, B: StructFields<I, T>> StructFields<
@@ -52,9 +53,14 @@ impl<I: Input, S: Drop, T: Drop, A: StructFields<I, S>, B: StructFields<I, T>> S
     }
 
     #[inline(always)]
-    fn finish(self, found: Self::Found, map: &mut MapAccess<'_, I>) -> Result<(S, T)> {
-        let first = self.0.finish(found.0, map)?;
-        let second = self.1.finish(found.1, map)?;
+    fn finish(
+        self,
+        found: Self::Found,
+        map: &mut MapAccess<'_, I>,
+        alloc: Global,
+    ) -> Result<(S, T)> {
+        let first = self.0.finish(found.0, map, alloc)?;
+        let second = self.1.finish(found.1, map, alloc)?;
         Ok((first, second))
     }
 }
@@ -116,9 +122,14 @@ impl<
     }
 
     #[inline(always)]
-    fn finish(self, found: Self::Found, map: &mut MapAccess<'_, I>) -> Result<(S, T, U)> {
+    fn finish(
+        self,
+        found: Self::Found,
+        map: &mut MapAccess<'_, I>,
+        alloc: Global,
+    ) -> Result<(S, T, U)> {
         let (a, b, c) = self;
-        match (a, (b, c)).finish(found, map) {
+        match (a, (b, c)).finish(found, map, alloc) {
             Ok(values) => {
                 let (first, (second, third)) = values;
                 Ok((first, second, third))
@@ -195,9 +206,14 @@ impl<
     }
 
     #[inline(always)]
-    fn finish(self, found: Self::Found, map: &mut MapAccess<'_, I>) -> Result<(S, T, U, V)> {
+    fn finish(
+        self,
+        found: Self::Found,
+        map: &mut MapAccess<'_, I>,
+        alloc: Global,
+    ) -> Result<(S, T, U, V)> {
         let (a, b, c, d) = self;
-        match (a, (b, (c, d))).finish(found, map) {
+        match (a, (b, (c, d))).finish(found, map, alloc) {
             Ok(values) => {
                 let (first, (second, (third, fourth))) = values;
                 Ok((first, second, third, fourth))
@@ -284,9 +300,14 @@ impl<
     }
 
     #[inline(always)]
-    fn finish(self, found: Self::Found, map: &mut MapAccess<'_, I>) -> Result<(S, T, U, V, W)> {
+    fn finish(
+        self,
+        found: Self::Found,
+        map: &mut MapAccess<'_, I>,
+        alloc: Global,
+    ) -> Result<(S, T, U, V, W)> {
         let (a, b, c, d, e) = self;
-        match (a, (b, (c, (d, e)))).finish(found, map) {
+        match (a, (b, (c, (d, e)))).finish(found, map, alloc) {
             Ok(values) => {
                 let (first, (second, (third, (fourth, fifth)))) = values;
                 Ok((first, second, third, fourth, fifth))
@@ -386,9 +407,14 @@ impl<
     }
 
     #[inline(always)]
-    fn finish(self, found: Self::Found, map: &mut MapAccess<'_, I>) -> Result<(S, T, U, V, W, X)> {
+    fn finish(
+        self,
+        found: Self::Found,
+        map: &mut MapAccess<'_, I>,
+        alloc: Global,
+    ) -> Result<(S, T, U, V, W, X)> {
         let (a, b, c, d, e, f) = self;
-        match (a, (b, (c, (d, (e, f))))).finish(found, map) {
+        match (a, (b, (c, (d, (e, f))))).finish(found, map, alloc) {
             Ok(values) => {
                 let (first, (second, (third, (fourth, (fifth, sixth))))) = values;
                 Ok((first, second, third, fourth, fifth, sixth))
@@ -505,9 +531,10 @@ impl<
         self,
         found: Self::Found,
         map: &mut MapAccess<'_, I>,
+        alloc: Global,
     ) -> Result<(S, T, U, V, W, X, Y)> {
         let (a, b, c, d, e, f, g) = self;
-        match (a, (b, (c, (d, (e, (f, g)))))).finish(found, map) {
+        match (a, (b, (c, (d, (e, (f, g)))))).finish(found, map, alloc) {
             Ok(values) => {
                 let (first, (second, (third, (fourth, (fifth, (sixth, seventh)))))) = values;
                 Ok((first, second, third, fourth, fifth, sixth, seventh))
@@ -637,9 +664,10 @@ impl<
         self,
         found: Self::Found,
         map: &mut MapAccess<'_, I>,
+        alloc: Global,
     ) -> Result<(S, T, U, V, W, X, Y, Z)> {
         let (a, b, c, d, e, f, g, h) = self;
-        match (a, (b, (c, (d, (e, (f, (g, h))))))).finish(found, map) {
+        match (a, (b, (c, (d, (e, (f, (g, h))))))).finish(found, map, alloc) {
             Ok(values) => {
                 let (first, (second, (third, (fourth, (fifth, (sixth, (seventh, eighth))))))) =
                     values;
