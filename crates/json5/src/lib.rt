@@ -27,7 +27,7 @@ pub use json5_de::{
 };
 pub use json5_fields as fields;
 pub use json5_fields::{
-    Field, Given, Holding, NoContent, OneOf, Optional, Required, WithDefault, WithDefaultElse,
+    Field, Given, Holding, NoContent, OneOf, Optional, Required, WithDefault, WithDefaultText,
     one_of_names, read_enum, read_struct, read_struct_only, write_struct,
 };
 pub use json5_format::{format, format_within};

@@ -41,15 +41,18 @@ module _ {S D U I : Type 0} {Held : MapAccess I → Type 0} {old : State} where
       let (ps, are, on) = reads.read in
       let (r, at) = reads.at_brace in
       no_default (map_state_of map) (map_state_of now) n r (record { opened = opens.bracket.opened.0; start = opens.bracket.start; read = opens.read })
-          (record { live = reads.live; same_text = keeps.same_text; same_brace = keeps.start; pairs = ps; are = are; read = on }) at memory own.there)
+      (record { live = reads.live; same_text = keeps.same_text; same_brace = keeps.start; pairs = ps; are = are; read = on }) at memory own.there)
 
 -- memory ran out for a default
 pub unmade : {I S D : Type 0} (l : Layout S D) (s : S) (old : MapAccess I) (own e : Error) → LacksMemory own → PositionedAtBracket (map_state_of old).at own e → Missed l s old old e
 unmade l s old own e lacks placed = record {
-  missing = λ live. (inr (placed.kind ∙ lacks.kind), record {
-    kind = inr (placed.kind ∙ lacks.kind);
-    there = λ before after. placed.place ∙ ap (λ o. or_position o placed.there) lacks.place ∙ ap (λ p. Some p) (placed.is_there before after);
-  });
+  missing = λ live. (
+    inr (placed.kind ∙ lacks.kind),
+    record {
+      kind = inr (placed.kind ∙ lacks.kind);
+      there = λ before after. placed.place ∙ ap (λ o. or_position o placed.there) lacks.place ∙ ap (λ p. Some p) (placed.is_there before after);
+    },
+  );
   unprompted = λ live. memory_other e (placed.kind ∙ lacks.kind);
   same_text = refl;
   same_reference = refl;

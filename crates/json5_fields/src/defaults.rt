@@ -1,7 +1,4 @@
-//! A field whose default is made where it is needed.
-
-ghost use Rattle.std.specs.Prelude.{◌≡◌, MatchResult};
-ghost use Rattle.json5_types.specs.Errors.{LacksMemory};
+//! A string whose default is made where it is needed.
 
 use crate::fields::StructFields;
 use json5_de::{Deserialize, MapAccess};
@@ -9,71 +6,51 @@ use json5_text::input::Input;
 use json5_types::error::Result;
 use std::alloc::Global;
 
-/// A default that is made where it is needed, since it takes memory. A `&'static str` makes a `String`.
+/// A string that may be missing. The default is made only then, since it takes memory.
 ///
 /// ```text
-/// WithDefaultElse("host", "localhost")
+/// let host: String = read_struct(de, WithDefaultText("host", "localhost"))?;    // 'localhost' of `{}`
 /// ```
-pub trait MakesDefault<I: Input, T: Deserialize<I>>: Sized + Drop {
-    // What the default means.
-    ghost meaning: { Self → T.Content };
+#[derive(Clone, Copy)]
+pub struct WithDefaultText(pub &'static str, pub &'static str);
 
-    /// Makes the default.
-    ///
-    /// # Errors
-    ///
-    /// - `OutOfMemory`, without a position.
-    fn make(self, alloc: Global) -> Result<T>
-        ensures { MatchResult result (λ v. T.content v ≡ meaning self) LacksMemory };
-}
-
-impl<I: Input> MakesDefault<I, String> for &'static str {
-    ghost meaning = { λ s. s.now };
-
-    fn make(self, alloc: Global) -> Result<String> {
-        Ok(String::from_str(alloc, self)?)
-    }
-}
-
-/// A field that may be missing, which is then a default that is made.
-///
-/// ```text
-/// let host: String = read_struct(de, WithDefaultElse("host", "localhost"))?;    // 'localhost' of `{}`
-/// ```
-#[derive(Drop)]
-pub struct WithDefaultElse<M>(pub &'static str, pub M);
-
-impl<I: Input, T: Deserialize<I>, M: MakesDefault<I, T>> StructFields<I, T> for WithDefaultElse<M> {
-    ghost use Rattle.std.specs.Prelude.{ℕ, List, Option};
+impl<I: Input> StructFields<I, String> for WithDefaultText {
+    ghost use Rattle.std.specs.Prelude.{ℕ, List, Option, string_bytes};
     ghost use Rattle.json5_de.specs.ConvertLists.{if_some};
+    ghost use Rattle.json5_de.specs.Convert.{text_of};
     ghost use Rattle.json5_fields.specs.Layouts.{field_or};
     ghost use Rattle.json5_fields.specs.FieldCalls.{of_type};
 
-    type Found = Option<T>;
+    type Found = Option<String>;
 
-    ghost Shape = { List ℕ × T.Content };
+    ghost Shape = { List ℕ × List ℕ };
 
-    ghost shape = { λ f. (f.0.now, M.meaning f.1) };
+    ghost shape = { λ f. (f.0.now, f.1.now) };
 
-    ghost State = { Option T.Content };
+    ghost State = { Option (List ℕ) };
 
-    ghost state = { if_some T.content };
+    ghost state = { if_some string_bytes };
 
-    ghost Content = { T.Content };
+    ghost Content = { List ℕ };
 
-    ghost content = { T.content };
+    ghost content = { string_bytes };
 
-    ghost layout = { λ s. field_or s.1 s.0 T.convert };
+    ghost layout = { λ s. field_or s.1 s.0 text_of };
 
-    ghost faults = { of_type T.convert T.refuses };
+    ghost faults = { of_type text_of ⟦<String as Deserialize<I>>⟧.refuses };
 
     #[inline(always)]
-    fn start(&self) -> Option<T> {
+    fn start(&self) -> Option<String> {
         None
     }
 
     #[inline(always)]
-    fn read(&self, found: &mut Option<T>, map: &mut MapAccess<'_, I>, name: &str) -> Result<bool> {
+    fn read(
+        &self,
+        found: &mut Option<String>,
+        map: &mut MapAccess<'_, I>,
+        name: &str,
+    ) -> Result<bool> {
         if name != self.0 {
             return Ok(false);
         }
@@ -84,13 +61,17 @@ impl<I: Input, T: Deserialize<I>, M: MakesDefault<I, T>> StructFields<I, T> for 
     }
 
     #[inline(always)]
-    fn finish(self, found: Option<T>, map: &mut MapAccess<'_, I>, alloc: Global) -> Result<T> {
-        let WithDefaultElse(_, default) = self;
+    fn finish(
+        self,
+        found: Option<String>,
+        map: &mut MapAccess<'_, I>,
+        alloc: Global,
+    ) -> Result<String> {
         match found {
             Some(value) => Ok(value),
-            None => match default.make(alloc) {
+            None => match String::from_str(alloc, self.1) {
                 Ok(value) => Ok(value),
-                Err(e) => Err(map.place(e)),
+                Err(e) => Err(map.place(e.into())),
             },
         }
     }

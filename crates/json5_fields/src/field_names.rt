@@ -1,6 +1,6 @@
 //! The names of a description, for a message.
 
-use crate::defaults::WithDefaultElse;
+use crate::defaults::WithDefaultText;
 use crate::fields::{Optional, Required, WithDefault};
 use std::fmt;
 
@@ -54,7 +54,7 @@ impl<T> FieldNames for WithDefault<T> {
     }
 }
 
-impl<M> FieldNames for WithDefaultElse<M> {
+impl FieldNames for WithDefaultText {
     fn write_names<W: fmt::Write>(&self, f: &mut fmt::Formatter<W>) -> fmt::Result {
         let name = self.0;
         write!(f, "`{name}`")

@@ -23,7 +23,7 @@ mod variants;
 mod written_objects;
 mod written_tuples;
 
-pub use defaults::{MakesDefault, WithDefaultElse};
+pub use defaults::WithDefaultText;
 pub use entries::{Field, Given, WrittenFields};
 pub use enums::read_enum;
 pub use field_names::FieldNames;

@@ -51,7 +51,9 @@ pub struct NoContent;
 impl<I: Input> EnumVariants<I> for NoContent {
     ghost use Rattle.std.specs.Prelude.{Unit};
     ghost use Rattle.json5_de.specs.Enums.{unit_content, RefusesContent};
+    ghost use Rattle.json5_fields.specs.VariantContents.{TakesContent};
     ghost use Rattle.json5_de.specs.TokenKinds.{RefusedAs, null_kind};
+    ghost use Rattle.json5_fields.specs.declared.variants.NoContent.{NoContent};
 
     ghost count = { 1 };
 
@@ -64,7 +66,10 @@ impl<I: Input> EnumVariants<I> for NoContent {
     ghost faults = { λ k. RefusesContent (RefusedAs null_kind) };
 
     #[inline(always)]
-    fn read_content(_index: usize, access: EnumAccess<'_, I>) -> Result<NoContent> {
+    fn read_content(index: usize, access: EnumAccess<'_, I>) -> Result<NoContent>
+        ensures { TakesContent (λ (v : NoContent). tt) (λ k. unit_content) (λ k. RefusesContent (RefusedAs null_kind)) index (enum_state_of access.entry) access.exit.0.now result }
+    {
+        let _ = index;
         match access.unit_variant() {
             Ok(()) => Ok(NoContent),
             Err(e) => Err(e),
@@ -82,6 +87,8 @@ pub struct Holding<T>(pub T);
 
 impl<I: Input, T: Deserialize<I>> EnumVariants<I> for Holding<T> {
     ghost use Rattle.json5_de.specs.Enums.{content_of, RefusesContent};
+    ghost use Rattle.json5_fields.specs.declared.variants.Holding.{Holding};
+    ghost use Rattle.json5_fields.specs.VariantContents.{TakesContent};
 
     ghost count = { 1 };
 
@@ -94,7 +101,10 @@ impl<I: Input, T: Deserialize<I>> EnumVariants<I> for Holding<T> {
     ghost faults = { λ k. RefusesContent T.refuses };
 
     #[inline(always)]
-    fn read_content(_index: usize, access: EnumAccess<'_, I>) -> Result<Holding<T>> {
+    fn read_content(index: usize, access: EnumAccess<'_, I>) -> Result<Holding<T>>
+        ensures { TakesContent (λ (v : Holding _). T.content v.0) (λ k. content_of T.convert) (λ k. RefusesContent T.refuses) index (enum_state_of access.entry) access.exit.0.now result }
+    {
+        let _ = index;
         match access.newtype_variant::<T>() {
             Ok(value) => Ok(Holding(value)),
             Err(e) => Err(e),
@@ -118,7 +128,7 @@ pub enum OneOf<A, B> {
 
 impl<I: Input, A: EnumVariants<I>, B: EnumVariants<I>> EnumVariants<I> for OneOf<A, B> {
     ghost use Rattle.std.specs.Prelude.{◌+◌};
-    ghost use Rattle.json5_fields.specs.VariantContents.{Either, first_or_later, fault_of_either};
+    ghost use Rattle.json5_fields.specs.VariantContents.{Either, TakesContent, first_or_later, fault_of_either};
     ghost use Rattle.json5_fields.specs.EitherContents.{either_content};
 
     ghost count = { 1 + B.count };
@@ -132,7 +142,9 @@ impl<I: Input, A: EnumVariants<I>, B: EnumVariants<I>> EnumVariants<I> for OneOf
     ghost faults = { fault_of_either A.faults B.faults };
 
     #[inline(always)]
-    fn read_content(index: usize, access: EnumAccess<'_, I>) -> Result<OneOf<A, B>> {
+    fn read_content(index: usize, access: EnumAccess<'_, I>) -> Result<OneOf<A, B>>
+        ensures { TakesContent (either_content A.content B.content) (first_or_later A.convert B.convert) (fault_of_either A.faults B.faults) index (enum_state_of access.entry) access.exit.0.now result }
+    {
         if index == 0 {
             match A::read_content(0, access) {
                 Ok(first) => return Ok(OneOf::First(first)),

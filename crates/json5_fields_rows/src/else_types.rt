@@ -3,7 +3,7 @@
 use json5::fields::StructFields;
 use json5::{
     Deserialize, Deserializer, Field, Input, Result, Serialize, Serializer, WithDefault,
-    WithDefaultElse, read_struct, write_struct,
+    WithDefaultText, read_struct, write_struct,
 };
 use std::io::Write;
 
@@ -14,7 +14,7 @@ pub struct Defaults {
     pub tags: Vec<u8>,
 }
 
-type DefaultParts = (WithDefaultElse<&'static str>, WithDefault<Vec<u8>>);
+type DefaultParts = (WithDefaultText, WithDefault<Vec<u8>>);
 
 type DefaultValues = (String, Vec<u8>);
 
@@ -33,7 +33,7 @@ impl<I: Input> Deserialize<I> for Defaults {
 
     fn deserialize(de: &mut Deserializer<I>) -> Result<Defaults> {
         let tags = WithDefault("tags", Vec::new(de.allocator()));
-        match read_struct(de, (WithDefaultElse("host", "localhost"), tags)) {
+        match read_struct(de, (WithDefaultText("host", "localhost"), tags)) {
             Ok((host, tags)) => Ok(Defaults { host, tags }),
             Err(e) => Err(e),
         }

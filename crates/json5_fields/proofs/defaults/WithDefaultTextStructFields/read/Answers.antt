@@ -1,6 +1,6 @@
 use Rattle.std.proofs.Common.{◌≡◌}
 use Rattle.json5_fields.proofs.Described.{same_name, takes_it}
-use Rattle.json5_fields.proofs.defaults.WithDefaultElseStructFields.read.Goals as goal
+use Rattle.json5_fields.proofs.defaults.WithDefaultTextStructFields.read.Goals as goal
 
 pub returns-in-Ok : goal.returns-in-Ok
 returns-in-Ok g c =
