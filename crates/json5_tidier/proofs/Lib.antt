@@ -1,3 +1,5 @@
 -- Lists the lemmas about the program.
 pub mod LinesJoined
 pub mod FilesWorked
+pub mod NamesEnded
+pub mod FoldersOpened

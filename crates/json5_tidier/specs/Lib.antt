@@ -3,3 +3,5 @@ pub mod Tidies
 pub mod Answers
 pub mod Troubles
 pub mod Files
+pub mod Folders
+pub mod FolderSteps

@@ -61,12 +61,19 @@ fn work_below<S: Store, W: Write, E: Write>(
     w: &mut W,
     e: &mut E,
 ) -> (u8, bool) {
-    match files_of(store, alloc, request.options.endings.as_slice(), name) {
-        Ok(names) => work_on_each(store, alloc, request, names.as_slice(), w, e),
-        Err(trouble) => (report_trouble(name, &trouble, e), true),
+    let Ok(names) = files_of(store, alloc, request.options.endings.as_slice(), name) else {
+        return (
+            report_trouble(name, &Trouble::Failed(Failure::NoMemory), e),
+            true,
+        );
+    };
+    if names.is_empty() {
+        return (report_trouble(name, &Trouble::NoFile, e), true);
     }
+    work_on_each(store, alloc, request, names.as_slice(), w, e)
 }
 
+/// Does the work on each file in turn; and whether it goes on.
 fn work_on_each<S: Store, W: Write, E: Write>(
     store: &S,
     alloc: Global,
