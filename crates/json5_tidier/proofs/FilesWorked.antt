@@ -14,7 +14,7 @@ use Rattle.json5_tidier.specs.Files.{Replacing, WorksOnFile, GoesThrough, tidy, 
 use Rattle.json5_tidier.specs.Troubles.{trouble_line, trouble_status}
 
 -- the files so far, and this one
-one_more : (names : List (String Global)) (i : ℕ) (name : String Global) → i < length names → name ≡ get_or names i name → take (i + 1) names ≡ take i names ++ name ∷ []
+pub one_more : (names : List (String Global)) (i : ℕ) (name : String Global) → i < length names → name ≡ get_or names i name → take (i + 1) names ≡ take i names ++ name ∷ []
 one_more names i name h is = take_more names i name h ∙ ap (λ x. take i names ++ x ∷ []) (sym is)
 
 split_at : (names : List (String Global)) (i : ℕ) (name : String Global) → i < length names → name ≡ get_or names i name → names ≡ take i names ++ name ∷ drop (i + 1) names

@@ -3,5 +3,6 @@ pub mod Tidies
 pub mod Answers
 pub mod Troubles
 pub mod Files
+pub mod Names
 pub mod Folders
 pub mod FolderSteps

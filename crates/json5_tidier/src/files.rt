@@ -3,6 +3,8 @@
 ghost use Rattle.std.specs.Prelude.{string_bytes};
 ghost use Rattle.json5_formatter.specs.JoinedTexts.{joined_texts};
 ghost use Rattle.json5_tidier.specs.Files.{PutsDiff, PutsFile, PutsTexts, WorksOn, WorksOnTexts, WorksThrough};
+ghost use Rattle.json5_tidier.specs.Folders.{StandsFor};
+ghost use Rattle.json5_tidier.specs.Names.{WorksBelow, WorksThroughNames};
 
 use crate::diffs::diff;
 use crate::endings::style_for;
@@ -40,7 +42,9 @@ pub fn work_through<S: Store, W: Write, E: Write>(
     request: &FileRequest,
     w: &mut W,
     e: &mut E,
-) -> u8 {
+) -> u8
+    ensures { WorksThroughNames (StandsFor (S.tells_folder store.now) (S.tells_entry store.now) (S.lists store.now) request.now.options.endings.items) (S.Disk.opens store.now) (S.replaces store.now) request.now.work (W.contents w.old) (E.contents e.old) request.now.names.items (W.contents w.new) (E.contents e.new) result }
+{
     let mut status: u8 = 0;
     for name in &request.names {
         let (met, goes_on) = work_below(store, alloc, request, name.as_str(), w, e);
@@ -60,7 +64,9 @@ fn work_below<S: Store, W: Write, E: Write>(
     name: &str,
     w: &mut W,
     e: &mut E,
-) -> (u8, bool) {
+) -> (u8, bool)
+    ensures { WorksBelow (StandsFor (S.tells_folder store.now) (S.tells_entry store.now) (S.lists store.now) request.now.options.endings.items) (S.Disk.opens store.now) (S.replaces store.now) request.now.work (W.contents w.old) (E.contents e.old) name.now (W.contents w.new) (E.contents e.new) result.0 result.1 }
+{
     let Ok(names) = files_of(store, alloc, request.options.endings.as_slice(), name) else {
         return (
             report_trouble(name, &Trouble::Failed(Failure::NoMemory), e),
