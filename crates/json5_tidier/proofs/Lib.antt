@@ -4,3 +4,4 @@ pub mod FilesWorked
 pub mod NamesWorked
 pub mod NamesEnded
 pub mod FoldersOpened
+pub mod WordsRead

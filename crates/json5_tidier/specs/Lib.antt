@@ -6,3 +6,5 @@ pub mod Files
 pub mod Names
 pub mod Folders
 pub mod FolderSteps
+pub mod CommandWords
+pub mod WordSteps

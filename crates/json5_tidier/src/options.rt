@@ -1,5 +1,8 @@
 //! The options of the command line.
 
+ghost use Rattle.std.specs.Bool.{Decides};
+ghost use Rattle.json5_tidier.specs.CommandWords.{WantsValue};
+
 use crate::names::push_name;
 use json5_tidy::Style;
 use std::alloc::{AllocError, Global};
@@ -36,7 +39,9 @@ impl Options {
     }
 
     /// Whether the value of the option is the next word, where it isn't in the same one.
-    pub(crate) fn wants_value(name: &str) -> bool {
+    pub(crate) fn wants_value(name: &str) -> bool
+        ensures { Decides result (WantsValue name.now) }
+    {
         matches!(name, "--indent" | "--width" | "--ext")
     }
 
@@ -51,8 +56,16 @@ impl Options {
         Ok(())
     }
 
+    /// Takes an option whose value is in the same word, or that has none.
+    pub(crate) fn take(&mut self, alloc: Global, word: &str) -> Result<(), Fault> {
+        match word.split_once('=') {
+            Some((name, value)) => self.set(alloc, name, value),
+            None => self.set_flag(word),
+        }
+    }
+
     /// Sets the option with this name, which has no value.
-    pub(crate) fn set_flag(&mut self, name: &str) -> Result<(), Fault> {
+    fn set_flag(&mut self, name: &str) -> Result<(), Fault> {
         if name != "--no-last-comma" {
             return Err(Fault::Unknown);
         }

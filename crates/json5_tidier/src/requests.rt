@@ -1,5 +1,11 @@
 //! What the words of the command line ask for.
 
+ghost use Rattle.std.specs.Bool.{Decides};
+ghost use Rattle.std.specs.Prelude.{false, IfErr, IfOk, MatchResult, is_some};
+ghost use Rattle.json5_tidier.specs.CommandWords.{Asks, AsksOthers, IsDashed, Refuses, RefusesOthers, RefusesWord};
+ghost use Rattle.json5_tidier.specs.Folders.{names_of};
+ghost use Rattle.json5_tidier.specs.WordSteps.{Takes, TakesOption};
+
 use crate::names::push_name;
 use crate::options::{Fault, Options};
 use crate::work::Work;
@@ -27,115 +33,135 @@ pub struct FileRequest {
 
 /// The words that were read so far.
 #[derive(Drop)]
-struct Words {
+pub(crate) struct Words {
     options: Options,
-    work: Option<Work>,
-    names: Vec<String>,
-    /// Whether `--help` or `--version` was met.
-    asked: Option<Asked>,
+    /// Those that are no options: the work, and the names.
+    others: Vec<String>,
+    /// The question that was met last.
+    question: Option<Question>,
     /// Whether `--` was met.
     is_past_options: bool,
 }
 
 #[derive(Clone, Copy, Drop)]
-enum Asked {
+pub(crate) enum Question {
     Help,
     Version,
 }
 
 impl Request {
     /// The request of these words.
-    pub(crate) fn of(alloc: Global, list: &[String]) -> Result<Request, Fault> {
+    pub(crate) fn of(alloc: Global, list: &[String]) -> Result<Request, Fault>
+        ensures { MatchResult result (Asks (names_of list.now)) (Refuses (names_of list.now)) }
+    {
         let mut words = Words {
             options: Options::usual(alloc),
-            work: None,
-            names: Vec::new(alloc),
-            asked: None,
+            others: Vec::new(alloc),
+            question: None,
             is_past_options: false,
         };
-        let mut i = 0;
-        while i < list.len() {
-            let next = list.get(i + 1);
-            let takes_next = words.take(alloc, list[i].as_str(), next)?;
-            i += if takes_next && i + 1 < list.len() {
-                2
-            } else {
-                1
-            };
+        let mut left = list;
+        while let Some((word, rest)) = left.split_first() {
+            left = words.take(alloc, word.as_str(), rest)?;
         }
         words.request()
     }
 }
 
 impl Words {
-    /// Takes a word, and says whether it took the one after it too.
-    fn take(&mut self, alloc: Global, word: &str, next: Option<&String>) -> Result<bool, Fault> {
-        if self.is_past_options || !word.starts_with('-') || word == "-" {
-            self.take_name(alloc, word)?;
-            return Ok(false);
-        }
-        match word {
-            "--" => self.is_past_options = true,
-            "--help" | "-h" => self.asked = Some(Asked::Help),
-            "--version" => self.asked = Some(Asked::Version),
-            _ => return self.take_option(alloc, word, next),
-        }
-        Ok(false)
-    }
-
-    fn take_option(
+    /// Takes a word, and the first of the rest where that is its value. Returns the words that are left.
+    fn take<'w>(
         &mut self,
         alloc: Global,
         word: &str,
-        next: Option<&String>,
-    ) -> Result<bool, Fault> {
-        if let Some((name, value)) = word.split_once('=') {
-            self.options.set(alloc, name, value)?;
-            return Ok(false);
+        rest: &'w [String],
+    ) -> Result<&'w [String], Fault>
+        ensures taken { IfOk result (λ left. Takes word.now rest.now self.old self.new left.now) }
+        ensures refused { IfErr result (RefusesWord word.now) }
+    {
+        if self.is_past_options || !is_dashed(word) {
+            push_name(alloc, &mut self.others, word)?;
+            return Ok(rest);
         }
-        if !Options::wants_value(word) {
-            self.options.set_flag(word)?;
-            return Ok(false);
+        match word {
+            "--" => {
+                self.is_past_options = true;
+                Ok(rest)
+            }
+            "--help" | "-h" => {
+                self.question = Some(Question::Help);
+                Ok(rest)
+            }
+            "--version" => {
+                self.question = Some(Question::Version);
+                Ok(rest)
+            }
+            _ => self.take_option(alloc, word, rest),
         }
-        match next {
-            Some(value) => self.options.set(alloc, word, value.as_str())?,
-            None => return Err(Fault::Unknown),
-        }
-        Ok(true)
     }
 
-    /// Takes a word that is no option: the work, and then the names.
-    fn take_name(&mut self, alloc: Global, word: &str) -> Result<(), Fault> {
-        if self.work.is_some() {
-            push_name(alloc, &mut self.names, word)?;
-            return Ok(());
+    fn take_option<'w>(
+        &mut self,
+        alloc: Global,
+        word: &str,
+        rest: &'w [String],
+    ) -> Result<&'w [String], Fault>
+        ensures { IfOk result (λ left. TakesOption word.now rest.now self.old self.new left.now) }
+    {
+        if !Options::wants_value(word) {
+            self.options.take(alloc, word)?;
+            return Ok(rest);
         }
-        match Work::named(word) {
-            Some(work) => self.work = Some(work),
-            None => return Err(Fault::Unknown),
-        }
-        Ok(())
+        let Some((value, left)) = rest.split_first() else {
+            return Err(Fault::Unknown);
+        };
+        self.options.set(alloc, word, value.as_str())?;
+        Ok(left)
     }
 
     /// What the words ask for, now that all were taken.
-    fn request(self) -> Result<Request, Fault> {
+    fn request(self) -> Result<Request, Fault>
+        ensures { MatchResult result (AsksOthers (names_of self.others.items) (is_some self.question)) (RefusesOthers (names_of self.others.items) (is_some self.question)) }
+    {
         let Words {
             options,
-            work,
-            names,
-            asked,
+            others,
+            question,
             is_past_options: _,
         } = self;
-        match (asked, work) {
-            (Some(Asked::Help), _) => Ok(Request::Help),
-            (Some(Asked::Version), _) => Ok(Request::Version),
-            (None, None) => Ok(Request::Stream(options)),
-            (None, Some(_)) if names.is_empty() => Err(Fault::Unknown),
-            (None, Some(work)) => Ok(Request::Files(FileRequest {
-                work,
-                options,
-                names,
-            })),
+        match question {
+            Some(Question::Help) => Ok(Request::Help),
+            Some(Question::Version) => Ok(Request::Version),
+            None => request_of(options, others),
         }
+    }
+}
+
+/// What is asked for by the words that are no options.
+fn request_of(options: Options, others: Vec<String>) -> Result<Request, Fault>
+    ensures { MatchResult result (AsksOthers (names_of others.items) false) (RefusesOthers (names_of others.items) false) }
+{
+    if others.is_empty() {
+        return Ok(Request::Stream(options));
+    }
+    let mut names = others;
+    let word = names.remove(0);
+    match Work::named(word.as_str()) {
+        Some(work) if !names.is_empty() => Ok(Request::Files(FileRequest {
+            work,
+            options,
+            names,
+        })),
+        _ => Err(Fault::Unknown),
+    }
+}
+
+/// Whether the word begins with a minus, and more follows.
+fn is_dashed(word: &str) -> bool
+    ensures { Decides result (IsDashed word.now) }
+{
+    match word.as_bytes().split_first() {
+        Some((first, rest)) => *first == b'-' && !rest.is_empty(),
+        None => false,
     }
 }
