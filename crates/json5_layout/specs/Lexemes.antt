@@ -1,5 +1,5 @@
 -- Where a lexeme is.
-use Rattle.std.specs.Prelude.{◌≡◌, ◌≤◌, ◌<◌, ℕ, Bool, true, false, List, length}
+use Rattle.std.specs.Prelude.{◌≡◌, ◌+◌, ◌≤◌, ◌<◌, ℕ, Bool, true, false, List, length}
 use Rattle.json5_layout.specs.declared.lexemes.Kind.{Kind}
 use Rattle.json5_layout.specs.declared.lexemes.Kind.TheVariants as kind
 use Rattle.json5_layout.specs.declared.lexemes.Lexeme.{Lexeme}
@@ -27,3 +27,11 @@ pub record IsLexeme (bytes : List ℕ) (at : ℕ) (x : Lexeme) : Type 0 where
   pub place : IsWithin bytes x
   pub progress : is_end x ≡ false → x.start < x.end
   pub starts : is_end x ≡ false → x.start < length bytes
+
+-- so many bytes from the offset on are within the text
+abbrev pub FitsAt : (bytes : List ℕ) (at count : ℕ) → Type 0
+FitsAt bytes at count = at + count ≤ length bytes
+
+-- the offset is after the start of the lexeme, within the text
+abbrev pub IsPast : (bytes : List ℕ) (x : Lexeme) (end : ℕ) → Type 0
+IsPast bytes x end = (x.start < end) × (end ≤ length bytes)

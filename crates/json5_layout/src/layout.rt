@@ -1,7 +1,7 @@
 //! Writes the lexemes of a document in the layout.
 
 ghost use Rattle.std.specs.Prelude.{◌≤◌, ◌<◌, IfOk, length};
-ghost use Rattle.json5_layout.specs.Lexemes.{IsWithin};
+ghost use Rattle.json5_layout.specs.Lexemes.{IsPast, IsWithin};
 
 use crate::columns::{char_count, fits};
 use crate::entries::{ends_line, entry_end, has_entry, is_ignore, is_numbers};
@@ -135,7 +135,7 @@ impl Printer {
     fn put(&mut self, bytes: &[u8], lexeme: Lexeme) -> Result<usize, AllocError>
         requires inside { IsWithin bytes.now lexeme }
         requires some { lexeme.start < lexeme.end }
-        ensures { IfOk result (λ end. (lexeme.start < end) × (end ≤ length bytes.now)) }
+        ensures { IfOk result (IsPast bytes.now lexeme) }
     {
         let lines = lexeme.lines.saturating_add(self.lines);
         if matches!(lexeme.kind, Kind::Comma) {
@@ -167,7 +167,7 @@ impl Printer {
     ) -> Result<usize, AllocError>
         requires inside { IsWithin bytes.now lexeme }
         requires some { lexeme.start < lexeme.end }
-        ensures { IfOk result (λ end. (lexeme.start < end) × (end ≤ length bytes.now)) }
+        ensures { IfOk result (IsPast bytes.now lexeme) }
     {
         let end = entry_end(bytes, lexeme.start, self.frame.is_object).max(lexeme.end);
         self.before_word(lines, lexeme.end.saturating_sub(lexeme.start))?;

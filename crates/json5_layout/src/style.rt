@@ -1,5 +1,8 @@
 //! What a user may choose of the layout.
 
+ghost use Rattle.std.specs.Prelude.{◌≡◌};
+ghost use Rattle.json5_layout.specs.Styles.{usual_style};
+
 /// How a document is laid out.
 #[derive(Clone, Copy, Debug, Drop)]
 pub struct Style {
@@ -17,7 +20,9 @@ impl Style {
     /// ```text
     /// Style { indent: 4, ..Style::usual() }
     /// ```
-    pub fn usual() -> Style {
+    pub fn usual() -> Style
+        ensures { result ≡ usual_style }
+    {
         Style {
             indent: 2,
             width: 80,

@@ -1,7 +1,12 @@
 -- What tidying keeps.
-use Rattle.std.specs.Prelude.{◌≡◌, ◌⊎◌, ℕ, List}
+use Rattle.std.specs.declared.alloc.Global.{Global}
+use Rattle.std.specs.Prelude.{◌≡◌, ◌⊎◌, ℕ, List, Result, IfErr, IfOk, String, string_bytes}
+use Rattle.std.specs.Str.{chars}
 use Rattle.json5_grammar.specs.Language.Documents.{Doc, max_depth}
 use Rattle.json5_grammar.specs.Language.Trees.{Tree}
+use Rattle.json5_types.specs.declared.error.Error.{Error}
+use Rattle.json5_text.specs.Cursor.{IsOutOfMemory}
+use Rattle.json5_format.specs.DocumentReads.{IsRefused}
 use Rattle.json5_lexemes.specs.Lexemes.{HaveSameLexemes}
 
 -- x and y are documents of one tree, marks included, and they have the same lexemes: tokens as they are spelled, and comments
@@ -20,3 +25,15 @@ pub record IsLaidOut (x y : List ℕ) : Type 0 where
 -- y is x, or a document with the lexemes of x
 abbrev pub IsAlike : List ℕ → List ℕ → Type 0
 IsAlike x y = (y ≡ x) ⊎ IsLaidOut x y
+
+-- what is returned keeps what the text has
+abbrev pub KeepsText : (text : List ℕ) → Result (String Global) Error → Type 0
+KeepsText text result = IfOk result (λ s. Keeps (chars text) (chars (string_bytes s)))
+
+-- a document is refused only where memory runs out
+abbrev pub TakesDocument : (text : List ℕ) → Result (String Global) Error → Type 0
+TakesDocument text result = (t : Tree) → Doc max_depth (chars text) t → IfErr result IsOutOfMemory
+
+-- any other text is refused as `format` refuses it
+abbrev pub RefusesText : (text : List ℕ) → Result (String Global) Error → Type 0
+RefusesText text result = IfErr result (IsRefused (chars text))

@@ -2,11 +2,8 @@
 
 ghost use Rattle.std.specs.Prelude.{◌≡◌, IfOk, IfErr, IsTrue, string_bytes};
 ghost use Rattle.std.specs.Str.{chars};
-ghost use Rattle.json5_grammar.specs.Language.Trees.{Tree};
-ghost use Rattle.json5_grammar.specs.Language.Documents.{Doc, max_depth};
 ghost use Rattle.json5_text.specs.Cursor.{IsOutOfMemory};
-ghost use Rattle.json5_format.specs.DocumentReads.{IsRefused};
-ghost use Rattle.json5_tidy.specs.Tidied.{Keeps, IsAlike, IsLaidOut};
+ghost use Rattle.json5_tidy.specs.Tidied.{IsAlike, IsLaidOut, KeepsText, RefusesText, TakesDocument};
 
 use json5_format::check_document;
 use json5_layout::{Style, laid_out};
@@ -25,9 +22,9 @@ use std::alloc::Global;
 ///
 /// As [`tidy_with`].
 pub fn tidy(alloc: Global, text: &str) -> Result<String>
-    ensures kept { IfOk result (λ s. Keeps (chars text.now) (chars (string_bytes s))) }
-    ensures complete { (t : Tree) → Doc max_depth (chars text.now) t → IfErr result IsOutOfMemory }
-    ensures refused { IfErr result (IsRefused (chars text.now)) }
+    ensures kept { KeepsText text.now result }
+    ensures complete { TakesDocument text.now result }
+    ensures refused { RefusesText text.now result }
 {
     tidy_with(alloc, Style::usual(), text)
 }
@@ -49,9 +46,9 @@ pub fn tidy(alloc: Global, text: &str) -> Result<String>
 ///
 /// As `json5_format::format`, with the same positions.
 pub fn tidy_with(alloc: Global, style: Style, text: &str) -> Result<String>
-    ensures kept { IfOk result (λ s. Keeps (chars text.now) (chars (string_bytes s))) }
-    ensures complete { (t : Tree) → Doc max_depth (chars text.now) t → IfErr result IsOutOfMemory }
-    ensures refused { IfErr result (IsRefused (chars text.now)) }
+    ensures kept { KeepsText text.now result }
+    ensures complete { TakesDocument text.now result }
+    ensures refused { RefusesText text.now result }
 {
     match check_document(alloc, text) {
         Ok(()) => laid_out_document(alloc, style, text),
