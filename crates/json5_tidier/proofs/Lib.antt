@@ -4,3 +4,7 @@ pub mod FilesWorked
 pub mod NamesWorked
 pub mod NamesEnded
 pub mod FoldersOpened
+pub mod WordKinds
+pub mod WordsRead
+pub mod Statuses
+pub mod NamesPushed

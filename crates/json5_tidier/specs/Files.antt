@@ -10,16 +10,14 @@ use Rattle.json5_formatter.specs.Files.{Opening}
 use Rattle.json5_formatter.specs.Runs.{ReadFailure}
 use Rattle.json5_tidier.specs.declared.files.Outcome.{Outcome}
 use Rattle.json5_tidier.specs.declared.files.Outcome.TheVariants as outcome
+use Rattle.json5_tidier.specs.declared.tidied.Tidied.{Tidied}
 use Rattle.json5_tidier.specs.declared.trouble.Trouble.{Trouble}
 use Rattle.json5_tidier.specs.declared.trouble.Trouble.TheVariants as trouble
 use Rattle.json5_tidier.specs.declared.work.Work.{Work}
 use Rattle.json5_tidier.specs.declared.work.Work.TheVariants as work
+use Rattle.json5_tidier.specs.Stores.{Known, Replacing}
 use Rattle.json5_tidier.specs.Tidies.{Tidies}
 use Rattle.json5_tidier.specs.Troubles.{trouble_line, trouble_status}
-
--- the text of a file was replaced by another
-abbrev pub Replacing : Type 1
-Replacing = List ℕ → List ℕ → Type 0
 
 abbrev pub name_line : List ℕ → List ℕ
 name_line name = name ++ codes "\n"
@@ -57,11 +55,15 @@ WorksOnTexts replaces work.Diff name before after old new (Ok outcome.Tidy) = (b
 WorksOnTexts replaces work.Diff name before after old new (Ok outcome.Untidy) = before ≢ after
 WorksOnTexts replaces work.Diff name before after old new (Err (trouble.Failed failure.Write)) = before ≢ after
 WorksOnTexts replaces work.Diff name before after old new (Err (trouble.Failed failure.NoMemory)) = Keeps old new
-WorksOnTexts replaces work.Print name before after old new (Ok result) = Appends old new after
+WorksOnTexts replaces work.Print name before after old new (Ok result) = (result ≡ outcome.Tidy) × Appends old new after
 WorksOnTexts replaces work.Print name before after old new (Err (trouble.Failed failure.Write)) = AppendsFront old new after
-WorksOnTexts replaces work.Write name before after old new (Ok result) = ((before ≡ after) ⊎ replaces before after) × Keeps old new
+WorksOnTexts replaces work.Write name before after old new (Ok result) = (result ≡ outcome.Tidy) × ((before ≡ after) ⊎ replaces before after) × Keeps old new
 WorksOnTexts replaces work.Write name before after old new (Err (trouble.Unwritten u)) = (before ≢ after) × Keeps old new
 WorksOnTexts replaces w name before after old new result = ⊥
+
+-- the same of the texts that were kept
+abbrev pub WorksOnTidied : Known → Work → (name : List ℕ) → Tidied → (old new : Option (List ℕ)) → Result Outcome Trouble → Type 0
+WorksOnTidied known w name t = WorksOnTexts (known.replaces name) w name (string_bytes t.before) (string_bytes t.after)
 
 -- the file was opened, what it held was tidied, and the work was done on that; or it held no document; or it could not be opened
 pub data WorksOn (opens : Opening) (replaces : Replacing) (w : Work) (name : List ℕ) (old new : Option (List ℕ)) (result : Result Outcome Trouble) : Type 0 where
@@ -71,24 +73,24 @@ pub data WorksOn (opens : Opening) (replaces : Replacing) (w : Work) (name : Lis
   unopened : opens None → result ≡ Err (trouble.Failed failure.Read) → Keeps old new → WorksOn opens replaces w name old new result
 
 -- the work on this file, and what output held before and after it
-abbrev pub WorksOnFile : (List ℕ → Opening) → (List ℕ → Replacing) → Work → String Global → (old new : Option (List ℕ)) → Result Outcome Trouble → Type 0
-WorksOnFile opens replaces w name = WorksOn (opens (string_bytes name)) (replaces (string_bytes name)) w (string_bytes name)
+abbrev pub WorksOnFile : Known → Work → (name : List ℕ) → (old new : Option (List ℕ)) → Result Outcome Trouble → Type 0
+WorksOnFile known w name = WorksOn (known.opens name) (known.replaces name) w name
 
 -- what output and errors held before and after the files, and the greatest status that was met
-pub data GoesThrough (opens : List ℕ → Opening) (replaces : List ℕ → Replacing) (w : Work) (output errors : Option (List ℕ)) : List (String Global) → Option (List ℕ) → Option (List ℕ) → ℕ → Type 0 where
-  none : GoesThrough opens replaces w output errors [] output errors 0
-  tidy : {names : List (String Global)} {before after said : Option (List ℕ)} {status : ℕ} (name : String Global) → GoesThrough opens replaces w output errors names before said status
-      → WorksOnFile opens replaces w name before after (Ok outcome.Tidy) → GoesThrough opens replaces w output errors (names ++ name ∷ []) after said status
-  untidy : {names : List (String Global)} {before after said : Option (List ℕ)} {status : ℕ} (name : String Global) → GoesThrough opens replaces w output errors names before said status
-      → WorksOnFile opens replaces w name before after (Ok outcome.Untidy) → GoesThrough opens replaces w output errors (names ++ name ∷ []) after said (max status 1)
-  bad : {names : List (String Global)} {before after said more : Option (List ℕ)} {status : ℕ} (name : String Global) (e : Trouble) → GoesThrough opens replaces w output errors names before said status
-      → WorksOnFile opens replaces w name before after (Err e) → e ≢ trouble.Failed failure.Write → AppendsFront said more (trouble_line (string_bytes name) e)
-      → GoesThrough opens replaces w output errors (names ++ name ∷ []) after more (max status (trouble_status e))
+pub data GoesThrough (known : Known) (w : Work) (output errors : Option (List ℕ)) : List (String Global) → Option (List ℕ) → Option (List ℕ) → ℕ → Type 0 where
+  none : GoesThrough known w output errors [] output errors 0
+  tidy : {names : List (String Global)} {before after said : Option (List ℕ)} {status : ℕ} (name : String Global) → GoesThrough known w output errors names before said status
+      → WorksOnFile known w (string_bytes name) before after (Ok outcome.Tidy) → GoesThrough known w output errors (names ++ name ∷ []) after said status
+  untidy : {names : List (String Global)} {before after said : Option (List ℕ)} {status : ℕ} (name : String Global) → GoesThrough known w output errors names before said status
+      → WorksOnFile known w (string_bytes name) before after (Ok outcome.Untidy) → GoesThrough known w output errors (names ++ name ∷ []) after said (max status 1)
+  bad : {names : List (String Global)} {before after said more : Option (List ℕ)} {status : ℕ} (name : String Global) (e : Trouble) → GoesThrough known w output errors names before said status
+      → WorksOnFile known w (string_bytes name) before after (Err e) → e ≢ trouble.Failed failure.Write → AppendsFront said more (trouble_line (string_bytes name) e)
+      → GoesThrough known w output errors (names ++ name ∷ []) after more (max status (trouble_status e))
 
 -- it goes through all files, or to a failed write; and whether it went through all
-pub data WorksThrough (opens : List ℕ → Opening) (replaces : List ℕ → Replacing) (w : Work) (output errors : Option (List ℕ)) : List (String Global) → Option (List ℕ) → Option (List ℕ) → ℕ → Bool → Type 0 where
-  through : {names : List (String Global)} {after said : Option (List ℕ)} {status : ℕ} → GoesThrough opens replaces w output errors names after said status
-      → WorksThrough opens replaces w output errors names after said status true
+pub data WorksThrough (known : Known) (w : Work) (output errors : Option (List ℕ)) : List (String Global) → Option (List ℕ) → Option (List ℕ) → ℕ → Bool → Type 0 where
+  through : {names : List (String Global)} {after said : Option (List ℕ)} {status : ℕ} → GoesThrough known w output errors names after said status
+      → WorksThrough known w output errors names after said status true
   stopped : {all names : List (String Global)} {before after said more : Option (List ℕ)} {status : ℕ} (name : String Global) (rest : List (String Global))
-      → all ≡ names ++ name ∷ rest → GoesThrough opens replaces w output errors names before said status → WorksOnFile opens replaces w name before after (Err (trouble.Failed failure.Write))
-      → AppendsFront said more (trouble_line (string_bytes name) (trouble.Failed failure.Write)) → WorksThrough opens replaces w output errors all after more (max status 2) false
+      → all ≡ names ++ name ∷ rest → GoesThrough known w output errors names before said status → WorksOnFile known w (string_bytes name) before after (Err (trouble.Failed failure.Write))
+      → AppendsFront said more (trouble_line (string_bytes name) (trouble.Failed failure.Write)) → WorksThrough known w output errors all after more (max status 2) false

@@ -1,6 +1,7 @@
 -- The lines and the statuses of what goes wrong with a file.
-use Rattle.std.specs.Prelude.{ℕ, List, ◌++◌, string_bytes}
+use Rattle.std.specs.Prelude.{ℕ, List, [], ◌∷◌, ◌++◌, string_bytes}
 use lib.Chars.{codes}
+use Rattle.json5_grammar.specs.Language.Characters.{line_feed}
 use Rattle.json5_formatter.specs.Reports.{named_report, report_line, status_of}
 use Rattle.json5_tidier.specs.declared.trouble.Trouble.{Trouble}
 use Rattle.json5_tidier.specs.declared.trouble.Trouble.TheVariants as trouble
@@ -23,3 +24,11 @@ abbrev pub trouble_status : Trouble → ℕ
 trouble_status (trouble.Failed failure) = status_of failure
 trouble_status (trouble.Unwritten u) = 2
 trouble_status trouble.NoFile = 2
+
+-- how the program is called
+abbrev pub usage_line : List ℕ
+usage_line = codes "usage: json5_tidy [OPTION...] [check FILE... or diff FILE... or print FILE... or write FILE...]" ++ line_feed ∷ []
+
+-- memory ran out before any work began
+abbrev pub memory_line : List ℕ
+memory_line = named_report (codes "json5_tidy") (codes "out of memory")

@@ -1,6 +1,6 @@
 //! The program over its words and its three streams.
 
-ghost use Rattle.json5_tidier.specs.Answers.{AnswersStream};
+ghost use Rattle.json5_tidier.specs.Answers.{Answers, AnswersRequest, AnswersStream, SaysText};
 
 use crate::files::work_through;
 use crate::options::Fault;
@@ -28,7 +28,9 @@ pub fn answer<S: Store, R: Read, W: Write, E: Write>(
     r: &mut R,
     w: &mut W,
     e: &mut E,
-) -> u8 {
+) -> u8
+    ensures { Answers (S.known store.now) list.now (R.remaining r.old) (W.contents w.old) (E.contents e.old) (W.contents w.new) (E.contents e.new) result }
+{
     match Request::of(alloc, list) {
         Ok(request) => answer_request(store, alloc, &request, r, w, e),
         Err(Fault::Unknown) => usage(e),
@@ -43,7 +45,10 @@ fn answer_request<S: Store, R: Read, W: Write, E: Write>(
     r: &mut R,
     w: &mut W,
     e: &mut E,
-) -> u8 {
+) -> u8
+    ensures { AnswersRequest (S.known store.now) request.now (R.remaining r.old) (W.contents w.old) (E.contents e.old)
+        (W.contents w.new) (E.contents e.new) result }
+{
     match request {
         Request::Help => say(HELP, w, e),
         Request::Version => say(VERSION, w, e),
@@ -53,7 +58,9 @@ fn answer_request<S: Store, R: Read, W: Write, E: Write>(
 }
 
 /// Writes the text to `w`, or to `e` that it can't be written.
-fn say<W: Write, E: Write>(text: &str, w: &mut W, e: &mut E) -> u8 {
+fn say<W: Write, E: Write>(text: &str, w: &mut W, e: &mut E) -> u8
+    ensures { SaysText text.now (W.contents w.old) (W.contents w.new) (E.contents e.old) (E.contents e.new) result }
+{
     match put_texts(w, &[text]) {
         Ok(()) => 0,
         Err(failure) => report("output", &failure, e),

@@ -2,8 +2,7 @@
 
 ghost use Rattle.std.specs.Prelude.{string_bytes};
 ghost use Rattle.json5_formatter.specs.JoinedTexts.{joined_texts};
-ghost use Rattle.json5_tidier.specs.Files.{PutsDiff, PutsFile, PutsTexts, WorksOn, WorksOnTexts, WorksThrough};
-ghost use Rattle.json5_tidier.specs.Folders.{StandsFor};
+ghost use Rattle.json5_tidier.specs.Files.{PutsDiff, PutsFile, PutsTexts, WorksOnFile, WorksOnTidied, WorksThrough};
 ghost use Rattle.json5_tidier.specs.Names.{WorksBelow, WorksThroughNames};
 
 use crate::diffs::diff;
@@ -43,7 +42,7 @@ pub fn work_through<S: Store, W: Write, E: Write>(
     w: &mut W,
     e: &mut E,
 ) -> u8
-    ensures { WorksThroughNames (StandsFor (S.tells_folder store.now) (S.tells_entry store.now) (S.lists store.now) request.now.options.endings.items) (S.Disk.opens store.now) (S.replaces store.now) request.now.work (W.contents w.old) (E.contents e.old) request.now.names.items (W.contents w.new) (E.contents e.new) result }
+    ensures { WorksThroughNames (S.known store.now) request.now (W.contents w.old) (E.contents e.old) (W.contents w.new) (E.contents e.new) result }
 {
     let mut status: u8 = 0;
     for name in &request.names {
@@ -65,7 +64,8 @@ fn work_below<S: Store, W: Write, E: Write>(
     w: &mut W,
     e: &mut E,
 ) -> (u8, bool)
-    ensures { WorksBelow (StandsFor (S.tells_folder store.now) (S.tells_entry store.now) (S.lists store.now) request.now.options.endings.items) (S.Disk.opens store.now) (S.replaces store.now) request.now.work (W.contents w.old) (E.contents e.old) name.now (W.contents w.new) (E.contents e.new) result.0 result.1 }
+    ensures { WorksBelow (S.known store.now) request.now name.now (W.contents w.old) (E.contents e.old)
+        (W.contents w.new) (E.contents e.new) result.0 result.1 }
 {
     let Ok(names) = files_of(store, alloc, request.options.endings.as_slice(), name) else {
         return (
@@ -88,7 +88,8 @@ fn work_on_each<S: Store, W: Write, E: Write>(
     w: &mut W,
     e: &mut E,
 ) -> (u8, bool)
-    ensures { WorksThrough (S.Disk.opens store.now) (S.replaces store.now) request.now.work (W.contents w.old) (E.contents e.old) names.now (W.contents w.new) (E.contents e.new) result.0 result.1 }
+    ensures { WorksThrough (S.known store.now) request.now.work (W.contents w.old) (E.contents e.old) names.now
+        (W.contents w.new) (E.contents e.new) result.0 result.1 }
 {
     let mut status: u8 = 0;
     for name in names {
@@ -116,7 +117,7 @@ fn work_on<S: Store, W: Write>(
     name: &str,
     w: &mut W,
 ) -> Result<Outcome, Trouble>
-    ensures { WorksOn (S.Disk.opens store.now name.now) (S.replaces store.now name.now) request.now.work name.now (W.contents w.old) (W.contents w.new) result }
+    ensures { WorksOnFile (S.known store.now) request.now.work name.now (W.contents w.old) (W.contents w.new) result }
 {
     let Ok(mut file) = store.open(name) else {
         return Err(Trouble::Failed(Failure::Read));
@@ -136,7 +137,7 @@ fn work_on_texts<S: Store, W: Write>(
     tidied: &Tidied,
     w: &mut W,
 ) -> Result<Outcome, Trouble>
-    ensures { WorksOnTexts (S.replaces store.now name.now) work name.now (string_bytes tidied.now.before) (string_bytes tidied.now.after) (W.contents w.old) (W.contents w.new) result }
+    ensures { WorksOnTidied (S.known store.now) work name.now tidied.now (W.contents w.old) (W.contents w.new) result }
 {
     match work {
         Work::Print => put(w, &[tidied.after.as_str()], Outcome::Tidy),
@@ -185,7 +186,7 @@ fn put_file<S: Store>(
     name: &str,
     tidied: &Tidied,
 ) -> Result<Outcome, Trouble>
-    ensures { PutsFile (S.replaces store.now name.now (string_bytes tidied.now.before) (string_bytes tidied.now.after)) result }
+    ensures { PutsFile ((S.known store.now).replaces name.now (string_bytes tidied.now.before) (string_bytes tidied.now.after)) result }
 {
     match store.replace(alloc, name, tidied.before.as_str(), tidied.after.as_str()) {
         Ok(()) => Ok(Outcome::Tidy),

@@ -1,9 +1,8 @@
 //! The files below a folder.
 
-ghost use Rattle.std.specs.declared.alloc.Global.{Global};
-ghost use Rattle.std.specs.Prelude.{◌∷◌, IfOk, List, OnOk, String};
+ghost use Rattle.std.specs.Prelude.{◌∷◌, IfOk, OnOk};
 ghost use Rattle.json5_tidier.specs.Folders.{StandsFor, names_of};
-ghost use Rattle.json5_tidier.specs.FolderSteps.{Gathers, Leads, Opens, left_of};
+ghost use Rattle.json5_tidier.specs.FolderSteps.{Gathers, Leads, OpensFolder, left_of};
 
 use crate::endings::{is_passed_over, is_sought};
 use crate::names::push_name;
@@ -20,7 +19,7 @@ pub(crate) fn files_of<S: Store>(
     endings: &[String],
     name: &str,
 ) -> Result<Vec<String>, AllocError>
-    ensures { IfOk result (λ found. StandsFor (S.tells_folder store.now) (S.tells_entry store.now) (S.lists store.now) endings.now name.now (names_of found.items)) }
+    ensures { IfOk result (λ found. StandsFor (S.known store.now) endings.now name.now (names_of found.items)) }
 {
     let mut found = Vec::new(alloc);
     if store.is_folder(name) {
@@ -39,7 +38,7 @@ fn gather_below<S: Store>(
     folder: &str,
     found: &mut Vec<String>,
 ) -> Result<(), AllocError>
-    ensures { OnOk result (Gathers (S.tells_entry store.now) (S.lists store.now) endings.now folder.now found.old.items found.new.items) }
+    ensures { OnOk result (Gathers (S.known store.now) endings.now folder.now found.old.items found.new.items) }
 {
     let mut left = Vec::new(alloc);
     push_entries(store, alloc, folder, &mut left, found)?;
@@ -62,7 +61,7 @@ fn take_entry<S: Store>(
     left: &mut Vec<String>,
     found: &mut Vec<String>,
 ) -> Result<(), AllocError>
-    ensures { OnOk result (Leads (S.tells_entry store.now) (S.lists store.now) endings.now (name.now ∷ left_of left.old.items) found.old.items left.new.items found.new.items) }
+    ensures { OnOk result (Leads (S.known store.now) endings.now (name.now ∷ left_of left.old.items) found.old.items left.new.items found.new.items) }
 {
     match store.entry(name) {
         Entry::Folder if !is_passed_over(name) => push_entries(store, alloc, name, left, found),
@@ -81,7 +80,7 @@ fn push_entries<S: Store>(
     left: &mut Vec<String>,
     found: &mut Vec<String>,
 ) -> Result<(), AllocError>
-    ensures { OnOk result ((endings : List (String Global)) → Opens (S.tells_entry store.now) (S.lists store.now) endings folder.now left.old.items found.old.items left.new.items found.new.items) }
+    ensures { OnOk result (OpensFolder (S.known store.now) folder.now left.old.items found.old.items left.new.items found.new.items) }
 {
     let Ok(mut names) = store.entries(alloc, folder) else {
         return push_name(alloc, found, folder);

@@ -1,5 +1,8 @@
 //! The program over the system that it runs on.
 
+ghost use Rattle.std.specs.Prelude.{◌≡◌, ◌≤◌};
+ghost use Rattle.json5_tidier.specs.CommandWords.{AsksNothing};
+
 use crate::answers::answer;
 use crate::reports::{no_memory, usage};
 use std::alloc::Global;
@@ -33,7 +36,10 @@ pub fn program(rt: &HostRuntime) -> ExitCode {
 /// ```text
 /// words(&rt, rt.alloc(), list.as_slice())    // list: `check` and `app.json5`
 /// ```
-pub fn words(rt: &HostRuntime, alloc: Global, list: &[String]) -> u8 {
+pub fn words(rt: &HostRuntime, alloc: Global, list: &[String]) -> u8
+    ensures status { result ≤ 2 }
+    ensures usage { AsksNothing list.now → result ≡ 2 }
+{
     let (mut input, mut errors) = (rt.stdin(), rt.stderr());
     match BufWriter::with_capacity(alloc, PIECE, rt.stdout()) {
         Ok(mut output) => answer(rt, alloc, list, &mut input, &mut output, &mut errors),

@@ -21,6 +21,7 @@ mod reports;
 mod requests;
 mod stores;
 mod streams;
+mod taking;
 mod texts;
 mod tidied;
 mod trouble;

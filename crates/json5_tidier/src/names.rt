@@ -1,6 +1,7 @@
 //! Lists of names.
 
-ghost use Rattle.std.specs.Prelude.{◌≡◌, [], ◌∷◌, ◌++◌, OnOk, map, string_bytes};
+ghost use Rattle.std.specs.Prelude.{◌≡◌, [], ◌∷◌, ◌++◌, OnOk};
+ghost use Rattle.json5_tidier.specs.Folders.{names_of};
 
 use std::alloc::{AllocError, Global};
 
@@ -10,8 +11,22 @@ pub(crate) fn push_name(
     names: &mut Vec<String>,
     name: &str,
 ) -> Result<(), AllocError>
-    ensures { OnOk result (map string_bytes names.new.items ≡ map string_bytes names.old.items ++ name.now ∷ []) }
+    ensures { OnOk result (names_of names.new.items ≡ names_of names.old.items ++ name.now ∷ []) }
 {
     names.push(String::from_str(alloc, name)?)?;
+    Ok(())
+}
+
+/// Appends copies of the names.
+pub(crate) fn push_names(
+    alloc: Global,
+    names: &mut Vec<String>,
+    more: &[String],
+) -> Result<(), AllocError>
+    ensures { OnOk result (names_of names.new.items ≡ names_of names.old.items ++ names_of more.now) }
+{
+    for name in more {
+        push_name(alloc, names, name.as_str())?;
+    }
     Ok(())
 }

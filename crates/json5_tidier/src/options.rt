@@ -1,6 +1,11 @@
 //! The options of the command line.
 
-use crate::names::push_name;
+ghost use Rattle.std.specs.Bool.{Decides};
+ghost use Rattle.std.specs.Prelude.{◌≡◌, ◌≢◌, [], ℕ, List, MatchOption};
+ghost use Rattle.json5_layout.specs.Styles.{usual_style};
+ghost use Rattle.json5_tidier.specs.CommandWords.{IsCount, IsDashed, IsEnding, IsFlag, IsIndent, end_word, setting_word};
+ghost use Rattle.json5_tidier.specs.WordSteps.{IsJoined};
+
 use json5_tidy::Style;
 use std::alloc::{AllocError, Global};
 
@@ -12,15 +17,35 @@ pub struct Options {
     pub endings: Vec<String>,
 }
 
-/// What is wrong with an option.
+/// An option without a value.
+#[derive(Clone, Copy, Drop)]
+pub(crate) enum Flag {
+    Help,
+    Version,
+    NoLastComma,
+}
+
+/// An option with a value.
+#[derive(Clone, Copy, Drop)]
+pub(crate) enum Setting {
+    Indent,
+    Width,
+    Ext,
+}
+
+/// What is wrong with the words.
 #[derive(Clone, Copy, Drop)]
 pub(crate) enum Fault {
-    /// It is none, or its value is wrong.
+    /// They ask for nothing.
     Unknown,
     NoMemory,
 }
 
 impl From<AllocError> for Fault {
+    ghost use Rattle.json5_tidier.specs.declared.options.Fault.{Fault};
+
+    ghost from_gives = { λ _ fault. fault ≡ Fault.NoMemory };
+
     fn from(_e: AllocError) -> Fault {
         Fault::NoMemory
     }
@@ -28,63 +53,120 @@ impl From<AllocError> for Fault {
 
 impl Options {
     /// The usual style, and files that end in `.json5`.
-    pub(crate) fn usual(alloc: Global) -> Options {
+    pub(crate) fn usual(alloc: Global) -> Options
+        ensures style { result.style ≡ usual_style }
+        ensures endings { result.endings.items ≡ [] }
+    {
         Options {
             style: Style::usual(),
             endings: Vec::new(alloc),
         }
     }
+}
 
-    /// Whether the value of the option is the next word, where it isn't in the same one.
-    pub(crate) fn wants_value(name: &str) -> bool {
-        matches!(name, "--indent" | "--width" | "--ext")
+impl Flag {
+    /// The flag that the word is, if it is one.
+    pub(crate) fn named(word: &str) -> Option<Flag>
+        ensures { MatchOption result ((flag : Flag) → ¬ (IsFlag word.now flag)) (IsFlag word.now) }
+    {
+        match word {
+            "--help" => Some(Flag::Help),
+            "-h" => Some(Flag::Help),
+            "--version" => Some(Flag::Version),
+            "--no-last-comma" => Some(Flag::NoLastComma),
+            _ => None,
+        }
+    }
+}
+
+impl Setting {
+    /// The option with this name, if there is one.
+    pub(crate) fn named(word: &str) -> Option<Setting>
+        ensures { MatchOption result ((setting : Setting) → word.now ≢ setting_word setting) (λ setting. word.now ≡ setting_word setting) }
+    {
+        match word {
+            "--indent" => Some(Setting::Indent),
+            "--width" => Some(Setting::Width),
+            "--ext" => Some(Setting::Ext),
+            _ => None,
+        }
     }
 
-    /// Sets the option with this name to this value.
-    pub(crate) fn set(&mut self, alloc: Global, name: &str, value: &str) -> Result<(), Fault> {
-        match name {
-            "--indent" => self.style.indent = indent_of(value)?,
-            "--width" => self.style.width = width_of(value)?,
-            "--ext" => push_name(alloc, &mut self.endings, ending_of(value)?)?,
-            _ => return Err(Fault::Unknown),
+    /// The option with its value, if the word has both, as in `--indent=4`.
+    pub(crate) fn joined(word: &str) -> Option<(Setting, &str)>
+        ensures { MatchOption result ((setting : Setting) (value : List ℕ) → ¬ (IsJoined word.now setting value)) (λ x. IsJoined word.now x.0 x.1.now) }
+    {
+        let (name, value) = word.split_once('=')?;
+        match Setting::named(name) {
+            Some(setting) => Some((setting, value)),
+            None => None,
         }
-        Ok(())
     }
+}
 
-    /// Sets the option with this name, which has no value.
-    pub(crate) fn set_flag(&mut self, name: &str) -> Result<(), Fault> {
-        if name != "--no-last-comma" {
-            return Err(Fault::Unknown);
-        }
-        self.style.last_comma = false;
-        Ok(())
+/// Whether no word behind this one is an option.
+pub(crate) fn is_end(word: &str) -> bool
+    ensures { Decides result (word.now ≡ end_word) }
+{
+    word == "--"
+}
+
+/// Whether the word begins with a minus, and more follows.
+pub(crate) fn is_dashed(word: &str) -> bool
+    ensures { Decides result (IsDashed word.now) }
+{
+    match word.as_bytes().split_first() {
+        Some((first, rest)) => *first == b'-' && !rest.is_empty(),
+        None => false,
     }
 }
 
 /// The count of spaces, from 1 to 16, or 0 for `tab`.
-fn indent_of(value: &str) -> Result<usize, Fault> {
+pub(crate) fn indent_of(value: &str) -> Option<usize>
+    ensures { MatchOption result ((n : ℕ) → ¬ (IsIndent value.now n)) (IsIndent value.now) }
+{
     if value == "tab" {
-        return Ok(0);
+        return Some(0);
     }
-    match value.parse::<usize>() {
-        Ok(count) if count >= 1 && count <= 16 => Ok(count),
-        _ => Err(Fault::Unknown),
-    }
+    count_of(value, 16)
 }
 
 /// The count of characters, from 1 to 9999.
-fn width_of(value: &str) -> Result<usize, Fault> {
-    match value.parse::<usize>() {
-        Ok(count) if count >= 1 && count <= 9999 => Ok(count),
-        _ => Err(Fault::Unknown),
+pub(crate) fn width_of(value: &str) -> Option<usize>
+    ensures { MatchOption result ((n : ℕ) → ¬ (IsCount 9999 value.now n)) (IsCount 9999 value.now) }
+{
+    count_of(value, 9999)
+}
+
+/// The number, from 1 to `most`.
+fn count_of(value: &str, most: usize) -> Option<usize>
+    ensures { MatchOption result ((n : ℕ) → ¬ (IsCount most value.now n)) (IsCount most value.now) }
+{
+    let Ok(count) = value.parse::<usize>() else {
+        return None;
+    };
+    if count == 0 || count > most {
+        return None;
     }
+    Some(count)
 }
 
 /// The ending, without a point in front.
-fn ending_of(value: &str) -> Result<&str, Fault> {
-    let ending = value.strip_prefix(".").unwrap_or(value);
-    if ending.is_empty() {
-        return Err(Fault::Unknown);
+pub(crate) fn ending_of(value: &str) -> Option<&str>
+    ensures { MatchOption result ((e : List ℕ) → ¬ (IsEnding value.now e)) (λ e. IsEnding value.now e.now) }
+{
+    match value.strip_prefix('.') {
+        Some(ending) => unless_empty(ending),
+        None => unless_empty(value),
     }
-    Ok(ending)
+}
+
+/// The text, unless it is empty.
+fn unless_empty(text: &str) -> Option<&str>
+    ensures { MatchOption result (text.now ≡ []) (λ same. (same.now ≡ text.now) × (text.now ≢ [])) }
+{
+    if text.is_empty() {
+        return None;
+    }
+    Some(text)
 }

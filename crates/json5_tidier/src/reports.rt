@@ -3,16 +3,12 @@
 ghost use Rattle.std.specs.Prelude.{◌≡◌};
 ghost use Rattle.json5_write.specs.Pieces.{AppendsFront};
 ghost use Rattle.json5_formatter.specs.JoinedTexts.{joined_texts};
-ghost use Rattle.json5_tidier.specs.Troubles.{trouble_line, trouble_status, unwritten_line};
+ghost use Rattle.json5_tidier.specs.Troubles.{memory_line, trouble_line, trouble_status, unwritten_line, usage_line};
 
 use crate::trouble::{Trouble, Unwritten};
 use json5_formatter::report;
 use json5_formatter::write_texts::write_texts;
 use std::io::Write;
-
-/// How the program is called.
-pub(crate) const USAGE: &str =
-    "usage: json5_tidy [OPTION...] [check FILE... or diff FILE... or print FILE... or write FILE...]\n";
 
 /// What `--help` writes.
 pub(crate) const HELP: &str =
@@ -46,13 +42,24 @@ words are wrong.
 pub(crate) const VERSION: &str = "json5_tidy 1.0.0\n";
 
 /// Writes how the program is called, as one line, and returns the status 2.
-pub(crate) fn usage<E: Write>(e: &mut E) -> u8 {
-    say(e, &[USAGE]);
+pub(crate) fn usage<E: Write>(e: &mut E) -> u8
+    ensures status { result ≡ 2 }
+    ensures line { AppendsFront (E.contents e.old) (E.contents e.new) usage_line }
+{
+    say(
+        e,
+        &[
+            "usage: json5_tidy [OPTION...] [check FILE... or diff FILE... or print FILE... or write FILE...]\n",
+        ],
+    );
     2
 }
 
 /// Writes that memory ran out before any work began, and returns the status 2.
-pub(crate) fn no_memory<E: Write>(e: &mut E) -> u8 {
+pub(crate) fn no_memory<E: Write>(e: &mut E) -> u8
+    ensures status { result ≡ 2 }
+    ensures line { AppendsFront (E.contents e.old) (E.contents e.new) memory_line }
+{
     say(e, &["json5_tidy: out of memory\n"]);
     2
 }

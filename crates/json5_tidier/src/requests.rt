@@ -1,7 +1,14 @@
 //! What the words of the command line ask for.
 
-use crate::names::push_name;
+ghost use Rattle.std.specs.declared.alloc.Global.{Global};
+ghost use Rattle.std.specs.Prelude.{◌≡◌, ◌≢◌, [], ◌∷◌, List, MatchOption, String};
+ghost use Rattle.json5_tidier.specs.CommandWords.{work_word};
+ghost use Rattle.json5_tidier.specs.Folders.{names_of};
+ghost use Rattle.json5_tidier.specs.WordSteps.{ReadsWords, Requests, choices_of, unasked};
+
+use crate::names::push_names;
 use crate::options::{Fault, Options};
+use crate::taking::{Question, Words};
 use crate::work::Work;
 use std::alloc::Global;
 
@@ -25,117 +32,63 @@ pub struct FileRequest {
     pub names: Vec<String>,
 }
 
-/// The words that were read so far.
-#[derive(Drop)]
-struct Words {
-    options: Options,
-    work: Option<Work>,
-    names: Vec<String>,
-    /// Whether `--help` or `--version` was met.
-    asked: Option<Asked>,
-    /// Whether `--` was met.
-    is_past_options: bool,
-}
-
-#[derive(Clone, Copy, Drop)]
-enum Asked {
-    Help,
-    Version,
-}
-
 impl Request {
     /// The request of these words.
-    pub(crate) fn of(alloc: Global, list: &[String]) -> Result<Request, Fault> {
-        let mut words = Words {
-            options: Options::usual(alloc),
-            work: None,
-            names: Vec::new(alloc),
-            asked: None,
-            is_past_options: false,
-        };
-        let mut i = 0;
-        while i < list.len() {
-            let next = list.get(i + 1);
-            let takes_next = words.take(alloc, list[i].as_str(), next)?;
-            i += if takes_next && i + 1 < list.len() {
-                2
-            } else {
-                1
-            };
-        }
-        words.request()
+    pub(crate) fn of(alloc: Global, list: &[String]) -> Result<Request, Fault>
+        ensures { ReadsWords list.now result }
+    {
+        let mut words = Words::none(alloc);
+        let names = words.take_all(alloc, list)?;
+        push_names(alloc, &mut words.others, names)?;
+        request_of(words)
     }
 }
 
-impl Words {
-    /// Takes a word, and says whether it took the one after it too.
-    fn take(&mut self, alloc: Global, word: &str, next: Option<&String>) -> Result<bool, Fault> {
-        if self.is_past_options || !word.starts_with('-') || word == "-" {
-            self.take_name(alloc, word)?;
-            return Ok(false);
-        }
-        match word {
-            "--" => self.is_past_options = true,
-            "--help" | "-h" => self.asked = Some(Asked::Help),
-            "--version" => self.asked = Some(Asked::Version),
-            _ => return self.take_option(alloc, word, next),
-        }
-        Ok(false)
+/// The request, now that all words were taken.
+fn request_of(words: Words) -> Result<Request, Fault>
+    ensures { Requests (choices_of words) result }
+{
+    let Words {
+        options,
+        question,
+        others,
+    } = words;
+    match question {
+        Some(Question::Help) => Ok(Request::Help),
+        Some(Question::Version) => Ok(Request::Version),
+        None => unasked_request(options, others),
     }
+}
 
-    fn take_option(
-        &mut self,
-        alloc: Global,
-        word: &str,
-        next: Option<&String>,
-    ) -> Result<bool, Fault> {
-        if let Some((name, value)) = word.split_once('=') {
-            self.options.set(alloc, name, value)?;
-            return Ok(false);
-        }
-        if !Options::wants_value(word) {
-            self.options.set_flag(word)?;
-            return Ok(false);
-        }
-        match next {
-            Some(value) => self.options.set(alloc, word, value.as_str())?,
-            None => return Err(Fault::Unknown),
-        }
-        Ok(true)
+/// The request of words that ask no question; these are no options.
+fn unasked_request(options: Options, others: Vec<String>) -> Result<Request, Fault>
+    ensures { Requests (unasked options others.items) result }
+{
+    if others.is_empty() {
+        return Ok(Request::Stream(options));
     }
-
-    /// Takes a word that is no option: the work, and then the names.
-    fn take_name(&mut self, alloc: Global, word: &str) -> Result<(), Fault> {
-        if self.work.is_some() {
-            push_name(alloc, &mut self.names, word)?;
-            return Ok(());
-        }
-        match Work::named(word) {
-            Some(work) => self.work = Some(work),
-            None => return Err(Fault::Unknown),
-        }
-        Ok(())
-    }
-
-    /// What the words ask for, now that all were taken.
-    fn request(self) -> Result<Request, Fault> {
-        let Words {
-            options,
+    match work_and_names(others) {
+        Some((work, names)) => Ok(Request::Files(FileRequest {
             work,
+            options,
             names,
-            asked,
-            is_past_options: _,
-        } = self;
-        match (asked, work) {
-            (Some(Asked::Help), _) => Ok(Request::Help),
-            (Some(Asked::Version), _) => Ok(Request::Version),
-            (None, None) => Ok(Request::Stream(options)),
-            (None, Some(_)) if names.is_empty() => Err(Fault::Unknown),
-            (None, Some(work)) => Ok(Request::Files(FileRequest {
-                work,
-                options,
-                names,
-            })),
-        }
+        })),
+        None => Err(Fault::Unknown),
+    }
+}
+
+/// The work that the first of the words names, and those that follow it, if there is one.
+fn work_and_names(words: Vec<String>) -> Option<(Work, Vec<String>)>
+    ensures { MatchOption result ((work : Work) (names : List (String Global)) → names ≢ [] → names_of words.items ≢ work_word work ∷ names_of names)
+        (λ x. (names_of words.items ≡ work_word x.0 ∷ names_of x.1.items) × (x.1.items ≢ [])) }
+{
+    if words.len() < 2 {
+        return None;
+    }
+    let mut names = words;
+    let word = names.remove(0);
+    match Work::named(word.as_str()) {
+        Some(work) => Some((work, names)),
+        None => None,
     }
 }

@@ -19,29 +19,22 @@ pub enum Entry {
     Unknown,
 }
 
-/// Where files are found, read and replaced by their names. `tells_folder`, `tells_entry` and `lists` say what is known of
-/// what has a name, and of what is in a folder (None where it can't be read); `replaces` what is known of putting a text
-/// in the place of that of the file with a name. Of the files of the system nothing is known, as no contract speaks of
-/// them.
+/// Where files are found, read and replaced by their names. `known` says what is known of what has a name; of the files
+/// of the system nothing is known, as no contract speaks of them.
 pub trait Store: Disk {
-    ghost use Rattle.std.specs.Prelude.{ℕ, List, Bool, Option, None, Some, MatchResult, OnOk, map, string_bytes};
-    ghost use Rattle.json5_tidier.specs.declared.stores.Entry.{Entry};
+    ghost use Rattle.std.specs.Prelude.{ℕ, List, Option, None, Some, MatchResult, OnOk};
+    ghost use Rattle.json5_tidier.specs.Folders.{names_of};
+    ghost use Rattle.json5_tidier.specs.Stores.{Known};
 
-    ghost tells_folder: { Self → List ℕ → Bool → Type 0 };
-
-    ghost tells_entry: { Self → List ℕ → Entry → Type 0 };
-
-    ghost lists: { Self → List ℕ → Option (List (List ℕ)) → Type 0 };
-
-    ghost replaces: { Self → List ℕ → List ℕ → List ℕ → Type 0 };
+    ghost known: { Self → Known };
 
     /// Whether the name stands for a folder, or for a link to one.
     fn is_folder(&self, name: &str) -> bool
-        ensures { tells_folder self.now name.now result };
+        ensures { (known self.now).is_folder name.now result };
 
     /// What has this name. A link isn't followed.
     fn entry(&self, name: &str) -> Entry
-        ensures { tells_entry self.now name.now result };
+        ensures { (known self.now).has_entry name.now result };
 
     /// The names of what is in a folder, each with the folder's in front, in any order.
     ///
@@ -49,7 +42,7 @@ pub trait Store: Disk {
     ///
     /// That of the system, or of a name that isn't UTF-8.
     fn entries(&self, alloc: Global, folder: &str) -> io::Result<Vec<String>>
-        ensures { MatchResult result (λ names. lists self.now folder.now (Some (map string_bytes names.items))) (λ _. lists self.now folder.now None) };
+        ensures { MatchResult result (λ all. (known self.now).lists folder.now (Some (names_of all.items))) (λ _. (known self.now).lists folder.now None) };
 
     /// Puts a text in the place of that of a file, if the file still holds the text that was read of it.
     ///
@@ -57,20 +50,19 @@ pub trait Store: Disk {
     ///
     /// Why it wasn't replaced: then the file holds what it held before.
     fn replace(&self, alloc: Global, name: &str, before: &str, after: &str) -> Result<(), Unwritten>
-        ensures { OnOk result (replaces self.now name.now before.now after.now) };
+        ensures { OnOk result ((known self.now).replaces name.now before.now after.now) };
+
+    // What opening a file gives is known here too.
+    ghost knows_opening: { (s : Self) (name : List ℕ) (o : Option (Option (List ℕ))) → Self.opens s name o → (known s).opens name o };
 }
 
 /// The files of the system.
 impl<F: Files + AllocGlobal + Clone + Drop> Store for F {
-    ghost use Rattle.std.specs.Prelude.{⊤};
+    ghost use Rattle.json5_tidier.specs.Stores.{nothing_known};
 
-    ghost tells_folder = { λ _ _ _. ⊤ };
+    ghost known = { λ _. nothing_known };
 
-    ghost tells_entry = { λ _ _ _. ⊤ };
-
-    ghost lists = { λ _ _ _. ⊤ };
-
-    ghost replaces = { λ _ _ _ _. ⊤ };
+    ghost knows_opening = { λ _ _ _ _. tt };
 
     fn is_folder(&self, name: &str) -> bool {
         match fs::metadata(self, name) {

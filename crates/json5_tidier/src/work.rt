@@ -1,5 +1,8 @@
 //! What is done with a file.
 
+ghost use Rattle.std.specs.Prelude.{◌≡◌, ◌≢◌, MatchOption};
+ghost use Rattle.json5_tidier.specs.CommandWords.{work_word};
+
 /// What is done with each file.
 #[derive(Clone, Copy, Debug, Drop)]
 pub enum Work {
@@ -19,7 +22,9 @@ impl Work {
     /// ```text
     /// Work::named("check")    // Some(Work::Check)
     /// ```
-    pub fn named(word: &str) -> Option<Work> {
+    pub fn named(word: &str) -> Option<Work>
+        ensures { MatchOption result ((work : Work) → word.now ≢ work_word work) (λ work. word.now ≡ work_word work) }
+    {
         match word {
             "check" => Some(Work::Check),
             "diff" => Some(Work::Diff),

@@ -10,8 +10,8 @@ pub returns-then-is_empty : goal.returns-then-is_empty
 returns-then-is_empty g c =
     let none = eqb-true _ _ (sym c.if-is_empty.ensures) in
     rw c.report_trouble-then-is_empty.ensures.status
-    (no_file (stands_for_none (g.S.Store.tells_folder c.args.store.now) (g.S.Store.tells_entry c.args.store.now) (g.S.Store.lists c.args.store.now) c.args.request.now.options.endings.items c.as_slice.result.now c.args.name.now c.in-Ok.names.items c.as_slice.ensures.value (omega (arith, c.in-Ok.names.ok.0, none)) c.in-Ok.ensures) c.report_trouble-then-is_empty.ensures.line)
+    (no_file (stands_for_none (g.S.Store.known c.args.store.now) c.args.request.now c.as_slice.result.now c.args.name.now c.in-Ok.names.items c.as_slice.ensures.value (omega (arith, c.in-Ok.names.ok.0, none)) c.in-Ok.ensures) c.report_trouble-then-is_empty.ensures.line)
 
 pub returns : goal.returns
 returns g c =
-    works_below (g.S.Store.tells_folder c.args.store.now) (g.S.Store.tells_entry c.args.store.now) (g.S.Store.lists c.args.store.now) c.args.request.now.options.endings.items c.as_slice.result.now c.args.name.now c.in-Ok.names.items (g.S.Disk.opens c.args.store.now) (g.S.Store.replaces c.args.store.now) c.args.request.now.work _ _ _ _ c.as_slice-2.result.now _ _ c.as_slice.ensures.value c.as_slice-2.ensures.value c.in-Ok.ensures c.work_on_each.ensures
+    works_below (g.S.Store.known c.args.store.now) c.args.request.now c.as_slice.result.now c.args.name.now c.in-Ok.names.items _ _ _ _ c.as_slice-2.result.now _ _ c.as_slice.ensures.value c.as_slice-2.ensures.value c.in-Ok.ensures c.work_on_each.ensures

@@ -1,9 +1,13 @@
 use Rattle.std.proofs.Common.{refl, rules}
-use Rattle.json5_tidier.specs.Files.{worked, refused}
+use Rattle.json5_tidier.specs.Files.{worked, refused, unopened}
 use Rattle.json5_tidier.proofs.files.work_on.Goals as goal
 
+pub returns-in_default : goal.returns-in_default
+returns-in_default g c = unopened (g.met.S.Store.knows_opening _ _ _ c.in_default.ensures) refl (search rules)
+
 pub returns-in-Ok-read_tidied : goal.returns-in-Ok-read_tidied
-returns-in-Ok-read_tidied g c = worked _ _ _ c.in-Ok.ensures c.in-Ok-read_tidied.ensures.read.all c.in-Ok-read_tidied.ensures.read.tidies c.work_on_texts.ensures
+returns-in-Ok-read_tidied g c =
+    worked _ _ _ (g.met.S.Store.knows_opening _ _ _ c.in-Ok.ensures) c.in-Ok-read_tidied.ensures.read.all c.in-Ok-read_tidied.ensures.read.tidies c.work_on_texts.ensures
 
 pub returns : goal.returns
-returns g c = refused _ c.in-Err.failure c.in-Ok.ensures c.in-Err.ensures.stopped refl (search rules)
+returns g c = refused _ c.in-Err.failure (g.met.S.Store.knows_opening _ _ _ c.in-Ok.ensures) c.in-Err.ensures.stopped refl (search rules)

@@ -5,8 +5,8 @@ use Rattle.json5_tidier.proofs.folders.files_of.Goals as goal
 pub returns-then-is_folder : goal.returns-then-is_folder
 returns-then-is_folder g c =
     let (inner, k, e) = c.in_ok-gather_below.ensures in
-    below c.if-is_folder.ensures (subst (IsBelow (g.S.Store.tells_entry c.args.store.now) (g.S.Store.lists c.args.store.now) c.args.endings.now c.args.name.now) (sym (e ∙ ap (λ l. names_of l ++ inner) c.new-found.ensures.items)) k)
+    below c.if-is_folder.ensures (subst (IsBelow (g.S.Store.known c.args.store.now) c.args.endings.now c.args.name.now) (sym (e ∙ ap (λ l. names_of l ++ inner) c.new-found.ensures.items)) k)
 
 pub returns : goal.returns
 returns g c =
-    subst (StandsFor (g.S.Store.tells_folder c.args.store.now) (g.S.Store.tells_entry c.args.store.now) (g.S.Store.lists c.args.store.now) c.args.endings.now c.args.name.now) (sym (c.in_ok-push_name.ensures ∙ ap (λ l. names_of l ++ c.args.name.now ∷ []) c.new-found.ensures.items)) (itself c.if-is_folder.ensures)
+    subst (StandsFor (g.S.Store.known c.args.store.now) c.args.endings.now c.args.name.now) (sym (c.in_ok-push_name.ensures ∙ ap (λ l. names_of l ++ c.args.name.now ∷ []) c.new-found.ensures.items)) (itself c.if-is_folder.ensures)
