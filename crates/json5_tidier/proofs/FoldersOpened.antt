@@ -1,5 +1,5 @@
 -- Names that are left to look at, and what they stand for.
-use Rattle.std.proofs.Common.{◌≡◌, ℕ, List, [], ◌∷◌, ◌++◌, refl, sym, ap, ◌∙◌, subst, append_assoc, Option, cond}
+use Rattle.std.proofs.Common.{◌≡◌, ℕ, List, [], ◌∷◌, ◌++◌, refl, sym, ap, ◌∙◌, subst, append_assoc, cond}
 use Rattle.std.specs.declared.alloc.Global.{Global}
 use Rattle.std.specs.Prelude.{String, string_bytes, string_cmp, Some, None, reverse, Result, Ok, Err, OnOk, is_ok}
 use Rattle.std.specs.List.Sorted.{IsPermutation, IsSorted}

@@ -6,7 +6,7 @@ use Rattle.std.proofs.lemmas.Slice.Eq.{ends_is}
 use Rattle.std.proofs.lemmas.Bool.{cases_eq}
 use Rattle.std.proofs.lemmas.Bool.Decides.{Decides-eqb, Decides-like}
 use Rattle.std.specs.declared.alloc.Global.{Global}
-use Rattle.std.specs.Prelude.{get_or, ◌-◌, String, string_bytes}
+use Rattle.std.specs.Prelude.{get_or, String, string_bytes}
 use Rattle.std.specs.List.{Any, ends_with}
 use Rattle.json5_tidier.specs.Folders.{HasEnding, EndsWith, point, slash}
 

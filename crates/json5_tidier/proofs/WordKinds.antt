@@ -1,8 +1,6 @@
 -- What tells the words of the command line apart: no words begin with two parts.
-use Rattle.std.proofs.Common.{◌≡◌, ◌≢◌, inl, inr, ℕ, ◌<◌, Bool, true, false, not, ◌||◌, cond, eqb, eqb-true, Decides, List, [], ◌∷◌, ◌++◌, length, Option, Some, None, MatchOption, refl, sym, ap, ◌∙◌, subst, append-nil, arith, true≢false}
+use Rattle.std.proofs.Common.{◌≡◌, ◌≢◌, inl, inr, ℕ, ◌<◌, Bool, true, false, ◌||◌, cond, List, [], ◌∷◌, ◌++◌, length, Option, Some, None, MatchOption, refl, sym, ap, ◌∙◌, subst, append-nil, arith, true≢false}
 use Rattle.std.specs.Prelude.{◌==◌}
-use Rattle.std.proofs.lemmas.List.{nil_from_length}
-use Rattle.std.specs.List.{before_first, position_or_len}
 use Rattle.std.specs.Borrow.{Bor}
 use Rattle.std.specs.Str.Parse.{IsNumeral, without_leading_plus}
 use lib.Chars.{codes}
@@ -88,16 +86,6 @@ joined_after : (s : Setting) (value : List ℕ) → after_equals (setting_word s
 joined_after settings.Indent value = refl
 joined_after settings.Width value = refl
 joined_after settings.Ext value = refl
-
-pub joined_front : (s : Setting) (value : List ℕ) → before_first (λ b. eqb b 61) (setting_word s ++ equals ∷ value) ≡ setting_word s
-joined_front settings.Indent value = refl
-joined_front settings.Width value = refl
-joined_front settings.Ext value = refl
-
-pub joined_place : (s : Setting) (value : List ℕ) → position_or_len (λ b. eqb b 61) (setting_word s ++ equals ∷ value) ≢ length (setting_word s ++ equals ∷ value)
-joined_place settings.Indent value e = omega (arith, e)
-joined_place settings.Width value e = omega (arith, e)
-joined_place settings.Ext value e = omega (arith, e)
 
 -- nothing more stands behind it
 alone_word : (s : Setting) (word : List ℕ) → word ≡ setting_word s → word ≡ setting_word s ++ []
@@ -211,13 +199,6 @@ starts_before_end words l rest p end (apart s v e k) = setting_no_end s [] (ap (
 
 -- ---- what the program saw of a word, and so what it begins with
 
-pub joined_only : (words rest l : List (List ℕ)) (s : Setting) (v : List ℕ) (p : Part) → words ≡ (setting_word s ++ equals ∷ v) ∷ rest → Starts words p l → Sets s v p
-joined_only words rest l s v p start (plain w e bare is) = absurd (bare (setting_dashed s (equals ∷ v) w (heads w _ words l rest e start)))
-joined_only words rest l s v p start (alone w g e k is) = absurd (flag_no_setting w g k s (equals ∷ v) (heads w _ words l rest e start))
-joined_only words rest l s v p start (joined t u e k) =
-    let h = heads _ _ words l rest e start in like_sets t s u v p (same_setting t s (equals ∷ u) (equals ∷ v) h) (same_value t s u v h) k
-joined_only words rest l s v p start (apart t u e k) = absurd (not_joined t s v (heads _ _ words (u ∷ l) rest e start))
-
 pub pair_only : (words rest l : List (List ℕ)) (word : List ℕ) (p : Part) → words ≡ word ∷ rest → IsDashed word → ((f : Flag) → ¬ (IsFlag word f))
     → ((s : Setting) (value : List ℕ) → word ≢ setting_word s ++ equals ∷ value) → Starts words p l
     → (s : Setting) × (value : List ℕ) × (word ≡ setting_word s) × (rest ≡ value ∷ l) × Sets s value p
@@ -225,30 +206,6 @@ pair_only words rest l word p start dash unflagged split (plain w e bare is) = a
 pair_only words rest l word p start dash unflagged split (alone w g e k is) = absurd (unflagged g (subst (λ x. IsFlag x g) (heads w word words l rest e start) k))
 pair_only words rest l word p start dash unflagged split (joined s v e k) = absurd (split s v (heads word _ words rest l start e))
 pair_only words rest l word p start dash unflagged split (apart s v e k) = (s, v, heads word _ words rest (v ∷ l) start e, tails word _ words rest (v ∷ l) start e, k)
-
--- ---- what begins with a minus
-
-tails_of : (x y : ℕ) (xs ys word : List ℕ) → word ≡ x ∷ xs → word ≡ y ∷ ys → xs ≡ ys
-tails_of x y xs ys word e f = cc
-
-not_false : (r : Bool) → false ≡ not r → r ≡ true
-not_false true e = refl
-not_false false e = absurd (true≢false (sym e))
-
-pub dash : (word rest : List ℕ) (first : ℕ) (r : Bool) → word ≡ first ∷ rest → first ≡ minus → r ≡ not (length rest == 0) → Decides r (IsDashed word)
-dash word rest first true is minus_first e =
-    (λ t. (rest, (λ n. true≢false (e ∙ ap (λ l. not (length l == 0)) n)), is ∙ ap (λ x. x ∷ rest) minus_first), λ k. refl)
-dash word rest first false is minus_first e = (
-  λ t. absurd (true≢false (sym t)),
-  λ k. let same : rest ≡ k.0 = tails_of first minus rest k.0 word is k.2 in
-      absurd (k.1 (sym same ∙ nil_from_length rest (eqb-true _ _ (not_false _ e)))),
-)
-
-pub no_dash : (word rest : List ℕ) (first : ℕ) → word ≡ first ∷ rest → first ≢ minus → ¬ (IsDashed word)
-no_dash word rest first is other k = let h : first ≡ minus = cc (is, k.2) in other h
-
-pub nothing_dashed : (word : List ℕ) → length word ≡ 0 → ¬ (IsDashed word)
-nothing_dashed word empty k = let l = ap length k.2 in omega (arith, l, empty)
 
 -- ---- endings
 

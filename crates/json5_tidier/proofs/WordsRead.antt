@@ -1,37 +1,18 @@
 -- The words of the command line, one part after the other.
-use Rattle.std.proofs.Common.{◌≡◌, ◌≢◌, ◌↔◌, inl, inr, ℕ, ◌<◌, ◌≤◌, Bool, List, [], ◌∷◌, ◌++◌, ◌+◌, length, Option, Some, None, refl, sym, ap, ◌∙◌, subst, append-nil, arith, slice_index_or, remove}
+use Rattle.std.proofs.Common.{◌≡◌, ◌≢◌, ◌↔◌, ℕ, List, [], ◌∷◌, refl, sym, ap, ◌∙◌, subst, append-nil}
 use Rattle.std.specs.declared.alloc.Global.{Global}
 use Rattle.std.specs.Prelude.{String, string_bytes, Result, Ok, Err, IfOk, IfErr}
 use Rattle.std.specs.Borrow.{Bor}
-use Rattle.json5_layout.specs.declared.style.Style.{Style}
 use Rattle.json5_tidier.specs.declared.options.Fault.{Fault}
 use Rattle.json5_tidier.specs.declared.options.Fault.TheVariants as faults
 use Rattle.json5_tidier.specs.declared.options.Flag.{Flag}
-use Rattle.json5_tidier.specs.declared.options.Options.{Options}
 use Rattle.json5_tidier.specs.declared.options.Setting.{Setting}
 use Rattle.json5_tidier.specs.declared.requests.Request.{Request}
-use Rattle.json5_tidier.specs.declared.requests.Request.TheVariants as requests
-use Rattle.json5_tidier.specs.declared.taking.Question.{Question}
-use Rattle.json5_tidier.specs.declared.taking.Question.TheVariants as questions
 use Rattle.json5_tidier.specs.declared.taking.Words.{Words}
-use Rattle.json5_tidier.specs.declared.work.Work.{Work}
-use Rattle.json5_tidier.specs.CommandWords.{end_word, work_word, IsDashed, IsFlag, Part, Starts, apart, Choices, nothing_chosen, with_part, with_names, Choose, none, ended, next, HasOptions, IsFor, Asks, AsksNothing}
+use Rattle.json5_tidier.specs.CommandWords.{end_word, IsDashed, IsFlag, Part, Starts, apart, Choices, nothing_chosen, with_part, with_names, Choose, none, ended, next, IsFor, AsksNothing}
 use Rattle.json5_tidier.specs.Folders.{names_of}
-use Rattle.json5_tidier.specs.WordSteps.{choices_of, unasked, IsJoined, IsPair, BeginsPair, Gains, Refuses, IsStart, ChooseAlike, TakesAll, ChooseNothing, Requests, ReadsWords}
+use Rattle.json5_tidier.specs.WordSteps.{choices_of, IsJoined, IsPair, BeginsPair, Gains, Refuses, IsStart, ChooseAlike, TakesAll, ChooseNothing, Requests, ReadsWords}
 use Rattle.json5_tidier.proofs.WordKinds.{starts_once, starts_some, starts_before_end, pair_only}
-
--- ---- on one outcome alone
-
-pub if_ok : {T E : Type 0} (P Q : T → Type 0) (r : Result T E) → ((x : T) → P x → Q x) → IfOk r P → IfOk r Q
-if_ok P Q (Ok x) f k = f x k
-if_ok P Q (Err e) f k = tt
-
-pub if_err : {T E : Type 0} (P Q : E → Type 0) (r : Result T E) → ((e : E) → P e → Q e) → IfErr r P → IfErr r Q
-if_err P Q (Ok x) f k = tt
-if_err P Q (Err e) f k = f e k
-
-pub same_choices : (c d : Choices) → c.style ≡ d.style → c.endings ≡ d.endings → c.question ≡ d.question → c.others ≡ d.others → c ≡ d
-same_choices c d p q r s = λ i. record { style = p i; endings = q i; question = r i; others = s i }
 
 -- ---- how choices go on
 
@@ -90,36 +71,6 @@ asks list old new rest c start taken is (Err fault) k = λ unknown request (e, c
 
 pub asks_nothing : (list : List (String Global)) (c : Choices) (fault : Fault) → c ≡ nothing_chosen → ChooseNothing c (names_of list) fault → fault ≡ faults.Unknown → AsksNothing list
 asks_nothing list c fault start nothing unknown request (e, chosen, fits) = nothing unknown e (subst (λ x. Choose x (names_of list) e) (sym start) chosen)
-
--- ---- the words that are no options
-
-first_removed : (all rest : List (String Global)) (word : String Global) → 1 < length all → word ≡ slice_index_or all 0 word → rest ≡ remove all 0 → all ≡ word ∷ rest
-first_removed [] rest word long is e = absurd (omega (arith, long))
-first_removed (x ∷ xs) rest word long is e = ap (λ y. y ∷ xs) (sym is) ∙ ap (λ l. word ∷ l) (sym e)
-
-pub word_removed : (all rest : List (String Global)) (word : String Global) → 1 < length all → word ≡ slice_index_or all 0 word → rest ≡ remove all 0 → names_of all ≡ string_bytes word ∷ names_of rest
-word_removed all rest word long is e = ap names_of (first_removed all rest word long is e)
-
-pub too_short : (all : List (String Global)) → length all < 2 → (work : Work) (more : List (String Global)) → more ≢ [] → names_of all ≢ work_word work ∷ names_of more
-too_short [] short work more some e = absurd (cc)
-too_short (x ∷ []) short work [] some e = some refl
-too_short (x ∷ []) short work (y ∷ ys) some e = absurd (cc)
-too_short (x ∷ y ∷ all) short work more some e = absurd (omega (arith, short))
-
-pub no_work : (all : List (String Global)) (word : List ℕ) (rest : List (List ℕ)) → names_of all ≡ word ∷ rest → ((work : Work) → word ≢ work_word work)
-    → (work : Work) (more : List (String Global)) → more ≢ [] → names_of all ≢ work_word work ∷ names_of more
-no_work all word rest is other work more some e = other work (cc)
-
-pub some_left : (all rest : List (String Global)) → length rest + 1 ≡ length all → 1 < length all → rest ≢ []
-some_left all rest more long e = let l = ap length e in omega (arith, l, more, long)
-
-pub nothing_for : (options : Options) (others : List (String Global)) → others ≢ []
-    → ((work : Work) (more : List (String Global)) → more ≢ [] → names_of others ≢ work_word work ∷ names_of more) → (request : Request) → ¬ (IsFor (unasked options others) request)
-nothing_for options others some other requests.Help e = absurd (cc)
-nothing_for options others some other requests.Version e = absurd (cc)
-nothing_for options [] some other (requests.Stream o) k = some refl
-nothing_for options (x ∷ xs) some other (requests.Stream o) k = let e = k.1 in absurd (cc)
-nothing_for options others some other (requests.Files f) k = other f.work f.names.items k.2 k.1
 
 -- ---- an option and its value
 

@@ -1,5 +1,5 @@
 -- What the program reads, and what it writes of it.
-use Rattle.std.specs.Prelude.{◌≡◌, ℕ, List, Option, IfSome, string_bytes, Result, Ok, Err}
+use Rattle.std.specs.Prelude.{◌≡◌, ℕ, List, Option, IfSome, string_bytes}
 use Rattle.std.specs.Str.{chars, IsUtf8}
 use Rattle.std.specs.Io.KnownBytes.{Appends, Keeps}
 use Rattle.json5_write.specs.Pieces.{AppendsFront}

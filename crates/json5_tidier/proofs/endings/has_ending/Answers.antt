@@ -2,7 +2,7 @@ use Rattle.std.proofs.Common.{sym, true≢false, eqb-true}
 use Rattle.std.specs.Prelude.{Some, None}
 use Rattle.std.proofs.lemmas.Slice.Eq.{strip_suffix_is}
 use Rattle.std.proofs.lemmas.Bool.Decides.{Decides-eqb, Decides-not, Decides-like}
-use Rattle.json5_tidier.specs.Folders.{point, slash}
+use Rattle.json5_tidier.specs.Folders.{slash}
 use Rattle.json5_tidier.proofs.NamesEnded.{not_stripped, stripped, ended}
 use Rattle.json5_tidier.proofs.endings.has_ending.Goals as goal
 

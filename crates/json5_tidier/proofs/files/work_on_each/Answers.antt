@@ -1,7 +1,6 @@
-use Rattle.std.proofs.Common.{◌≡◌, refl, sym, subst, List, ℕ}
-use Rattle.std.specs.Prelude.{Ok, Err}
+use Rattle.std.proofs.Common.{refl, sym, subst}
 use Rattle.json5_write.specs.Pieces.{AppendsFront}
-use Rattle.json5_tidier.specs.Files.{none, WorksOn}
+use Rattle.json5_tidier.specs.Files.{none}
 use Rattle.json5_tidier.specs.Troubles.{trouble_line}
 use Rattle.json5_tidier.proofs.FilesWorked.{more_tidy, more_untidy, more_bad, stops, ends}
 use Rattle.json5_tidier.proofs.files.work_on_each.Goals as goal

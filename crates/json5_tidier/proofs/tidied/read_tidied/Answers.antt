@@ -1,4 +1,4 @@
-use Rattle.std.proofs.Common.{refl, subst}
+use Rattle.std.proofs.Common.{refl}
 use Rattle.json5_types.specs.Errors.{kind_of}
 use Rattle.json5_formatter.proofs.Refusals.{refused_input, refused_read}
 use Rattle.json5_tidier.proofs.tidied.read_tidied.Goals as goal

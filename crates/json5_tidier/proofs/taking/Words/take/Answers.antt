@@ -6,9 +6,11 @@ use Rattle.json5_tidier.proofs.WordsRead.{pair_starts, pair_refused}
 use Rattle.json5_tidier.proofs.taking.Words.take.Goals as goal
 
 pub returns-then-not-is_dashed-clause-taken : goal.returns-then-not-is_dashed-clause-taken
-returns-then-not-is_dashed-clause-taken c =
-    (name c.args.word.now, plain c.args.word.now refl (λ d. true≢false (sym (c.if-not-is_dashed.ensures.1 d))) refl,
-     ap (λ o. record (choices_of c.args.self.now) { others = o }) c.in_ok-push_name.ensures)
+returns-then-not-is_dashed-clause-taken c = (
+  name c.args.word.now,
+  plain c.args.word.now refl (λ d. true≢false (sym (c.if-not-is_dashed.ensures.1 d))) refl,
+  ap (λ o. record (choices_of c.args.self.now) { others = o }) c.in_ok-push_name.ensures,
+)
 
 pub returns-in-Some-clause-taken : goal.returns-in-Some-clause-taken
 returns-in-Some-clause-taken c = (flag c.in-Some.given, alone c.args.word.now c.in-Some.given refl c.in-Some.ensures refl, c.take_flag.ensures)
