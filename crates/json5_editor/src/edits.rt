@@ -1,7 +1,9 @@
 //! The text that a request makes of another.
 
 use crate::requests::{Request, Work};
-use json5_edit::{EditError, Result, Step, find, insert, insert_element, push, remove, rename, set};
+use json5_edit::{
+    EditError, Result, Step, find, insert, insert_element, push, remove, rename, set,
+};
 use std::alloc::Global;
 
 /// The text that is written: the value that was asked for and a line end, or the changed text.
