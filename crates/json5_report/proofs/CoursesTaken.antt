@@ -1,8 +1,6 @@
 -- What a course does with each token.
-use Rattle.std.proofs.Common.{◌≡◌, ◌≤◌, ◌<◌, ◌+◌, ◌-◌, ℕ, Bool, true, false, List, [], ◌∷◌, ◌++◌, length, Option, Some, None, refl, ap, sym, ◌∙◌, subst, arith}
+use Rattle.std.proofs.Common.{◌≡◌, ◌≤◌, ◌<◌, ◌+◌, ◌-◌, ℕ, Bool, true, false, List, [], ◌∷◌, ◌++◌, Option, Some, None, refl, ap, sym, ◌∙◌, subst, arith}
 use Rattle.std.specs.Prelude.{◌==◌, ⊤, Result, Ok, Err, IfOk, take, option_to_list}
-use Rattle.std.specs.Str.{chars, encode_utf8_all}
-use Rattle.std.proofs.lemmas.List.{append-nil}
 use Rattle.json5_grammar.specs.Language.Blanks.{Blanks, Gap, Solid}
 use Rattle.json5_grammar.specs.Language.Characters.{NotBegun}
 use Rattle.json5_grammar.specs.Language.Trees.{Tree}
@@ -31,7 +29,7 @@ use Rattle.json5_types.specs.declared.error.Error.{Error}
 use Rattle.json5_types.specs.Errors.{LacksMemory}
 use Rattle.json5_value.specs.ModelSteps.{Gave, RefusesRead, value_at}
 use Rattle.json5_text.specs.TokenFaults.{FaultyBlanks}
-use Rattle.json5_report.proofs.TokensTaken.{Takes, step_takes, bytes_joined, fewer_bytes, step_after, step_found, past_first, none_in_blanks, key_split, unsigned, only_value, only_key, only_colon, only_comma, none_at_end, nothing_else}
+use Rattle.json5_report.proofs.TokensTaken.{step_takes, bytes_joined, fewer_bytes, step_after, step_found, past_first, none_in_blanks, key_split, unsigned, only_value, only_key, only_colon, only_comma, none_at_end, nothing_else}
 
 -- ---- brackets
 

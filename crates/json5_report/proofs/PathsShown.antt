@@ -1,9 +1,9 @@
 -- A path that is put together step by step.
-use Rattle.std.proofs.Common.{◌≡◌, ◌<◌, ◌+◌, ℕ, Bool, true, false, List, [], ◌∷◌, ◌++◌, ◌&&◌, IsUtf8, refl, ap, sym, ◌∙◌, subst}
+use Rattle.std.proofs.Common.{◌≡◌, ℕ, Bool, true, false, List, [], ◌∷◌, ◌++◌, ◌&&◌, IsUtf8, refl, ap, sym, ◌∙◌}
 use Rattle.std.specs.List.{list_all}
 use Rattle.std.specs.Str.{chars}
 use Rattle.std.specs.Char.{encode_utf8}
-use Rattle.std.proofs.lemmas.Str.{chars_past_char, chars-nil}
+use Rattle.std.proofs.lemmas.Str.{chars_past_char}
 use Rattle.json5_grammar.specs.Language.Characters.{is_identifier_start, is_identifier_part}
 use Rattle.json5_grammar.specs.Written.Quoting.{is_name}
 use Rattle.json5_report.specs.declared.course.Open.{Open}

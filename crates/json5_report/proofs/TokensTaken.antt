@@ -1,40 +1,34 @@
 -- Taking the tokens of a text one after another: what is taken, and that nothing else could be.
-use Rattle.std.proofs.Common.{◌≡◌, ◌≤◌, ◌<◌, ◌+◌, ◌-◌, ℕ, Bool, true, false, List, [], ◌∷◌, ◌++◌, length, Option, Some, None, refl, ap, sym, ◌∙◌, append_assoc, subst, inl, inr, arith}
-use Rattle.std.specs.Prelude.{◌==◌, ◌⊎◌, ⊤}
+use Rattle.std.proofs.Common.{◌≡◌, ◌≤◌, ◌<◌, ◌+◌, ℕ, Bool, true, false, List, [], ◌∷◌, ◌++◌, length, Option, Some, refl, ap, sym, ◌∙◌, append_assoc, subst, inl, inr, arith}
+use Rattle.std.specs.Prelude.{◌==◌, ◌⊎◌}
 use Rattle.std.specs.Str.{encode_utf8_all}
 use Rattle.std.proofs.lemmas.Str.{encodes-append, length-encode, len_utf8_bounds}
-use Rattle.std.proofs.lemmas.List.{length-append, append-nil}
-use Rattle.std.specs.Char.{encode_utf8, len_utf8}
+use Rattle.std.proofs.lemmas.List.{length-append}
+use Rattle.std.specs.Char.{encode_utf8}
 use Rattle.json5_grammar.specs.Language.Blanks.{Blanks, Gap, Solid, is_solid}
 use Rattle.json5_grammar.specs.Language.Characters.{NotBegun}
 use Rattle.json5_grammar.specs.Language.Names.{Key}
 use Rattle.json5_grammar.specs.Language.Trees.{Tree, depth}
-use Rattle.json5_grammar.specs.Language.Values.{Val, is_null, is_true, is_false, is_number, is_text, is_empty_array, is_array, is_empty_object, is_object, Stops, Reads}
+use Rattle.json5_grammar.specs.Language.Values.{Val, is_null, is_true, is_false, is_number, is_text, is_empty_array, is_array, is_empty_object, is_object, Reads}
 use Rattle.json5_grammar.specs.Model.Collections.{IsSign, ReadsKey}
-use Rattle.json5_grammar.specs.Model.Reading.{Read, got, bad}
-use Rattle.json5_grammar.specs.Model.ReadSteps.{forget}
+use Rattle.json5_grammar.specs.Model.Reading.{got}
 use Rattle.json5_grammar.specs.Model.ReadValues.{read}
 use Rattle.json5_grammar.specs.Faults.{begins_value}
 use Rattle.json5_grammar.specs.declared.error_code.ErrorCode.{ErrorCode}
 use Rattle.json5_grammar.specs.Faults.Tokens.{BlankFault}
-use Rattle.json5_grammar.proofs.CommonLemmas.{first_same, rest_same, same_char}
+use Rattle.json5_grammar.proofs.CommonLemmas.{rest_same}
 use Rattle.json5_grammar.proofs.ArraysRead.{comma_solid, bracket_solid, opening_solid, one_sign, sign_no_value, sign_found, phrase_found, reads_found}
-use Rattle.json5_grammar.proofs.ObjectsRead.{colon_solid, brace_solid, opening_brace_solid, one_reads_key, brace_no_key}
-use Rattle.json5_grammar.proofs.BlanksRead.{begins_solid}
+use Rattle.json5_grammar.proofs.ObjectsRead.{colon_solid, brace_solid, opening_brace_solid, brace_no_key}
 use Rattle.json5_grammar.proofs.BlanksSound.{Blanks-append, one_gap, gap_blanks, no_blank_fault}
 use Rattle.json5_grammar.proofs.EntriesAfterGaps.{reads_here, no_sign, no_sign_in_blanks, no_reads_in_blanks}
 use Rattle.json5_grammar.proofs.ValueHeads.{val_head, key_head, key_solid}
 use Rattle.json5_grammar.proofs.ValuesRead.{read_complete}
-use Rattle.json5_grammar.proofs.ValuesSound.{sign_gap, read_sound}
-use Rattle.json5_text.specs.Cursor.{Cursor, offset_of}
+use Rattle.json5_grammar.proofs.ValuesSound.{sign_gap}
 use Rattle.json5_text.specs.Outcome.{bytes_in}
 use Rattle.json5_text.specs.TokenFaults.{FaultyBlanks}
 use Rattle.json5_report.specs.declared.due.Due.{Due}
 use Rattle.json5_report.specs.declared.due.Due.TheVariants as due
-use Rattle.json5_report.specs.declared.course.Open.{Open}
-use Rattle.json5_report.specs.declared.course.Course.{Course}
-use Rattle.json5_report.specs.Paths.{Crumb, whole, element, member, takes_value, after, closing, Step, value, array, object, key, colon, next_element, next_member, closes, Leads, here, further, start_of, IsOpenAt}
-use Rattle.json5_report.specs.Courses.{crumb_of, crumbs_onto, open_in, Advances, Rests, Turned, NotClosed, Unclosed, AtMost}
+use Rattle.json5_report.specs.Paths.{Crumb, whole, element, member, takes_value, closing, Step, value, array, object, key, colon, next_element, next_member, closes}
 
 -- ---- a token has characters
 

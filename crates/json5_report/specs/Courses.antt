@@ -1,5 +1,5 @@
 -- What the steps of a course promise.
-use Rattle.std.specs.Prelude.{◌≡◌, ◌≤◌, ◌<◌, ◌==◌, ℕ, Bool, true, false, List, [], ◌∷◌, Option, Some, None, ⊤}
+use Rattle.std.specs.Prelude.{◌≡◌, ◌≤◌, ◌<◌, ◌==◌, ℕ, Bool, true, false, List, [], ◌∷◌, Some, None, ⊤}
 use Rattle.json5_grammar.specs.Language.Characters.{NotBegun}
 use Rattle.json5_text.specs.Cursor.{Cursor, offset_of}
 use Rattle.json5_types.specs.Cows.{cow_bytes}

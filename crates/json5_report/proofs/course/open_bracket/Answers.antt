@@ -1,4 +1,4 @@
-use Rattle.std.proofs.Common.{◌∷◌, [], refl, ap, sym, ◌∙◌}
+use Rattle.std.proofs.Common.{◌∷◌, [], refl, ap, ◌∙◌}
 use Rattle.json5_report.specs.Courses.{crumb_of, crumbs_onto}
 use Rattle.json5_report.proofs.CoursesTaken.{onto_push}
 use Rattle.json5_report.proofs.course.open_bracket.Goals as goal

@@ -2,7 +2,7 @@ use Rattle.std.proofs.Common.{◌<◌, ◌≤◌, ◌∷◌, [], Some, refl, ap,
 use Rattle.std.specs.Str.{encode_utf8_all}
 use Rattle.json5_report.specs.declared.due.Due.TheVariants as due
 use Rattle.json5_report.specs.Paths.{Step, member, key}
-use Rattle.json5_report.specs.Courses.{crumb_of, crumbs_onto, open_in}
+use Rattle.json5_report.specs.Courses.{crumbs_onto, open_in}
 use Rattle.json5_report.proofs.CoursesTaken.{rests, rests_later, advances, no_key, key_left, key_read, key_refused}
 use Rattle.json5_report.proofs.course.take_key.Goals as goal
 

@@ -1,4 +1,4 @@
-use Rattle.std.proofs.Common.{◌<◌, ◌≤◌, ◌∷◌, [], ◌∙◌, None, refl, ap, sym, subst}
+use Rattle.std.proofs.Common.{◌<◌, ◌≤◌, ◌∷◌, [], ◌∙◌, None, refl, subst}
 use Rattle.std.specs.Prelude.{◌==◌}
 use Rattle.json5_grammar.specs.Language.Characters.{NotBegun}
 use Rattle.json5_text.specs.Cursor.{Took}
