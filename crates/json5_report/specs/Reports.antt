@@ -1,17 +1,44 @@
 -- What a report says of a fault.
-use Rattle.std.specs.Prelude.{◌≡◌, ◌++◌, ℕ, List, [], ◌∷◌, codes, string_bytes}
+use Rattle.std.specs.Prelude.{◌≡◌, ◌++◌, ℕ, List, [], ◌∷◌, take, Option, Some, None, codes, string_bytes}
+use Rattle.std.specs.Str.{chars, IsUtf8, IsValidUpTo}
+use Rattle.std.specs.Str.Lossy.{utf8_lossy}
+use Rattle.json5_grammar.specs.declared.position.Position.{Position}
+use Rattle.json5_grammar.specs.Faults.Positions.{position_after}
 use Rattle.json5_types.specs.declared.error.Error.{Error}
 use Rattle.json5_types.specs.Errors.{error_position}
 use Rattle.json5_report.specs.declared.report.Report.{Report}
 use Rattle.json5_report.specs.Places.{IsOffsetOf, place_text, shown_position}
+use Rattle.json5_report.specs.Paths.{IsPathAt}
 use Rattle.json5_report.specs.Painted.{painted_text}
 use Rattle.json5_report.specs.Excerpts.{excerpt_text, coloured_excerpt_text}
 
--- the report has this name, and the place of the fault in the text
+-- the report has this name, the place of the fault in the text, and the path of what is open there
 pub record IsReportOf (name text : List ℕ) (error : Error) (report : Report) : Type 0 where
   pub named : string_bytes report.name ≡ name
   pub placed : report.position ≡ shown_position text (error_position error)
   pub offset : IsOffsetOf text report.position report.offset
+  pub path : IsPathAt (chars text) report.offset (string_bytes report.path)
+
+-- the report has this name, this place, and the path of what is open there
+pub record IsReportAt (name text : List ℕ) (p : Position) (offset : ℕ) (report : Report) : Type 0 where
+  pub named : string_bytes report.name ≡ name
+  pub placed : report.position ≡ p
+  pub at : report.offset ≡ offset
+  pub path : IsPathAt (chars text) offset (string_bytes report.path)
+
+-- the bytes aren't UTF-8, and the report has this name and the place of the first that is in no character; its path is
+-- that in the text which has U+FFFD for what is none
+pub record IsReportOfWrong (name bytes : List ℕ) (report : Report) : Type 0 where
+  pub named : string_bytes report.name ≡ name
+  pub wrong : ¬ (IsUtf8 bytes)
+  pub offset : IsValidUpTo bytes report.offset
+  pub placed : report.position ≡ position_after (chars (take report.offset bytes))
+  pub path : IsPathAt (chars (utf8_lossy bytes)) report.offset (string_bytes report.path)
+
+-- there is a report unless the bytes are UTF-8
+abbrev pub IsReportOfBytes : List ℕ → List ℕ → Option Report → Type 0
+IsReportOfBytes name bytes None = IsUtf8 bytes
+IsReportOfBytes name bytes (Some report) = IsReportOfWrong name bytes report
 
 -- the path and a colon, or nothing for the document itself
 abbrev pub lead_text : List ℕ → List ℕ

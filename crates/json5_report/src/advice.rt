@@ -23,6 +23,8 @@ pub(crate) enum Advice<'t> {
     DidYouMean(&'t str),
     EndComment,
     EscapeBackslash,
+    /// The byte.
+    Latin1(u8),
     /// The bracket.
     NeverClosed(&'t str),
     NoValue,
@@ -32,6 +34,7 @@ pub(crate) enum Advice<'t> {
     QuoteText(&'t str),
     /// The name of the field, and the line of the first.
     Repeated(&'t str, u128),
+    SaveAsUtf8,
     UseBraces,
     /// The line of the array's bracket.
     UseBracesInArray(u128),
@@ -39,6 +42,7 @@ pub(crate) enum Advice<'t> {
     UseBrackets,
     UseColon,
     UseComma,
+    Utf16,
     Write(&'static str),
 }
 
@@ -53,6 +57,10 @@ impl fmt::Display for Advice<'_> {
                 write!(f, "a number has no unit, and a text needs quotes: '{word}'")
             }
             Advice::DidYouMean(name) => write!(f, "did you mean `{name}`?"),
+            Advice::Latin1(byte) => {
+                let c = char::from(*byte);
+                write!(f, "0x{byte:02X} is {c} in Latin-1: save the file as UTF-8")
+            }
             Advice::NeverClosed(bracket) => write!(f, "this `{bracket}` is never closed"),
             Advice::QuoteKey(key) => write!(f, "this key needs quotes: '{key}'"),
             Advice::QuoteText(text) => write!(f, "a text needs quotes: '{text}'"),
@@ -86,11 +94,13 @@ impl Advice<'_> {
             Advice::NoValue => "the file holds no value",
             Advice::OneValue => "a file holds one value, and this comes after it",
             Advice::PlainQuotes => "quotes are ' or \"",
+            Advice::SaveAsUtf8 => "save the file as UTF-8",
             Advice::UseBraces => "an object is written in braces: { .. }",
             Advice::UseBracesOfFile => "members need braces around them: { .. }",
             Advice::UseBrackets => "an array is written in brackets: [ .. ]",
             Advice::UseColon => "write `:` between a key and its value",
             Advice::UseComma => "write `,` between entries",
+            Advice::Utf16 => "this file is UTF-16: save it as UTF-8",
             _ => "",
         }
     }

@@ -21,6 +21,9 @@ pub(crate) fn remark_of<'t>(alloc: Global, fault: &Fault<'t>) -> Result<Remark<'
 
 /// The same where the text ends too early: what isn't closed.
 fn end_remark<'t>(alloc: Global, fault: &Fault<'t>) -> Result<Remark<'t>, AllocError> {
+    if fault.code == Some(ErrorCode::EofParsingComment) {
+        return Ok(open_comment(fault));
+    }
     let trail = Trail::before(alloc, fault.text, fault.text.len())?;
     let Some(last) = trail.last else {
         return Ok(fault.remark(Advice::NoValue));
@@ -28,7 +31,6 @@ fn end_remark<'t>(alloc: Global, fault: &Fault<'t>) -> Result<Remark<'t>, AllocE
     match fault.code {
         Some(ErrorCode::EofParsingString | ErrorCode::EofParsingEscapeSequence)
             if last.kind == Kind::Text => { Ok(Remark::of(last, Advice::CloseQuote)) }
-        Some(ErrorCode::EofParsingComment) => Ok(open_comment(fault)),
         _ => Ok(open_bracket(fault)),
     }
 }
@@ -66,11 +68,7 @@ fn code_remark<'t>(fault: &Fault<'t>, code: ErrorCode) -> Remark<'t> {
         ErrorCode::ExpectedIdentifier => key_remark(fault),
         ErrorCode::LineTerminatorInString => quote_remark(fault),
         ErrorCode::TrailingCharacters => trailing_remark(fault),
-        ErrorCode::InvalidEscapeSequence => Remark {
-            start: fault.offset,
-            end: fault.offset.saturating_add(2),
-            advice: Some(Advice::EscapeBackslash),
-        },
+        ErrorCode::InvalidEscapeSequence => escape_remark(fault),
         _ => match value_advice(fault, code) {
             Some(advice) => fault.remark(advice),
             None => fault.plain(),
@@ -142,8 +140,40 @@ fn comma_remark<'t>(fault: &Fault<'t>) -> Remark<'t> {
     }
     match fault.found {
         Found::Character(';') => fault.remark(Advice::UseComma),
+        Found::Character(':') => array_remark(fault),
         Found::Character(_) => fault.plain(),
         _ => fault.after_last(Advice::AddComma),
+    }
+}
+
+/// What is said of a colon: in an array it belongs to a member.
+fn array_remark<'t>(fault: &Fault<'t>) -> Remark<'t> {
+    match fault.trail.brackets.last() {
+        Some(open) if !open.is_object => {
+            fault.remark(Advice::UseBracesInArray(fault.line_of(open.start)))
+        }
+        _ => fault.plain(),
+    }
+}
+
+/// The backslash at the fault, or before it, and the character after the backslash.
+fn escape_remark<'t>(fault: &Fault<'t>) -> Remark<'t> {
+    let (before, rest) = fault
+        .text
+        .split_at_checked(fault.offset)
+        .unwrap_or((fault.text, ""));
+    let is_in_word = fault.word_inside().is_some();
+    let start = if rest.starts_with('\\') {
+        fault.offset
+    } else if is_in_word && before.ends_with('\\') {
+        fault.offset.saturating_sub(1)
+    } else {
+        return fault.plain();
+    };
+    Remark {
+        start,
+        end: start.saturating_add(2),
+        advice: Some(Advice::EscapeBackslash),
     }
 }
 

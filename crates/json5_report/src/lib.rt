@@ -4,9 +4,13 @@
 #![tactic(auto)]
 
 mod advice;
+mod bytes;
+mod course;
 mod custom;
+mod due;
 mod excerpt;
 mod fault;
+mod fields;
 mod found;
 mod hints;
 mod lexemes;

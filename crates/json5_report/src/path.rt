@@ -1,58 +1,75 @@
 //! The path of the value that an offset lies in: `server.routes[1].methods`.
 
-use crate::lexemes::{Kind, Lexeme};
-use crate::trail::{Bracket, Trail};
+ghost use Rattle.std.specs.Prelude.{◌≡◌, ◌++◌, IfOk, OnOk, string_bytes};
+ghost use Rattle.std.specs.List.{list_all};
+ghost use Rattle.std.specs.Str.{chars};
+ghost use Rattle.json5_grammar.specs.Language.Characters.{is_identifier_part};
+ghost use Rattle.json5_grammar.specs.Written.Quoting.{is_name};
+ghost use Rattle.json5_report.specs.Courses.{crumb_of, open_in};
+ghost use Rattle.json5_report.specs.Paths.{crumb_text, path_text, point_after, shown_key};
+
+use crate::course::{Course, Open};
+use crate::lexemes::Lexeme;
 use json5_text::char::{is_json5_identifier, is_json5_identifier_start};
 use std::alloc::{AllocError, Global};
 
-/// The path of the value at the offset; nothing for the document itself.
-pub(crate) fn path_of(
-    alloc: Global,
-    text: &str,
-    offset: usize,
-    trail: &Trail,
-) -> Result<String, AllocError> {
+/// The path of what is open; nothing for the document itself.
+pub(crate) fn path_of(alloc: Global, course: &Course<'_>) -> Result<String, AllocError>
+    ensures { IfOk result (λ path. string_bytes path ≡ path_text (open_in course.now)) }
+{
     let mut path = String::new(alloc);
-    let is_value = trail.next.start == offset
-        && !matches!(trail.next.kind, Kind::Close | Kind::Comma | Kind::End);
-    for bracket in &trail.brackets {
-        push_entry(&mut path, text, *bracket, is_value)?;
+    for part in &course.outer {
+        push_step(&mut path, part)?;
     }
+    push_step(&mut path, &course.inner)?;
     Ok(path)
 }
 
-/// Adds the current entry of the bracket. `is_value` says that a value begins at the offset.
-fn push_entry(
-    path: &mut String,
-    text: &str,
-    bracket: Bracket,
-    is_value: bool,
-) -> Result<(), AllocError> {
-    if !bracket.is_object {
-        if bracket.is_begun || is_value {
-            write!(path, "[{}]", bracket.index)?;
-        }
-        return Ok(());
-    }
-    match bracket.key {
-        Some(key) => push_key(path, key.of(text)),
-        None => Ok(()),
+/// Adds the index or the key of what is open, if it has one.
+fn push_step(path: &mut String, part: &Open<'_>) -> Result<(), AllocError>
+    ensures { OnOk result (string_bytes path.new ≡ string_bytes path.old ++ crumb_text (string_bytes path.old) (crumb_of part.now)) }
+{
+    match part {
+        Open::Array(index) => write!(path, "[{index}]"),
+        Open::Object(Some(key)) => push_key(path, key.as_str()),
+        Open::Document | Open::Object(None) => Ok(()),
     }
 }
 
 /// Adds a key: bare if it is a name, and else in quotes.
-fn push_key(path: &mut String, key: &str) -> Result<(), AllocError> {
+fn push_key(path: &mut String, key: &str) -> Result<(), AllocError>
+    ensures { OnOk result (string_bytes path.new ≡ string_bytes path.old ++ point_after (string_bytes path.old) ++ shown_key key.now) }
+{
     if !path.is_empty() {
         path.push('.')?;
     }
-    let inner = unquoted(key);
-    if is_name(inner) {
-        return path.push_str(inner);
-    }
-    if inner.len() < key.len() {
+    if is_name(key) {
         return path.push_str(key);
     }
     write!(path, "'{key}'")
+}
+
+/// Whether the text can be a key without quotes.
+fn is_name(text: &str) -> bool
+    ensures { result ≡ is_name (chars text.now) }
+{
+    let mut rest = text.chars();
+    match rest.next() {
+        Some(first) => is_json5_identifier_start(first) && are_parts(rest.as_str()),
+        None => false,
+    }
+}
+
+/// Whether each character can go on a name.
+fn are_parts(text: &str) -> bool
+    ensures { result ≡ list_all is_identifier_part (chars text.now) }
+{
+    for c in text.chars() {
+        if !is_json5_identifier(c) {
+            return false;
+        }
+    }
+    true
 }
 
 /// A string without its quotes; any other token as it is.
@@ -68,14 +85,6 @@ pub(crate) fn unquoted(token: &str) -> &str {
 /// Whether the token, a key or a string, is of these characters.
 pub(crate) fn is_named(text: &str, token: Lexeme, name: &str) -> bool {
     unquoted(token.of(text)) == name
-}
-
-/// Whether the text can be a key without quotes.
-pub(crate) fn is_name(text: &str) -> bool {
-    match text.chars().next() {
-        Some(first) => is_json5_identifier_start(first) && name_len(text) == text.len(),
-        None => false,
-    }
 }
 
 /// How long the name is that the text begins with.

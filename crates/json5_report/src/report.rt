@@ -2,8 +2,9 @@
 
 ghost use Rattle.std.specs.Prelude.{◌≡◌, Some, IfOk, string_bytes};
 
+use crate::course::Course;
 use crate::excerpt::{ColouredExcerpt, Excerpt};
-use crate::fault::Fault;
+use crate::fault::{Fault, Remark};
 use crate::found::Found;
 use crate::hints::remark_of;
 use crate::message::message_of;
@@ -13,11 +14,11 @@ use crate::place::{offset_of, position_of, utf16_column};
 use crate::trail::Trail;
 use json5_types::Position;
 use json5_types::error::{Error, Result};
-use std::alloc::{AllocError, Global};
+use std::alloc::Global;
 use std::fmt;
 
 /// How many columns of a line are shown if no width is named.
-const WIDTH: usize = 100;
+pub(crate) const WIDTH: usize = 100;
 
 /// What is shown to a person whose text was refused.
 ///
@@ -101,28 +102,15 @@ impl Report {
             found,
             trail: &trail,
         };
-        let remark = remark_of(alloc, &fault)?;
-        let hint = match remark.advice {
-            Some(advice) => Some(format!(in alloc; "{advice}")?),
-            None => None,
-        };
-        Ok(Report {
-            name: String::from_str(alloc, name)?,
-            offset,
+        let spot = Spot {
+            name,
+            text,
+            width,
             position,
-            utf16_column: utf16_column(text, offset),
-            path: path_of(alloc, text, offset, &trail)?,
-            message: message_of(alloc, error, found)?,
-            excerpt: Excerpt::of(
-                alloc,
-                width,
-                text,
-                remark.start,
-                remark.end,
-                hint.as_ref().map(String::as_str),
-            )?,
-            hint,
-        })
+            offset,
+        };
+        let remark = remark_of(alloc, &fault)?;
+        spot.report(alloc, message_of(alloc, error, found)?, remark)
     }
 
     /// The same report in colours, for a terminal. The place has none, so that it can be found.
@@ -134,6 +122,48 @@ impl Report {
         ensures { result.report.now ≡ self.now }
     {
         Coloured { report: self }
+    }
+}
+
+/// A place in a text, and how much of its line is shown.
+#[derive(Clone, Copy)]
+pub(crate) struct Spot<'t> {
+    pub(crate) name: &'t str,
+    pub(crate) text: &'t str,
+    pub(crate) width: usize,
+    pub(crate) position: Position,
+    pub(crate) offset: usize,
+}
+
+impl Spot<'_> {
+    ghost use Rattle.json5_report.specs.Reports.{IsReportAt};
+
+    /// The report that says this of the place, and underlines this part.
+    pub(crate) fn report(self, alloc: Global, message: String, remark: Remark<'_>) -> Result<Report>
+        ensures { IfOk result (IsReportAt self.entry.name.now self.entry.text.now self.entry.position self.entry.offset) }
+    {
+        let course = Course::before(alloc, self.text, self.offset)?;
+        let hint = match remark.advice {
+            Some(advice) => Some(format!(in alloc; "{advice}")?),
+            None => None,
+        };
+        Ok(Report {
+            name: String::from_str(alloc, self.name)?,
+            offset: self.offset,
+            position: self.position,
+            utf16_column: utf16_column(self.text, self.offset),
+            path: path_of(alloc, &course)?,
+            message,
+            excerpt: Excerpt::of(
+                alloc,
+                self.width,
+                self.text,
+                remark.start,
+                remark.end,
+                hint.as_ref().map(String::as_str),
+            )?,
+            hint,
+        })
     }
 }
 

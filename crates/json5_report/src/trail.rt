@@ -8,12 +8,8 @@ use std::alloc::{AllocError, Global};
 pub(crate) struct Bracket {
     pub(crate) start: usize,
     pub(crate) is_object: bool,
-    /// How many elements come before the current one.
-    pub(crate) index: usize,
     /// The key of the current member.
     pub(crate) key: Option<Lexeme>,
-    /// Whether an element or a member has begun that no comma ended.
-    pub(crate) is_begun: bool,
 }
 
 /// The brackets that are open before an offset, and the tokens around it.
@@ -82,36 +78,24 @@ impl Trail {
 
     fn end_entry(&mut self) {
         if let Some(bracket) = self.brackets.last_mut() {
-            bracket.index = bracket.index.saturating_add(1);
             bracket.key = None;
-            bracket.is_begun = false;
-        }
-    }
-
-    fn begin_entry(&mut self) {
-        if let Some(bracket) = self.brackets.last_mut() {
-            bracket.is_begun = true;
         }
     }
 
     fn take_token(&mut self, lexeme: Lexeme) {
-        let is_key = self.expects_key(lexeme);
+        if !self.expects_key(lexeme) {
+            return;
+        }
         if let Some(bracket) = self.brackets.last_mut() {
-            bracket.is_begun = true;
-            if is_key {
-                bracket.key = Some(lexeme);
-            }
+            bracket.key = Some(lexeme);
         }
     }
 
     fn open(&mut self, text: &str, lexeme: Lexeme) -> Result<(), AllocError> {
-        self.begin_entry();
         self.brackets.push(Bracket {
             start: lexeme.start,
             is_object: lexeme.of(text) == "{",
-            index: 0,
             key: None,
-            is_begun: false,
         })?;
         Ok(())
     }

@@ -1,13 +1,14 @@
 //! Makes the reports of the rows on standard input, and says of each whether it is the one that the row has.
 #![tactic(auto)]
 
+mod example;
 mod faults;
+mod kinds;
 
-use faults::{count_in, error_of};
 use json5_format::read_document;
-use json5_report::Report;
 use json5_types::error::Error;
 use json5_types::value::Value;
+use kinds::shown_of;
 use std::alloc::{AllocError, Global};
 use std::io::{self, Read};
 use std::process::ExitCode;
@@ -44,28 +45,14 @@ fn each_row(rt: &HostRuntime, document: &Value) -> io::Result<()> {
     Ok(())
 }
 
-/// What is printed of the row's fault, if that isn't what the row has.
+/// What is printed of the row, if that isn't what the row has.
 fn outcome_of(alloc: Global, base: &str, row: &Value) -> Result<Option<String>, Error> {
     let text = text_of_row(alloc, base, row)?;
-    let Some(error) = error_of(alloc, row, text.as_str())? else {
-        return Ok(Some(String::from_str(alloc, "it is read")?));
-    };
-    let report = Report::within(alloc, width_of(row), "a.json5", text.as_str(), &error)?;
-    let shown = if row.get("coloured").is_some() {
-        format!(in alloc; "{}", report.coloured())?
-    } else {
-        format!(in alloc; "{report}")?
-    };
-    if shown.as_str() == lines_in(alloc, row)?.as_str() && is_placed(&report, row) {
+    let shown = shown_of(alloc, row, text.as_str())?;
+    if shown.as_str() == lines_in(alloc, row)?.as_str() {
         return Ok(None);
     }
     Ok(Some(shown))
-}
-
-/// Whether the report has the offset and the column of the row, where that names them.
-fn is_placed(report: &Report, row: &Value) -> bool {
-    count_in(row, "offset").unwrap_or(report.offset) == report.offset
-        && count_in(row, "utf16").unwrap_or(report.utf16_column) == report.utf16_column
 }
 
 /// The text of a row: its own, or the common one with a part changed.
@@ -92,10 +79,6 @@ fn lines_in(alloc: Global, row: &Value) -> Result<String, AllocError> {
         }
     }
     Ok(lines)
-}
-
-fn width_of(row: &Value) -> usize {
-    count_in(row, "width").unwrap_or(100)
 }
 
 /// The text of a field; none if it has no text.

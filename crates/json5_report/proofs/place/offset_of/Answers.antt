@@ -1,4 +1,4 @@
-use Rattle.std.proofs.Common.{◌≡◌, ◌+◌, ◌++◌, ◌==◌, length, false, true, IsUtf8, ap, sym, ◌∙◌, subst, rules}
+use Rattle.std.proofs.Common.{◌≡◌, ◌+◌, ◌++◌, ◌==◌, false, IsUtf8, ap, sym, ◌∙◌, subst, rules}
 use Rattle.std.specs.Prelude.{IsTrue}
 use Rattle.std.specs.Char.{encode_utf8, len_utf8}
 use Rattle.std.specs.Str.Iter.{chars_rest}

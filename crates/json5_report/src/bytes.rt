@@ -1,0 +1,71 @@
+//! Files whose bytes are no text.
+
+ghost use Rattle.std.specs.Prelude.{IfOk};
+
+use crate::advice::Advice;
+use crate::fault::Remark;
+use crate::report::{Report, Spot, WIDTH};
+use crate::widths::is_seen;
+use json5_types::Position;
+use json5_types::error::Result;
+use std::alloc::Global;
+use std::str;
+
+impl Report {
+    ghost use Rattle.json5_report.specs.Reports.{IsReportOfBytes};
+
+    /// Makes the report of bytes that aren't UTF-8: it is placed at the first byte that is in no character, and says
+    /// what the byte is in Latin-1. None if the bytes are UTF-8, and so a text.
+    ///
+    /// ```text
+    /// if let Some(report) = Report::of_bytes(alloc, "settings.json5", bytes)? {
+    ///     println!(rt; "{report}")?;
+    /// }
+    /// ```
+    ///
+    /// # Errors
+    ///
+    /// - `OutOfMemory`, without a position, where a request for memory was refused.
+    pub fn of_bytes(alloc: Global, name: &str, bytes: &[u8]) -> Result<Option<Report>>
+        ensures { IfOk result (IsReportOfBytes name.now bytes.now) }
+    {
+        let Err(error) = str::from_utf8(bytes) else {
+            return Ok(None);
+        };
+        let offset = error.valid_up_to();
+        let Ok(before) = str::from_utf8(&bytes[..offset]) else {
+            unreachable!()
+        };
+        let byte = bytes[offset];
+        let text = String::from_utf8_lossy(alloc, bytes)?;
+        let spot = Spot {
+            name,
+            text: text.as_str(),
+            width: WIDTH,
+            position: Position::after(before),
+            offset,
+        };
+        let message = format!(in alloc; "expected UTF-8, found byte 0x{byte:02X}")?;
+        let report = spot.report(alloc, message, byte_remark(bytes, offset, byte))?;
+        Ok(Some(report))
+    }
+}
+
+/// The character that is shown for the byte, and what is to be done.
+fn byte_remark(bytes: &[u8], offset: usize, byte: u8) -> Remark<'static> {
+    Remark {
+        start: offset,
+        end: offset.saturating_add('\u{fffd}'.len_utf8()),
+        advice: Some(byte_advice(bytes, byte)),
+    }
+}
+
+fn byte_advice(bytes: &[u8], byte: u8) -> Advice<'static> {
+    if bytes.starts_with(&[0xff, 0xfe]) || bytes.starts_with(&[0xfe, 0xff]) {
+        return Advice::Utf16;
+    }
+    if is_seen(char::from(byte)) {
+        return Advice::Latin1(byte);
+    }
+    Advice::SaveAsUtf8
+}
