@@ -1,7 +1,6 @@
 -- What each step of a pen does to what is known of it.
 use Rattle.std.proofs.Common.{◌≡◌, ℕ, ◌+◌, ◌-◌, List, [], ◌∷◌, ◌++◌, Bool, true, false, length, refl, sym, ap, ◌∙◌, subst, arith, Option, Some, None, is_some, ◌==◌}
 use Rattle.std.specs.Prelude.{option_to_list}
-use Rattle.std.specs.Str.{IsUtf8}
 use Rattle.json5_grammar.specs.Language.Characters.{colon_sign, space}
 use Rattle.json5_grammar.specs.Faults.Fronts.{opening, closing}
 use Rattle.json5_write.specs.Brackets.{bracket_of}
@@ -12,7 +11,7 @@ use Rattle.json5_write.specs.Writes.{SerializerState, Wrote, fresh_within, at_de
 use Rattle.json5_write.specs.declared.brackets.Brackets.{Brackets}
 use Rattle.json5_write.specs.declared.brackets.Brackets.TheVariants as brackets
 use Rattle.json5_write.proofs.OutputsJoined.{Wrote-then, Wrote-at, then_assoc}
-use Rattle.json5_write.proofs.TextsWhole.{whole_text, whole_utf8}
+use Rattle.json5_write.proofs.TextsWhole.{whole_text}
 use Rattle.json5_write.proofs.WrittenDepths.{text_document}
 use Rattle.json5_serde_write.specs.Pens.{kinds_onto, kinds_in, is_innermost, Completes, Begins, IsPen}
 use Rattle.json5_serde_write.specs.WrittenTexts.{IsWrittenWithin}
@@ -170,9 +169,6 @@ ended {limit = limit} {s = s} k live =
     let f = k.live live in
     let (t, e) = f.goes (piece []) refl in
     (t, subst (λ a. Wrote a (fresh_within limit (Some [])) (at_depth 0 s)) (sym (e ∙ then_nothing f.front)) f.wrote)
-
-pub text_utf8 : {limit : ℕ} {s : SerializerState} {c : Bool} (items : List ℕ) → IsPen limit s [] false c → s.failed ≡ false → Some items ≡ s.known → IsUtf8 items
-text_utf8 {limit = limit} {s = s} items k live held = let (t, w) = ended k live in whole_utf8 (text_within limit t) (fresh_within limit (Some [])) (at_depth 0 s) items w refl held
 
 pub text_whole : {limit : ℕ} {s : SerializerState} {c : Bool} (items bytes : List ℕ) → IsPen limit s [] false c → s.failed ≡ false → Some items ≡ s.known → bytes ≡ items → IsWrittenWithin limit bytes
 text_whole {limit = limit} {s = s} items bytes k live held same =
