@@ -15,9 +15,9 @@ use std::alloc::Global;
 use std::marker::Model;
 
 /// A text of which a part is written. Calls may come in any order: one that is out of place is refused as `Misplaced`, and
-/// then nothing is written. After any other refusal nothing is written any more.
+/// then nothing is written. Once the printer has refused a call, nothing is written any more.
 ///
-/// Whatever was called, what is written becomes the text of a tree where its brackets are closed, or a call was refused.
+/// Until then, whatever completes the part that is written makes it the text of a tree.
 #[derive(Drop)]
 pub(crate) struct Pen {
     printer: Printer<StringWriter>,

@@ -41,7 +41,7 @@ pub fn to_string<T: Serialize>(alloc: Global, value: &T) -> Result<String>
 /// - `TooDeep` for a value that opens more brackets than the limit.
 /// - `InvalidKey` for a key that is an array or an object.
 /// - A custom fault of the type, or where it sends what is no value.
-/// - `Failed` where the type was refused a step and went on.
+/// - `Failed` where the type went on after a bracket past the limit or a refused request for memory.
 /// - `OutOfMemory` where a request for memory was refused.
 pub fn to_string_within<T: Serialize>(alloc: Global, limit: Limit, value: &T) -> Result<String>
     ensures { IfOk result (λ s. IsWrittenWithin limit (string_bytes s)) }
