@@ -19,8 +19,7 @@ pub use json5_serde_read::{
     from_reader, from_slice, from_slice_within, from_str, from_str_owned, from_str_within, raw_text,
 };
 pub use json5_serde_write::{
-    raw_number, to_string, to_string_within, to_value, to_vec, to_vec_within, to_writer,
-    to_writer_within,
+    raw_number, to_string, to_string_within, to_vec, to_vec_within, to_writer, to_writer_within,
 };
 pub use json5_types::byte_buf::ByteBuf;
 pub use json5_types::decimal::Decimal;
@@ -28,4 +27,4 @@ pub use json5_types::error::{Error, Result};
 pub use json5_types::nesting::Limit;
 pub use json5_types::value::Value;
 pub use json5_types::whole::Whole;
-pub use values::from_value;
+pub use values::{from_value, to_value};

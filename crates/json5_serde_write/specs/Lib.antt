@@ -1,2 +1,4 @@
 -- Lists what contracts say of what is written.
 pub mod WrittenTexts
+pub mod Scalars
+pub mod Pens

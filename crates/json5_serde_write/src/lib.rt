@@ -8,11 +8,13 @@
 //! ```
 #![tactic(auto)]
 
-mod builder;
+mod fault;
+mod pen;
 mod raw;
+mod scalar;
+mod serializer;
 mod write;
+mod writer;
 
 pub use raw::raw_number;
-pub use write::{
-    to_string, to_string_within, to_value, to_vec, to_vec_within, to_writer, to_writer_within,
-};
+pub use write::{to_string, to_string_within, to_vec, to_vec_within, to_writer, to_writer_within};

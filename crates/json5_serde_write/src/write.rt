@@ -4,31 +4,14 @@ ghost use Rattle.std.specs.Prelude.{string_bytes, IfOk, OnOk};
 ghost use Rattle.json5_grammar.specs.Language.Documents.{max_depth};
 ghost use Rattle.json5_serde_write.specs.WrittenTexts.{IsWrittenWithin, WritesSome};
 
-use crate::builder::Builder;
+use crate::fault::{Fault, told};
+use crate::writer::Json5;
 use json5_types::error::Result;
 use json5_types::nesting::Limit;
-use json5_types::value::Value;
+use json5_write::write_whole::write_whole;
 use serde::Serialize;
 use std::alloc::Global;
 use std::io::Write;
-
-/// Returns the value that a type sends.
-///
-/// ```text
-/// let value = json5_serde::to_value(alloc, &server)?;    // an object of two members
-/// ```
-///
-/// # Errors
-///
-/// - `TooDeep` for a value with more than 128 brackets open at once.
-/// - `InvalidKey` for a key that is an array, an object or None.
-/// - A custom fault of the type, or where it sends what is no value.
-/// - `OutOfMemory` where a request for memory was refused.
-pub fn to_value<T: Serialize>(alloc: Global, value: &T) -> Result<Value> {
-    let mut builder = Builder::new(alloc);
-    value.serialize(&mut builder)?;
-    builder.finish()
-}
 
 /// Returns the text of what a type sends: each element and member on its own line, as [`json5::to_string`] has it.
 ///
@@ -40,7 +23,7 @@ pub fn to_value<T: Serialize>(alloc: Global, value: &T) -> Result<Value> {
 ///
 /// # Errors
 ///
-/// As [`to_value`].
+/// As [`to_string_within`].
 pub fn to_string<T: Serialize>(alloc: Global, value: &T) -> Result<String>
     ensures { IfOk result (λ s. IsWrittenWithin max_depth (string_bytes s)) }
 {
@@ -55,13 +38,27 @@ pub fn to_string<T: Serialize>(alloc: Global, value: &T) -> Result<String>
 ///
 /// # Errors
 ///
-/// As [`to_value`], and `TooDeep` for a value that opens more brackets than the limit.
-#[tactic(auto, using(crate::proofs::Written::text_written))]
+/// - `TooDeep` for a value that opens more brackets than the limit.
+/// - `InvalidKey` for a key that is an array or an object.
+/// - A custom fault of the type, or where it sends what is no value.
+/// - `Failed` where the type went on after a bracket past the limit or a refused request for memory.
+/// - `OutOfMemory` where a request for memory was refused.
 pub fn to_string_within<T: Serialize>(alloc: Global, limit: Limit, value: &T) -> Result<String>
     ensures { IfOk result (λ s. IsWrittenWithin limit (string_bytes s)) }
 {
-    let tree = to_value(alloc, value)?;
-    json5_ser::to_string_within(alloc, limit, &tree)
+    match sent(alloc, limit, value) {
+        Ok(text) => Ok(text),
+        Err(fault) => Err(told(alloc, fault)),
+    }
+}
+
+/// The text of what a type sends.
+fn sent<T: Serialize>(alloc: Global, limit: Limit, value: &T) -> std::result::Result<String, Fault>
+    ensures { IfOk result (λ s. IsWrittenWithin limit (string_bytes s)) }
+{
+    let mut writer = Json5::new(alloc, limit);
+    value.serialize(&mut writer)?;
+    writer.finish(limit)
 }
 
 /// Returns the bytes of the text of what a type sends, which are UTF-8.
@@ -72,7 +69,7 @@ pub fn to_string_within<T: Serialize>(alloc: Global, limit: Limit, value: &T) ->
 ///
 /// # Errors
 ///
-/// As [`to_value`].
+/// As [`to_string_within`].
 pub fn to_vec<T: Serialize>(alloc: Global, value: &T) -> Result<Vec<u8>>
     ensures { IfOk result (λ v. IsWrittenWithin max_depth v.items) }
 {
@@ -94,7 +91,7 @@ pub fn to_vec_within<T: Serialize>(alloc: Global, limit: Limit, value: &T) -> Re
     Ok(to_string_within(alloc, limit, value)?.into_bytes())
 }
 
-/// Writes the text of what a type sends to a writer, in pieces. `flush` isn't called.
+/// Writes the text of what a type sends to a writer, once it is whole. `flush` isn't called.
 ///
 /// ```text
 /// json5_serde::to_writer(alloc, &mut rt.stdout(), &server)?;
@@ -109,8 +106,8 @@ pub fn to_writer<T: Serialize, W: Write>(alloc: Global, w: &mut W, value: &T) ->
     to_writer_within(alloc, w, Limit::full(), value)
 }
 
-/// Writes the text of what a type sends to a writer, with no more brackets open at once than the limit. `flush` isn't
-/// called.
+/// Writes the text of what a type sends to a writer, once it is whole, with no more brackets open at once than the limit.
+/// `flush` isn't called.
 ///
 /// ```text
 /// json5_serde::to_writer_within(alloc, &mut rt.stdout(), Limit::new(1).unwrap(), &server)?;
@@ -118,10 +115,8 @@ pub fn to_writer<T: Serialize, W: Write>(alloc: Global, w: &mut W, value: &T) ->
 ///
 /// # Errors
 ///
-/// - As [`to_value`]: nothing is written then.
-/// - `TooDeep` at the bracket past the limit: the writer holds exactly the text before it.
+/// - As [`to_string_within`]: nothing is written then.
 /// - A failed write, which has no code, where the writer failed or took no bytes: it holds a prefix of the text.
-#[tactic(auto, using(crate::proofs::Written::text_sent))]
 pub fn to_writer_within<T: Serialize, W: Write>(
     alloc: Global,
     w: &mut W,
@@ -130,6 +125,7 @@ pub fn to_writer_within<T: Serialize, W: Write>(
 ) -> Result<()>
     ensures { OnOk result (WritesSome limit (W.contents w.old) (W.contents w.new)) }
 {
-    let tree = to_value(alloc, value)?;
-    json5_ser::to_writer_within(w, limit, &tree)
+    let text = to_string_within(alloc, limit, value)?;
+    write_whole(w, text.as_bytes())?;
+    Ok(())
 }
