@@ -1,4 +1,3 @@
--- Lists the lemmas about what is written of a value.
+-- Lists the lemmas about what a pen writes.
 pub mod Completed
 pub mod Pens
-pub mod Written
