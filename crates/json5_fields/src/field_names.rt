@@ -1,5 +1,6 @@
 //! The names of a description, for a message.
 
+use crate::defaults::WithDefaultText;
 use crate::fields::{Optional, Required, WithDefault};
 use std::fmt;
 
@@ -47,6 +48,13 @@ impl FieldNames for Optional {
 }
 
 impl<T> FieldNames for WithDefault<T> {
+    fn write_names<W: fmt::Write>(&self, f: &mut fmt::Formatter<W>) -> fmt::Result {
+        let name = self.0;
+        write!(f, "`{name}`")
+    }
+}
+
+impl FieldNames for WithDefaultText {
     fn write_names<W: fmt::Write>(&self, f: &mut fmt::Formatter<W>) -> fmt::Result {
         let name = self.0;
         write!(f, "`{name}`")

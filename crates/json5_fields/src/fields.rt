@@ -1,6 +1,8 @@
 //! One field of a struct, and what a description of fields has to say.
 
 ghost use Rattle.std.specs.Prelude.{◌≡◌};
+ghost use Rattle.json5_de.specs.Lending.{KeyPending, KeyIsNamed};
+ghost use Rattle.json5_fields.specs.FieldCalls.{TakesNamed};
 
 use json5_de::{Deserialize, MapAccess};
 use json5_text::input::Input;
@@ -13,7 +15,7 @@ use json5_types::error::Result;
 /// ```
 pub trait StructFields<I: Input, V: Drop>: Sized + Drop {
     ghost use Rattle.json5_de.specs.StructFaults.{ValueFaults};
-    ghost use Rattle.json5_de.specs.Lending.{KeyPending};
+    ghost use Rattle.json5_de.specs.Lending.{KeyPending, KeyIsNamed};
     ghost use Rattle.json5_fields.specs.Layouts.{Layout};
     ghost use Rattle.json5_fields.specs.FieldCalls.{Tries, Finishes};
 
@@ -49,18 +51,36 @@ pub trait StructFields<I: Input, V: Drop>: Sized + Drop {
     ///
     /// # Errors
     ///
-    /// Those of [`MapAccess::next_field`].
+    /// Those of [`MapAccess::next_value`], and ``duplicate field `name` `` at the key of a second value.
     fn read(&self, found: &mut Self::Found, map: &mut MapAccess<'_, I>, name: &str) -> Result<bool>
         requires key { KeyPending map.old }
+        requires named { KeyIsNamed name.now map.old }
         ensures { Tries (layout (shape self.now)) faults (state found.old) (state found.new) name.now map.old map.new result };
 
     /// The values, once all members are read.
     ///
     /// # Errors
     ///
-    /// Those of [`MapAccess::required_field`].
+    /// - Those of [`MapAccess::required_field`].
+    /// - `OutOfMemory` at the opening brace, for a default that is made.
     fn finish(self, found: Self::Found, map: &mut MapAccess<'_, I>) -> Result<V>
         ensures { Finishes (layout (shape self)) content (state found) map.old map.new result };
+}
+
+/// Reads the value of the key that was read last into its field. A second value is refused at its key.
+pub(crate) fn take_field<I: Input, T: Deserialize<I>>(
+    found: &mut Option<T>,
+    map: &mut MapAccess<'_, I>,
+    name: &str,
+) -> Result<()>
+    requires key { KeyPending map.old }
+    requires named { KeyIsNamed name.now map.old }
+    ensures { TakesNamed T.content T.convert T.refuses name.now map.old map.new found.old found.new result }
+{
+    if found.is_some() {
+        return Err(map.refuse_key(format_args!("duplicate field `{name}`")));
+    }
+    map.next_field(name, found)
 }
 
 /// A field that has to be there, by its name.
@@ -105,7 +125,7 @@ impl<I: Input, T: Deserialize<I>> StructFields<I, T> for Required {
         if name != self.0 {
             return Ok(false);
         }
-        match map.next_field(name, found) {
+        match take_field(found, map, name) {
             Ok(()) => Ok(true),
             Err(e) => Err(e),
         }
@@ -159,7 +179,7 @@ impl<I: Input, T: Deserialize<I>> StructFields<I, Option<T>> for Optional {
         if name != self.0 {
             return Ok(false);
         }
-        match map.next_field(name, found) {
+        match take_field(found, map, name) {
             Ok(()) => Ok(true),
             Err(e) => Err(e),
         }
@@ -213,7 +233,7 @@ impl<I: Input, T: Deserialize<I>> StructFields<I, T> for WithDefault<T> {
         if name != self.0 {
             return Ok(false);
         }
-        match map.next_field(name, found) {
+        match take_field(found, map, name) {
             Ok(()) => Ok(true),
             Err(e) => Err(e),
         }

@@ -86,7 +86,7 @@ fn read_object<I: Input, V: Drop, F: StructFields<I, V>>(
 /// # Errors
 ///
 /// - Those of [`Deserializer::deserialize_map`], [`MapAccess::read_fields`] and [`MapAccess::end`].
-/// - ``missing field `name` `` and ``duplicate field `name` `` at the opening brace.
+/// - ``missing field `name` `` at the opening brace, and ``duplicate field `name` `` at the second key.
 /// - The faults of the fields' types.
 pub fn read_struct<I: Input, V: Drop, F: StructFields<I, V>>(
     de: &mut Deserializer<I>,

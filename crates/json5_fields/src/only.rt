@@ -1,11 +1,9 @@
 //! A struct that has no other fields than those of its description.
 
-ghost use Rattle.std.specs.Prelude.{◌≡◌, true, false, IfOk, IfErr};
+ghost use Rattle.std.specs.Prelude.{◌≡◌, true, IfOk, IfErr};
 ghost use Rattle.json5_grammar.specs.Model.Collections.{object_of};
 ghost use Rattle.json5_de.specs.State.{SameText};
-ghost use Rattle.json5_de.specs.DeserializeLaw.{Gives, Completes, Unprompted, IsUnprompted};
-ghost use Rattle.json5_de.specs.Fields.{IsOwnAtBracket};
-ghost use Rattle.json5_de.specs.Lending.{map_state_of, KeepsMap, KeyPending};
+ghost use Rattle.json5_de.specs.DeserializeLaw.{Gives, Completes, Unprompted};
 ghost use Rattle.json5_fields.specs.Layouts.{all_differ};
 ghost use Rattle.json5_fields.specs.Only.{only_these};
 ghost use Rattle.json5_fields.specs.Described.{RefusesOnly, ReadsOnly};
@@ -14,51 +12,14 @@ use crate::field_names::{FieldNames, UnknownField};
 use crate::fields::StructFields;
 use json5_de::{Deserializer, Fields, MapAccess};
 use json5_text::input::Input;
-use json5_types::error::{Error, Result};
-use std::alloc::Global;
-use std::fmt;
+use json5_types::error::Result;
 use std::marker::PhantomData;
-
-/// A custom fault at the opening brace.
-fn own_fault<I: Input, D: fmt::Display + Drop>(
-    alloc: Global,
-    map: &MapAccess<'_, I>,
-    message: D,
-) -> Error
-    ensures own { IsOwnAtBracket (map_state_of map.now).at result }
-    ensures unprompted { IsUnprompted result }
-{
-    match Error::custom(alloc, message) {
-        Ok(error) => map.place(error),
-        Err(error) => map.place(error),
-    }
-}
-
-/// Refuses the field whose key was read last: from here on the access has failed.
-#[cold]
-fn unknown<I: Input, F: FieldNames>(
-    alloc: Global,
-    map: &mut MapAccess<'_, I>,
-    name: &str,
-    fields: &F,
-) -> Error
-    requires key { KeyPending map.old }
-    ensures access { KeepsMap map.old map.new }
-    ensures failed { (map_state_of map.new).at.reader.failed ≡ true }
-    ensures own { IsOwnAtBracket (map_state_of map.old).at result }
-    ensures unprompted { IsUnprompted result }
-{
-    let error = own_fault(alloc, map, UnknownField { name, fields });
-    let _ = map.required_field::<bool>(name, None);
-    error
-}
 
 /// A description that allows no other fields, and the values that were read so far.
 #[derive(Drop)]
 struct ReadingOnly<F, S, V> {
     fields: F,
     found: S,
-    alloc: Global,
     of: PhantomData<V>,
 }
 
@@ -80,7 +41,10 @@ impl<I: Input, V: Drop, F: StructFields<I, V> + FieldNames> Fields<I>
     fn read(&mut self, map: &mut MapAccess<'_, I>, name: &str) -> Result<()> {
         match self.fields.read(&mut self.found, map, name) {
             Ok(true) => Ok(()),
-            Ok(false) => Err(unknown(self.alloc, map, name, &self.fields)),
+            Ok(false) => {
+                let fields = &self.fields;
+                Err(map.refuse_key(UnknownField { name, fields }))
+            }
             Err(e) => Err(e),
         }
     }
@@ -103,7 +67,6 @@ fn read_only<I: Input, V: Drop, F: StructFields<I, V> + FieldNames>(
     let mut reading = ReadingOnly {
         fields,
         found,
-        alloc: de.allocator(),
         of: PhantomData,
     };
     let mut map = de.deserialize_map()?;
@@ -111,7 +74,6 @@ fn read_only<I: Input, V: Drop, F: StructFields<I, V> + FieldNames>(
     let ReadingOnly {
         fields,
         found,
-        alloc: _,
         of: _,
     } = reading;
     let output = fields.finish(found, &mut map)?;
@@ -130,7 +92,7 @@ fn read_only<I: Input, V: Drop, F: StructFields<I, V> + FieldNames>(
 ///
 /// # Errors
 ///
-/// - ``unknown field `prot`, expected one of `host`, `port` `` at the opening brace; the value stays unread.
+/// - ``unknown field `prot`, expected one of `host`, `port` `` at its key; the value stays unread.
 /// - Those of [`read_struct`](crate::read_struct).
 pub fn read_struct_only<I: Input, V: Drop, F: StructFields<I, V> + FieldNames>(
     de: &mut Deserializer<I>,

@@ -5,9 +5,9 @@ use Rattle.json5_fields.proofs.fields.WithDefaultStructFields.read.Goals as goal
 pub returns-in-Ok : goal.returns-in-Ok
 returns-in-Ok g c =
     let same : c.args.name.now ≡ c.args.self.now.0.now = same_name _ _ _ c.ne.ensures c.if-ne.false in
-    takes_it same c.in-Ok.ensures.reads c.in-Ok.ensures.access c.in-Ok.ensures.pending
+    takes_it same c.in-Ok.ensures
 
 pub returns-in-Err : goal.returns-in-Err
 returns-in-Err g c =
     let same : c.args.name.now ≡ c.args.self.now.0.now = same_name _ _ _ c.ne.ensures c.if-ne.false in
-    takes_it same c.in-Err.ensures.reads c.in-Err.ensures.access c.in-Err.ensures.pending
+    takes_it same c.in-Err.ensures
