@@ -8,30 +8,28 @@ ghost use Rattle.json5_fields.specs.Layouts.{all_differ};
 ghost use Rattle.json5_fields.specs.Only.{only_these};
 ghost use Rattle.json5_fields.specs.Described.{RefusesOnly, ReadsOnly};
 
-use crate::field_names::{FieldNames, UnknownField};
+use crate::field_names::UnknownField;
 use crate::fields::StructFields;
 use json5_de::{Deserializer, Fields, MapAccess};
 use json5_text::input::Input;
 use json5_types::error::Result;
 use std::marker::PhantomData;
 
-/// A description that allows no other fields, and the values that were read so far.
+/// The fields of a description that allows no others, while they are read.
 #[derive(Drop)]
-struct ReadingOnly<F, S, V> {
-    fields: F,
-    found: S,
-    of: PhantomData<V>,
+struct OnlyMembers<F, R, V> {
+    reading: R,
+    of: PhantomData<(F, V)>,
 }
 
-impl<I: Input, V: Drop, F: StructFields<I, V> + FieldNames> Fields<I>
-    for ReadingOnly<F, F::Found, V> {
+impl<I: Input, V: Drop, F: StructFields<I, V>> Fields<I> for OnlyMembers<F, F::Reading, V> {
     ghost use Rattle.json5_de.specs.StructFaults.{or_of};
     ghost use Rattle.json5_fields.specs.Layouts.{Held};
     ghost use Rattle.json5_fields.specs.Only.{only_step, of_unknown};
 
     ghost Content = { Held F.State F.Content };
 
-    ghost content = { λ r. (F.layout (F.shape r.fields), F.state r.found) };
+    ghost content = { λ m. (F.layout (F.kept m.reading), F.state m.reading) };
 
     ghost step = { only_step };
 
@@ -39,10 +37,10 @@ impl<I: Input, V: Drop, F: StructFields<I, V> + FieldNames> Fields<I>
 
     #[inline(always)]
     fn read(&mut self, map: &mut MapAccess<'_, I>, name: &str) -> Result<()> {
-        match self.fields.read(&mut self.found, map, name) {
+        match F::read(&mut self.reading, map, name) {
             Ok(true) => Ok(()),
             Ok(false) => {
-                let fields = &self.fields;
+                let fields = &self.reading;
                 Err(map.refuse_key(UnknownField { name, fields }))
             }
             Err(e) => Err(e),
@@ -52,7 +50,7 @@ impl<I: Input, V: Drop, F: StructFields<I, V> + FieldNames> Fields<I>
 
 /// The same as `read_struct_only`, by separate clauses.
 #[inline(always)]
-fn read_only<I: Input, V: Drop, F: StructFields<I, V> + FieldNames>(
+fn read_only<I: Input, V: Drop, F: StructFields<I, V>>(
     de: &mut Deserializer<I>,
     fields: F,
 ) -> Result<V>
@@ -63,20 +61,15 @@ fn read_only<I: Input, V: Drop, F: StructFields<I, V> + FieldNames>(
     ensures unprompted { Unprompted de.old result }
     ensures same_text { SameText de.old de.new }
 {
-    let found = fields.start();
-    let mut reading = ReadingOnly {
-        fields,
-        found,
+    let reading = fields.start();
+    let mut members = OnlyMembers::<F, F::Reading, V> {
+        reading,
         of: PhantomData,
     };
     let mut map = de.deserialize_map()?;
-    map.read_fields(&mut reading)?;
-    let ReadingOnly {
-        fields,
-        found,
-        of: _,
-    } = reading;
-    let output = fields.finish(found, &mut map)?;
+    map.read_fields(&mut members)?;
+    let OnlyMembers { reading, of: _ } = members;
+    let output = F::finish(reading, &mut map)?;
     map.end()?;
     Ok(output)
 }
@@ -94,7 +87,7 @@ fn read_only<I: Input, V: Drop, F: StructFields<I, V> + FieldNames>(
 ///
 /// - ``unknown field `prot`, expected one of `host`, `port` `` at its key; the value stays unread.
 /// - Those of [`read_struct`](crate::read_struct).
-pub fn read_struct_only<I: Input, V: Drop, F: StructFields<I, V> + FieldNames>(
+pub fn read_struct_only<I: Input, V: Drop, F: StructFields<I, V>>(
     de: &mut Deserializer<I>,
     fields: F,
 ) -> Result<V>
