@@ -30,10 +30,10 @@ begins_there {old = old} {u = u} {p = p} count solid took same =
     }
 
 -- a key that was read is returned
-pub given_here : {K C : Type 0} (content : K → C) (convert : KeyConversion C) (old new : State) {IsBefore : List ℕ → Type 0} (read : Result K Error) (result : Result (Option K) Error) → IfOk read (GivesKey content convert old new) → PositionsKey IsBefore read result
+pub given_here : {K C : Type 0} (content : K → C) (convert : KeyConversion C) (old new : State) (IsBefore : List ℕ → Type 0) (read : Result K Error) (result : Result (Option K) Error) → IfOk read (GivesKey content convert old new) → PositionsKey IsBefore read result
     → IfOk result (λ o. IfSome o (GivesKey content convert old new))
-given_here content convert old new (Ok k) result gives is = subst (λ r. IfOk r (λ o. IfSome o (GivesKey content convert old new))) (sym is) gives
-given_here content convert old new (Err own) result gives is = let (e, same, placed) = err_from_is_err_and result is in subst (λ r. IfOk r (λ o. IfSome o (GivesKey content convert old new))) (sym same) tt
+given_here content convert old new IsBefore (Ok k) result gives is = subst (λ r. IfOk r (λ o. IfSome o (GivesKey content convert old new))) (sym is) gives
+given_here content convert old new IsBefore (Err own) result gives is = let (e, same, placed) = err_from_is_err_and result is in subst (λ r. IfOk r (λ o. IfSome o (GivesKey content convert old new))) (sym same) tt
 
 -- an access that keeps where its key begins is the same otherwise
 module _ {I : Type 0} (old new : MapAccess I) (start : ℕ) where

@@ -13,4 +13,4 @@ returns-clause-reads g c = λ comma_due from at.
     c.read_key-read.ensures c.offset-start.ensures c.positioned_key.ensures
 
 pub returns-clause-here : goal.returns-clause-here
-returns-clause-here g c = given_here g.K.DeserializeKey.content g.K.DeserializeKey.convert c.args.self.now c.read_key-read.new.self c.read_key-read.result c.positioned_key.result c.read_key-read.ensures.sound c.positioned_key.ensures
+returns-clause-here g c = given_here g.K.DeserializeKey.content g.K.DeserializeKey.convert c.args.self.now c.read_key-read.new.self _ c.read_key-read.result c.positioned_key.result c.read_key-read.ensures.sound c.positioned_key.ensures

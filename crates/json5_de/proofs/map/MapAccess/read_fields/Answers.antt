@@ -10,9 +10,6 @@ use Rattle.json5_de.proofs.map.MapAccess.read_fields.Goals as goal
 pub loop-name-init : goal.loop-name-init
 loop-name-init g c = record { same_reference = refl; start = refl; same_text = refl; failed = λ f. f; no_key = c.requires.no_key; reading = no_pairs g.F.Fields.step (g.F.Fields.content c.args.fields.now) (map_state_of c.args.self.now) }
 
-pub read-requires-named : goal.read-requires-named
-read-requires-named g c = rw c.as_str.ensures (rw c.if-branch.true at c.in_ok-next_name.ensures.named)
-
 pub loop-name-preserved : goal.loop-name-preserved
 loop-name-preserved g c =
     let m = c.loop-name.invariant in

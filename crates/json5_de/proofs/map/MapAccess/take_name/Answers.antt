@@ -22,6 +22,3 @@ pub returns-in-Err-clause-key : goal.returns-in-Err-clause-key
 returns-in-Err-clause-key g c =
     let k = rw (c.set_failed.ensures, c.is_comma_due.ensures) at c.in-Err.ensures.key in
     key_refused name_text every_text (RefusedAsKey string_key) c.args.self.now c.requires.no_key c.member_name.new.self c.refused.new.self c.in-Err.e c.refused.result c.refused.ensures.blocks c.refused.ensures.placed k.cause k.steady k.complete k.closing
-
-pub returns-in-Ok-clause-begins : goal.returns-in-Ok-clause-begins
-returns-in-Ok-clause-begins g c = rw c.set_failed-in-Ok.ensures c.in-Ok.ensures.begins
