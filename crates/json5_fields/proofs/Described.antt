@@ -24,7 +24,7 @@ use Rattle.json5_de.proofs.Structs.{here, takes_field}
 use Rattle.json5_fields.specs.Layouts.{Layout, has_name, first_or, and_layout, one_field, required_field, to_first, to_others, named_first, named_second, named_neither, hold, held_step, held_takes, held_passes}
 use Rattle.json5_fields.specs.Only.{only_step, only_takes, only_none, of_unknown}
 use Rattle.json5_de.specs.DeserializeLaw.{IsUnprompted}
-use Rattle.json5_fields.specs.FieldCalls.{of_type, first, second, TakesNamed, TakesHere, Tries, Finished, Missed, Finishes}
+use Rattle.json5_fields.specs.FieldCalls.{of_type, first_value, second_value, TakesNamed, TakesHere, Tries, Finished, Missed, Finishes}
 
 -- ---- a step that another one makes
 
@@ -168,15 +168,15 @@ module _ {I V C : Type 0} {content : V → C} {f : Tree → Option C} {refuses :
     takes = takes_field None (here {name = name}) is;
     refused = refused result is.cause;
     access = keeps;
-    pending = given result pending.given;
+    pending = taken result pending.given;
   }
     where
-      given : (result : Result (Unit {0}) Error) → IfOk result (λ v. (map_state_of new).pending ≡ false) → OnOk result (NoKeyPending new)
-      given (Ok done) given = given
-      given (Err e) given = tt
+      taken : (result : Result (Unit {0}) Error) → IfOk result (λ v. (map_state_of new).pending ≡ false) → OnOk result (NoKeyPending new)
+      taken (Ok done) none = none
+      taken (Err e) none = tt
 
       fault : (p : Option V) (e : Error) → p ≡ None → FieldFault refuses (map_state_of old) p e → of_type f refuses name (may_stand (at_name f name) (if_some content p) name) (map_state_of old) e
-      fault None e none (in_field same refused) = first (λ t. ap is_some (may_first f name t) ∙ some_made Some (f t)) refused
+      fault None e none (in_field same refused) = first_value (λ t. ap is_some (may_first f name t) ∙ some_made Some (f t)) refused
       fault None e none (twice some own) = absurd (cc)
       fault (Some v) e none is = absurd (cc)
 
@@ -197,7 +197,7 @@ module _ {I V C : Type 0} {content : V → C} {f : Tree → Option C} {refuses :
       failed = failed;
       unprompted = unprompted;
     };
-    refused = λ live. second (λ t. ap is_some (may_not f name (content v) t)) (record { start = old.key_start; begins = named; fault = own live });
+    refused = λ live. second_value (λ t. ap is_some (may_not f name (content v) t)) (record { start = old.key_start; begins = named; fault = own live });
     access = keeps;
     pending = tt;
   }

@@ -46,7 +46,7 @@ module _ {V W A C : Type 0} {of : V → A} {content : W → C} {f : Option Tree 
   })
 
 -- the first variant, or a later one
-module _ {V W Z A B : Type 0} {of_first : V → A} {of_later : W → B} {content : Z → Either A B} (f : ℕ → Option Tree → Option A) (g : ℕ → Option Tree → Option B) (fa fb : ContentFaults) {k : ℕ} {old : EnumAccessState} {new : State} where
+module _ {A B : Type 0} (f : ℕ → Option Tree → Option A) (g : ℕ → Option Tree → Option B) {k : ℕ} where
   at_first : k ≡ 0 → (t : Option Tree) → first_or_later f g k t ≡ if_some first (f 0 t)
   at_first is t = rw is refl
 
@@ -57,17 +57,20 @@ module _ {V W Z A B : Type 0} {of_first : V → A} {of_later : W → B} {content
       by true e = absurd (cc)
       by false e = refl
 
-  pub first_read : {v : V} {z : Z} → k ≡ 0 → first (of_first v) ≡ content z → TakesContent of_first f fa 0 old new (Ok v) → TakesContent content (first_or_later f g) (fault_of_either fa fb) k old new (Ok z)
-  first_read is gives takes = record { finishes = read_into first (at_first is) gives takes.finishes; refused = tt }
+module _ {Z A B : Type 0} {content : Z → Either A B} (f : ℕ → Option Tree → Option A) (g : ℕ → Option Tree → Option B) (fa fb : ContentFaults) {k : ℕ} {old : EnumAccessState} {new : State} where
+  module _ {V : Type 0} {of : V → A} where
+    pub first_read : {v : V} {z : Z} → k ≡ 0 → first (of v) ≡ content z → TakesContent of f fa 0 old new (Ok v) → TakesContent content (first_or_later f g) (fault_of_either fa fb) k old new (Ok z)
+    first_read is gives takes = record { finishes = read_into first (at_first f g is) gives takes.finishes; refused = tt }
 
-  pub first_refused : {e : Error} → k ≡ 0 → TakesContent of_first f fa 0 old new (Err e) → TakesContent content (first_or_later f g) (fault_of_either fa fb) k old new (Err e)
-  first_refused is takes = record { finishes = refused_into first (at_first is) takes.finishes; refused = inl (is, takes.refused) }
+    pub first_refused : {e : Error} → k ≡ 0 → TakesContent of f fa 0 old new (Err e) → TakesContent content (first_or_later f g) (fault_of_either fa fb) k old new (Err e)
+    first_refused is takes = record { finishes = refused_into first (at_first f g is) takes.finishes; refused = inl (is, takes.refused) }
 
-  pub later_read : {w : W} {z : Z} → k ≢ 0 → later (of_later w) ≡ content z → TakesContent of_later g fb (k - 1) old new (Ok w) → TakesContent content (first_or_later f g) (fault_of_either fa fb) k old new (Ok z)
-  later_read not gives takes = record { finishes = read_into later (at_later not) gives takes.finishes; refused = tt }
+  module _ {W : Type 0} {of : W → B} where
+    pub later_read : {w : W} {z : Z} → k ≢ 0 → later (of w) ≡ content z → TakesContent of g fb (k - 1) old new (Ok w) → TakesContent content (first_or_later f g) (fault_of_either fa fb) k old new (Ok z)
+    later_read not gives takes = record { finishes = read_into later (at_later f g not) gives takes.finishes; refused = tt }
 
-  pub later_refused : {e : Error} → k ≢ 0 → TakesContent of_later g fb (k - 1) old new (Err e) → TakesContent content (first_or_later f g) (fault_of_either fa fb) k old new (Err e)
-  later_refused not takes = record { finishes = refused_into later (at_later not) takes.finishes; refused = inr (not, takes.refused) }
+    pub later_refused : {e : Error} → k ≢ 0 → TakesContent of g fb (k - 1) old new (Err e) → TakesContent content (first_or_later f g) (fault_of_either fa fb) k old new (Err e)
+    later_refused not takes = record { finishes = refused_into later (at_later f g not) takes.finishes; refused = inr (not, takes.refused) }
 
 -- ---- how an enum is refused
 

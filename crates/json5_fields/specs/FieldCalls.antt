@@ -18,8 +18,8 @@ use Rattle.json5_fields.specs.Layouts.{Layout, has_name}
 
 -- the faults of a field of this type, by whatever name: its first value is refused as its type refuses it, and a second value isn't allowed
 pub data of_type {C : Type 0} (convert : Tree → Option C) (refuses : State → Error → State → Type 0) (name : List ℕ) (may : Tree → Bool) (old : MapAccessState) (e : Error) : Type 0 where
-  first : ((t : Tree) → may t ≡ is_some (convert t)) → ValueRefusedAtBrace refuses old e → of_type convert refuses name may old e
-  second : ((t : Tree) → may t ≡ false) → IsOwnAtKey name old e → of_type convert refuses name may old e
+  first_value : ((t : Tree) → may t ≡ is_some (convert t)) → ValueRefusedAtBrace refuses old e → of_type convert refuses name may old e
+  second_value : ((t : Tree) → may t ≡ false) → IsOwnAtKey name old e → of_type convert refuses name may old e
 
 -- the value of the key that was read, which has this name, fills its field, or is refused
 pub record TakesNamed {I V C : Type 0} (content : V → C) (convert : Tree → Option C) (refuses : State → Error → State → Type 0) (name : List ℕ) (old new : MapAccess I) (field next : Option V) (result : Result (Unit {0}) Error) : Type 0 where

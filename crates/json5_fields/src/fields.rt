@@ -57,11 +57,7 @@ pub trait StructFields<I: Input, V: Drop>: Sized + Drop {
     /// # Errors
     ///
     /// Those of [`MapAccess::next_value`], and ``duplicate field `name` `` at the key of a second value.
-    fn read(
-        fields: &mut Self::Reading,
-        map: &mut MapAccess<'_, I>,
-        name: &str,
-    ) -> Result<bool>
+    fn read(fields: &mut Self::Reading, map: &mut MapAccess<'_, I>, name: &str) -> Result<bool>
         requires key { KeyPending map.old }
         requires named { KeyIsNamed name.now map.old }
         ensures same { kept fields.new ≡ kept fields.old }

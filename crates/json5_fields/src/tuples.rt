@@ -6,7 +6,10 @@ use json5_text::input::Input;
 use json5_types::error::Result;
 
 /// Two descriptions.
-impl<I: Input, S: Drop, T: Drop, A: StructFields<I, S>, B: StructFields<I, T>> StructFields<I, (S, T)> for (A, B) {
+impl<I: Input, S: Drop, T: Drop, A: StructFields<I, S>, B: StructFields<I, T>> StructFields<
+    I,
+    (S, T),
+> for (A, B) {
     ghost use Rattle.json5_de.specs.StructFaults.{or_of};
     ghost use Rattle.json5_fields.specs.Layouts.{and_layout};
 
@@ -56,7 +59,15 @@ impl<I: Input, S: Drop, T: Drop, A: StructFields<I, S>, B: StructFields<I, T>> S
 }
 
 /// Three descriptions.
-impl<I: Input, S: Drop, T: Drop, U: Drop, A: StructFields<I, S>, B: StructFields<I, T>, C: StructFields<I, U>> StructFields<I, (S, T, U)> for (A, B, C) {
+impl<
+    I: Input,
+    S: Drop,
+    T: Drop,
+    U: Drop,
+    A: StructFields<I, S>,
+    B: StructFields<I, T>,
+    C: StructFields<I, U>,
+> StructFields<I, (S, T, U)> for (A, B, C) {
     ghost use Rattle.json5_de.specs.StructFaults.{or_of};
     ghost use Rattle.json5_fields.specs.Layouts.{and_layout};
 
@@ -104,7 +115,17 @@ impl<I: Input, S: Drop, T: Drop, U: Drop, A: StructFields<I, S>, B: StructFields
 }
 
 /// Four descriptions.
-impl<I: Input, S: Drop, T: Drop, U: Drop, V: Drop, A: StructFields<I, S>, B: StructFields<I, T>, C: StructFields<I, U>, D: StructFields<I, V>> StructFields<I, (S, T, U, V)> for (A, B, C, D) {
+impl<
+    I: Input,
+    S: Drop,
+    T: Drop,
+    U: Drop,
+    V: Drop,
+    A: StructFields<I, S>,
+    B: StructFields<I, T>,
+    C: StructFields<I, U>,
+    D: StructFields<I, V>,
+> StructFields<I, (S, T, U, V)> for (A, B, C, D) {
     ghost use Rattle.json5_de.specs.StructFaults.{or_of};
     ghost use Rattle.json5_fields.specs.Layouts.{and_layout};
 
@@ -152,11 +173,26 @@ impl<I: Input, S: Drop, T: Drop, U: Drop, V: Drop, A: StructFields<I, S>, B: Str
 }
 
 /// Five descriptions.
-impl<I: Input, S: Drop, T: Drop, U: Drop, V: Drop, W: Drop, A: StructFields<I, S>, B: StructFields<I, T>, C: StructFields<I, U>, D: StructFields<I, V>, E: StructFields<I, W>> StructFields<I, (S, T, U, V, W)> for (A, B, C, D, E) {
+impl<
+    I: Input,
+    S: Drop,
+    T: Drop,
+    U: Drop,
+    V: Drop,
+    W: Drop,
+    A: StructFields<I, S>,
+    B: StructFields<I, T>,
+    C: StructFields<I, U>,
+    D: StructFields<I, V>,
+    E: StructFields<I, W>,
+> StructFields<I, (S, T, U, V, W)> for (A, B, C, D, E) {
     ghost use Rattle.json5_de.specs.StructFaults.{or_of};
     ghost use Rattle.json5_fields.specs.Layouts.{and_layout};
 
-    type Reading = (A::Reading, (B::Reading, (C::Reading, (D::Reading, E::Reading))));
+    type Reading = (
+        A::Reading,
+        (B::Reading, (C::Reading, (D::Reading, E::Reading))),
+    );
 
     ghost Shape = { A.Shape × (B.Shape × (C.Shape × (D.Shape × E.Shape))) };
 
@@ -179,7 +215,10 @@ impl<I: Input, S: Drop, T: Drop, U: Drop, V: Drop, W: Drop, A: StructFields<I, S
     #[inline(always)]
     fn start(self) -> Self::Reading {
         let (a, b, c, d, e) = self;
-        <(A, (B, (C, (D, E)))) as StructFields<I, (S, (T, (U, (V, W))))>>::start((a, (b, (c, (d, e)))))
+        <(A, (B, (C, (D, E)))) as StructFields<I, (S, (T, (U, (V, W))))>>::start((
+            a,
+            (b, (c, (d, e))),
+        ))
     }
 
     #[inline(always)]
@@ -189,7 +228,9 @@ impl<I: Input, S: Drop, T: Drop, U: Drop, V: Drop, W: Drop, A: StructFields<I, S
 
     #[inline(always)]
     fn finish(fields: Self::Reading, map: &mut MapAccess<'_, I>) -> Result<(S, T, U, V, W)> {
-        match <(A, (B, (C, (D, E)))) as StructFields<I, (S, (T, (U, (V, W))))>>::finish(fields, map) {
+        match <(A, (B, (C, (D, E)))) as StructFields<I, (S, (T, (U, (V, W))))>>::finish(
+            fields, map,
+        ) {
             Ok(values) => {
                 let (a, (b, (c, (d, e)))) = values;
                 Ok((a, b, c, d, e))
@@ -200,11 +241,31 @@ impl<I: Input, S: Drop, T: Drop, U: Drop, V: Drop, W: Drop, A: StructFields<I, S
 }
 
 /// Six descriptions.
-impl<I: Input, S: Drop, T: Drop, U: Drop, V: Drop, W: Drop, X: Drop, A: StructFields<I, S>, B: StructFields<I, T>, C: StructFields<I, U>, D: StructFields<I, V>, E: StructFields<I, W>, F: StructFields<I, X>> StructFields<I, (S, T, U, V, W, X)> for (A, B, C, D, E, F) {
+impl<
+    I: Input,
+    S: Drop,
+    T: Drop,
+    U: Drop,
+    V: Drop,
+    W: Drop,
+    X: Drop,
+    A: StructFields<I, S>,
+    B: StructFields<I, T>,
+    C: StructFields<I, U>,
+    D: StructFields<I, V>,
+    E: StructFields<I, W>,
+    F: StructFields<I, X>,
+> StructFields<I, (S, T, U, V, W, X)> for (A, B, C, D, E, F) {
     ghost use Rattle.json5_de.specs.StructFaults.{or_of};
     ghost use Rattle.json5_fields.specs.Layouts.{and_layout};
 
-    type Reading = (A::Reading, (B::Reading, (C::Reading, (D::Reading, (E::Reading, F::Reading)))));
+    type Reading = (
+        A::Reading,
+        (
+            B::Reading,
+            (C::Reading, (D::Reading, (E::Reading, F::Reading))),
+        ),
+    );
 
     ghost Shape = { A.Shape × (B.Shape × (C.Shape × (D.Shape × (E.Shape × F.Shape)))) };
 
@@ -227,17 +288,24 @@ impl<I: Input, S: Drop, T: Drop, U: Drop, V: Drop, W: Drop, X: Drop, A: StructFi
     #[inline(always)]
     fn start(self) -> Self::Reading {
         let (a, b, c, d, e, f) = self;
-        <(A, (B, (C, (D, (E, F))))) as StructFields<I, (S, (T, (U, (V, (W, X)))))>>::start((a, (b, (c, (d, (e, f))))))
+        <(A, (B, (C, (D, (E, F))))) as StructFields<I, (S, (T, (U, (V, (W, X)))))>>::start((
+            a,
+            (b, (c, (d, (e, f)))),
+        ))
     }
 
     #[inline(always)]
     fn read(fields: &mut Self::Reading, map: &mut MapAccess<'_, I>, name: &str) -> Result<bool> {
-        <(A, (B, (C, (D, (E, F))))) as StructFields<I, (S, (T, (U, (V, (W, X)))))>>::read(fields, map, name)
+        <(A, (B, (C, (D, (E, F))))) as StructFields<I, (S, (T, (U, (V, (W, X)))))>>::read(
+            fields, map, name,
+        )
     }
 
     #[inline(always)]
     fn finish(fields: Self::Reading, map: &mut MapAccess<'_, I>) -> Result<(S, T, U, V, W, X)> {
-        match <(A, (B, (C, (D, (E, F))))) as StructFields<I, (S, (T, (U, (V, (W, X)))))>>::finish(fields, map) {
+        match <(A, (B, (C, (D, (E, F))))) as StructFields<I, (S, (T, (U, (V, (W, X)))))>>::finish(
+            fields, map,
+        ) {
             Ok(values) => {
                 let (a, (b, (c, (d, (e, f))))) = values;
                 Ok((a, b, c, d, e, f))
@@ -248,11 +316,36 @@ impl<I: Input, S: Drop, T: Drop, U: Drop, V: Drop, W: Drop, X: Drop, A: StructFi
 }
 
 /// Seven descriptions.
-impl<I: Input, S: Drop, T: Drop, U: Drop, V: Drop, W: Drop, X: Drop, Y: Drop, A: StructFields<I, S>, B: StructFields<I, T>, C: StructFields<I, U>, D: StructFields<I, V>, E: StructFields<I, W>, F: StructFields<I, X>, G: StructFields<I, Y>> StructFields<I, (S, T, U, V, W, X, Y)> for (A, B, C, D, E, F, G) {
+impl<
+    I: Input,
+    S: Drop,
+    T: Drop,
+    U: Drop,
+    V: Drop,
+    W: Drop,
+    X: Drop,
+    Y: Drop,
+    A: StructFields<I, S>,
+    B: StructFields<I, T>,
+    C: StructFields<I, U>,
+    D: StructFields<I, V>,
+    E: StructFields<I, W>,
+    F: StructFields<I, X>,
+    G: StructFields<I, Y>,
+> StructFields<I, (S, T, U, V, W, X, Y)> for (A, B, C, D, E, F, G) {
     ghost use Rattle.json5_de.specs.StructFaults.{or_of};
     ghost use Rattle.json5_fields.specs.Layouts.{and_layout};
 
-    type Reading = (A::Reading, (B::Reading, (C::Reading, (D::Reading, (E::Reading, (F::Reading, G::Reading))))));
+    type Reading = (
+        A::Reading,
+        (
+            B::Reading,
+            (
+                C::Reading,
+                (D::Reading, (E::Reading, (F::Reading, G::Reading))),
+            ),
+        ),
+    );
 
     ghost Shape = { A.Shape × (B.Shape × (C.Shape × (D.Shape × (E.Shape × (F.Shape × G.Shape))))) };
 
@@ -275,17 +368,26 @@ impl<I: Input, S: Drop, T: Drop, U: Drop, V: Drop, W: Drop, X: Drop, Y: Drop, A:
     #[inline(always)]
     fn start(self) -> Self::Reading {
         let (a, b, c, d, e, f, g) = self;
-        <(A, (B, (C, (D, (E, (F, G)))))) as StructFields<I, (S, (T, (U, (V, (W, (X, Y))))))>>::start((a, (b, (c, (d, (e, (f, g)))))))
+        <(A, (B, (C, (D, (E, (F, G)))))) as StructFields<
+            I,
+            (S, (T, (U, (V, (W, (X, Y)))))),
+        >>::start((a, (b, (c, (d, (e, (f, g)))))))
     }
 
     #[inline(always)]
     fn read(fields: &mut Self::Reading, map: &mut MapAccess<'_, I>, name: &str) -> Result<bool> {
-        <(A, (B, (C, (D, (E, (F, G)))))) as StructFields<I, (S, (T, (U, (V, (W, (X, Y))))))>>::read(fields, map, name)
+        <(A, (B, (C, (D, (E, (F, G)))))) as StructFields<I, (S, (T, (U, (V, (W, (X, Y))))))>>::read(
+            fields, map, name,
+        )
     }
 
     #[inline(always)]
     fn finish(fields: Self::Reading, map: &mut MapAccess<'_, I>) -> Result<(S, T, U, V, W, X, Y)> {
-        match <(A, (B, (C, (D, (E, (F, G)))))) as StructFields<I, (S, (T, (U, (V, (W, (X, Y))))))>>::finish(fields, map) {
+        match <(A, (B, (C, (D, (E, (F, G)))))) as StructFields<
+            I,
+            (S, (T, (U, (V, (W, (X, Y)))))),
+        >>::finish(fields, map)
+        {
             Ok(values) => {
                 let (a, (b, (c, (d, (e, (f, g)))))) = values;
                 Ok((a, b, c, d, e, f, g))
@@ -296,11 +398,41 @@ impl<I: Input, S: Drop, T: Drop, U: Drop, V: Drop, W: Drop, X: Drop, Y: Drop, A:
 }
 
 /// Eight descriptions.
-impl<I: Input, S: Drop, T: Drop, U: Drop, V: Drop, W: Drop, X: Drop, Y: Drop, Z: Drop, A: StructFields<I, S>, B: StructFields<I, T>, C: StructFields<I, U>, D: StructFields<I, V>, E: StructFields<I, W>, F: StructFields<I, X>, G: StructFields<I, Y>, H: StructFields<I, Z>> StructFields<I, (S, T, U, V, W, X, Y, Z)> for (A, B, C, D, E, F, G, H) {
+impl<
+    I: Input,
+    S: Drop,
+    T: Drop,
+    U: Drop,
+    V: Drop,
+    W: Drop,
+    X: Drop,
+    Y: Drop,
+    Z: Drop,
+    A: StructFields<I, S>,
+    B: StructFields<I, T>,
+    C: StructFields<I, U>,
+    D: StructFields<I, V>,
+    E: StructFields<I, W>,
+    F: StructFields<I, X>,
+    G: StructFields<I, Y>,
+    H: StructFields<I, Z>,
+> StructFields<I, (S, T, U, V, W, X, Y, Z)> for (A, B, C, D, E, F, G, H) {
     ghost use Rattle.json5_de.specs.StructFaults.{or_of};
     ghost use Rattle.json5_fields.specs.Layouts.{and_layout};
 
-    type Reading = (A::Reading, (B::Reading, (C::Reading, (D::Reading, (E::Reading, (F::Reading, (G::Reading, H::Reading)))))));
+    type Reading = (
+        A::Reading,
+        (
+            B::Reading,
+            (
+                C::Reading,
+                (
+                    D::Reading,
+                    (E::Reading, (F::Reading, (G::Reading, H::Reading))),
+                ),
+            ),
+        ),
+    );
 
     ghost Shape = { A.Shape × (B.Shape × (C.Shape × (D.Shape × (E.Shape × (F.Shape × (G.Shape × H.Shape)))))) };
 
@@ -323,17 +455,30 @@ impl<I: Input, S: Drop, T: Drop, U: Drop, V: Drop, W: Drop, X: Drop, Y: Drop, Z:
     #[inline(always)]
     fn start(self) -> Self::Reading {
         let (a, b, c, d, e, f, g, h) = self;
-        <(A, (B, (C, (D, (E, (F, (G, H))))))) as StructFields<I, (S, (T, (U, (V, (W, (X, (Y, Z)))))))>>::start((a, (b, (c, (d, (e, (f, (g, h))))))))
+        <(A, (B, (C, (D, (E, (F, (G, H))))))) as StructFields<
+            I,
+            (S, (T, (U, (V, (W, (X, (Y, Z))))))),
+        >>::start((a, (b, (c, (d, (e, (f, (g, h))))))))
     }
 
     #[inline(always)]
     fn read(fields: &mut Self::Reading, map: &mut MapAccess<'_, I>, name: &str) -> Result<bool> {
-        <(A, (B, (C, (D, (E, (F, (G, H))))))) as StructFields<I, (S, (T, (U, (V, (W, (X, (Y, Z)))))))>>::read(fields, map, name)
+        <(A, (B, (C, (D, (E, (F, (G, H))))))) as StructFields<
+            I,
+            (S, (T, (U, (V, (W, (X, (Y, Z))))))),
+        >>::read(fields, map, name)
     }
 
     #[inline(always)]
-    fn finish(fields: Self::Reading, map: &mut MapAccess<'_, I>) -> Result<(S, T, U, V, W, X, Y, Z)> {
-        match <(A, (B, (C, (D, (E, (F, (G, H))))))) as StructFields<I, (S, (T, (U, (V, (W, (X, (Y, Z)))))))>>::finish(fields, map) {
+    fn finish(
+        fields: Self::Reading,
+        map: &mut MapAccess<'_, I>,
+    ) -> Result<(S, T, U, V, W, X, Y, Z)> {
+        match <(A, (B, (C, (D, (E, (F, (G, H))))))) as StructFields<
+            I,
+            (S, (T, (U, (V, (W, (X, (Y, Z))))))),
+        >>::finish(fields, map)
+        {
             Ok(values) => {
                 let (a, (b, (c, (d, (e, (f, (g, h))))))) = values;
                 Ok((a, b, c, d, e, f, g, h))

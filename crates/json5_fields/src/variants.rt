@@ -49,7 +49,6 @@ pub trait EnumVariants<I: Input>: Sized + Drop {
 pub struct NoContent;
 
 impl<I: Input> EnumVariants<I> for NoContent {
-    ghost use Rattle.std.specs.Prelude.{Unit};
     ghost use Rattle.json5_de.specs.Enums.{unit_content, RefusesContent};
     ghost use Rattle.json5_fields.specs.VariantContents.{TakesContent};
     ghost use Rattle.json5_de.specs.TokenKinds.{RefusedAs, null_kind};

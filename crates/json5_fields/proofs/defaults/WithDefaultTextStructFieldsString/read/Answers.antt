@@ -1,6 +1,6 @@
 use Rattle.std.proofs.Common.{◌≡◌}
 use Rattle.json5_fields.proofs.Described.{same_name, takes_it}
-use Rattle.json5_fields.proofs.defaults.WithDefaultTextStructFields.read.Goals as goal
+use Rattle.json5_fields.proofs.defaults.WithDefaultTextStructFieldsString.read.Goals as goal
 
 pub returns-in-Ok-clause-tries : goal.returns-in-Ok-clause-tries
 returns-in-Ok-clause-tries g c =
