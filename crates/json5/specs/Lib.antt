@@ -43,6 +43,7 @@ pub use Rattle.json5_de.specs.Maps
 pub use Rattle.json5_de.specs.MapFaults
 pub use Rattle.json5_de.specs.Fields
 pub use Rattle.json5_de.specs.Plans
+pub use Rattle.json5_de.specs.KeyPlaces
 pub use Rattle.json5_de.specs.StructFaults
 pub use Rattle.json5_de.specs.Enums
 pub use Rattle.json5_de.specs.Variants
@@ -55,6 +56,7 @@ pub use Rattle.json5_fields.specs.FieldCalls
 pub use Rattle.json5_fields.specs.Only
 pub use Rattle.json5_fields.specs.Named
 pub use Rattle.json5_fields.specs.WrittenFields
+pub use Rattle.json5_fields.specs.VariantContents
 -- Writing. Seven modules of json5_ser name the definitions of json5_write again, whose own names a goal shows.
 pub use Rattle.json5_ser.specs.WrittenTrees
 pub use Rattle.json5_ser.specs.ValueTrees

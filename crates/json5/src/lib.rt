@@ -27,8 +27,8 @@ pub use json5_de::{
 };
 pub use json5_fields as fields;
 pub use json5_fields::{
-    Field, Given, Optional, Required, WithDefault, one_of_names, read_struct, read_struct_only,
-    write_struct,
+    Field, Given, Holding, NoContent, OneOf, Optional, Required, WithDefault, WithDefaultText,
+    one_of_names, read_enum, read_struct, read_struct_only, write_struct,
 };
 pub use json5_format::{format, format_within};
 pub use json5_grammar::error_code::ErrorCode;

@@ -41,6 +41,7 @@ pub mod FoundStrings
 pub mod ObjectMembers
 pub mod MemberRefusals
 pub mod ObjectCalls
+pub mod KeyPlaces
 pub mod MapContents
 pub mod MapsHashed
 pub mod MapsRead

@@ -96,7 +96,7 @@ took_pair_key comma_due s mid last u p at took = record {
   rest = only_read s mid last at.entry.rest took.rest;
 }
 
-begun_solid : (comma_due : Bool) (x y : List ℕ) → IsEntryStart comma_due x y → Solid y
+pub begun_solid : (comma_due : Bool) (x y : List ℕ) → IsEntryStart comma_due x y → Solid y
 begun_solid false x y g = g.solid
 begun_solid true x y (z, comma, g) = g.solid
 

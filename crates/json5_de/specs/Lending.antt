@@ -18,6 +18,7 @@ use Rattle.json5_de.specs.KeyKinds.{KeyKind, RefusedAsKey, bytes_key, cow_key, d
 use Rattle.json5_de.specs.Objects.{MapAccessState, OpensMap, SetsPending, GivesMemberKey, GivesMemberValue, ReadsMemberKey, ReadsMemberValue, ReadsAKey, ReadsAMember, MembersLeft, LeavesAValue, LeavesOthers}
 use Rattle.json5_de.specs.ObjectFaults.{RefusesNextKey, RefusesNextValue}
 use Rattle.json5_de.specs.Stages.{is_comma_due, is_pending}
+use Rattle.json5_de.specs.KeyPlaces.{KeyBegins, BeginsIfGiven}
 use Rattle.json5_de.specs.Enums.{EnumAccessState}
 use Rattle.json5_de.specs.declared.enums.EnumAccess.{EnumAccess}
 use Rattle.json5_de.specs.declared.variant_names.Named.{Named}
@@ -71,6 +72,18 @@ module _ {I : Type 0} where
 
   abbrev pub map_state_of : MapAccess I → MapAccessState
   map_state_of m = record { at = record { reader = record m.de.now { failed = m.failed }; start = m.start; comma_due = is_comma_due m.stage }; pending = is_pending m.stage }
+
+  -- the key that was read last, in place of the opening brace
+  abbrev pub at_its_key : MapAccess I → AccessState
+  at_its_key m = record (map_state_of m).at { start = m.key_start }
+
+  -- the key that was read last has this name, and begins where the access says
+  abbrev pub KeyIsNamed : List ℕ → MapAccess I → Type 0
+  KeyIsNamed name m = KeyBegins name m.key_start m.de.now.input m.de.now.unread
+
+  -- the same of a call that says whether there was a key
+  abbrev pub NamesItsKey : List ℕ → MapAccess I → Result Bool Error → Type 0
+  NamesItsKey name m result = BeginsIfGiven name m.key_start m.de.now.input m.de.now.unread result
 
   -- a key was read and its value wasn't yet
   abbrev pub KeyPending : MapAccess I → Type 0

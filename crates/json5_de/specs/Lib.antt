@@ -23,6 +23,7 @@ pub mod Maps
 pub mod FieldNames
 pub mod Fields
 pub mod Plans
+pub mod KeyPlaces
 pub mod StructFaults
 pub mod MapFaults
 pub mod Stages

@@ -169,6 +169,28 @@ impl<I: Input> Deserializer<I> {
             }
         }
     }
+
+    /// Reads the content of a variant whose name was read, as [`EnumAccess::unit_variant`] does.
+    #[doc(hidden)]
+    pub fn unit_content(&mut self, name: Named) -> Result<()>
+        ensures { ReadsVariant (λ _. tt) unit_content (content_free every_tree) (RefusedAs null_kind) (named_state_of self.old name) self.new result }
+    {
+        if !name.has_content {
+            return Ok(());
+        }
+        self.in_brace::<()>(name.start)
+    }
+
+    /// The same, as [`EnumAccess::newtype_variant`] does.
+    #[doc(hidden)]
+    pub fn newtype_content<T: Deserialize<I>>(&mut self, name: Named) -> Result<T>
+        ensures { ReadsVariant T.content (content_of T.convert) (content_free T.allocation_free) T.refuses (named_state_of self.old name) self.new result }
+    {
+        if !name.has_content {
+            return self.mismatch(name.start, &Mismatch::WithoutContent("newtype"));
+        }
+        self.in_brace(name.start)
+    }
 }
 
 impl<'a, I: Input> EnumAccess<'a, I> {
@@ -206,10 +228,7 @@ impl<'a, I: Input> EnumAccess<'a, I> {
     {
         let EnumAccess { de, name } = self;
         de.set_failed(false);
-        if !name.has_content {
-            return Ok(());
-        }
-        de.in_brace::<()>(name.start)
+        de.unit_content(name)
     }
 
     /// Reads a variant that holds a `T`: the value and `}`, before which one comma may be.
@@ -227,10 +246,7 @@ impl<'a, I: Input> EnumAccess<'a, I> {
     {
         let EnumAccess { de, name } = self;
         de.set_failed(false);
-        if !name.has_content {
-            return de.mismatch(name.start, &Mismatch::WithoutContent("newtype"));
-        }
-        de.in_brace(name.start)
+        de.newtype_content(name)
     }
 
     /// Opens the array that is a variant's content. The `end` of the access closes the array and the variant's object. The
@@ -291,6 +307,7 @@ impl<'a, I: Input> EnumAccess<'a, I> {
         Ok(MapAccess {
             de,
             start,
+            key_start: start,
             stage: Stage::Empty,
             failed: false,
             brace: Some(name.start),

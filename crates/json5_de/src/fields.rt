@@ -13,8 +13,10 @@ ghost use Rattle.json5_de.specs.FieldNames.{name_text};
 ghost use Rattle.json5_de.specs.Fields.{FieldRead, FieldRequired, IsOwnAtBracket, RefusesHere};
 ghost use Rattle.json5_de.specs.Plans.{PassesMember, ReadsMembers};
 ghost use Rattle.json5_de.specs.ShortWays.{filled_if_given};
+ghost use Rattle.json5_de.specs.KeyPlaces.{BeginsIfGiven};
+ghost use Rattle.json5_grammar.specs.Language.Blanks.{Solid};
 ghost use Rattle.json5_de.specs.StructFaults.{RefusesMembers};
-ghost use Rattle.json5_de.specs.Lending.{map_state_of, KeepsMap, KeyPending, NoKeyPending, TakesPendingKey, ReadsNextKey};
+ghost use Rattle.json5_de.specs.Lending.{map_state_of, at_its_key, KeepsMap, KeyPending, NoKeyPending, TakesPendingKey, ReadsNextKey, NamesItsKey};
 
 use crate::any::IgnoredAny;
 use crate::de::{Deserialize, Deserializer};
@@ -44,7 +46,7 @@ pub trait Fields<I: Input>: Sized + Drop {
     ghost use Rattle.std.specs.Prelude.{⊤};
     ghost use Rattle.json5_de.specs.Plans.{Step, TakesMember};
     ghost use Rattle.json5_de.specs.StructFaults.{ValueFaults, RefusesMember};
-    ghost use Rattle.json5_de.specs.Lending.{map_state_of, KeepsMap, KeyPending, NoKeyPending, TakesPendingKey};
+    ghost use Rattle.json5_de.specs.Lending.{map_state_of, KeepsMap, KeyPending, NoKeyPending, TakesPendingKey, KeyIsNamed};
 
     // What of them counts.
     ghost Content: { Type 0 };
@@ -65,6 +67,7 @@ pub trait Fields<I: Input>: Sized + Drop {
     /// Those of the call that it makes.
     fn read(&mut self, map: &mut MapAccess<'_, I>, name: &str) -> Result<()>
         requires key { KeyPending map.old }
+        requires named { KeyIsNamed name.now map.old }
         ensures access { KeepsMap map.old map.new }
         ensures pending { OnOk result (NoKeyPending map.new) }
         ensures takes { TakesMember step (content self.old) (content self.new) name.now (map_state_of map.old) (map_state_of map.new) result }
@@ -72,19 +75,26 @@ pub trait Fields<I: Input>: Sized + Drop {
 }
 
 impl<I: Input> Deserializer<I> {
-    /// Reads the next key of an object as `member_key::<String>` does, and takes it as a name. Says whether there was one. A key of
-    /// the short way takes no memory.
+    /// Reads the next key of an object as `member_key::<String>` does, and takes it as a name. Says whether there was one, and
+    /// puts into `start` how many bytes come before it. A key of the short way takes no memory.
     #[inline(always)]
-    fn member_name(&mut self, comma_due: bool, name: &mut FieldName<I>) -> Result<bool>
-        ensures { ReadsKeyOfMember name_text every_text (RefusedAsKey string_key) comma_due self.old self.new (filled_if_given name.new result) }
+    fn member_name(
+        &mut self,
+        comma_due: bool,
+        name: &mut FieldName<I>,
+        start: &mut usize,
+    ) -> Result<bool>
+        ensures key { ReadsKeyOfMember name_text every_text (RefusedAsKey string_key) comma_due self.old self.new (filled_if_given name.new result) }
+        ensures begins { BeginsIfGiven name.new start.new self.new.input self.new.unread result }
     {
         match self.short_step(BracketKind::Object, comma_due) {
             ShortStep::Member => {}
             ShortStep::Closing => return Ok(false),
-            ShortStep::Other => return self.member_name_slowly(comma_due, name),
+            ShortStep::Other => return self.member_name_slowly(comma_due, name, start),
         }
+        *start = self.offset();
         let Some(span) = self.short_key() else {
-            return self.entry_name(name);
+            return self.entry_name(name, start);
         };
         name.put(self.input(), span);
         Ok(true)
@@ -92,11 +102,17 @@ impl<I: Input> Deserializer<I> {
 
     /// The same for anything in front.
     #[inline(never)]
-    fn member_name_slowly(&mut self, comma_due: bool, name: &mut FieldName<I>) -> Result<bool>
-        ensures { ReadsKeyOfMember name_text every_text (RefusedAsKey string_key) comma_due self.old self.new (filled_if_given name.new result) }
+    fn member_name_slowly(
+        &mut self,
+        comma_due: bool,
+        name: &mut FieldName<I>,
+        start: &mut usize,
+    ) -> Result<bool>
+        ensures key { ReadsKeyOfMember name_text every_text (RefusedAsKey string_key) comma_due self.old self.new (filled_if_given name.new result) }
+        ensures begins { BeginsIfGiven name.new start.new self.new.input self.new.unread result }
     {
         match self.advance_to_entry(BracketKind::Object, comma_due) {
-            Ok(true) => self.entry_name(name),
+            Ok(true) => self.entry_name(name, start),
             Ok(false) => Ok(false),
             Err(e) => Err(e),
         }
@@ -104,9 +120,11 @@ impl<I: Input> Deserializer<I> {
 
     /// Takes the name of the member that begins here, if a key begins it.
     #[inline(never)]
-    fn entry_name(&mut self, name: &mut FieldName<I>) -> Result<bool>
-        ensures { ReadsKeyAtEntry name_text every_text (RefusedAsKey string_key) self.old self.new (filled_if_given name.new result) }
+    fn entry_name(&mut self, name: &mut FieldName<I>, start: &mut usize) -> Result<bool>
+        ensures key { ReadsKeyAtEntry name_text every_text (RefusedAsKey string_key) self.old self.new (filled_if_given name.new result) }
+        ensures begins { Solid self.old.unread → BeginsIfGiven name.new start.new self.new.input self.new.unread result }
     {
+        *start = self.offset();
         match self.entry_key::<String>() {
             Ok(Some(key)) => {
                 name.put_owned(key);
@@ -145,6 +163,39 @@ impl<'a, I: Input> MapAccess<'a, I> {
         }
         self.failed = true;
         self.own_fault(format_args!("duplicate field `{name}`"))
+    }
+
+    /// Refuses the member whose key [`read_fields`](MapAccess::read_fields) read last, such as one that the struct doesn't have:
+    /// makes a custom fault at the key. The value stays unread, and each later call returns `Failed`.
+    ///
+    /// ```text
+    /// match name {
+    ///     "port" => map.next_field(name, &mut self.port),
+    ///     _ => Err(map.refuse_key(format_args!("unknown field `{name}`"))),
+    /// }
+    /// ```
+    ///
+    /// The fault is `OutOfMemory` there, where a request for memory was refused, and `Failed` at the opening brace after a call
+    /// of the access that was refused.
+    #[cold]
+    #[inline(never)]
+    pub fn refuse_key<D: fmt::Display + Drop>(&mut self, message: D) -> Error
+        ensures access { KeepsMap self.old self.new }
+        ensures pending { KeepsPending (map_state_of self.old) (map_state_of self.new) }
+        ensures failed { (map_state_of self.new).at.reader.failed ≡ true }
+        ensures own { (map_state_of self.old).at.reader.failed ≡ false → IsOwnAtBracket (at_its_key self.old) result }
+        ensures unprompted { (map_state_of self.old).at.reader.failed ≡ false → IsUnprompted result }
+        ensures before { (map_state_of self.old).at.reader.failed ≡ true → IsFailedAtBracket (map_state_of self.old).at result }
+    {
+        self.de.set_failed(true);
+        if self.failed {
+            return self.place(Error::new(ErrorCode::Failed));
+        }
+        self.failed = true;
+        match Error::custom(self.de.allocator(), message) {
+            Ok(error) => self.de.with_position_at(self.key_start, error),
+            Err(error) => self.de.with_position_at(self.key_start, error),
+        }
     }
 
     /// Reads the value of the key that was read last into this field of a struct. A call that is refused leaves the field as it
@@ -232,20 +283,38 @@ impl<'a, I: Input> MapAccess<'a, I> {
         }
     }
 
-    /// Reads the next key as `next_key::<String>` does, and takes it as a name. Says whether there was one.
+    /// Reads the next key as `next_name` does, and puts into `start` how many bytes come before it.
     #[inline(always)]
-    fn next_name(&mut self, name: &mut FieldName<I>) -> Result<bool>
+    fn take_name(&mut self, name: &mut FieldName<I>, start: &mut usize) -> Result<bool>
         requires no_key { NoKeyPending self.old }
-        ensures { ReadsNextKey name_text every_text (RefusedAsKey string_key) self.old self.new (filled_if_given name.new result) }
+        ensures key { ReadsNextKey name_text every_text (RefusedAsKey string_key) self.old self.new (filled_if_given name.new result) }
+        ensures begins { BeginsIfGiven name.new start.new self.new.de.now.input self.new.de.now.unread result }
     {
         self.de.set_failed(self.failed);
-        match self.de.member_name(self.stage.is_comma_due(), name) {
+        match self.de.member_name(self.stage.is_comma_due(), name, start) {
             Ok(given) => {
                 self.de.set_failed(true);
                 self.stage = self.stage.with_key(given);
                 Ok(given)
             }
             Err(e) => Err(self.refused(e)),
+        }
+    }
+
+    /// Reads the next key as `next_key::<String>` does, takes it as a name, and keeps where it begins. Says whether there was one.
+    #[inline(always)]
+    fn next_name(&mut self, name: &mut FieldName<I>) -> Result<bool>
+        requires no_key { NoKeyPending self.old }
+        ensures key { ReadsNextKey name_text every_text (RefusedAsKey string_key) self.old self.new (filled_if_given name.new result) }
+        ensures named { NamesItsKey name.new self.new result }
+    {
+        let mut start = self.key_start;
+        match self.take_name(name, &mut start) {
+            Ok(given) => {
+                self.key_start = start;
+                Ok(given)
+            }
+            Err(e) => Err(e),
         }
     }
 

@@ -49,4 +49,6 @@ pub use map::MapAccess;
 pub use read_content::read;
 pub use seq::SeqAccess;
 pub use spans::Spanned;
+#[doc(hidden)]
+pub use variant_names::Named;
 pub use whole_input::{from_str, from_str_within};

@@ -14,6 +14,7 @@ use json5_text::input::Input;
 use json5_types::error::{Error, Result};
 use json5_types::{ErrorCode, Position};
 use json5_value::brackets::BracketKind;
+use std::alloc::Global;
 
 /// The members of an object, one after another: a key, then its value.
 ///
@@ -39,6 +40,8 @@ pub struct MapAccess<'a, I: Input> {
     pub(crate) de: &'a mut Deserializer<I>,
     /// The count of bytes before the opening brace.
     pub(crate) start: usize,
+    /// The count of bytes before the key that `read_fields` read last.
+    pub(crate) key_start: usize,
     pub(crate) stage: Stage,
     /// Whether a call of the access was refused.
     pub(crate) failed: bool,
@@ -56,6 +59,7 @@ impl<I: Input> Drop for MapAccess<'_, I> {
         let MapAccess {
             de: _,
             start: _,
+            key_start: _,
             stage: _,
             failed: _,
             brace: _,
@@ -92,6 +96,7 @@ impl<I: Input> Deserializer<I> {
         Ok(MapAccess {
             de: self,
             start,
+            key_start: start,
             stage: Stage::Empty,
             failed: false,
             brace: None,
@@ -168,6 +173,15 @@ impl<'a, I: Input> MapAccess<'a, I> {
         self.de.set_failed(true);
         self.failed = true;
         self.place(fault)
+    }
+
+    /// Returns the allocator of the reader.
+    ///
+    /// ```text
+    /// let host = String::from_str(map.allocator(), "localhost")?;
+    /// ```
+    pub fn allocator(&self) -> Global {
+        self.de.allocator()
     }
 
     /// Reads the key of the next member, and the comma before it. Returns None if the closing brace is next, which `end` takes.
@@ -296,6 +310,7 @@ impl<'a, I: Input> MapAccess<'a, I> {
         let MapAccess {
             de,
             start: _,
+            key_start: _,
             stage,
             failed,
             brace,

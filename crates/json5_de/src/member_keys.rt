@@ -1,9 +1,10 @@
 //! Reading the keys of an object's members.
 
-ghost use Rattle.std.specs.Prelude.{◌≡◌, true, false};
+ghost use Rattle.std.specs.Prelude.{◌≡◌, true, false, IfOk, IfSome};
 ghost use Rattle.json5_grammar.specs.Language.Characters.{NotBegun};
 ghost use Rattle.json5_types.specs.Errors.{kind_of};
 ghost use Rattle.json5_value.specs.Offsets.{StartsAfter};
+ghost use Rattle.json5_de.specs.Keys.{GivesKey};
 ghost use Rattle.json5_de.specs.ObjectFaults as faults;
 ghost use Rattle.json5_de.specs.ObjectFaults.{BeginsKey, PositionsKey, ReadsKeyAtEntry, ReadsKeyOfMember, is_positionless};
 
@@ -80,7 +81,8 @@ impl<I: Input> Deserializer<I> {
     /// The key of the member that begins here.
     #[inline(always)]
     pub(crate) fn entry_key<K: DeserializeKey<I>>(&mut self) -> Result<Option<K>>
-        ensures { ReadsKeyAtEntry K.content K.convert K.refuses self.old self.new result }
+        ensures reads { ReadsKeyAtEntry K.content K.convert K.refuses self.old self.new result }
+        ensures here { IfOk result (λ o. IfSome o (GivesKey K.content K.convert self.old self.new)) }
     {
         if !self.at_key() {
             return Err(self.fail_unexpected(

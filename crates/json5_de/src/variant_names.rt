@@ -16,12 +16,13 @@ use json5_types::error::Result;
 use json5_value::brackets::BracketKind;
 
 /// The name of a variant that was read.
+#[doc(hidden)]
 #[derive(Drop)]
-pub(crate) struct Named {
+pub struct Named {
     /// The count of bytes before the string or the opening brace.
     pub(crate) start: usize,
     /// The first index of the name among the variants.
-    pub(crate) variant: usize,
+    pub variant: usize,
     /// Whether the name is a key, whose value is the content.
     pub(crate) has_content: bool,
 }
@@ -78,7 +79,8 @@ impl<I: Input> Deserializer<I> {
     }
 
     /// Reads the name of a variant, a string or the only key of an object.
-    pub(crate) fn named(&mut self, variants: &[&str]) -> Result<Named>
+    #[doc(hidden)]
+    pub fn named(&mut self, variants: &[&str]) -> Result<Named>
         ensures names { NamesVariant (names_bytes variants.now) (named_state_of self.new) self.old result }
         ensures failed { GivesUpIfErr self.old self.new result }
     {

@@ -1,29 +1,30 @@
 -- What is read of one field, or of some, is read of all.
-use Rattle.std.proofs.Common.{◌≡◌, ℕ, Bool, true, false, List, [], ◌∷◌, refl, sym, ap, ◌∙◌, subst, inl, inr, Option, Some, None, Ok, Err}
+use Rattle.std.proofs.Common.{◌≡◌, ◌⊎◌, ℕ, Bool, true, false, List, [], ◌∷◌, refl, sym, ap, ◌∙◌, subst, inl, inr, Option, Some, None, Ok, Err}
 use Rattle.std.proofs.Math.Path.{fun_ext}
 use Rattle.std.proofs.lemmas.Slice.Eq.{bytes_eq-Decides}
-use Rattle.std.specs.Prelude.{Result, IfOk, IsErrAnd, OnOk, is_some, not}
+use Rattle.std.specs.Prelude.{Result, IfOk, IfErr, IsErrAnd, OnOk, is_some, not}
 use Rattle.std.specs.Str.{bytes_eq}
 use Rattle.json5_grammar.specs.Language.Trees.{Tree, Members}
 use Rattle.json5_grammar.specs.Model.Collections.{joint, snoc_member}
 use Rattle.json5_types.specs.declared.error.Error.{Error}
+use Rattle.json5_text.specs.Cursor.{IsOutOfMemory}
 use Rattle.json5_de.specs.State.{State}
 use Rattle.json5_de.specs.AnyTree.{RefusesTree}
 use Rattle.json5_de.specs.ConvertLists.{if_some}
 use Rattle.json5_de.specs.Refinement.{if_more}
 use Rattle.json5_de.specs.Objects.{MapAccessState, MembersRead}
-use Rattle.json5_de.specs.Fields.{IsOwnAtBracket, FieldRead, FieldRequired, RefusesHere}
+use Rattle.json5_de.specs.Fields.{IsOwnAtBracket, FieldFault, in_field, twice, FieldRead, FieldRequired, RefusesHere}
+use Rattle.json5_de.specs.KeyPlaces.{IsOwnAtKey}
 use Rattle.json5_de.specs.Plans.{Step, at_name, run, TakesMember, LeavesTaken, PassesMember}
 use Rattle.json5_de.specs.StructFaults.{ValueFaults, or_of, of_any, may_stand, RefusesMember}
-use Rattle.json5_de.specs.Lending.{map_state_of, KeepsMap, NoKeyPending, TakesPendingKey}
+use Rattle.json5_de.specs.Lending.{map_state_of, at_its_key, KeepsMap, KeyIsNamed, NoKeyPending, TakesPendingKey}
 use Rattle.json5_de.specs.declared.map.MapAccess.{MapAccess}
 use Rattle.json5_de.proofs.ElementLoops.{handed_on}
 use Rattle.json5_de.proofs.Structs.{here, takes_field}
-use Rattle.json5_de.proofs.StructFaults.{field_refused}
 use Rattle.json5_fields.specs.Layouts.{Layout, has_name, first_or, and_layout, one_field, required_field, to_first, to_others, named_first, named_second, named_neither, hold, held_step, held_takes, held_passes}
 use Rattle.json5_fields.specs.Only.{only_step, only_takes, only_none, of_unknown}
 use Rattle.json5_de.specs.DeserializeLaw.{IsUnprompted}
-use Rattle.json5_fields.specs.FieldCalls.{of_type, TakesHere, Tries, Finished, Missed, Finishes}
+use Rattle.json5_fields.specs.FieldCalls.{of_type, first_value, second_value, TakesNamed, TakesHere, Tries, Finished, Missed, Finishes}
 
 -- ---- a step that another one makes
 
@@ -31,7 +32,7 @@ some_made : {A B : Type 0} (g : A → B) (o : Option A) → is_some (if_some g o
 some_made g None = refl
 some_made g (Some a) = refl
 
-made_of : {S U : Type 0} (g : S → U) (m : U) (o : Option S) → if_some g o ≡ Some m → (c : S) × (o ≡ Some c) × (m ≡ g c)
+pub made_of : {S U : Type 0} (g : S → U) (m : U) (o : Option S) → if_some g o ≡ Some m → (c : S) × (o ≡ Some c) × (m ≡ g c)
 made_of g m None is = absurd (cc)
 made_of g m (Some c) is = (c, refl, cc is)
 
@@ -110,20 +111,28 @@ module _ {I S T A B : Type 0} (a : Layout S A) (b : Layout T B) {s : S} {t : T} 
   both_finish first others = record { built = rw (first.built, others.built) refl; same = others.same ∙ first.same; same_reference = others.same_reference ∙ first.same_reference }
 
   pub first_missed : {e : Error} → Missed a s old new e → Missed (and_layout a b) (s, t) old new e
-  first_missed is = record {
-    missing = λ live. let (none, own) = is.missing live in (rw none refl, own);
+  first_missed {e = e} is = record {
+    missing = λ live. let (none, own) = is.missing live in (by none, own);
     unprompted = is.unprompted;
     same_text = is.same_text;
     same_reference = is.same_reference;
   }
+    where
+      by : (a.build s ≡ None) ⊎ IsOutOfMemory e → (joint (a.build s) (b.build t) ≡ None) ⊎ IsOutOfMemory e
+      by (inl none) = inl (rw none refl)
+      by (inr memory) = inr memory
 
   pub others_missed : {mid : MapAccess I} {c : A} {e : Error} → Finished a s c old mid → Missed b t mid new e → Missed (and_layout a b) (s, t) old new e
   others_missed {e = e} first is = record {
-    missing = λ live. let (none, own) = is.missing (ap (λ (m : MapAccessState). m.at.reader.failed) first.same ∙ live) in (ap (joint (a.build s)) none ∙ joint_none (a.build s), subst (λ m. IsOwnAtBracket m.at e) first.same own);
+    missing = λ live. let (none, own) = is.missing (ap (λ (m : MapAccessState). m.at.reader.failed) first.same ∙ live) in (by none, subst (λ m. IsOwnAtBracket m.at e) first.same own);
     unprompted = λ live. is.unprompted (ap (λ (m : MapAccessState). m.at.reader.failed) first.same ∙ live);
     same_text = is.same_text ∙ ap (λ (m : MapAccessState). m.at.reader.input) first.same;
     same_reference = is.same_reference ∙ first.same_reference;
   }
+    where
+      by : (b.build t ≡ None) ⊎ IsOutOfMemory e → (joint (a.build s) (b.build t) ≡ None) ⊎ IsOutOfMemory e
+      by (inl none) = inl (ap (joint (a.build s)) none ∙ joint_none (a.build s))
+      by (inr memory) = inr memory
 
 -- a field is missing
 pub missed : {I S D V : Type 0} (l : Layout S D) (content : V → D) {s : S} {old new : MapAccess I} (e : Error) (result : Result V Error) → IsErrAnd result (λ y. y ≡ e) → Missed l s old new e → Finishes l content s old new result
@@ -142,29 +151,74 @@ same_name u n r is fails = by (bytes_eq u n) refl (sym is ∙ fails)
 has_it : {name field : List ℕ} → name ≡ field → has_name (field ∷ []) name ≡ true
 has_it {name = name} {field = field} same = let equal : bytes_eq name field ≡ true = (bytes_eq-Decides name field).1 same in rw equal refl
 
-module _ {V C : Type 0} {content : V → C} {f : Tree → Option C} {refuses : State → Error → State → Type 0} {field name : List ℕ} {o n : Option V} where
-  field_takes : {old new : MapAccessState} {result : Result (Unit {0}) Error} → name ≡ field → FieldRead content f refuses old new o n result → TakesMember (at_name f field) (if_some content o) (if_some content n) name old new result
-  field_takes {old = old} {new = new} {result = result} same is = subst (λ w. TakesMember (at_name f w) (if_some content o) (if_some content n) name old new result) same (takes_field None here is)
+-- a value of this name may stand where its field has none yet
+may_first : {C : Type 0} (f : Tree → Option C) (name : List ℕ) (t : Tree) → at_name f name None name t ≡ if_some Some (f t)
+unfolding at_name
+may_first f name t = let equal : bytes_eq name name ≡ true = (bytes_eq-Decides name name).1 refl in rw equal refl
 
-  field_refuses : {old new : MapAccessState} {result : Result (Unit {0}) Error} → name ≡ field → FieldRead content f refuses old new o n result → RefusesMember (of_type f refuses) (at_name f field) (if_some content o) name old result
-  field_refuses {old = old} {result = result} same is = subst (λ w. RefusesMember (of_type f refuses) (at_name f w) (if_some content o) name old result) same (field_refused (of_type f refuses) None here (λ may e fault. fault) is)
+-- and not where it has one
+pub may_not : {C : Type 0} (f : Tree → Option C) (name : List ℕ) (c : C) (t : Tree) → at_name f name (Some c) name t ≡ None
+unfolding at_name
+may_not f name c t = let equal : bytes_eq name name ≡ true = (bytes_eq-Decides name name).1 refl in rw equal refl
 
-  module _ {I D : Type 0} {old new : MapAccess I} {build : Option C → Option D} {convert : Members → Option D} {says : (ps : Members) → convert ps ≡ if_more build (run (at_name f field) None ps)} where
-    -- its value was read, or refused
-    pub takes_it : {result : Result (Unit {0}) Error} → name ≡ field → FieldRead content f refuses (map_state_of old) (map_state_of new) o n result → KeepsMap old new → TakesPendingKey old new result
-        → TakesHere (one_field field f build convert says) (of_type f refuses) (if_some content o) (if_some content n) name old new result
-    takes_it {result = result} same is keeps pending = record { named = has_it same; takes = field_takes same is; refused = field_refuses same is; access = keeps; pending = by result pending.given }
-      where
-        by : (result : Result (Unit {0}) Error) → IfOk result (λ v. (map_state_of new).pending ≡ false) → OnOk result (NoKeyPending new)
-        by (Ok done) given = given
-        by (Err e) given = tt
+module _ {I V C : Type 0} {content : V → C} {f : Tree → Option C} {refuses : State → Error → State → Type 0} {name : List ℕ} {old new : MapAccess I} where
+  -- the first value was read, or refused
+  pub takes_first : {o n : Option V} {result : Result (Unit {0}) Error} → o ≡ None → FieldRead content f refuses (map_state_of old) (map_state_of new) o n result → KeepsMap old new → TakesPendingKey old new result → TakesNamed content f refuses name old new o n result
+  takes_first {o = o} {n = n} {result = result} none is keeps pending = record {
+    takes = takes_field None (here {name = name}) is;
+    refused = refused result is.cause;
+    access = keeps;
+    pending = taken result pending.given;
+  }
+    where
+      taken : (result : Result (Unit {0}) Error) → IfOk result (λ v. (map_state_of new).pending ≡ false) → OnOk result (NoKeyPending new)
+      taken (Ok done) none = none
+      taken (Err e) none = tt
+
+      fault : (p : Option V) (e : Error) → p ≡ None → FieldFault refuses (map_state_of old) p e → of_type f refuses name (may_stand (at_name f name) (if_some content p) name) (map_state_of old) e
+      fault None e none (in_field same refused) = first_value (λ t. ap is_some (may_first f name t) ∙ some_made Some (f t)) refused
+      fault None e none (twice some own) = absurd (cc)
+      fault (Some v) e none is = absurd (cc)
+
+      refused : (result : Result (Unit {0}) Error) → IfErr result (λ e. (map_state_of old).at.reader.failed ≡ false → FieldFault refuses (map_state_of old) o e) → RefusesMember (of_type f refuses) (at_name f name) (if_some content o) name (map_state_of old) result
+      refused (Ok done) cause = tt
+      refused (Err e) cause = λ live. fault o e none (cause live)
+
+  -- a second value was refused at its key
+  pub refuses_second : (o : Option V) (e : Error) → is_some o ≡ true → KeyIsNamed name old → KeepsMap old new → (map_state_of new).at.reader.failed ≡ true → ((map_state_of old).at.reader.failed ≡ false → IsOwnAtBracket (at_its_key old) e) → ((map_state_of old).at.reader.failed ≡ false → IsUnprompted e)
+      → TakesNamed content f refuses name old new o o (Err e)
+  refuses_second None e some named keeps failed own unprompted = absurd (cc)
+  refuses_second (Some v) e some named keeps failed own unprompted = record {
+    takes = record {
+      read = tt;
+      left = λ u escape_free t ps r m is left. let none = may_not f name (content v) t in absurd (cc (none, is));
+      live = tt;
+      shorter = tt;
+      failed = failed;
+      unprompted = unprompted;
+    };
+    refused = λ live. second_value (λ t. ap is_some (may_not f name (content v) t)) (record { start = old.key_start; begins = named; fault = own live });
+    access = keeps;
+    pending = tt;
+  }
+
+-- the value of a field was read, or refused
+pub takes_it : {I V C D : Type 0} {content : V → C} {f : Tree → Option C} {refuses : State → Error → State → Type 0} {field name : List ℕ} {o n : Option V} {old new : MapAccess I} {build : Option C → Option D} {convert : Members → Option D} {says : (ps : Members) → convert ps ≡ if_more build (run (at_name f field) None ps)}
+    {result : Result (Unit {0}) Error} → name ≡ field → TakesNamed content f refuses name old new o n result → TakesHere (one_field field f build convert says) (of_type f refuses) (if_some content o) (if_some content n) name old new result
+takes_it {content = content} {f = f} {refuses = refuses} {name = name} {o = o} {n = n} {old = old} {new = new} {result = result} same is = record {
+  named = has_it same;
+  takes = subst (λ w. TakesMember (at_name f w) (if_some content o) (if_some content n) name (map_state_of old) (map_state_of new) result) same is.takes;
+  refused = subst (λ w. RefusesMember (of_type f refuses) (at_name f w) (if_some content o) name (map_state_of old) result) same is.refused;
+  access = is.access;
+  pending = is.pending;
+}
 
 -- a field that has to be there is returned, or it is missing
 pub required_finishes : {I V C : Type 0} (content : V → C) (f : Tree → Option C) (field : List ℕ) {old new : MapAccess I} {o : Option V} (result : Result V Error) → KeepsMap old new → IfOk result (λ v. o ≡ Some v) → FieldRequired (map_state_of old) (map_state_of new) o result
     → Finishes (required_field field f) content (if_some content o) old new result
 required_finishes content f field (Ok v) keeps found is = record { built = ap (if_some content) found; same = is.same; same_reference = keeps.same_reference }
 required_finishes content f field (Err e) keeps found is = record {
-  missing = λ live. let (none, own) = is.missing live in (ap (if_some content) none, own);
+  missing = λ live. let (none, own) = is.missing live in (inl (ap (if_some content) none), own);
   unprompted = is.unprompted;
   same_text = keeps.same_text;
   same_reference = keeps.same_reference;
@@ -204,15 +258,18 @@ module _ {I S D : Type 0} (l : Layout S D) (faults : ValueFaults) {s n : S} {nam
 
 -- a name of none of the fields is refused
 module _ {I S D : Type 0} (l : Layout S D) (faults : ValueFaults) (s n : S) (name : List ℕ) (old mid : MapAccess I) (passes : Tries l faults s n name old mid (Ok false)) (e : Error) where
-  pub unknown_taken : (new : MapAccess I) → (map_state_of new).at.reader.failed ≡ true → IsUnprompted e → TakesMember only_step (l, s) (l, n) name (map_state_of old) (map_state_of new) (Err e)
+  pub unknown_taken : (new : MapAccess I) → (map_state_of new).at.reader.failed ≡ true → ((map_state_of mid).at.reader.failed ≡ false → IsUnprompted e) → TakesMember only_step (l, s) (l, n) name (map_state_of old) (map_state_of new) (Err e)
   unknown_taken new failed unprompted = record {
     read = tt;
     left = λ u escape_free t ps r k is left. let none = only_none l s name t passes.other in absurd (cc (none, is));
     live = tt;
     shorter = tt;
     failed = failed;
-    unprompted = λ live. unprompted;
+    unprompted = subst (λ (m : MapAccess I). (map_state_of m).at.reader.failed ≡ false → IsUnprompted e) passes.access unprompted;
   }
 
-  pub unknown_refused : IsOwnAtBracket (map_state_of mid).at e → RefusesMember (or_of faults of_unknown) only_step (l, s) name (map_state_of old) (Err e)
-  unknown_refused own = λ live. inr (record { none = λ t. ap is_some (only_none l s name t passes.other); fault = subst (λ m. IsOwnAtBracket (map_state_of m).at e) passes.access own })
+  pub unknown_refused : KeyIsNamed name old → ((map_state_of mid).at.reader.failed ≡ false → IsOwnAtBracket (at_its_key mid) e) → RefusesMember (or_of faults of_unknown) only_step (l, s) name (map_state_of old) (Err e)
+  unknown_refused named own = λ live. inr (record {
+    none = λ t. ap is_some (only_none l s name t passes.other);
+    fault = record { start = old.key_start; begins = named; fault = subst (λ (m : MapAccess I). (map_state_of m).at.reader.failed ≡ false → IsOwnAtBracket (at_its_key m) e) passes.access own live };
+  })

@@ -1,4 +1,6 @@
 -- Lists the lemmas on reading and writing by a description.
 pub mod Described
+pub mod DescribedFaults
+pub mod EnumsRead
 pub mod NamedValues
 pub mod FieldsWritten

@@ -1,19 +1,32 @@
 -- What the calls for a description of fields mean.
-use Rattle.std.specs.Prelude.{◌≡◌, ℕ, Bool, true, false, List, Option, Some, None, Result, Ok, Err, OnOk}
+use Rattle.std.specs.Prelude.{◌≡◌, ◌⊎◌, ℕ, Bool, true, false, List, Option, Some, None, is_some, Result, Ok, Err, OnOk}
 use Rattle.json5_grammar.specs.Language.Trees.{Tree}
 use Rattle.json5_types.specs.declared.error.Error.{Error}
+use Rattle.json5_text.specs.Cursor.{IsOutOfMemory}
 use Rattle.json5_de.specs.State.{State, SameText}
 use Rattle.json5_de.specs.DeserializeLaw.{IsUnprompted}
 use Rattle.json5_de.specs.Fields.{IsOwnAtBracket}
-use Rattle.json5_de.specs.Plans.{TakesMember}
-use Rattle.json5_de.specs.StructFaults.{ValueFaults, of_field, RefusesMember}
+use Rattle.json5_de.specs.ConvertLists.{if_some}
+use Rattle.json5_de.specs.ObjectFaults.{ValueRefusedAtBrace}
+use Rattle.json5_de.specs.Objects.{MapAccessState}
+use Rattle.json5_de.specs.KeyPlaces.{IsOwnAtKey}
+use Rattle.json5_de.specs.Plans.{TakesMember, at_name}
+use Rattle.json5_de.specs.StructFaults.{ValueFaults, RefusesMember}
 use Rattle.json5_de.specs.Lending.{map_state_of, KeepsMap, NoKeyPending, HoldsTheSameMap}
 use Rattle.json5_de.specs.declared.map.MapAccess.{MapAccess}
 use Rattle.json5_fields.specs.Layouts.{Layout, has_name}
 
--- the faults of a field of this type, by whatever name
-abbrev pub of_type : {C : Type 0} → (Tree → Option C) → (State → Error → State → Type 0) → ValueFaults
-of_type convert refuses name may old e = of_field name convert refuses name may old e
+-- the faults of a field of this type, by whatever name: its first value is refused as its type refuses it, and a second value isn't allowed
+pub data of_type {C : Type 0} (convert : Tree → Option C) (refuses : State → Error → State → Type 0) (name : List ℕ) (may : Tree → Bool) (old : MapAccessState) (e : Error) : Type 0 where
+  first_value : ((t : Tree) → may t ≡ is_some (convert t)) → ValueRefusedAtBrace refuses old e → of_type convert refuses name may old e
+  second_value : ((t : Tree) → may t ≡ false) → IsOwnAtKey name old e → of_type convert refuses name may old e
+
+-- the value of the key that was read, which has this name, fills its field, or is refused
+pub record TakesNamed {I V C : Type 0} (content : V → C) (convert : Tree → Option C) (refuses : State → Error → State → Type 0) (name : List ℕ) (old new : MapAccess I) (field next : Option V) (result : Result (Unit {0}) Error) : Type 0 where
+  pub takes : TakesMember (at_name convert name) (if_some content field) (if_some content next) name (map_state_of old) (map_state_of new) result
+  pub refused : RefusesMember (of_type convert refuses) (at_name convert name) (if_some content field) name (map_state_of old) result
+  pub access : KeepsMap old new
+  pub pending : OnOk result (NoKeyPending new)
 
 -- the value of the key that was read is that of a field here: s is what was read of the fields before, n after it
 pub record TakesHere {I S D : Type 0} (l : Layout S D) (faults : ValueFaults) (s n : S) (name : List ℕ) (old new : MapAccess I) (result : Result (Unit {0}) Error) : Type 0 where
@@ -41,9 +54,9 @@ pub record Finished {I S D : Type 0} (l : Layout S D) (s : S) (d : D) (old new :
   pub same : map_state_of new ≡ map_state_of old
   pub same_reference : HoldsTheSameMap old new
 
--- a field is missing
+-- a field is missing, or a default couldn't be made
 pub record Missed {I S D : Type 0} (l : Layout S D) (s : S) (old new : MapAccess I) (e : Error) : Type 0 where
-  pub missing : (map_state_of old).at.reader.failed ≡ false → (l.build s ≡ None) × IsOwnAtBracket (map_state_of old).at e
+  pub missing : (map_state_of old).at.reader.failed ≡ false → ((l.build s ≡ None) ⊎ IsOutOfMemory e) × IsOwnAtBracket (map_state_of old).at e
   pub unprompted : (map_state_of old).at.reader.failed ≡ false → IsUnprompted e
   pub same_text : SameText (map_state_of old).at.reader (map_state_of new).at.reader
   pub same_reference : HoldsTheSameMap old new

@@ -5,3 +5,5 @@ pub mod Only
 pub mod Described
 pub mod Named
 pub mod WrittenFields
+pub mod VariantContents
+pub mod EitherContents

@@ -5,7 +5,7 @@ use Rattle.std.specs.Str.{encode_utf8_all}
 use Rattle.json5_grammar.specs.Language.Trees.{Tree, Members, no_member, member}
 use Rattle.json5_types.specs.declared.error.Error.{Error}
 use Rattle.json5_de.specs.ConvertLists.{if_some}
-use Rattle.json5_de.specs.Fields.{IsOwnAtBracket}
+use Rattle.json5_de.specs.KeyPlaces.{IsOwnAtKey}
 use Rattle.json5_de.specs.Objects.{MapAccessState}
 use Rattle.json5_de.specs.Plans.{Plan, Step, run}
 use Rattle.json5_de.specs.Refinement.{if_more}
@@ -24,10 +24,10 @@ only_these l ps = if all_named l.names ps then l.convert ps else None
 unfoldable pub only_step : {S D : Type 0} → Step (Held S D)
 only_step s u t = if has_name s.0.names u then held_step s u t else None
 
--- the fault of a member of another name: it may have no value
+-- the fault of a member of another name, at its key: it may have no value
 pub record of_unknown (name : List ℕ) (may : Tree → Bool) (old : MapAccessState) (e : Error) : Type 0 where
   pub none : (t : Tree) → may t ≡ false
-  pub fault : IsOwnAtBracket old.at e
+  pub fault : IsOwnAtKey name old e
 
 module _ {S D : Type 0} where
   pub only_takes : (l : Layout S D) (s : S) (u : List ℕ) (t : Tree) → has_name l.names u ≡ true → only_step (l, s) u t ≡ if_some (hold l) (l.step s u t)

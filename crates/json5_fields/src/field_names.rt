@@ -1,9 +1,10 @@
 //! The names of a description, for a message.
 
-use crate::fields::{Optional, Required, WithDefault};
+use crate::defaults::DefaultedText;
+use crate::fields::{Awaited, Defaulted};
 use std::fmt;
 
-/// A description whose names can be listed.
+/// The fields of a description, whose names can be listed.
 ///
 /// ```text
 /// (Required("host"), WithDefault("port", 80))    // `host`, `port`
@@ -32,117 +33,31 @@ impl<F: FieldNames> fmt::Display for UnknownField<'_, F> {
     }
 }
 
-impl FieldNames for Required {
+impl<T> FieldNames for Awaited<T> {
     fn write_names<W: fmt::Write>(&self, f: &mut fmt::Formatter<W>) -> fmt::Result {
-        let name = self.0;
+        let name = self.name;
         write!(f, "`{name}`")
     }
 }
 
-impl FieldNames for Optional {
+impl<T> FieldNames for Defaulted<T> {
     fn write_names<W: fmt::Write>(&self, f: &mut fmt::Formatter<W>) -> fmt::Result {
-        let name = self.0;
+        let name = self.name;
         write!(f, "`{name}`")
     }
 }
 
-impl<T> FieldNames for WithDefault<T> {
+impl FieldNames for DefaultedText {
     fn write_names<W: fmt::Write>(&self, f: &mut fmt::Formatter<W>) -> fmt::Result {
-        let name = self.0;
+        let name = self.name;
         write!(f, "`{name}`")
     }
 }
 
-/// The names of what the reference points to.
-impl<'a, F: FieldNames> FieldNames for &'a F {
-    fn write_names<W: fmt::Write>(&self, f: &mut fmt::Formatter<W>) -> fmt::Result {
-        (**self).write_names(f)
-    }
-}
-
-/// Two descriptions.
 impl<A: FieldNames, B: FieldNames> FieldNames for (A, B) {
     fn write_names<W: fmt::Write>(&self, f: &mut fmt::Formatter<W>) -> fmt::Result {
         self.0.write_names(f)?;
         f.write_str(", ")?;
         self.1.write_names(f)
-    }
-}
-
-/// Three descriptions.
-impl<A: FieldNames, B: FieldNames, C: FieldNames> FieldNames for (A, B, C) {
-    fn write_names<W: fmt::Write>(&self, f: &mut fmt::Formatter<W>) -> fmt::Result {
-        (&self.0, (&self.1, &self.2)).write_names(f)
-    }
-}
-
-/// Four descriptions.
-impl<A: FieldNames, B: FieldNames, C: FieldNames, D: FieldNames> FieldNames for (A, B, C, D) {
-    fn write_names<W: fmt::Write>(&self, f: &mut fmt::Formatter<W>) -> fmt::Result {
-        (&self.0, (&self.1, (&self.2, &self.3))).write_names(f)
-    }
-}
-
-/// Five descriptions.
-impl<A: FieldNames, B: FieldNames, C: FieldNames, D: FieldNames, E: FieldNames> FieldNames
-    for (A, B, C, D, E) {
-    fn write_names<W: fmt::Write>(&self, f: &mut fmt::Formatter<W>) -> fmt::Result {
-        (&self.0, (&self.1, (&self.2, (&self.3, &self.4)))).write_names(f)
-    }
-}
-
-/// Six descriptions.
-impl<
-    A: FieldNames,
-    B: FieldNames,
-    C: FieldNames,
-    D: FieldNames,
-    E: FieldNames,
-    F: FieldNames,
-> FieldNames for (A, B, C, D, E, F) {
-    fn write_names<W: fmt::Write>(&self, f: &mut fmt::Formatter<W>) -> fmt::Result {
-        (&self.0, (&self.1, (&self.2, (&self.3, (&self.4, &self.5))))).write_names(f)
-    }
-}
-
-/// Seven descriptions.
-impl<
-    A: FieldNames,
-    B: FieldNames,
-    C: FieldNames,
-    D: FieldNames,
-    E: FieldNames,
-    F: FieldNames,
-    G: FieldNames,
-> FieldNames for (A, B, C, D, E, F, G) {
-    fn write_names<W: fmt::Write>(&self, f: &mut fmt::Formatter<W>) -> fmt::Result {
-        (
-            &self.0,
-            (&self.1, (&self.2, (&self.3, (&self.4, (&self.5, &self.6))))),
-        )
-            .write_names(f)
-    }
-}
-
-/// Eight descriptions.
-impl<
-    A: FieldNames,
-    B: FieldNames,
-    C: FieldNames,
-    D: FieldNames,
-    E: FieldNames,
-    F: FieldNames,
-    G: FieldNames,
-    H: FieldNames,
-> FieldNames for (A, B, C, D, E, F, G, H) {
-    fn write_names<W: fmt::Write>(&self, f: &mut fmt::Formatter<W>) -> fmt::Result {
-        (
-            &self.0,
-            (
-                &self.1,
-                (&self.2, (&self.3, (&self.4, (&self.5, (&self.6, &self.7))))),
-            ),
-        )
-            .write_names(f)
     }
 }

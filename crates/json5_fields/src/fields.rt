@@ -1,7 +1,10 @@
 //! One field of a struct, and what a description of fields has to say.
 
 ghost use Rattle.std.specs.Prelude.{◌≡◌};
+ghost use Rattle.json5_de.specs.Lending.{KeyPending, KeyIsNamed};
+ghost use Rattle.json5_fields.specs.FieldCalls.{TakesNamed};
 
+use crate::field_names::FieldNames;
 use json5_de::{Deserialize, MapAccess};
 use json5_text::input::Input;
 use json5_types::error::Result;
@@ -13,22 +16,25 @@ use json5_types::error::Result;
 /// ```
 pub trait StructFields<I: Input, V: Drop>: Sized + Drop {
     ghost use Rattle.json5_de.specs.StructFaults.{ValueFaults};
-    ghost use Rattle.json5_de.specs.Lending.{KeyPending};
+    ghost use Rattle.json5_de.specs.Lending.{KeyPending, KeyIsNamed};
     ghost use Rattle.json5_fields.specs.Layouts.{Layout};
     ghost use Rattle.json5_fields.specs.FieldCalls.{Tries, Finishes};
 
-    /// The values that were read so far.
-    type Found: Drop;
+    /// The fields while they are read: what the description says, and the values that were read so far.
+    type Reading: Drop + FieldNames;
 
     // What it says: names, and what the defaults mean.
     ghost Shape: { Type 0 };
 
     ghost shape: { Self → Shape };
 
+    // The same while the fields are read.
+    ghost kept: { Self.Reading → Shape };
+
     // What of the values that were read so far counts.
     ghost State: { Type 0 };
 
-    ghost state: { Self.Found → State };
+    ghost state: { Self.Reading → State };
 
     // What of the values of all fields counts.
     ghost Content: { Type 0 };
@@ -42,25 +48,52 @@ pub trait StructFields<I: Input, V: Drop>: Sized + Drop {
     ghost faults: { ValueFaults };
 
     /// No value yet.
-    fn start(&self) -> Self::Found
-        ensures { state result ≡ (layout (shape self.now)).start };
+    fn start(self) -> Self::Reading
+        ensures same { kept result ≡ shape self }
+        ensures none { state result ≡ (layout (shape self)).start };
 
     /// Reads the value of the key that was read last if a field here has this name. Says whether one has.
     ///
     /// # Errors
     ///
-    /// Those of [`MapAccess::next_field`].
-    fn read(&self, found: &mut Self::Found, map: &mut MapAccess<'_, I>, name: &str) -> Result<bool>
+    /// Those of [`MapAccess::next_value`], and ``duplicate field `name` `` at the key of a second value.
+    fn read(fields: &mut Self::Reading, map: &mut MapAccess<'_, I>, name: &str) -> Result<bool>
         requires key { KeyPending map.old }
-        ensures { Tries (layout (shape self.now)) faults (state found.old) (state found.new) name.now map.old map.new result };
+        requires named { KeyIsNamed name.now map.old }
+        ensures same { kept fields.new ≡ kept fields.old }
+        ensures tries { Tries (layout (kept fields.old)) faults (state fields.old) (state fields.new) name.now map.old map.new result };
 
     /// The values, once all members are read.
     ///
     /// # Errors
     ///
-    /// Those of [`MapAccess::required_field`].
-    fn finish(self, found: Self::Found, map: &mut MapAccess<'_, I>) -> Result<V>
-        ensures { Finishes (layout (shape self)) content (state found) map.old map.new result };
+    /// - Those of [`MapAccess::required_field`].
+    /// - `OutOfMemory` at the opening brace, for a default that is made.
+    fn finish(fields: Self::Reading, map: &mut MapAccess<'_, I>) -> Result<V>
+        ensures { Finishes (layout (kept fields)) content (state fields) map.old map.new result };
+}
+
+/// Reads the value of the key that was read last into its field. A second value is refused at its key.
+pub(crate) fn take_field<I: Input, T: Deserialize<I>>(
+    found: &mut Option<T>,
+    map: &mut MapAccess<'_, I>,
+    name: &str,
+) -> Result<()>
+    requires key { KeyPending map.old }
+    requires named { KeyIsNamed name.now map.old }
+    ensures { TakesNamed T.content T.convert T.refuses name.now map.old map.new found.old found.new result }
+{
+    if found.is_some() {
+        return Err(map.refuse_key(format_args!("duplicate field `{name}`")));
+    }
+    map.next_field(name, found)
+}
+
+/// A field while it is read.
+#[derive(Drop)]
+pub struct Awaited<T> {
+    pub(crate) name: &'static str,
+    value: Option<T>,
 }
 
 /// A field that has to be there, by its name.
@@ -77,15 +110,17 @@ impl<I: Input, T: Deserialize<I>> StructFields<I, T> for Required {
     ghost use Rattle.json5_fields.specs.Layouts.{required_field};
     ghost use Rattle.json5_fields.specs.FieldCalls.{of_type};
 
-    type Found = Option<T>;
+    type Reading = Awaited<T>;
 
     ghost Shape = { List ℕ };
 
     ghost shape = { λ f. f.0.now };
 
+    ghost kept = { λ a. a.name.now };
+
     ghost State = { Option T.Content };
 
-    ghost state = { if_some T.content };
+    ghost state = { λ a. if_some T.content a.value };
 
     ghost Content = { T.Content };
 
@@ -96,24 +131,27 @@ impl<I: Input, T: Deserialize<I>> StructFields<I, T> for Required {
     ghost faults = { of_type T.convert T.refuses };
 
     #[inline(always)]
-    fn start(&self) -> Option<T> {
-        None
+    fn start(self) -> Awaited<T> {
+        Awaited {
+            name: self.0,
+            value: None,
+        }
     }
 
     #[inline(always)]
-    fn read(&self, found: &mut Option<T>, map: &mut MapAccess<'_, I>, name: &str) -> Result<bool> {
-        if name != self.0 {
+    fn read(fields: &mut Awaited<T>, map: &mut MapAccess<'_, I>, name: &str) -> Result<bool> {
+        if name != fields.name {
             return Ok(false);
         }
-        match map.next_field(name, found) {
+        match take_field(&mut fields.value, map, name) {
             Ok(()) => Ok(true),
             Err(e) => Err(e),
         }
     }
 
     #[inline(always)]
-    fn finish(self, found: Option<T>, map: &mut MapAccess<'_, I>) -> Result<T> {
-        map.required_field(self.0, found)
+    fn finish(fields: Awaited<T>, map: &mut MapAccess<'_, I>) -> Result<T> {
+        map.required_field(fields.name, fields.value)
     }
 }
 
@@ -131,15 +169,17 @@ impl<I: Input, T: Deserialize<I>> StructFields<I, Option<T>> for Optional {
     ghost use Rattle.json5_fields.specs.Layouts.{optional_field};
     ghost use Rattle.json5_fields.specs.FieldCalls.{of_type};
 
-    type Found = Option<T>;
+    type Reading = Awaited<T>;
 
     ghost Shape = { List ℕ };
 
     ghost shape = { λ f. f.0.now };
 
+    ghost kept = { λ a. a.name.now };
+
     ghost State = { Option T.Content };
 
-    ghost state = { if_some T.content };
+    ghost state = { λ a. if_some T.content a.value };
 
     ghost Content = { Option T.Content };
 
@@ -150,25 +190,36 @@ impl<I: Input, T: Deserialize<I>> StructFields<I, Option<T>> for Optional {
     ghost faults = { of_type T.convert T.refuses };
 
     #[inline(always)]
-    fn start(&self) -> Option<T> {
-        None
+    fn start(self) -> Awaited<T> {
+        Awaited {
+            name: self.0,
+            value: None,
+        }
     }
 
     #[inline(always)]
-    fn read(&self, found: &mut Option<T>, map: &mut MapAccess<'_, I>, name: &str) -> Result<bool> {
-        if name != self.0 {
+    fn read(fields: &mut Awaited<T>, map: &mut MapAccess<'_, I>, name: &str) -> Result<bool> {
+        if name != fields.name {
             return Ok(false);
         }
-        match map.next_field(name, found) {
+        match take_field(&mut fields.value, map, name) {
             Ok(()) => Ok(true),
             Err(e) => Err(e),
         }
     }
 
     #[inline(always)]
-    fn finish(self, found: Option<T>, _map: &mut MapAccess<'_, I>) -> Result<Option<T>> {
-        Ok(found)
+    fn finish(fields: Awaited<T>, _map: &mut MapAccess<'_, I>) -> Result<Option<T>> {
+        Ok(fields.value)
     }
+}
+
+/// A field with a default while it is read.
+#[derive(Drop)]
+pub struct Defaulted<T> {
+    pub(crate) name: &'static str,
+    value: Option<T>,
+    default: T,
 }
 
 /// A field that may be missing, which is then the default.
@@ -185,15 +236,17 @@ impl<I: Input, T: Deserialize<I>> StructFields<I, T> for WithDefault<T> {
     ghost use Rattle.json5_fields.specs.Layouts.{field_or};
     ghost use Rattle.json5_fields.specs.FieldCalls.{of_type};
 
-    type Found = Option<T>;
+    type Reading = Defaulted<T>;
 
     ghost Shape = { List ℕ × T.Content };
 
     ghost shape = { λ f. (f.0.now, T.content f.1) };
 
+    ghost kept = { λ d. (d.name.now, T.content d.default) };
+
     ghost State = { Option T.Content };
 
-    ghost state = { if_some T.content };
+    ghost state = { λ d. if_some T.content d.value };
 
     ghost Content = { T.Content };
 
@@ -204,24 +257,33 @@ impl<I: Input, T: Deserialize<I>> StructFields<I, T> for WithDefault<T> {
     ghost faults = { of_type T.convert T.refuses };
 
     #[inline(always)]
-    fn start(&self) -> Option<T> {
-        None
+    fn start(self) -> Defaulted<T> {
+        let WithDefault(name, default) = self;
+        Defaulted {
+            name,
+            value: None,
+            default,
+        }
     }
 
     #[inline(always)]
-    fn read(&self, found: &mut Option<T>, map: &mut MapAccess<'_, I>, name: &str) -> Result<bool> {
-        if name != self.0 {
+    fn read(fields: &mut Defaulted<T>, map: &mut MapAccess<'_, I>, name: &str) -> Result<bool> {
+        if name != fields.name {
             return Ok(false);
         }
-        match map.next_field(name, found) {
+        match take_field(&mut fields.value, map, name) {
             Ok(()) => Ok(true),
             Err(e) => Err(e),
         }
     }
 
     #[inline(always)]
-    fn finish(self, found: Option<T>, _map: &mut MapAccess<'_, I>) -> Result<T> {
-        let WithDefault(_, default) = self;
-        Ok(found.unwrap_or(default))
+    fn finish(fields: Defaulted<T>, _map: &mut MapAccess<'_, I>) -> Result<T> {
+        let Defaulted {
+            name: _,
+            value,
+            default,
+        } = fields;
+        Ok(value.unwrap_or(default))
     }
 }

@@ -10,20 +10,26 @@
 //! ```
 #![tactic(auto)]
 
+mod defaults;
 mod entries;
+mod enums;
 mod field_names;
 mod fields;
 mod names;
 mod objects;
 mod only;
 mod tuples;
+mod variants;
 mod written_objects;
 mod written_tuples;
 
+pub use defaults::WithDefaultText;
 pub use entries::{Field, Given, WrittenFields};
+pub use enums::read_enum;
 pub use field_names::FieldNames;
 pub use fields::{Optional, Required, StructFields, WithDefault};
 pub use names::one_of_names;
 pub use objects::read_struct;
 pub use only::read_struct_only;
+pub use variants::{EnumVariants, Holding, NoContent, OneOf};
 pub use written_objects::write_struct;

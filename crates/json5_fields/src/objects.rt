@@ -13,21 +13,20 @@ use json5_text::input::Input;
 use json5_types::error::Result;
 use std::marker::PhantomData;
 
-/// A description, and the values that were read so far.
+/// The fields of a description while they are read.
 #[derive(Drop)]
-struct Reading<F, S, V> {
-    fields: F,
-    found: S,
-    of: PhantomData<V>,
+struct Members<F, R, V> {
+    reading: R,
+    of: PhantomData<(F, V)>,
 }
 
-impl<I: Input, V: Drop, F: StructFields<I, V>> Fields<I> for Reading<F, F::Found, V> {
+impl<I: Input, V: Drop, F: StructFields<I, V>> Fields<I> for Members<F, F::Reading, V> {
     ghost use Rattle.json5_de.specs.StructFaults.{or_of, of_any};
     ghost use Rattle.json5_fields.specs.Layouts.{Held, held_step};
 
     ghost Content = { Held F.State F.Content };
 
-    ghost content = { λ r. (F.layout (F.shape r.fields), F.state r.found) };
+    ghost content = { λ m. (F.layout (F.kept m.reading), F.state m.reading) };
 
     ghost step = { held_step };
 
@@ -35,7 +34,7 @@ impl<I: Input, V: Drop, F: StructFields<I, V>> Fields<I> for Reading<F, F::Found
 
     #[inline(always)]
     fn read(&mut self, map: &mut MapAccess<'_, I>, name: &str) -> Result<()> {
-        match self.fields.read(&mut self.found, map, name) {
+        match F::read(&mut self.reading, map, name) {
             Ok(true) => Ok(()),
             Ok(false) => map.skip_value(),
             Err(e) => Err(e),
@@ -56,20 +55,15 @@ fn read_object<I: Input, V: Drop, F: StructFields<I, V>>(
     ensures unprompted { Unprompted de.old result }
     ensures same_text { SameText de.old de.new }
 {
-    let found = fields.start();
-    let mut reading = Reading {
-        fields,
-        found,
+    let reading = fields.start();
+    let mut members = Members::<F, F::Reading, V> {
+        reading,
         of: PhantomData,
     };
     let mut map = de.deserialize_map()?;
-    map.read_fields(&mut reading)?;
-    let Reading {
-        fields,
-        found,
-        of: _,
-    } = reading;
-    let output = fields.finish(found, &mut map)?;
+    map.read_fields(&mut members)?;
+    let Members { reading, of: _ } = members;
+    let output = F::finish(reading, &mut map)?;
     map.end()?;
     Ok(output)
 }
@@ -86,7 +80,7 @@ fn read_object<I: Input, V: Drop, F: StructFields<I, V>>(
 /// # Errors
 ///
 /// - Those of [`Deserializer::deserialize_map`], [`MapAccess::read_fields`] and [`MapAccess::end`].
-/// - ``missing field `name` `` and ``duplicate field `name` `` at the opening brace.
+/// - ``missing field `name` `` at the opening brace, and ``duplicate field `name` `` at the second key.
 /// - The faults of the fields' types.
 pub fn read_struct<I: Input, V: Drop, F: StructFields<I, V>>(
     de: &mut Deserializer<I>,

@@ -1,76 +1,35 @@
 //! A struct that has no other fields than those of its description.
 
-ghost use Rattle.std.specs.Prelude.{◌≡◌, true, false, IfOk, IfErr};
+ghost use Rattle.std.specs.Prelude.{◌≡◌, true, IfOk, IfErr};
 ghost use Rattle.json5_grammar.specs.Model.Collections.{object_of};
 ghost use Rattle.json5_de.specs.State.{SameText};
-ghost use Rattle.json5_de.specs.DeserializeLaw.{Gives, Completes, Unprompted, IsUnprompted};
-ghost use Rattle.json5_de.specs.Fields.{IsOwnAtBracket};
-ghost use Rattle.json5_de.specs.Lending.{map_state_of, KeepsMap, KeyPending};
+ghost use Rattle.json5_de.specs.DeserializeLaw.{Gives, Completes, Unprompted};
 ghost use Rattle.json5_fields.specs.Layouts.{all_differ};
 ghost use Rattle.json5_fields.specs.Only.{only_these};
 ghost use Rattle.json5_fields.specs.Described.{RefusesOnly, ReadsOnly};
 
-use crate::field_names::{FieldNames, UnknownField};
+use crate::field_names::UnknownField;
 use crate::fields::StructFields;
 use json5_de::{Deserializer, Fields, MapAccess};
 use json5_text::input::Input;
-use json5_types::error::{Error, Result};
-use std::alloc::Global;
-use std::fmt;
+use json5_types::error::Result;
 use std::marker::PhantomData;
 
-/// A custom fault at the opening brace.
-fn own_fault<I: Input, D: fmt::Display + Drop>(
-    alloc: Global,
-    map: &MapAccess<'_, I>,
-    message: D,
-) -> Error
-    ensures own { IsOwnAtBracket (map_state_of map.now).at result }
-    ensures unprompted { IsUnprompted result }
-{
-    match Error::custom(alloc, message) {
-        Ok(error) => map.place(error),
-        Err(error) => map.place(error),
-    }
-}
-
-/// Refuses the field whose key was read last: from here on the access has failed.
-#[cold]
-fn unknown<I: Input, F: FieldNames>(
-    alloc: Global,
-    map: &mut MapAccess<'_, I>,
-    name: &str,
-    fields: &F,
-) -> Error
-    requires key { KeyPending map.old }
-    ensures access { KeepsMap map.old map.new }
-    ensures failed { (map_state_of map.new).at.reader.failed ≡ true }
-    ensures own { IsOwnAtBracket (map_state_of map.old).at result }
-    ensures unprompted { IsUnprompted result }
-{
-    let error = own_fault(alloc, map, UnknownField { name, fields });
-    let _ = map.required_field::<bool>(name, None);
-    error
-}
-
-/// A description that allows no other fields, and the values that were read so far.
+/// The fields of a description that allows no others, while they are read.
 #[derive(Drop)]
-struct ReadingOnly<F, S, V> {
-    fields: F,
-    found: S,
-    alloc: Global,
-    of: PhantomData<V>,
+struct OnlyMembers<F, R, V> {
+    reading: R,
+    of: PhantomData<(F, V)>,
 }
 
-impl<I: Input, V: Drop, F: StructFields<I, V> + FieldNames> Fields<I>
-    for ReadingOnly<F, F::Found, V> {
+impl<I: Input, V: Drop, F: StructFields<I, V>> Fields<I> for OnlyMembers<F, F::Reading, V> {
     ghost use Rattle.json5_de.specs.StructFaults.{or_of};
     ghost use Rattle.json5_fields.specs.Layouts.{Held};
     ghost use Rattle.json5_fields.specs.Only.{only_step, of_unknown};
 
     ghost Content = { Held F.State F.Content };
 
-    ghost content = { λ r. (F.layout (F.shape r.fields), F.state r.found) };
+    ghost content = { λ m. (F.layout (F.kept m.reading), F.state m.reading) };
 
     ghost step = { only_step };
 
@@ -78,9 +37,12 @@ impl<I: Input, V: Drop, F: StructFields<I, V> + FieldNames> Fields<I>
 
     #[inline(always)]
     fn read(&mut self, map: &mut MapAccess<'_, I>, name: &str) -> Result<()> {
-        match self.fields.read(&mut self.found, map, name) {
+        match F::read(&mut self.reading, map, name) {
             Ok(true) => Ok(()),
-            Ok(false) => Err(unknown(self.alloc, map, name, &self.fields)),
+            Ok(false) => {
+                let fields = &self.reading;
+                Err(map.refuse_key(UnknownField { name, fields }))
+            }
             Err(e) => Err(e),
         }
     }
@@ -88,7 +50,7 @@ impl<I: Input, V: Drop, F: StructFields<I, V> + FieldNames> Fields<I>
 
 /// The same as `read_struct_only`, by separate clauses.
 #[inline(always)]
-fn read_only<I: Input, V: Drop, F: StructFields<I, V> + FieldNames>(
+fn read_only<I: Input, V: Drop, F: StructFields<I, V>>(
     de: &mut Deserializer<I>,
     fields: F,
 ) -> Result<V>
@@ -99,22 +61,15 @@ fn read_only<I: Input, V: Drop, F: StructFields<I, V> + FieldNames>(
     ensures unprompted { Unprompted de.old result }
     ensures same_text { SameText de.old de.new }
 {
-    let found = fields.start();
-    let mut reading = ReadingOnly {
-        fields,
-        found,
-        alloc: de.allocator(),
+    let reading = fields.start();
+    let mut members = OnlyMembers::<F, F::Reading, V> {
+        reading,
         of: PhantomData,
     };
     let mut map = de.deserialize_map()?;
-    map.read_fields(&mut reading)?;
-    let ReadingOnly {
-        fields,
-        found,
-        alloc: _,
-        of: _,
-    } = reading;
-    let output = fields.finish(found, &mut map)?;
+    map.read_fields(&mut members)?;
+    let OnlyMembers { reading, of: _ } = members;
+    let output = F::finish(reading, &mut map)?;
     map.end()?;
     Ok(output)
 }
@@ -130,9 +85,9 @@ fn read_only<I: Input, V: Drop, F: StructFields<I, V> + FieldNames>(
 ///
 /// # Errors
 ///
-/// - ``unknown field `prot`, expected one of `host`, `port` `` at the opening brace; the value stays unread.
+/// - ``unknown field `prot`, expected one of `host`, `port` `` at its key; the value stays unread.
 /// - Those of [`read_struct`](crate::read_struct).
-pub fn read_struct_only<I: Input, V: Drop, F: StructFields<I, V> + FieldNames>(
+pub fn read_struct_only<I: Input, V: Drop, F: StructFields<I, V>>(
     de: &mut Deserializer<I>,
     fields: F,
 ) -> Result<V>

@@ -13,15 +13,17 @@ impl<I: Input, S: Drop, T: Drop, A: StructFields<I, S>, B: StructFields<I, T>> S
     ghost use Rattle.json5_de.specs.StructFaults.{or_of};
     ghost use Rattle.json5_fields.specs.Layouts.{and_layout};
 
-    type Found = (A::Found, B::Found);
+    type Reading = (A::Reading, B::Reading);
 
     ghost Shape = { A.Shape × B.Shape };
 
     ghost shape = { λ f. (A.shape f.0, B.shape f.1) };
 
+    ghost kept = { λ r. (A.kept r.0, B.kept r.1) };
+
     ghost State = { A.State × B.State };
 
-    ghost state = { λ s. (A.state s.0, B.state s.1) };
+    ghost state = { λ r. (A.state r.0, B.state r.1) };
 
     ghost Content = { A.Content × B.Content };
 
@@ -29,32 +31,29 @@ impl<I: Input, S: Drop, T: Drop, A: StructFields<I, S>, B: StructFields<I, T>> S
 
     ghost layout = { λ s. and_layout (A.layout s.0) (B.layout s.1) };
 
-    ghost faults = { or_of A.faults (B.faults) };
+    ghost faults = { or_of A.faults B.faults };
 
     #[inline(always)]
-    fn start(&self) -> Self::Found {
-        (self.0.start(), self.1.start())
+    fn start(self) -> Self::Reading {
+        let (a, b) = self;
+        (a.start(), b.start())
     }
 
     #[inline(always)]
-    fn read(
-        &self,
-        found: &mut Self::Found,
-        map: &mut MapAccess<'_, I>,
-        name: &str,
-    ) -> Result<bool> {
-        match self.0.read(&mut found.0, map, name) {
+    fn read(fields: &mut Self::Reading, map: &mut MapAccess<'_, I>, name: &str) -> Result<bool> {
+        match A::read(&mut fields.0, map, name) {
             Ok(true) => return Ok(true),
             Ok(false) => {}
             Err(e) => return Err(e),
         }
-        self.1.read(&mut found.1, map, name)
+        B::read(&mut fields.1, map, name)
     }
 
     #[inline(always)]
-    fn finish(self, found: Self::Found, map: &mut MapAccess<'_, I>) -> Result<(S, T)> {
-        let first = self.0.finish(found.0, map)?;
-        let second = self.1.finish(found.1, map)?;
+    fn finish(fields: Self::Reading, map: &mut MapAccess<'_, I>) -> Result<(S, T)> {
+        let (a, b) = fields;
+        let first = A::finish(a, map)?;
+        let second = B::finish(b, map)?;
         Ok((first, second))
     }
 }
@@ -72,15 +71,17 @@ impl<
     ghost use Rattle.json5_de.specs.StructFaults.{or_of};
     ghost use Rattle.json5_fields.specs.Layouts.{and_layout};
 
-    type Found = (A::Found, (B::Found, C::Found));
+    type Reading = (A::Reading, (B::Reading, C::Reading));
 
     ghost Shape = { A.Shape × (B.Shape × C.Shape) };
 
     ghost shape = { λ f. (A.shape f.0, (B.shape f.1, C.shape f.2)) };
 
+    ghost kept = { λ r. (A.kept r.0, (B.kept r.1.0, C.kept r.1.1)) };
+
     ghost State = { A.State × (B.State × C.State) };
 
-    ghost state = { λ s. (A.state s.0, (B.state s.1.0, C.state s.1.1)) };
+    ghost state = { λ r. (A.state r.0, (B.state r.1.0, C.state r.1.1)) };
 
     ghost Content = { A.Content × (B.Content × C.Content) };
 
@@ -88,40 +89,25 @@ impl<
 
     ghost layout = { λ s. and_layout (A.layout s.0) (and_layout (B.layout s.1.0) (C.layout s.1.1)) };
 
-    ghost faults = { or_of A.faults (or_of (B.faults) (C.faults)) };
+    ghost faults = { or_of A.faults (or_of B.faults (C.faults)) };
 
     #[inline(always)]
-    fn start(&self) -> Self::Found {
-        (self.0.start(), (self.1.start(), self.2.start()))
-    }
-
-    #[inline(always)]
-    fn read(
-        &self,
-        found: &mut Self::Found,
-        map: &mut MapAccess<'_, I>,
-        name: &str,
-    ) -> Result<bool> {
-        match self.0.read(&mut found.0, map, name) {
-            Ok(true) => return Ok(true),
-            Ok(false) => {}
-            Err(e) => return Err(e),
-        }
-        match self.1.read(&mut found.1.0, map, name) {
-            Ok(true) => return Ok(true),
-            Ok(false) => {}
-            Err(e) => return Err(e),
-        }
-        self.2.read(&mut found.1.1, map, name)
-    }
-
-    #[inline(always)]
-    fn finish(self, found: Self::Found, map: &mut MapAccess<'_, I>) -> Result<(S, T, U)> {
+    fn start(self) -> Self::Reading {
         let (a, b, c) = self;
-        match (a, (b, c)).finish(found, map) {
+        <(A, (B, C)) as StructFields<I, (S, (T, U))>>::start((a, (b, c)))
+    }
+
+    #[inline(always)]
+    fn read(fields: &mut Self::Reading, map: &mut MapAccess<'_, I>, name: &str) -> Result<bool> {
+        <(A, (B, C)) as StructFields<I, (S, (T, U))>>::read(fields, map, name)
+    }
+
+    #[inline(always)]
+    fn finish(fields: Self::Reading, map: &mut MapAccess<'_, I>) -> Result<(S, T, U)> {
+        match <(A, (B, C)) as StructFields<I, (S, (T, U))>>::finish(fields, map) {
             Ok(values) => {
-                let (first, (second, third)) = values;
-                Ok((first, second, third))
+                let (a, (b, c)) = values;
+                Ok((a, b, c))
             }
             Err(e) => Err(e),
         }
@@ -143,15 +129,17 @@ impl<
     ghost use Rattle.json5_de.specs.StructFaults.{or_of};
     ghost use Rattle.json5_fields.specs.Layouts.{and_layout};
 
-    type Found = (A::Found, (B::Found, (C::Found, D::Found)));
+    type Reading = (A::Reading, (B::Reading, (C::Reading, D::Reading)));
 
     ghost Shape = { A.Shape × (B.Shape × (C.Shape × D.Shape)) };
 
     ghost shape = { λ f. (A.shape f.0, (B.shape f.1, (C.shape f.2, D.shape f.3))) };
 
+    ghost kept = { λ r. (A.kept r.0, (B.kept r.1.0, (C.kept r.1.1.0, D.kept r.1.1.1))) };
+
     ghost State = { A.State × (B.State × (C.State × D.State)) };
 
-    ghost state = { λ s. (A.state s.0, (B.state s.1.0, (C.state s.1.1.0, D.state s.1.1.1))) };
+    ghost state = { λ r. (A.state r.0, (B.state r.1.0, (C.state r.1.1.0, D.state r.1.1.1))) };
 
     ghost Content = { A.Content × (B.Content × (C.Content × D.Content)) };
 
@@ -159,48 +147,25 @@ impl<
 
     ghost layout = { λ s. and_layout (A.layout s.0) (and_layout (B.layout s.1.0) (and_layout (C.layout s.1.1.0) (D.layout s.1.1.1))) };
 
-    ghost faults = { or_of A.faults (or_of (B.faults) (or_of (C.faults) (D.faults))) };
+    ghost faults = { or_of A.faults (or_of B.faults (or_of C.faults (D.faults))) };
 
     #[inline(always)]
-    fn start(&self) -> Self::Found {
-        (
-            self.0.start(),
-            (self.1.start(), (self.2.start(), self.3.start())),
-        )
-    }
-
-    #[inline(always)]
-    fn read(
-        &self,
-        found: &mut Self::Found,
-        map: &mut MapAccess<'_, I>,
-        name: &str,
-    ) -> Result<bool> {
-        match self.0.read(&mut found.0, map, name) {
-            Ok(true) => return Ok(true),
-            Ok(false) => {}
-            Err(e) => return Err(e),
-        }
-        match self.1.read(&mut found.1.0, map, name) {
-            Ok(true) => return Ok(true),
-            Ok(false) => {}
-            Err(e) => return Err(e),
-        }
-        match self.2.read(&mut found.1.1.0, map, name) {
-            Ok(true) => return Ok(true),
-            Ok(false) => {}
-            Err(e) => return Err(e),
-        }
-        self.3.read(&mut found.1.1.1, map, name)
-    }
-
-    #[inline(always)]
-    fn finish(self, found: Self::Found, map: &mut MapAccess<'_, I>) -> Result<(S, T, U, V)> {
+    fn start(self) -> Self::Reading {
         let (a, b, c, d) = self;
-        match (a, (b, (c, d))).finish(found, map) {
+        <(A, (B, (C, D))) as StructFields<I, (S, (T, (U, V)))>>::start((a, (b, (c, d))))
+    }
+
+    #[inline(always)]
+    fn read(fields: &mut Self::Reading, map: &mut MapAccess<'_, I>, name: &str) -> Result<bool> {
+        <(A, (B, (C, D))) as StructFields<I, (S, (T, (U, V)))>>::read(fields, map, name)
+    }
+
+    #[inline(always)]
+    fn finish(fields: Self::Reading, map: &mut MapAccess<'_, I>) -> Result<(S, T, U, V)> {
+        match <(A, (B, (C, D))) as StructFields<I, (S, (T, (U, V)))>>::finish(fields, map) {
             Ok(values) => {
-                let (first, (second, (third, fourth))) = values;
-                Ok((first, second, third, fourth))
+                let (a, (b, (c, d))) = values;
+                Ok((a, b, c, d))
             }
             Err(e) => Err(e),
         }
@@ -224,15 +189,20 @@ impl<
     ghost use Rattle.json5_de.specs.StructFaults.{or_of};
     ghost use Rattle.json5_fields.specs.Layouts.{and_layout};
 
-    type Found = (A::Found, (B::Found, (C::Found, (D::Found, E::Found))));
+    type Reading = (
+        A::Reading,
+        (B::Reading, (C::Reading, (D::Reading, E::Reading))),
+    );
 
     ghost Shape = { A.Shape × (B.Shape × (C.Shape × (D.Shape × E.Shape))) };
 
     ghost shape = { λ f. (A.shape f.0, (B.shape f.1, (C.shape f.2, (D.shape f.3, E.shape f.4)))) };
 
+    ghost kept = { λ r. (A.kept r.0, (B.kept r.1.0, (C.kept r.1.1.0, (D.kept r.1.1.1.0, E.kept r.1.1.1.1)))) };
+
     ghost State = { A.State × (B.State × (C.State × (D.State × E.State))) };
 
-    ghost state = { λ s. (A.state s.0, (B.state s.1.0, (C.state s.1.1.0, (D.state s.1.1.1.0, E.state s.1.1.1.1)))) };
+    ghost state = { λ r. (A.state r.0, (B.state r.1.0, (C.state r.1.1.0, (D.state r.1.1.1.0, E.state r.1.1.1.1)))) };
 
     ghost Content = { A.Content × (B.Content × (C.Content × (D.Content × E.Content))) };
 
@@ -240,56 +210,30 @@ impl<
 
     ghost layout = { λ s. and_layout (A.layout s.0) (and_layout (B.layout s.1.0) (and_layout (C.layout s.1.1.0) (and_layout (D.layout s.1.1.1.0) (E.layout s.1.1.1.1)))) };
 
-    ghost faults = { or_of A.faults (or_of (B.faults) (or_of (C.faults) (or_of (D.faults) (E.faults)))) };
+    ghost faults = { or_of A.faults (or_of B.faults (or_of C.faults (or_of D.faults (E.faults)))) };
 
     #[inline(always)]
-    fn start(&self) -> Self::Found {
-        (
-            self.0.start(),
-            (
-                self.1.start(),
-                (self.2.start(), (self.3.start(), self.4.start())),
-            ),
-        )
-    }
-
-    #[inline(always)]
-    fn read(
-        &self,
-        found: &mut Self::Found,
-        map: &mut MapAccess<'_, I>,
-        name: &str,
-    ) -> Result<bool> {
-        match self.0.read(&mut found.0, map, name) {
-            Ok(true) => return Ok(true),
-            Ok(false) => {}
-            Err(e) => return Err(e),
-        }
-        match self.1.read(&mut found.1.0, map, name) {
-            Ok(true) => return Ok(true),
-            Ok(false) => {}
-            Err(e) => return Err(e),
-        }
-        match self.2.read(&mut found.1.1.0, map, name) {
-            Ok(true) => return Ok(true),
-            Ok(false) => {}
-            Err(e) => return Err(e),
-        }
-        match self.3.read(&mut found.1.1.1.0, map, name) {
-            Ok(true) => return Ok(true),
-            Ok(false) => {}
-            Err(e) => return Err(e),
-        }
-        self.4.read(&mut found.1.1.1.1, map, name)
-    }
-
-    #[inline(always)]
-    fn finish(self, found: Self::Found, map: &mut MapAccess<'_, I>) -> Result<(S, T, U, V, W)> {
+    fn start(self) -> Self::Reading {
         let (a, b, c, d, e) = self;
-        match (a, (b, (c, (d, e)))).finish(found, map) {
+        <(A, (B, (C, (D, E)))) as StructFields<I, (S, (T, (U, (V, W))))>>::start((
+            a,
+            (b, (c, (d, e))),
+        ))
+    }
+
+    #[inline(always)]
+    fn read(fields: &mut Self::Reading, map: &mut MapAccess<'_, I>, name: &str) -> Result<bool> {
+        <(A, (B, (C, (D, E)))) as StructFields<I, (S, (T, (U, (V, W))))>>::read(fields, map, name)
+    }
+
+    #[inline(always)]
+    fn finish(fields: Self::Reading, map: &mut MapAccess<'_, I>) -> Result<(S, T, U, V, W)> {
+        match <(A, (B, (C, (D, E)))) as StructFields<I, (S, (T, (U, (V, W))))>>::finish(
+            fields, map,
+        ) {
             Ok(values) => {
-                let (first, (second, (third, (fourth, fifth)))) = values;
-                Ok((first, second, third, fourth, fifth))
+                let (a, (b, (c, (d, e)))) = values;
+                Ok((a, b, c, d, e))
             }
             Err(e) => Err(e),
         }
@@ -315,18 +259,23 @@ impl<
     ghost use Rattle.json5_de.specs.StructFaults.{or_of};
     ghost use Rattle.json5_fields.specs.Layouts.{and_layout};
 
-    type Found = (
-        A::Found,
-        (B::Found, (C::Found, (D::Found, (E::Found, F::Found)))),
+    type Reading = (
+        A::Reading,
+        (
+            B::Reading,
+            (C::Reading, (D::Reading, (E::Reading, F::Reading))),
+        ),
     );
 
     ghost Shape = { A.Shape × (B.Shape × (C.Shape × (D.Shape × (E.Shape × F.Shape)))) };
 
     ghost shape = { λ f. (A.shape f.0, (B.shape f.1, (C.shape f.2, (D.shape f.3, (E.shape f.4, F.shape f.5))))) };
 
+    ghost kept = { λ r. (A.kept r.0, (B.kept r.1.0, (C.kept r.1.1.0, (D.kept r.1.1.1.0, (E.kept r.1.1.1.1.0, F.kept r.1.1.1.1.1))))) };
+
     ghost State = { A.State × (B.State × (C.State × (D.State × (E.State × F.State)))) };
 
-    ghost state = { λ s. (A.state s.0, (B.state s.1.0, (C.state s.1.1.0, (D.state s.1.1.1.0, (E.state s.1.1.1.1.0, F.state s.1.1.1.1.1))))) };
+    ghost state = { λ r. (A.state r.0, (B.state r.1.0, (C.state r.1.1.0, (D.state r.1.1.1.0, (E.state r.1.1.1.1.0, F.state r.1.1.1.1.1))))) };
 
     ghost Content = { A.Content × (B.Content × (C.Content × (D.Content × (E.Content × F.Content)))) };
 
@@ -334,64 +283,32 @@ impl<
 
     ghost layout = { λ s. and_layout (A.layout s.0) (and_layout (B.layout s.1.0) (and_layout (C.layout s.1.1.0) (and_layout (D.layout s.1.1.1.0) (and_layout (E.layout s.1.1.1.1.0) (F.layout s.1.1.1.1.1))))) };
 
-    ghost faults = { or_of A.faults (or_of (B.faults) (or_of (C.faults) (or_of (D.faults) (or_of (E.faults) (F.faults))))) };
+    ghost faults = { or_of A.faults (or_of B.faults (or_of C.faults (or_of D.faults (or_of E.faults (F.faults))))) };
 
     #[inline(always)]
-    fn start(&self) -> Self::Found {
-        (
-            self.0.start(),
-            (
-                self.1.start(),
-                (
-                    self.2.start(),
-                    (self.3.start(), (self.4.start(), self.5.start())),
-                ),
-            ),
+    fn start(self) -> Self::Reading {
+        let (a, b, c, d, e, f) = self;
+        <(A, (B, (C, (D, (E, F))))) as StructFields<I, (S, (T, (U, (V, (W, X)))))>>::start((
+            a,
+            (b, (c, (d, (e, f)))),
+        ))
+    }
+
+    #[inline(always)]
+    fn read(fields: &mut Self::Reading, map: &mut MapAccess<'_, I>, name: &str) -> Result<bool> {
+        <(A, (B, (C, (D, (E, F))))) as StructFields<I, (S, (T, (U, (V, (W, X)))))>>::read(
+            fields, map, name,
         )
     }
 
     #[inline(always)]
-    fn read(
-        &self,
-        found: &mut Self::Found,
-        map: &mut MapAccess<'_, I>,
-        name: &str,
-    ) -> Result<bool> {
-        match self.0.read(&mut found.0, map, name) {
-            Ok(true) => return Ok(true),
-            Ok(false) => {}
-            Err(e) => return Err(e),
-        }
-        match self.1.read(&mut found.1.0, map, name) {
-            Ok(true) => return Ok(true),
-            Ok(false) => {}
-            Err(e) => return Err(e),
-        }
-        match self.2.read(&mut found.1.1.0, map, name) {
-            Ok(true) => return Ok(true),
-            Ok(false) => {}
-            Err(e) => return Err(e),
-        }
-        match self.3.read(&mut found.1.1.1.0, map, name) {
-            Ok(true) => return Ok(true),
-            Ok(false) => {}
-            Err(e) => return Err(e),
-        }
-        match self.4.read(&mut found.1.1.1.1.0, map, name) {
-            Ok(true) => return Ok(true),
-            Ok(false) => {}
-            Err(e) => return Err(e),
-        }
-        self.5.read(&mut found.1.1.1.1.1, map, name)
-    }
-
-    #[inline(always)]
-    fn finish(self, found: Self::Found, map: &mut MapAccess<'_, I>) -> Result<(S, T, U, V, W, X)> {
-        let (a, b, c, d, e, f) = self;
-        match (a, (b, (c, (d, (e, f))))).finish(found, map) {
+    fn finish(fields: Self::Reading, map: &mut MapAccess<'_, I>) -> Result<(S, T, U, V, W, X)> {
+        match <(A, (B, (C, (D, (E, F))))) as StructFields<I, (S, (T, (U, (V, (W, X)))))>>::finish(
+            fields, map,
+        ) {
             Ok(values) => {
-                let (first, (second, (third, (fourth, (fifth, sixth))))) = values;
-                Ok((first, second, third, fourth, fifth, sixth))
+                let (a, (b, (c, (d, (e, f))))) = values;
+                Ok((a, b, c, d, e, f))
             }
             Err(e) => Err(e),
         }
@@ -419,11 +336,14 @@ impl<
     ghost use Rattle.json5_de.specs.StructFaults.{or_of};
     ghost use Rattle.json5_fields.specs.Layouts.{and_layout};
 
-    type Found = (
-        A::Found,
+    type Reading = (
+        A::Reading,
         (
-            B::Found,
-            (C::Found, (D::Found, (E::Found, (F::Found, G::Found)))),
+            B::Reading,
+            (
+                C::Reading,
+                (D::Reading, (E::Reading, (F::Reading, G::Reading))),
+            ),
         ),
     );
 
@@ -431,9 +351,11 @@ impl<
 
     ghost shape = { λ f. (A.shape f.0, (B.shape f.1, (C.shape f.2, (D.shape f.3, (E.shape f.4, (F.shape f.5, G.shape f.6)))))) };
 
+    ghost kept = { λ r. (A.kept r.0, (B.kept r.1.0, (C.kept r.1.1.0, (D.kept r.1.1.1.0, (E.kept r.1.1.1.1.0, (F.kept r.1.1.1.1.1.0, G.kept r.1.1.1.1.1.1)))))) };
+
     ghost State = { A.State × (B.State × (C.State × (D.State × (E.State × (F.State × G.State))))) };
 
-    ghost state = { λ s. (A.state s.0, (B.state s.1.0, (C.state s.1.1.0, (D.state s.1.1.1.0, (E.state s.1.1.1.1.0, (F.state s.1.1.1.1.1.0, G.state s.1.1.1.1.1.1)))))) };
+    ghost state = { λ r. (A.state r.0, (B.state r.1.0, (C.state r.1.1.0, (D.state r.1.1.1.0, (E.state r.1.1.1.1.0, (F.state r.1.1.1.1.1.0, G.state r.1.1.1.1.1.1)))))) };
 
     ghost Content = { A.Content × (B.Content × (C.Content × (D.Content × (E.Content × (F.Content × G.Content))))) };
 
@@ -441,76 +363,34 @@ impl<
 
     ghost layout = { λ s. and_layout (A.layout s.0) (and_layout (B.layout s.1.0) (and_layout (C.layout s.1.1.0) (and_layout (D.layout s.1.1.1.0) (and_layout (E.layout s.1.1.1.1.0) (and_layout (F.layout s.1.1.1.1.1.0) (G.layout s.1.1.1.1.1.1)))))) };
 
-    ghost faults = { or_of A.faults (or_of (B.faults) (or_of (C.faults) (or_of (D.faults) (or_of (E.faults) (or_of (F.faults) (G.faults)))))) };
+    ghost faults = { or_of A.faults (or_of B.faults (or_of C.faults (or_of D.faults (or_of E.faults (or_of F.faults (G.faults)))))) };
 
     #[inline(always)]
-    fn start(&self) -> Self::Found {
-        (
-            self.0.start(),
-            (
-                self.1.start(),
-                (
-                    self.2.start(),
-                    (
-                        self.3.start(),
-                        (self.4.start(), (self.5.start(), self.6.start())),
-                    ),
-                ),
-            ),
+    fn start(self) -> Self::Reading {
+        let (a, b, c, d, e, f, g) = self;
+        <(A, (B, (C, (D, (E, (F, G)))))) as StructFields<
+            I,
+            (S, (T, (U, (V, (W, (X, Y)))))),
+        >>::start((a, (b, (c, (d, (e, (f, g)))))))
+    }
+
+    #[inline(always)]
+    fn read(fields: &mut Self::Reading, map: &mut MapAccess<'_, I>, name: &str) -> Result<bool> {
+        <(A, (B, (C, (D, (E, (F, G)))))) as StructFields<I, (S, (T, (U, (V, (W, (X, Y))))))>>::read(
+            fields, map, name,
         )
     }
 
     #[inline(always)]
-    fn read(
-        &self,
-        found: &mut Self::Found,
-        map: &mut MapAccess<'_, I>,
-        name: &str,
-    ) -> Result<bool> {
-        match self.0.read(&mut found.0, map, name) {
-            Ok(true) => return Ok(true),
-            Ok(false) => {}
-            Err(e) => return Err(e),
-        }
-        match self.1.read(&mut found.1.0, map, name) {
-            Ok(true) => return Ok(true),
-            Ok(false) => {}
-            Err(e) => return Err(e),
-        }
-        match self.2.read(&mut found.1.1.0, map, name) {
-            Ok(true) => return Ok(true),
-            Ok(false) => {}
-            Err(e) => return Err(e),
-        }
-        match self.3.read(&mut found.1.1.1.0, map, name) {
-            Ok(true) => return Ok(true),
-            Ok(false) => {}
-            Err(e) => return Err(e),
-        }
-        match self.4.read(&mut found.1.1.1.1.0, map, name) {
-            Ok(true) => return Ok(true),
-            Ok(false) => {}
-            Err(e) => return Err(e),
-        }
-        match self.5.read(&mut found.1.1.1.1.1.0, map, name) {
-            Ok(true) => return Ok(true),
-            Ok(false) => {}
-            Err(e) => return Err(e),
-        }
-        self.6.read(&mut found.1.1.1.1.1.1, map, name)
-    }
-
-    #[inline(always)]
-    fn finish(
-        self,
-        found: Self::Found,
-        map: &mut MapAccess<'_, I>,
-    ) -> Result<(S, T, U, V, W, X, Y)> {
-        let (a, b, c, d, e, f, g) = self;
-        match (a, (b, (c, (d, (e, (f, g)))))).finish(found, map) {
+    fn finish(fields: Self::Reading, map: &mut MapAccess<'_, I>) -> Result<(S, T, U, V, W, X, Y)> {
+        match <(A, (B, (C, (D, (E, (F, G)))))) as StructFields<
+            I,
+            (S, (T, (U, (V, (W, (X, Y)))))),
+        >>::finish(fields, map)
+        {
             Ok(values) => {
-                let (first, (second, (third, (fourth, (fifth, (sixth, seventh)))))) = values;
-                Ok((first, second, third, fourth, fifth, sixth, seventh))
+                let (a, (b, (c, (d, (e, (f, g)))))) = values;
+                Ok((a, b, c, d, e, f, g))
             }
             Err(e) => Err(e),
         }
@@ -540,13 +420,16 @@ impl<
     ghost use Rattle.json5_de.specs.StructFaults.{or_of};
     ghost use Rattle.json5_fields.specs.Layouts.{and_layout};
 
-    type Found = (
-        A::Found,
+    type Reading = (
+        A::Reading,
         (
-            B::Found,
+            B::Reading,
             (
-                C::Found,
-                (D::Found, (E::Found, (F::Found, (G::Found, H::Found)))),
+                C::Reading,
+                (
+                    D::Reading,
+                    (E::Reading, (F::Reading, (G::Reading, H::Reading))),
+                ),
             ),
         ),
     );
@@ -555,9 +438,11 @@ impl<
 
     ghost shape = { λ f. (A.shape f.0, (B.shape f.1, (C.shape f.2, (D.shape f.3, (E.shape f.4, (F.shape f.5, (G.shape f.6, H.shape f.7))))))) };
 
+    ghost kept = { λ r. (A.kept r.0, (B.kept r.1.0, (C.kept r.1.1.0, (D.kept r.1.1.1.0, (E.kept r.1.1.1.1.0, (F.kept r.1.1.1.1.1.0, (G.kept r.1.1.1.1.1.1.0, H.kept r.1.1.1.1.1.1.1))))))) };
+
     ghost State = { A.State × (B.State × (C.State × (D.State × (E.State × (F.State × (G.State × H.State)))))) };
 
-    ghost state = { λ s. (A.state s.0, (B.state s.1.0, (C.state s.1.1.0, (D.state s.1.1.1.0, (E.state s.1.1.1.1.0, (F.state s.1.1.1.1.1.0, (G.state s.1.1.1.1.1.1.0, H.state s.1.1.1.1.1.1.1))))))) };
+    ghost state = { λ r. (A.state r.0, (B.state r.1.0, (C.state r.1.1.0, (D.state r.1.1.1.0, (E.state r.1.1.1.1.0, (F.state r.1.1.1.1.1.0, (G.state r.1.1.1.1.1.1.0, H.state r.1.1.1.1.1.1.1))))))) };
 
     ghost Content = { A.Content × (B.Content × (C.Content × (D.Content × (E.Content × (F.Content × (G.Content × H.Content)))))) };
 
@@ -565,85 +450,38 @@ impl<
 
     ghost layout = { λ s. and_layout (A.layout s.0) (and_layout (B.layout s.1.0) (and_layout (C.layout s.1.1.0) (and_layout (D.layout s.1.1.1.0) (and_layout (E.layout s.1.1.1.1.0) (and_layout (F.layout s.1.1.1.1.1.0) (and_layout (G.layout s.1.1.1.1.1.1.0) (H.layout s.1.1.1.1.1.1.1))))))) };
 
-    ghost faults = { or_of A.faults (or_of (B.faults) (or_of (C.faults) (or_of (D.faults) (or_of (E.faults) (or_of (F.faults) (or_of (G.faults) (H.faults))))))) };
+    ghost faults = { or_of A.faults (or_of B.faults (or_of C.faults (or_of D.faults (or_of E.faults (or_of F.faults (or_of G.faults (H.faults))))))) };
 
     #[inline(always)]
-    fn start(&self) -> Self::Found {
-        (
-            self.0.start(),
-            (
-                self.1.start(),
-                (
-                    self.2.start(),
-                    (
-                        self.3.start(),
-                        (
-                            self.4.start(),
-                            (self.5.start(), (self.6.start(), self.7.start())),
-                        ),
-                    ),
-                ),
-            ),
-        )
+    fn start(self) -> Self::Reading {
+        let (a, b, c, d, e, f, g, h) = self;
+        <(A, (B, (C, (D, (E, (F, (G, H))))))) as StructFields<
+            I,
+            (S, (T, (U, (V, (W, (X, (Y, Z))))))),
+        >>::start((a, (b, (c, (d, (e, (f, (g, h))))))))
     }
 
     #[inline(always)]
-    fn read(
-        &self,
-        found: &mut Self::Found,
-        map: &mut MapAccess<'_, I>,
-        name: &str,
-    ) -> Result<bool> {
-        match self.0.read(&mut found.0, map, name) {
-            Ok(true) => return Ok(true),
-            Ok(false) => {}
-            Err(e) => return Err(e),
-        }
-        match self.1.read(&mut found.1.0, map, name) {
-            Ok(true) => return Ok(true),
-            Ok(false) => {}
-            Err(e) => return Err(e),
-        }
-        match self.2.read(&mut found.1.1.0, map, name) {
-            Ok(true) => return Ok(true),
-            Ok(false) => {}
-            Err(e) => return Err(e),
-        }
-        match self.3.read(&mut found.1.1.1.0, map, name) {
-            Ok(true) => return Ok(true),
-            Ok(false) => {}
-            Err(e) => return Err(e),
-        }
-        match self.4.read(&mut found.1.1.1.1.0, map, name) {
-            Ok(true) => return Ok(true),
-            Ok(false) => {}
-            Err(e) => return Err(e),
-        }
-        match self.5.read(&mut found.1.1.1.1.1.0, map, name) {
-            Ok(true) => return Ok(true),
-            Ok(false) => {}
-            Err(e) => return Err(e),
-        }
-        match self.6.read(&mut found.1.1.1.1.1.1.0, map, name) {
-            Ok(true) => return Ok(true),
-            Ok(false) => {}
-            Err(e) => return Err(e),
-        }
-        self.7.read(&mut found.1.1.1.1.1.1.1, map, name)
+    fn read(fields: &mut Self::Reading, map: &mut MapAccess<'_, I>, name: &str) -> Result<bool> {
+        <(A, (B, (C, (D, (E, (F, (G, H))))))) as StructFields<
+            I,
+            (S, (T, (U, (V, (W, (X, (Y, Z))))))),
+        >>::read(fields, map, name)
     }
 
     #[inline(always)]
     fn finish(
-        self,
-        found: Self::Found,
+        fields: Self::Reading,
         map: &mut MapAccess<'_, I>,
     ) -> Result<(S, T, U, V, W, X, Y, Z)> {
-        let (a, b, c, d, e, f, g, h) = self;
-        match (a, (b, (c, (d, (e, (f, (g, h))))))).finish(found, map) {
+        match <(A, (B, (C, (D, (E, (F, (G, H))))))) as StructFields<
+            I,
+            (S, (T, (U, (V, (W, (X, (Y, Z))))))),
+        >>::finish(fields, map)
+        {
             Ok(values) => {
-                let (first, (second, (third, (fourth, (fifth, (sixth, (seventh, eighth))))))) =
-                    values;
-                Ok((first, second, third, fourth, fifth, sixth, seventh, eighth))
+                let (a, (b, (c, (d, (e, (f, (g, h))))))) = values;
+                Ok((a, b, c, d, e, f, g, h))
             }
             Err(e) => Err(e),
         }

@@ -2,9 +2,12 @@
 //! again, or why it is refused.
 #![tactic(auto)]
 
+mod else_types;
 mod types;
 
+use else_types::Defaults;
 use json5::{Deserialize, Result, Serialize};
+use json5_own_type::Backup;
 use std::alloc::Global;
 use std::io::{self, BufRead, BufReader, BufWriter, Write};
 use types::{Long, Only, Prefixes};
@@ -23,6 +26,8 @@ fn answer(alloc: Global, name: &str, text: &str) -> Result<String> {
         "prefixes" => again::<Prefixes>(alloc, text),
         "only" => again::<Only>(alloc, text),
         "both" => again::<Vec<Only>>(alloc, text),
+        "defaults" => again::<Defaults>(alloc, text),
+        "backup" => again::<Backup>(alloc, text),
         _ => again::<Long>(alloc, text),
     }
 }

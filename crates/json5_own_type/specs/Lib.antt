@@ -4,5 +4,6 @@ pub mod Articles
 pub mod Colors
 pub mod Levels
 pub mod Reminders
+pub mod Backups
 pub mod Settings
 pub mod Endpoints

@@ -3,6 +3,7 @@
 
 mod articles;
 mod at_most;
+mod backups;
 mod colors;
 mod ids;
 mod labels;
@@ -18,6 +19,7 @@ ghost use Rattle.json5.specs.Faults.{EndsWithOrMemory};
 
 pub use articles::Article;
 pub use at_most::AtMost;
+pub use backups::{Backup, Moment};
 pub use colors::{Color, colors_read_back};
 pub use ids::Id;
 use json5::de::value_codes;

@@ -1,51 +1,52 @@
 use Rattle.std.proofs.Common.{rules, ap, ◌∙◌}
 use Rattle.json5_de.specs.Objects.{MapAccessState}
 use Rattle.json5_de.specs.StructFaults.{or_of, of_any}
-use Rattle.json5_de.proofs.Structs.{struct_read, fields_complete, fields_unprompted, missing_completes, end_completes, still}
-use Rattle.json5_de.proofs.StructFaults.{unopened, pairs_refused, missing_refused, closes_there}
+use Rattle.json5_de.proofs.Structs.{struct_read, fields_complete, fields_unprompted, end_completes, still}
+use Rattle.json5_de.proofs.StructFaults.{unopened, pairs_refused, closes_there}
 use Rattle.json5_fields.specs.Layouts.{whole_plan, held_plan}
+use Rattle.json5_fields.proofs.DescribedFaults.{in_its_fields, unfinished_completes, unfinished_refused}
 use Rattle.json5_fields.proofs.objects.read_object.Goals as goal
 
 pub returns-in_err-read_fields-clause-complete : goal.returns-in_err-read_fields-clause-complete
 returns-in_err-read_fields-clause-complete g c =
-    let reads = rw c.start-found.ensures at c.in_err-read_fields.ensures.reads in
+    let reads = rw (c.start-reading.ensures.same, c.start-reading.ensures.none) at c.in_err-read_fields.ensures.reads in
     fields_complete (whole_plan (g.F.StructFields.layout (g.F.StructFields.shape c.args.fields)) c.requires) c.in_ok-map.map c.in_ok-map.ensures.opens _ _ c.from_residual-in_err-read_fields.ensures.1 reads
 
 pub returns-in_err-output-clause-complete : goal.returns-in_err-output-clause-complete
 returns-in_err-output-clause-complete g c =
-    let reads = rw c.start-found.ensures at c.in_ok-read_fields.ensures.reads in
-    missing_completes (whole_plan (g.F.StructFields.layout (g.F.StructFields.shape c.args.fields)) c.requires) c.in_ok-map.map c.in_ok-map.ensures.opens _ _ c.from_residual-in_err-output.ensures.1 reads (c.in_err-output.ensures.missing c.in_ok-read_fields.ensures.reads.live).0
+    let reads = rw (c.start-reading.ensures.same, c.start-reading.ensures.none) at c.in_ok-read_fields.ensures.reads in
+    unfinished_completes (whole_plan (g.F.StructFields.layout (g.F.StructFields.shape c.args.fields)) c.requires) c.in_ok-map.map c.in_ok-map.ensures.opens _ _ c.from_residual-in_err-output.ensures.1 reads (c.in_err-output.ensures.missing c.in_ok-read_fields.ensures.reads.live).0
 
 pub returns-in_err-end-clause-complete : goal.returns-in_err-end-clause-complete
 returns-in_err-end-clause-complete g c =
-    let reads = rw c.start-found.ensures at c.in_ok-read_fields.ensures.reads in
+    let reads = rw (c.start-reading.ensures.same, c.start-reading.ensures.none) at c.in_ok-read_fields.ensures.reads in
     let same = c.in_ok-output.ensures.same in
     end_completes (whole_plan (g.F.StructFields.layout (g.F.StructFields.shape c.args.fields)) c.requires) c.in_ok-map.map c.in_ok-map.ensures.opens _ _ c.from_residual-in_err-end.ensures.1 (still same reads)
     (λ r left. (c.in_err-end.ensures.alone (search rules)).left r (ap (λ (m : MapAccessState). m.pending) same ∙ c.in_ok-read_fields.ensures.pending) left)
 
 pub returns-clause-sound : goal.returns-clause-sound
 returns-clause-sound g c =
-    let reads = rw c.start-found.ensures at c.in_ok-read_fields.ensures.reads in
+    let reads = rw (c.start-reading.ensures.same, c.start-reading.ensures.none) at c.in_ok-read_fields.ensures.reads in
     struct_read (whole_plan (g.F.StructFields.layout (g.F.StructFields.shape c.args.fields)) c.requires) c.in_ok-map.map c.in_ok-map.ensures.opens (still c.in_ok-output.ensures.same reads) (search rules) (c.in_ok-end.ensures.alone (search rules)).read c.in_ok-output.ensures.built
 
 pub returns-in_err-map-clause-refused : goal.returns-in_err-map-clause-refused
-returns-in_err-map-clause-refused g c = unopened (held_plan (g.F.StructFields.layout (g.F.StructFields.shape c.args.fields))) (or_of g.F.StructFields.faults of_any) _ _ c.from_residual.ensures.1 c.in_err-map.ensures.opens.bracket.refused
+returns-in_err-map-clause-refused g c = in_its_fields (held_plan (g.F.StructFields.layout (g.F.StructFields.shape c.args.fields))) (or_of g.F.StructFields.faults of_any) c.args.de.now c.from_residual.result (unopened (held_plan (g.F.StructFields.layout (g.F.StructFields.shape c.args.fields))) (or_of g.F.StructFields.faults of_any) _ _ c.from_residual.ensures.1 c.in_err-map.ensures.opens.bracket.refused)
 
 pub returns-in_err-read_fields-clause-refused : goal.returns-in_err-read_fields-clause-refused
 returns-in_err-read_fields-clause-refused g c =
-    let refused = rw c.start-found.ensures at c.in_err-read_fields.ensures.refused in
-    pairs_refused (held_plan (g.F.StructFields.layout (g.F.StructFields.shape c.args.fields))) (or_of g.F.StructFields.faults of_any) _ _ c.from_residual-in_err-read_fields.ensures.1 c.in_ok-map.map c.in_ok-map.ensures.opens refused
+    let refused = rw (c.start-reading.ensures.same, c.start-reading.ensures.none) at c.in_err-read_fields.ensures.refused in
+    in_its_fields (held_plan (g.F.StructFields.layout (g.F.StructFields.shape c.args.fields))) (or_of g.F.StructFields.faults of_any) c.args.de.now c.from_residual-in_err-read_fields.result (pairs_refused (held_plan (g.F.StructFields.layout (g.F.StructFields.shape c.args.fields))) (or_of g.F.StructFields.faults of_any) _ _ c.from_residual-in_err-read_fields.ensures.1 c.in_ok-map.map c.in_ok-map.ensures.opens refused)
 
 pub returns-in_err-output-clause-refused : goal.returns-in_err-output-clause-refused
 returns-in_err-output-clause-refused g c =
-    let reads = rw c.start-found.ensures at c.in_ok-read_fields.ensures.reads in
+    let reads = rw (c.start-reading.ensures.same, c.start-reading.ensures.none) at c.in_ok-read_fields.ensures.reads in
     let missing = c.in_err-output.ensures.missing c.in_ok-read_fields.ensures.reads.live in
-    missing_refused (held_plan (g.F.StructFields.layout (g.F.StructFields.shape c.args.fields))) (or_of g.F.StructFields.faults of_any) _ _ c.from_residual-in_err-output.ensures.1 c.in_ok-map.map c.in_ok-map.ensures.opens c.in_ok-read_fields.ensures.access reads missing.0 missing.1
+    unfinished_refused (held_plan (g.F.StructFields.layout (g.F.StructFields.shape c.args.fields))) (or_of g.F.StructFields.faults of_any) _ _ c.from_residual-in_err-output.ensures.1 c.in_ok-map.map c.in_ok-map.ensures.opens c.in_ok-read_fields.ensures.access reads missing.0 missing.1
 
 pub returns-in_err-end-clause-refused : goal.returns-in_err-end-clause-refused
 returns-in_err-end-clause-refused g c = closes_there (still c.in_ok-output.ensures.same c.in_ok-read_fields.ensures.reads) (c.in_err-end.ensures.alone (search rules))
 
 pub returns-in_err-read_fields-clause-unprompted : goal.returns-in_err-read_fields-clause-unprompted
 returns-in_err-read_fields-clause-unprompted g c =
-    let reads = rw c.start-found.ensures at c.in_err-read_fields.ensures.reads in
+    let reads = rw (c.start-reading.ensures.same, c.start-reading.ensures.none) at c.in_err-read_fields.ensures.reads in
     fields_unprompted (whole_plan (g.F.StructFields.layout (g.F.StructFields.shape c.args.fields)) c.requires) c.in_ok-map.map c.in_ok-map.ensures.opens _ _ c.from_residual-in_err-read_fields.ensures.1 reads

@@ -1,24 +1,8 @@
-use Rattle.std.proofs.Common.{◌≡◌, Bool, true, false, refl}
 use Rattle.json5_de.specs.FieldNames.{name_text}
-use Rattle.std.specs.Prelude.{is_some}
 use Rattle.json5_de.specs.Convert.{every_text}
 use Rattle.json5_de.specs.KeyKinds.{RefusedAsKey, string_key}
-use Rattle.json5_de.specs.Lending.{blocking_map}
-use Rattle.json5_de.specs.ShortWays.{if_given}
-use Rattle.json5_de.proofs.ObjectCalls.{lent, key_given, key_refused}
+use Rattle.json5_de.proofs.KeyPlaces.{read_with_start}
 use Rattle.json5_de.proofs.map.MapAccess.next_name.Goals as goal
 
-given_is_some : {A : Type 0} (value : A) (given : Bool) → given ≡ is_some (if_given value given)
-given_is_some value true = refl
-given_is_some value false = refl
-
-pub returns-in-Ok : goal.returns-in-Ok
-returns-in-Ok g c =
-    let k = rw (c.set_failed.ensures, c.is_comma_due.ensures) at c.in-Ok.ensures in
-    let new = blocking_map (lent c.args.self.now c.member_name.new.self) c.args.self.now.failed in
-    rw (c.with_key-self.ensures, c.set_failed-in-Ok.ensures) (key_given name_text every_text (RefusedAsKey string_key) c.args.self.now c.requires.no_key c.member_name.new.self new c.in-Ok.given (if_given c.member_name.new.name c.in-Ok.given) refl (given_is_some c.member_name.new.name c.in-Ok.given) k.steady.same_text k.sound)
-
-pub returns-in-Err : goal.returns-in-Err
-returns-in-Err g c =
-    let k = rw (c.set_failed.ensures, c.is_comma_due.ensures) at c.in-Err.ensures in
-    key_refused name_text every_text (RefusedAsKey string_key) c.args.self.now c.requires.no_key c.member_name.new.self c.refused.new.self c.in-Err.e c.refused.result c.refused.ensures.blocks c.refused.ensures.placed k.cause k.steady k.complete k.closing
+pub returns-in-Ok-clause-key : goal.returns-in-Ok-clause-key
+returns-in-Ok-clause-key g c = read_with_start c.args.self.now c.take_name.new.self c.take_name.new.start name_text every_text (RefusedAsKey string_key) _ c.in-Ok.ensures.key

@@ -13,7 +13,7 @@ loop-name-init g c = record { same_reference = refl; start = refl; same_text = r
 pub loop-name-preserved : goal.loop-name-preserved
 loop-name-preserved g c =
     let m = c.loop-name.invariant in
-    let key = c.in_ok-next_name.ensures in
+    let key = c.in_ok-next_name.ensures.key in
     let access = c.in_ok-read.ensures.access in
     let named = reads_name name_text c.next_name.new.name m.reading (live_after_key name_text every_text (map_state_of c.loop-name.self) (map_state_of c.next_name.new.self) c.next_name.new.name (rw c.if-branch.true at key.sound)) (rw c.if-branch.true at key.read) (rw c.if-branch.true at key.left) in
     record {
@@ -27,33 +27,33 @@ loop-name-preserved g c =
 
 pub returns-in_err-next_name-clause-reads : goal.returns-in_err-next_name-clause-reads
 returns-in_err-next_name-clause-reads g c =
-    key_refuses _ _ name_text c.from_residual.ensures.1 c.loop-name.invariant.reading c.in_err-next_name.ensures.refused.failed c.in_err-next_name.ensures.refused.unprompted c.in_err-next_name.ensures.left
+    key_refuses _ _ name_text c.from_residual.ensures.1 c.loop-name.invariant.reading c.in_err-next_name.ensures.key.refused.failed c.in_err-next_name.ensures.key.refused.unprompted c.in_err-next_name.ensures.key.left
 
 pub returns-in_err-read-clause-reads : goal.returns-in_err-read-clause-reads
 returns-in_err-read-clause-reads g c =
-    let key = c.in_ok-next_name.ensures in
+    let key = c.in_ok-next_name.ensures.key in
     let named = reads_name name_text c.next_name.new.name c.loop-name.invariant.reading (live_after_key name_text every_text (map_state_of c.loop-name.self) (map_state_of c.next_name.new.self) c.next_name.new.name (rw c.if-branch.true at key.sound)) (rw c.if-branch.true at key.read) (rw c.if-branch.true at key.left) in
     pair_refuses _ _ c.from_residual-in_err-read.ensures.1 named (rw c.as_str.ensures at c.in_err-read.ensures.takes)
 
 pub returns-clause-reads : goal.returns-clause-reads
 returns-clause-reads g c =
-    let key = c.in_ok-next_name.ensures in
+    let key = c.in_ok-next_name.ensures.key in
     let none = rw c.if-branch.false at key.sound in
     all_read name_text c.loop-name.invariant.reading (live_at_brace name_text every_text (map_state_of c.loop-name.self) (map_state_of c.next_name.new.self) none)
     (brace_next name_text every_text (map_state_of c.loop-name.self) (map_state_of c.next_name.new.self) none) (rw c.if-branch.false at key.read) (rw c.if-branch.false at key.left)
 
 pub returns-in_err-next_name-clause-refused : goal.returns-in_err-next_name-clause-refused
 returns-in_err-next_name-clause-refused g c =
-    key_cause _ _ _ c.from_residual.ensures.1 c.loop-name.invariant.reading c.loop-name.invariant.same_text c.loop-name.invariant.start c.in_err-next_name.ensures.refused.cause
-    (λ f. c.in_err-next_name.ensures.refused.before (c.loop-name.invariant.failed f))
+    key_cause _ _ _ c.from_residual.ensures.1 c.loop-name.invariant.reading c.loop-name.invariant.same_text c.loop-name.invariant.start c.in_err-next_name.ensures.key.refused.cause
+    (λ f. c.in_err-next_name.ensures.key.refused.before (c.loop-name.invariant.failed f))
 
 pub returns-in_err-read-clause-refused : goal.returns-in_err-read-clause-refused
 returns-in_err-read-clause-refused g c =
     let m = c.loop-name.invariant in
-    let key = c.in_ok-next_name.ensures in
+    let key = c.in_ok-next_name.ensures.key in
     let named = reads_name name_text c.next_name.new.name m.reading (live_after_key name_text every_text (map_state_of c.loop-name.self) (map_state_of c.next_name.new.self) c.next_name.new.name (rw c.if-branch.true at key.sound)) (rw c.if-branch.true at key.read) (rw c.if-branch.true at key.left) in
     value_cause _ _ _ c.from_residual-in_err-read.ensures.1 named (key.access.same_text ∙ m.same_text) (key.access.start ∙ m.start) (rw c.as_str.ensures at c.in_err-read.ensures.refused)
     (λ f. live_before name_text every_text (map_state_of c.loop-name.self) (map_state_of c.next_name.new.self) (if_given c.next_name.new.name c.in_ok-next_name.field-0) key.sound (m.failed f))
 
 pub returns-clause-refused : goal.returns-clause-refused
-returns-clause-refused g c = record { cause = tt; before = λ f. absurd (live_before name_text every_text (map_state_of c.loop-name.self) (map_state_of c.next_name.new.self) (if_given c.next_name.new.name c.in_ok-next_name.field-0) c.in_ok-next_name.ensures.sound (c.loop-name.invariant.failed f)) }
+returns-clause-refused g c = record { cause = tt; before = λ f. absurd (live_before name_text every_text (map_state_of c.loop-name.self) (map_state_of c.next_name.new.self) (if_given c.next_name.new.name c.in_ok-next_name.field-0) c.in_ok-next_name.ensures.key.sound (c.loop-name.invariant.failed f)) }

@@ -2,12 +2,12 @@ use Rattle.std.proofs.Common.{◌≡◌}
 use Rattle.json5_fields.proofs.Described.{same_name, takes_it}
 use Rattle.json5_fields.proofs.fields.WithDefaultStructFields.read.Goals as goal
 
-pub returns-in-Ok : goal.returns-in-Ok
-returns-in-Ok g c =
-    let same : c.args.name.now ≡ c.args.self.now.0.now = same_name _ _ _ c.ne.ensures c.if-ne.false in
-    takes_it same c.in-Ok.ensures.reads c.in-Ok.ensures.access c.in-Ok.ensures.pending
+pub returns-in-Ok-clause-tries : goal.returns-in-Ok-clause-tries
+returns-in-Ok-clause-tries g c =
+    let same : c.args.name.now ≡ c.args.fields.now.name.now = same_name _ _ _ c.ne.ensures c.if-ne.false in
+    takes_it same c.in-Ok.ensures
 
-pub returns-in-Err : goal.returns-in-Err
-returns-in-Err g c =
-    let same : c.args.name.now ≡ c.args.self.now.0.now = same_name _ _ _ c.ne.ensures c.if-ne.false in
-    takes_it same c.in-Err.ensures.reads c.in-Err.ensures.access c.in-Err.ensures.pending
+pub returns-in-Err-clause-tries : goal.returns-in-Err-clause-tries
+returns-in-Err-clause-tries g c =
+    let same : c.args.name.now ≡ c.args.fields.now.name.now = same_name _ _ _ c.ne.ensures c.if-ne.false in
+    takes_it same c.in-Err.ensures

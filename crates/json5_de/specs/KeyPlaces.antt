@@ -1,0 +1,32 @@
+-- Where the key of a member begins.
+use Rattle.std.specs.Prelude.{◌≡◌, ℕ, Bool, true, false, List, ◌++◌, length, Result, Ok, Err}
+use Rattle.std.specs.Str.{encode_utf8_all}
+use Rattle.json5_grammar.specs.Language.Blanks.{Solid}
+use Rattle.json5_grammar.specs.Model.Collections.{ReadsKey}
+use Rattle.json5_types.specs.declared.error.Error.{Error}
+use Rattle.json5_de.specs.Objects.{MapAccessState}
+use Rattle.json5_de.specs.Fields.{IsOwnAtBracket}
+
+-- a key with this name begins so many bytes after the start of the input, and this is unread after it
+pub record KeyBegins (name : List ℕ) (start : ℕ) (input unread : List ℕ) : Type 0 where
+  pub before : List ℕ
+  pub here : List ℕ
+  pub split : input ≡ before ++ here
+  pub counted : start ≡ length (encode_utf8_all before)
+  pub solid : Solid here
+  pub text : List ℕ
+  pub escape_free : Bool
+  pub reads : ReadsKey here text escape_free unread
+  pub named : encode_utf8_all text ≡ name
+
+-- the same of a call that says whether there was a key
+abbrev pub BeginsIfGiven : List ℕ → ℕ → List ℕ → List ℕ → Result Bool Error → Type 0
+BeginsIfGiven name start input unread (Ok true) = KeyBegins name start input unread
+BeginsIfGiven name start input unread (Ok false) = Unit {0}
+BeginsIfGiven name start input unread (Err e) = Unit {0}
+
+-- a custom fault at the key that was read last, which has this name, or memory ran out
+pub record IsOwnAtKey (name : List ℕ) (old : MapAccessState) (e : Error) : Type 0 where
+  pub start : ℕ
+  pub begins : KeyBegins name start old.at.reader.input old.at.reader.unread
+  pub fault : IsOwnAtBracket (record old.at { start = start }) e
