@@ -1,0 +1,39 @@
+//! A struct by a description.
+
+use json5::fields::StructFields;
+use json5::{
+    Deserialize, Deserializer, Input, Optional, Required, Result, WithDefault, read_struct,
+};
+
+/// `{ host: 'localhost', port: 8080 }`
+#[derive(Drop)]
+pub struct Server {
+    pub host: String,
+    pub port: u16,
+    pub label: Option<String>,
+}
+
+type Parts = (Required, WithDefault<u16>, Optional);
+
+type Values = (String, u16, Option<String>);
+
+impl<I: Input> Deserialize<I> for Server {
+    ghost use Rattle.std.specs.Prelude.{codes};
+    ghost use Rattle.json5.specs.Collections.{object_of};
+
+    ghost Content = { ⟦<Parts as StructFields<I, Values>>⟧.Content };
+
+    ghost content = { λ s. ⟦<Parts as StructFields<I, Values>>⟧.content (s.host, s.port, s.label) };
+
+    ghost convert = { object_of (⟦<Parts as StructFields<I, Values>>⟧.layout (codes "host", ((codes "port", 80), codes "label"))).convert };
+
+    fn deserialize(de: &mut Deserializer<I>) -> Result<Server> {
+        match read_struct(
+            de,
+            (Required("host"), WithDefault("port", 80), Optional("label")),
+        ) {
+            Ok((host, port, label)) => Ok(Server { host, port, label }),
+            Err(e) => Err(e),
+        }
+    }
+}

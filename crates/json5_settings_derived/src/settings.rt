@@ -1,0 +1,99 @@
+//! The settings of a web server, derived. An unknown field is refused.
+
+use serde::{Deserialize, Serialize};
+
+/// `{ server: { .. }, routes: [ .. ], limits: { .. }, log: 'info', timeouts: { .. } }`
+#[derive(Drop, Serialize, Deserialize)]
+#[serde(deny_unknown_fields)]
+pub struct Settings {
+    pub server: Server,
+    pub routes: Vec<Route>,
+    pub limits: Option<Limits>,
+    #[serde(default = "info")]
+    pub log: Log,
+    pub timeouts: Option<Timeouts>,
+}
+
+/// `{ host: 'shop.example', port: 8443, tls: { .. } }`; the port is 80 where it is missing.
+#[derive(Drop, Serialize, Deserialize)]
+#[serde(deny_unknown_fields)]
+pub struct Server {
+    pub host: String,
+    #[serde(default = "http")]
+    pub port: u16,
+    pub tls: Option<Tls>,
+}
+
+/// The files of a certificate and its key.
+#[derive(Drop, Serialize, Deserialize)]
+#[serde(deny_unknown_fields)]
+pub struct Tls {
+    pub cert: String,
+    pub key: String,
+}
+
+/// `{ path: '/', methods: ['GET'], upstream: 'http://127.0.0.1:9000' }`
+#[derive(Drop, Serialize, Deserialize)]
+#[serde(deny_unknown_fields)]
+pub struct Route {
+    pub path: String,
+    pub methods: Option<Vec<Method>>,
+    pub upstream: String,
+}
+
+/// The most bytes of a body and of a header.
+#[derive(Drop, Serialize, Deserialize)]
+#[serde(deny_unknown_fields)]
+pub struct Limits {
+    #[serde(default = "mebibyte")]
+    pub body: u64,
+    #[serde(default = "eight_kibibytes")]
+    pub header: u32,
+}
+
+/// Seconds.
+#[derive(Drop, Serialize, Deserialize)]
+#[serde(deny_unknown_fields)]
+pub struct Timeouts {
+    #[serde(default = "half_a_minute")]
+    pub read: u16,
+    #[serde(default = "half_a_minute")]
+    pub write: u16,
+}
+
+/// `'error'`, `'info'` or `'debug'`
+#[derive(Clone, Copy, Debug, Serialize, Deserialize)]
+#[serde(rename_all = "lowercase")]
+pub enum Log {
+    Error,
+    Info,
+    Debug,
+}
+
+/// `'GET'` or `'POST'`
+#[derive(Clone, Copy, Debug, Serialize, Deserialize)]
+#[serde(rename_all = "UPPERCASE")]
+pub enum Method {
+    Get,
+    Post,
+}
+
+fn info() -> Log {
+    Log::Info
+}
+
+fn http() -> u16 {
+    80
+}
+
+fn mebibyte() -> u64 {
+    1048576
+}
+
+fn eight_kibibytes() -> u32 {
+    8192
+}
+
+fn half_a_minute() -> u16 {
+    30
+}
