@@ -1,7 +1,7 @@
 //! How it is written.
 
 use crate::server::Server;
-use json5::{Field, Given, Serialize, Serializer, write_struct};
+use json5::{Field, Given, Result, Serialize, Serializer, write_struct};
 use std::io::Write;
 
 impl Serialize for Server {
