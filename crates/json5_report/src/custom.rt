@@ -37,7 +37,7 @@ fn unknown_remark<'t>(
     name: &'t str,
 ) -> Result<Remark<'t>, AllocError> {
     let advice = near_name(alloc, fault.message)?.map(Advice::DidYouMean);
-    match member_key(alloc, fault.text, fault.offset, name, 0)? {
+    match member_key(alloc, fault.text, fault.object_start(), name, 0)? {
         Some(key) => Ok(Remark {
             start: key.start,
             end: key.end,
@@ -56,8 +56,8 @@ fn repeated_remark<'t>(
     fault: &Fault<'t>,
     name: &'t str,
 ) -> Result<Remark<'t>, AllocError> {
-    let first = member_key(alloc, fault.text, fault.offset, name, 0)?;
-    let second = member_key(alloc, fault.text, fault.offset, name, 1)?;
+    let first = member_key(alloc, fault.text, fault.object_start(), name, 0)?;
+    let second = member_key(alloc, fault.text, fault.object_start(), name, 1)?;
     match (first, second) {
         (Some(first), Some(second)) => {
             let line = fault.line_of(first.start);

@@ -69,6 +69,15 @@ impl<'t> Fault<'t> {
         lexeme_at(self.text, token.end).kind == Kind::Colon
     }
 
+    /// Where the object begins whose field is at fault: at the offset itself, or it is the innermost one that is open there.
+    pub(crate) fn object_start(&self) -> usize {
+        match (self.token(), self.trail.brackets.last()) {
+            (Some(token), _) if token.kind == Kind::Open => self.offset,
+            (_, Some(bracket)) => bracket.start,
+            _ => self.offset,
+        }
+    }
+
     /// The number of the line that the offset is in, counted from 1.
     pub(crate) fn line_of(&self, offset: usize) -> u128 {
         let before = self.text.get(..offset).unwrap_or("");
