@@ -14,7 +14,7 @@ struct Server {
 fn main(rt: HostRuntime) -> json5_serde::Result<()> {
     let alloc = rt.alloc();
     let mut server: Server = json5_serde::from_str(alloc, "{host: 'localhost', port: 0x1F90}")?;
-    server.port += 1;
+    server.port = 8443;
     println!(rt; "{}", json5_serde::to_string(alloc, &server)?)?;
     Ok(())
 }
