@@ -11,3 +11,10 @@ pub mod DeepestInside
 pub mod InlineDigits
 pub mod LookedUp
 pub mod ValuesCompared
+pub mod ValuesCounted
+pub mod MembersPlaced
+pub mod ValuesChanged
+pub mod MembersMerged
+pub mod PointerParts
+pub mod PointerKeys
+pub mod PointerIndices

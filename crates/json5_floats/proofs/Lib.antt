@@ -1,0 +1,2 @@
+-- Lists the lemmas about floats.
+pub mod SpelledNumbers
