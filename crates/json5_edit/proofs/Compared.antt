@@ -1,22 +1,21 @@
 -- Two collections whose entries were compared.
-use Rattle.std.proofs.Common.{◌≡◌, ℕ, suc, ◌+◌, ◌≤◌, Bool, true, false, List, [], ◌∷◌, ◌++◌, length, refl, ap, sym, ◌∙◌, append_assoc, subst, Option, Some, None, arith}
-use Rattle.std.specs.Prelude.{◌≢◌, OnOk, Result, Ok, Err}
+use Rattle.std.proofs.Common.{◌≡◌, ℕ, ◌+◌, List, [], ◌∷◌, ◌++◌, length, refl, ap, sym, ◌∙◌, append_assoc, subst, Option, Some, None, arith}
+use Rattle.std.specs.Prelude.{◌≢◌}
 use Rattle.std.specs.Str.{chars}
 use Rattle.std.proofs.lemmas.List.{length-append}
 use Rattle.json5_grammar.specs.Language.Blanks.{Blanks, LastBlanks}
-use Rattle.json5_grammar.specs.Language.Documents.{Doc, max_depth}
+use Rattle.json5_grammar.specs.Language.Documents.{Doc}
 use Rattle.json5_grammar.specs.Language.Trees.{Tree, depth}
 use Rattle.json5_grammar.specs.Language.Values.{Val}
 use Rattle.json5_grammar.proofs.OneTree.{one_tree}
-use Rattle.json5_types.specs.Cows.{cow_bytes}
 use Rattle.json5_value.specs.declared.brackets.BracketKind.{BracketKind as Kind}
 use Rattle.json5_value.specs.declared.brackets.BracketKind.TheVariants as kind
 use Rattle.json5_walk.specs.Moves.{Closes}
 use Rattle.json5_walk.specs.Walks.{Walked, Trail, IsAt, Moved, Ends}
 use Rattle.json5_walk.proofs.Rests.{append_nil}
-use Rattle.json5_edit.specs.Changes.{ChangesBy, Gains}
-use Rattle.json5_edit.specs.Comparing.{With, EndsToo, BothPass, BothClose, PassesPair, PassesFront, PassesRest, LacksKey, Lacks, IsOther, IsWithout, IsWithLast, IsRenamed, GoesTo, step_kind, step_key, step_place}
-use Rattle.json5_edit.specs.Entries.{entries, kind_of, empty_of, read_in, TakesEntry, Holds, Closed}
+use Rattle.json5_edit.specs.Changes.{ChangesBy, Gains, GainsAt}
+use Rattle.json5_edit.specs.Comparing.{With, EndsToo, BothPass, PassesPair, PassesFront, PassesRest, LacksKey, Lacks, IsOther, IsWithout, IsRenamed, GoesTo, step_kind, step_key, step_place}
+use Rattle.json5_edit.specs.Entries.{entries, kind_of, empty_of, read_in, TakesEntry, Holds}
 use Rattle.json5_edit.specs.declared.entries.Entry.{Entry}
 use Rattle.json5_edit.specs.declared.paths.Step.{Step}
 use Rattle.json5_edit.specs.declared.paths.Step.TheVariants as step
@@ -207,6 +206,34 @@ added {x = x} {y = y} k count key value name spelled h g front one same same_tex
           was_kind = both.left_with.same_kind ∙ empty_kind k;
           kind = right.same_kind ∙ empty_kind k;
           one_more = from_empty k (es ++ mid) right ∙ ap (λ z. z ++ mid) (sym (from_empty k es both.left_with)) ∙ ap (λ z. entries both.left ++ ((z, came.tree) ∷ [])) same;
+        },
+      ),
+    )
+
+pub put_in : {x y : List ℕ} {l1 r1 l2 r2 r3 l4 r4 : Walked} (s : Step) (i : ℕ) (key value spelled : List ℕ) → Holds x (empty_of kind.Array) l1 → Holds y (empty_of kind.Array) r1 → PassesFront i l1 r1 l2 r2 → Moved (TakesEntry key value) r2 r3 → key ≡ [] → value ≡ spelled → PassesRest s l2 r3 l4 r4 → ((t : Trail) → IsAt l4 t → Ends l4 t) → ((t : Trail) → IsAt r4 t → Ends r4 t) → ChangesBy (GainsAt i spelled) x y
+put_in {x = x} {y = y} s i key value spelled h k front one same same_text rest end_left end_right =
+    let e = empty_of kind.Array in
+    let (es, both, size) = front.passed x y e e h k in
+    let came = passes key value both.right_holds one in
+    let (fs, close, lacks) = rest x y both.left came.all both.left_holds came.holds in
+    let mid : List (List ℕ × Tree) = (key, came.tree) ∷ [] in
+    let left = with_more es fs both.left_with close.left_with in
+    let right = with_more (es ++ mid) fs (with_more es mid both.right_with came.one) close.right_with in (
+      close.left,
+      close.right,
+      is_document close.left_closed end_left,
+      is_document close.right_closed end_right,
+      (
+        came.tree,
+        subst (λ z. Val (chars z) came.tree) same_text came.is_value,
+        record {
+          was_kind = left.same_kind;
+          kind = right.same_kind;
+          before = es;
+          after = fs;
+          was = from_empty kind.Array (es ++ fs) left;
+          now = from_empty kind.Array ((es ++ mid) ++ fs) right ∙ append_assoc es mid fs ∙ ap (λ z. es ++ ((z, came.tree) ∷ fs)) same;
+          there = size;
         },
       ),
     )

@@ -1,5 +1,5 @@
 -- The place that was found, and another value in it.
-use Rattle.std.proofs.Common.{◌≡◌, ◌&&◌, ℕ, ◌≤◌, ◌-◌, Bool, true, false, List, [], ◌∷◌, ◌++◌, length, refl, ap, sym, ◌∙◌, append_assoc, subst, Option, Some, None, arith, take, drop}
+use Rattle.std.proofs.Common.{◌≡◌, ◌&&◌, ℕ, ◌+◌, ◌≤◌, ◌-◌, Bool, true, false, List, [], ◌∷◌, ◌++◌, length, refl, ap, sym, ◌∙◌, append_assoc, subst, Option, Some, None, arith, take, drop}
 use Rattle.std.specs.Prelude.{option_map, MatchOption, slice_get, slice_range, IfOk, Result, Ok, Err}
 use Rattle.std.specs.Str.{chars, IsUtf8, IsCharBoundary, all_scalars, encode_utf8_all}
 use Rattle.std.proofs.lemmas.Str.{encodes-chars, encodes-append, chars-encodes, scalars-chars, chars-append, IsCharBoundary-at_seam}
@@ -67,6 +67,11 @@ nowhere path t f = sym (same_option (positions_of path t)) ∙ sym f
 somewhere : (path : List Step) (t : Tree) (o : List Frame) → Finds [] path t (Some o) → positions_of path t ≡ Some (positions o [])
 somewhere path t o f = sym (same_option (positions_of path t)) ∙ sym f
 
+positions_count : (o : List Frame) (js : List ℕ) → length (positions o js) ≡ length o + length js
+positions_count [] js = omega arith
+positions_count (in_array ts ∷ o) js = let e = positions_count o (count ts ∷ js) in omega (arith, e)
+positions_count (in_object ps u b ∷ o) js = let e = positions_count o (count_members ps ∷ js) in omega (arith, e)
+
 is_place : (limit : ℕ) (bytes : List ℕ) (path : List Step) (w : Tree) (p : Place) (o : List Frame) → limit ≡ max_depth → positions_of path w ≡ Some (positions o []) → Marked limit bytes (λ z. z ≡ w) p o → IsPlace bytes path w p
 is_place limit bytes path w p o l led q =
     let c : ClosesTo limit o q.tree q.after w = q.rest w refl in
@@ -75,10 +80,10 @@ is_place limit bytes path w p o l led q =
       old = q.old;
       after = q.after;
       cut = record { whole = q.whole; starts = q.starts; ends = q.ends };
-      small = let r = q.room in omega (arith, l, r);
       tree = q.tree;
       value = q.value;
       positions = positions o [];
+      room = let r = q.room in let n = positions_count o [] in omega (arith, l, r, n);
       led = led;
       there = closes_part limit o [] q.after q.tree w c;
       welcome = λ other t v d.
@@ -175,7 +180,7 @@ is_part_text {bytes = bytes} {p = p} u (before, old, after, cut) k =
 
 -- ---- the text that is made
 
-nothing_next : (x : List ℕ) → slice_get x 0 ≡ None → x ≡ []
+pub nothing_next : (x : List ℕ) → slice_get x 0 ≡ None → x ≡ []
 nothing_next [] e = refl
 nothing_next (c ∷ r) e = absurd (cc)
 

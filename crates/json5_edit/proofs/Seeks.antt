@@ -107,11 +107,11 @@ is_of kind.Array (array ts) = true
 is_of kind.Object (object ps) = true
 is_of _ _ = false
 
-array_begins : {s : List ℕ} {ts : Trees} → Val s (array ts) → (m : List ℕ) × (s ≡ 91 ∷ m)
+pub array_begins : {s : List ℕ} {ts : Trees} → Val s (array ts) → (m : List ℕ) × (s ≡ 91 ∷ m)
 array_begins (is_empty_array b) = (_, refl)
 array_begins (is_array l) = (_, refl)
 
-object_begins : {s : List ℕ} {ps : Members} → Val s (object ps) → (m : List ℕ) × (s ≡ 123 ∷ m)
+pub object_begins : {s : List ℕ} {ps : Members} → Val s (object ps) → (m : List ℕ) × (s ≡ 123 ∷ m)
 object_begins (is_empty_object b) = (_, refl)
 object_begins (is_object l) = (_, refl)
 

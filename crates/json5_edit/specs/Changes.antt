@@ -6,8 +6,9 @@ use Rattle.json5_grammar.specs.Language.Trees.{Tree}
 use Rattle.json5_grammar.specs.Language.Values.{Val}
 use Rattle.json5_value.specs.declared.brackets.BracketKind.{BracketKind as Kind}
 use Rattle.json5_value.specs.declared.brackets.BracketKind.TheVariants as kind
-use Rattle.json5_edit.specs.Comparing.{IsWithout, IsWithLast, IsRenamed}
+use Rattle.json5_edit.specs.Comparing.{IsWithout, IsWithLast, IsWithAt, IsRenamed}
 use Rattle.json5_edit.specs.Parts.{part, put, positions_of}
+use Rattle.json5_edit.specs.Pieces.{Cuts, Grows, Respells}
 use Rattle.json5_edit.specs.declared.paths.Step.{Step}
 
 -- ---- collections alone
@@ -19,6 +20,10 @@ ChangesBy Change old new = (t : Tree) × (u : Tree) × Doc max_depth (chars old)
 -- one entry more, the last, with the value that these bytes spell
 abbrev pub Gains : Kind → List ℕ → List ℕ → Tree → Tree → Type 0
 Gains k key value t u = (v : Tree) × Val (chars value) v × IsWithLast k key v t u
+
+-- one element more, before that with this index, with the value that these bytes spell
+abbrev pub GainsAt : ℕ → List ℕ → Tree → Tree → Type 0
+GainsAt i value t u = (v : Tree) × Val (chars value) v × IsWithAt i v t u
 
 -- ---- whole texts
 
@@ -43,18 +48,22 @@ pub record IsChanged (Change : Tree → Tree → Type 0) (text : List ℕ) (path
   pub still : Doc max_depth (chars made) (put positions tree new_tree)
   pub changed : Change old_tree new_tree
 
--- without the entry that the path leads to
+-- without the entry that the path leads to: of the collection's text one part goes, and perhaps a comma before it
 abbrev pub IsRemoved : List ℕ → List Step → List ℕ → Type 0
-IsRemoved text path made = (outer : List Step) × (s : Step) × (path ≡ outer ++ (s ∷ [])) × IsChanged (IsWithout s) text outer made
+IsRemoved text path made = (outer : List Step) × (s : Step) × (path ≡ outer ++ (s ∷ [])) × (c : IsChanged (IsWithout s) text outer made) × Cuts c.old c.new
 
--- with one more element at the end of the array that the path leads to
+-- with one more element at the end of the array that the path leads to: one part comes, and perhaps a comma before it
 abbrev pub IsPushed : List ℕ → List Step → List ℕ → List ℕ → Type 0
-IsPushed text path value made = IsChanged (Gains kind.Array [] value) text path made
+IsPushed text path value made = (c : IsChanged (Gains kind.Array [] value) text path made) × Grows c.old c.new
 
--- with one more member, the last, of the object that the path leads to
+-- with one more element of the array that the path leads to, before that with this index: so too
+abbrev pub IsPutIn : List ℕ → List Step → ℕ → List ℕ → List ℕ → Type 0
+IsPutIn text path i value made = (c : IsChanged (GainsAt i value) text path made) × Grows c.old c.new
+
+-- with one more member, the last, of the object that the path leads to: so too
 abbrev pub IsInserted : List ℕ → List Step → List ℕ → List ℕ → List ℕ → Type 0
-IsInserted text path key value made = IsChanged (Gains kind.Object key value) text path made
+IsInserted text path key value made = (c : IsChanged (Gains kind.Object key value) text path made) × Grows c.old c.new
 
--- with another key for the member that the path leads to
+-- with another key for the member that the path leads to: one key is spelled anew
 abbrev pub IsRekeyed : List ℕ → List Step → List ℕ → List ℕ → Type 0
-IsRekeyed text path key made = (outer : List Step) × (s : Step) × (path ≡ outer ++ (s ∷ [])) × IsChanged (IsRenamed s key) text outer made
+IsRekeyed text path key made = (outer : List Step) × (s : Step) × (path ≡ outer ++ (s ∷ [])) × (c : IsChanged (IsRenamed s key) text outer made) × Respells c.old c.new

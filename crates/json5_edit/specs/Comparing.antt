@@ -105,6 +105,16 @@ pub record IsWithLast (k : Kind) (key : List ℕ) (value : Tree) (t u : Tree) : 
   pub kind : kind_of u ≡ Some k
   pub one_more : entries u ≡ entries t ++ ((key, value) ∷ [])
 
+-- the array u is t with one element more, before that with this index: with this value
+pub record IsWithAt (i : ℕ) (value : Tree) (t u : Tree) : Type 0 where
+  pub was_kind : kind_of t ≡ Some kind.Array
+  pub kind : kind_of u ≡ Some kind.Array
+  pub before : List (List ℕ × Tree)
+  pub after : List (List ℕ × Tree)
+  pub was : entries t ≡ before ++ after
+  pub now : entries u ≡ before ++ (([], value) ∷ after)
+  pub there : length before ≡ i
+
 -- the object u is t with another key for the member that the step goes to
 pub record IsRenamed (s : Step) (key : List ℕ) (t u : Tree) : Type 0 where
   pub was_kind : kind_of t ≡ Some kind.Object

@@ -1,5 +1,5 @@
 -- Where a path leads in a text.
-use Rattle.std.specs.Prelude.{◌≡◌, ℕ, ◌≤◌, List, ◌++◌, Option, Some, None, MatchOption, option_map, ⊤}
+use Rattle.std.specs.Prelude.{◌≡◌, ℕ, ◌≤◌, ◌-◌, List, ◌++◌, length, Option, Some, None, MatchOption, option_map}
 use Rattle.std.specs.Str.{chars}
 use Rattle.json5_grammar.specs.Language.Documents.{Doc, max_depth}
 use Rattle.json5_grammar.specs.Language.Trees.{Tree, depth}
@@ -7,8 +7,6 @@ use Rattle.json5_grammar.specs.Language.Values.{Val}
 use Rattle.json5_text.specs.Outcome.{bytes_in}
 use Rattle.json5_walk.specs.declared.place.Place.{Place}
 use Rattle.json5_edit.specs.Parts.{part, put, positions_of}
-use Rattle.json5_edit.specs.declared.faults.EditError.{EditError}
-use Rattle.json5_edit.specs.declared.faults.EditError.TheVariants as error
 use Rattle.json5_edit.specs.declared.places.Span.{Span}
 use Rattle.json5_edit.specs.declared.paths.Step.{Step}
 
@@ -25,17 +23,17 @@ pub record IsPart (text : List ℕ) (p : Place) (before old after : List ℕ) : 
 abbrev pub HasPlace : List ℕ → Place → Type 0
 HasPlace text p = (before old after : List ℕ) × IsPart text p before old after
 
--- the place is the value in the document of the tree w that the path leads to, and with any other value in its place
--- the text is a document of the tree with that part alone replaced
+-- the place is the value in the document of the tree w that the path leads to, its room is what the brackets around it
+-- leave, and with any other value in its place the text is a document of the tree with that part alone replaced
 pub record IsPlace (text : List ℕ) (path : List Step) (w : Tree) (p : Place) : Type 0 where
   pub before : List ℕ
   pub old : List ℕ
   pub after : List ℕ
   pub cut : IsPart text p before old after
-  pub small : p.room ≤ max_depth
   pub tree : Tree
   pub value : Val old tree
   pub positions : List ℕ
+  pub room : p.room ≡ max_depth - length positions
   pub led : positions_of path w ≡ Some positions
   pub there : part positions w ≡ Some tree
   pub welcome : (new : List ℕ) (t : Tree) → Val new t → depth t ≤ p.room → Doc max_depth (before ++ (new ++ after)) (put positions w t)
@@ -49,11 +47,6 @@ pub record Leads (text : List ℕ) (path : List Step) (place : Option Place) : T
 -- the text is a document, and the path leads nowhere in it
 abbrev pub LeadsNowhere : List ℕ → List Step → Type 0
 LeadsNowhere text path = (t : Tree) × Doc max_depth (chars text) t × (positions_of path t ≡ None)
-
--- an edit is refused at its path only where that leads nowhere
-abbrev pub RefusesPath : List ℕ → List Step → EditError → Type 0
-RefusesPath text path error.Nowhere = LeadsNowhere text path
-RefusesPath text path _ = ⊤
 
 abbrev pub span_of : Place → Span
 span_of p = record { start = p.start; end = p.end }

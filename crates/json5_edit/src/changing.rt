@@ -1,19 +1,24 @@
 //! Adds, removes and renames the entries of a collection.
 
-ghost use Rattle.std.specs.Prelude.{◌≡◌, ◌≤◌, ℕ, List, IfOk, string_bytes};
-ghost use Rattle.json5_edit.specs.Changes.{ChangesBy, Gains, IsRemoved, IsPushed, IsInserted, IsRekeyed};
+ghost use Rattle.std.specs.Prelude.{◌≡◌, ◌≤◌, ◌-◌, ℕ, List, false, IfOk, IfErr, string_bytes};
+ghost use Rattle.json5_edit.specs.Changes.{ChangesBy, Gains, GainsAt, IsRemoved, IsPushed, IsPutIn, IsInserted, IsRekeyed};
 ghost use Rattle.json5_edit.specs.Comparing.{IsWithout, IsRenamed};
+ghost use Rattle.json5_edit.specs.Pieces.{Cuts, Grows, Respells};
 ghost use Rattle.json5_edit.specs.Places.{HasPlace, IsPart};
+ghost use Rattle.json5_edit.specs.Refusals.{RefusesRemove, RefusesPush, RefusesPutIn, RefusesInsert, RefusesRename, RefusesStep, RefusesKey, RefusesValue, IsOwn, BeginsNo};
 ghost use Rattle.json5_grammar.specs.Language.Documents.{max_depth};
-ghost use Rattle.std.specs.Str.{encode_utf8_all};
+ghost use Rattle.std.specs.Str.{chars, encode_utf8_all};
 
-use crate::comparing::{check_added, check_removed, check_renamed};
+use crate::comparing::{check_added, check_put_in, check_removed, check_renamed};
 use crate::faults::{EditError, Result};
 use crate::paths::Step;
-use crate::setting::{check_value, place_of, put};
+use crate::pieces::{cut, grown, respelled};
+use crate::places::find_place;
+use crate::setting::{check_value, place_of, put_made};
 use json5_edit_layout::{
-    Added, Care, Collection, count_of, index_of, with_entry, with_key, without_entry,
+    Added, Care, Collection, count_of, cut_for, growth_before, growth_for, index_of, respelling_for,
 };
+use json5_text::scanner::Scanner;
 use json5_value::brackets::BracketKind;
 use json5_walk::place::Place;
 use std::alloc::Global;
@@ -33,7 +38,8 @@ use std::alloc::Global;
 /// - `NoMemory` where there is no memory for the text, or for a key with an escape.
 /// - `Failed`, if the text that was made doesn't read as the old one without that entry.
 pub fn remove(alloc: Global, text: &str, path: &[Step<'_>]) -> Result<String>
-    ensures { IfOk result (λ made. IsRemoved text.now path.now (string_bytes made)) }
+    ensures removed { IfOk result (λ made. IsRemoved text.now path.now (string_bytes made)) }
+    ensures refused { IfErr result (RefusesRemove text.now path.now) }
 {
     let Some((step, outer)) = path.split_last() else {
         return Err(EditError::Nowhere);
@@ -42,7 +48,7 @@ pub fn remove(alloc: Global, text: &str, path: &[Step<'_>]) -> Result<String>
     let old = part_text(text, place);
     let index = index_in(alloc, old, *step)?;
     let new = removed(alloc, old, *step, index)?;
-    put(alloc, text, place, new.as_str())
+    put_made(alloc, text, place, new.as_str())
 }
 
 /// Returns the text with one more element at the end of the array that the path leads to: `value`, a JSON5 value
@@ -61,17 +67,56 @@ pub fn remove(alloc: Global, text: &str, path: &[Step<'_>]) -> Result<String>
 /// - `NoMemory` where there is no memory for the text, or for a key with an escape.
 /// - `Failed`, if the text that was made doesn't read as the old one with that element.
 pub fn push(alloc: Global, text: &str, path: &[Step<'_>], value: &str) -> Result<String>
-    ensures { IfOk result (λ made. IsPushed text.now path.now value.now (string_bytes made)) }
+    ensures pushed { IfOk result (λ made. IsPushed text.now path.now value.now (string_bytes made)) }
+    ensures refused { IfErr result (RefusesPush text.now path.now value.now) }
 {
     let place = place_of(alloc, text, path)?;
     let old = part_text(text, place);
-    if !old.starts_with("[") {
+    if !begins(alloc, old, BracketKind::Array) {
         return Err(EditError::NotArray);
     }
     check_entry(alloc, value, place)?;
     let collection = collection(text, place);
     let new = added(alloc, &collection, old, BracketKind::Array, "", value)?;
-    put(alloc, text, place, new.as_str())
+    put_made(alloc, text, place, new.as_str())
+}
+
+/// Returns the text with one more element of the array that the path leads to, before that with this index: `value`, a
+/// JSON5 value without blanks or comments around it. It stands on a line of its own if that element does, indented like
+/// it, before the comments that belong to it.
+///
+/// ```text
+/// insert_element(alloc, "{ ports: [443] }", &[Step::Key("ports")], 0, "80")?    // { ports: [80, 443] }
+/// ```
+///
+/// # Errors
+///
+/// - `Text` with the fault of reading, if the text is no document.
+/// - `Nowhere`, if the path leads nowhere, or the array has no element with this index.
+/// - `NotArray`, if the path leads to another value than an array.
+/// - `Value` with the fault of reading, if `value` is no value or is nested too deep for its place.
+/// - `NoMemory` where there is no memory for the text, or for a key with an escape.
+/// - `Failed`, if the text that was made doesn't read as the old one with that element.
+pub fn insert_element(
+    alloc: Global,
+    text: &str,
+    path: &[Step<'_>],
+    index: usize,
+    value: &str,
+) -> Result<String>
+    ensures put_in { IfOk result (λ made. IsPutIn text.now path.now index value.now (string_bytes made)) }
+    ensures refused { IfErr result (RefusesPutIn text.now path.now index value.now) }
+{
+    let place = place_of(alloc, text, path)?;
+    let old = part_text(text, place);
+    if !begins(alloc, old, BracketKind::Array) {
+        return Err(EditError::NotArray);
+    }
+    index_in(alloc, old, Step::Index(index))?;
+    check_entry(alloc, value, place)?;
+    let collection = collection(text, place);
+    let new = put_in(alloc, &collection, old, index, value)?;
+    put_made(alloc, text, place, new.as_str())
 }
 
 /// Returns the text with one more member, the last, of the object that the path leads to: this key, without quotes if
@@ -97,20 +142,19 @@ pub fn insert(
     key: &str,
     value: &str,
 ) -> Result<String>
-    ensures { IfOk result (λ made. IsInserted text.now path.now key.now value.now (string_bytes made)) }
+    ensures inserted { IfOk result (λ made. IsInserted text.now path.now key.now value.now (string_bytes made)) }
+    ensures refused { IfErr result (RefusesInsert text.now path.now key.now value.now) }
 {
     let place = place_of(alloc, text, path)?;
     let old = part_text(text, place);
-    if !old.starts_with("{") {
+    if !begins(alloc, old, BracketKind::Object) {
         return Err(EditError::NotObject);
     }
-    if found(alloc, old, key)?.is_some() {
-        return Err(EditError::Taken);
-    }
+    check_key(alloc, old, key)?;
     check_entry(alloc, value, place)?;
     let collection = collection(text, place);
     let new = added(alloc, &collection, old, BracketKind::Object, key, value)?;
-    put(alloc, text, place, new.as_str())
+    put_made(alloc, text, place, new.as_str())
 }
 
 /// Returns the text with another key for the member that the path leads to: in the quotes of the old key, or without,
@@ -128,22 +172,21 @@ pub fn insert(
 /// - `NoMemory` where there is no memory for the text, or for a key with an escape.
 /// - `Failed`, if the text that was made doesn't read as the old one with that key.
 pub fn rename(alloc: Global, text: &str, path: &[Step<'_>], key: &str) -> Result<String>
-    ensures { IfOk result (λ made. IsRekeyed text.now path.now key.now (string_bytes made)) }
+    ensures rekeyed { IfOk result (λ made. IsRekeyed text.now path.now key.now (string_bytes made)) }
+    ensures refused { IfErr result (RefusesRename text.now path.now key.now) }
 {
     let Some((step, outer)) = path.split_last() else {
         return Err(EditError::NoKey);
     };
-    let Step::Key(_) = *step else {
+    if let Step::Index(_) = *step {
         return Err(EditError::NoKey);
-    };
+    }
     let place = place_of(alloc, text, outer)?;
     let old = part_text(text, place);
     let index = index_in(alloc, old, *step)?;
-    if found(alloc, old, key)?.is_some() {
-        return Err(EditError::Taken);
-    }
+    check_key(alloc, old, key)?;
     let new = renamed(alloc, old, *step, index, key)?;
-    put(alloc, text, place, new.as_str())
+    put_made(alloc, text, place, new.as_str())
 }
 
 /// The text in the place.
@@ -157,28 +200,58 @@ fn part_text(text: &str, place: Place) -> &str
     }
 }
 
-/// Where in the collection the step goes to an entry.
-fn index_in(alloc: Global, old: &str, step: Step<'_>) -> Result<usize> {
-    match step {
-        Step::Index(index) if !old.starts_with("[") || index >= count(alloc, old)? => {
-            Err(EditError::Nowhere)
-        }
-        Step::Index(index) => Ok(index),
-        Step::Key(_) if !old.starts_with("{") => Err(EditError::Nowhere),
-        Step::Key(key) => found(alloc, old, key)?.ok_or(EditError::Nowhere),
+/// Whether the text begins with such an opening bracket.
+fn begins(alloc: Global, old: &str, kind: BracketKind) -> bool
+    ensures { result ≡ false → BeginsNo kind (chars old.now) }
+{
+    let scanner = Scanner::new(alloc, old);
+    let Some(first) = scanner.peek() else {
+        return false;
+    };
+    first == kind.brackets().opening
+}
+
+/// Refuses a step that goes to no entry of the collection, and returns how many come before its entry.
+fn index_in(alloc: Global, old: &str, step: Step<'_>) -> Result<usize>
+    ensures { IfErr result (RefusesStep old.now step.entry) }
+{
+    match find_place(alloc, old, &[step]) {
+        Ok(Some(_)) => entries_before(alloc, old, step),
+        Ok(None) => Err(EditError::Nowhere),
+        Err(error) => Err(EditError::of_made(error)),
     }
 }
 
-/// The index of the last member with the key, if there is one.
-fn found(alloc: Global, old: &str, key: &str) -> Result<Option<usize>> {
+/// How many entries come before the one that the step goes to.
+fn entries_before(alloc: Global, old: &str, step: Step<'_>) -> Result<usize>
+    ensures { IfErr result IsOwn }
+{
+    let key = match step {
+        Step::Index(index) => return Ok(index),
+        Step::Key(key) => key,
+    };
     match index_of(alloc, old, key) {
-        Ok(index) => Ok(index),
+        Ok(Some(index)) => Ok(index),
+        Ok(None) => Err(EditError::Failed),
+        Err(error) => Err(EditError::of_made(error)),
+    }
+}
+
+/// Refuses a key that a member of the object has.
+fn check_key(alloc: Global, old: &str, key: &str) -> Result<()>
+    ensures { IfErr result (RefusesKey old.now key.now) }
+{
+    match find_place(alloc, old, &[Step::Key(key)]) {
+        Ok(None) => Ok(()),
+        Ok(Some(_)) => Err(EditError::Taken),
         Err(error) => Err(EditError::of_made(error)),
     }
 }
 
 /// How many entries there are.
-fn count(alloc: Global, old: &str) -> Result<usize> {
+fn count(alloc: Global, old: &str) -> Result<usize>
+    ensures { IfErr result IsOwn }
+{
     match count_of(alloc, old) {
         Ok(count) => Ok(count),
         Err(error) => Err(EditError::of_made(error)),
@@ -187,10 +260,13 @@ fn count(alloc: Global, old: &str) -> Result<usize> {
 
 /// The collection without the entry: with its lines and comments, or else without what stands up to the next token.
 fn removed(alloc: Global, old: &str, step: Step<'_>, index: usize) -> Result<String>
-    ensures { IfOk result (λ new. ChangesBy (IsWithout step.entry) old.now (string_bytes new)) }
+    ensures removed { IfOk result (λ new. ChangesBy (IsWithout step.entry) old.now (string_bytes new)) }
+    ensures cuts { IfOk result (λ new. Cuts old.now (string_bytes new)) }
+    ensures own { IfErr result IsOwn }
 {
     for care in [Care::Lines, Care::Tokens] {
-        let new = made(without_entry(alloc, care, old, index))?;
+        let gone = laid(cut_for(alloc, care, old, index))?;
+        let new = cut(alloc, old, gone)?;
         match check_removed(alloc, old, new.as_str(), step, index) {
             Ok(()) => return Ok(new),
             Err(_) => {}
@@ -208,13 +284,39 @@ fn added(
     key: &str,
     value: &str,
 ) -> Result<String>
-    ensures { IfOk result (λ new. ChangesBy (Gains kind key.now value.now) old.now (string_bytes new)) }
+    ensures added { IfOk result (λ new. ChangesBy (Gains kind key.now value.now) old.now (string_bytes new)) }
+    ensures grows { IfOk result (λ new. Grows old.now (string_bytes new)) }
+    ensures own { IfErr result IsOwn }
 {
     let count = count(alloc, old)?;
     for care in [Care::Lines, Care::Tokens] {
         let added = Added { kind, key, value };
-        let new = made(with_entry(alloc, care, collection, added))?;
+        let growth = laid(growth_for(alloc, care, collection, added))?;
+        let new = grown(alloc, old, &growth)?;
         match check_added(alloc, old, new.as_str(), count, kind, key, value) {
+            Ok(()) => return Ok(new),
+            Err(_) => {}
+        }
+    }
+    Err(EditError::Failed)
+}
+
+/// The array with one more element before that with this index: with its lines and comments, or else right before it.
+fn put_in(
+    alloc: Global,
+    collection: &Collection<'_>,
+    old: &str,
+    index: usize,
+    value: &str,
+) -> Result<String>
+    ensures put_in { IfOk result (λ new. ChangesBy (GainsAt index value.now) old.now (string_bytes new)) }
+    ensures grows { IfOk result (λ new. Grows old.now (string_bytes new)) }
+    ensures own { IfErr result IsOwn }
+{
+    for care in [Care::Lines, Care::Tokens] {
+        let growth = laid(growth_before(alloc, care, collection, index, value))?;
+        let new = grown(alloc, old, &growth)?;
+        match check_put_in(alloc, old, new.as_str(), index, value) {
             Ok(()) => return Ok(new),
             Err(_) => {}
         }
@@ -224,19 +326,24 @@ fn added(
 
 /// The object with another key for a member.
 fn renamed(alloc: Global, old: &str, step: Step<'_>, index: usize, key: &str) -> Result<String>
-    ensures { IfOk result (λ new. ChangesBy (IsRenamed step.entry key.now) old.now (string_bytes new)) }
+    ensures renamed { IfOk result (λ new. ChangesBy (IsRenamed step.entry key.now) old.now (string_bytes new)) }
+    ensures respells { IfOk result (λ new. Respells old.now (string_bytes new)) }
+    ensures own { IfErr result IsOwn }
 {
-    let new = made(with_key(alloc, old, index, key))?;
+    let respelling = laid(respelling_for(alloc, old, index, key))?;
+    let new = respelled(alloc, old, &respelling)?;
     match check_renamed(alloc, old, new.as_str(), step, index, key) {
         Ok(()) => Ok(new),
         Err(error) => Err(EditError::of_made(error)),
     }
 }
 
-/// What was made, or why it wasn't.
-fn made(text: json5_types::error::Result<String>) -> Result<String> {
-    match text {
-        Ok(text) => Ok(text),
+/// What the layout says, or why it says nothing.
+fn laid<T: Drop>(said: json5_types::error::Result<T>) -> Result<T>
+    ensures { IfErr result IsOwn }
+{
+    match said {
+        Ok(said) => Ok(said),
         Err(error) => Err(EditError::of_made(error)),
     }
 }
@@ -244,6 +351,7 @@ fn made(text: json5_types::error::Result<String>) -> Result<String> {
 /// Refuses what isn't a value alone that fits within the place.
 fn check_entry(alloc: Global, value: &str, place: Place) -> Result<()>
     requires { place.room ≤ max_depth }
+    ensures { IfErr result (RefusesValue (place.room - 1) value.now) }
 {
     match check_value(alloc, value, place.room.saturating_sub(1)) {
         Ok(()) => Ok(()),

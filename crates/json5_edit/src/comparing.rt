@@ -6,7 +6,7 @@ ghost use Rattle.json5_walk.specs.Moves.{Opens};
 ghost use Rattle.json5_walk.specs.Walks.{Moved};
 ghost use Rattle.json5_edit.specs.Entries.{TakesEntry};
 ghost use Rattle.json5_edit.specs.Comparing.{EndsToo, PassesPair, PassesFront, PassesRest, IsOther, IsWithout, IsRenamed, step_kind, step_key, step_place};
-ghost use Rattle.json5_edit.specs.Changes.{ChangesBy, Gains};
+ghost use Rattle.json5_edit.specs.Changes.{ChangesBy, Gains, GainsAt};
 
 use crate::entries::{Entry, failed, next_entry};
 use crate::paths::Step;
@@ -63,6 +63,32 @@ pub(crate) fn check_added(
         return Err(failed());
     }
     close_both(&mut left, &mut right)?;
+    left.finish()?;
+    right.finish()
+}
+
+/// Refuses a new text that isn't the old one with one more element, of which so many come before it, with this value.
+pub(crate) fn check_put_in(
+    alloc: Global,
+    old: &str,
+    new: &str,
+    index: usize,
+    value: &str,
+) -> Result<()>
+    ensures { OnOk result (ChangesBy (GainsAt index value.now) old.now new.now) }
+{
+    let mut left = Walk::new(alloc, old, Limit::full());
+    let mut right = Walk::new(alloc, new, Limit::full());
+    open_both(&mut left, &mut right, BracketKind::Array)?;
+    same_front(&mut left, &mut right, index)?;
+    let put = some_entry(&mut right)?;
+    if !has_key(&put, "") {
+        return Err(failed());
+    }
+    if !has_value(&put, value) {
+        return Err(failed());
+    }
+    same_rest(&mut left, &mut right, Step::Index(index))?;
     left.finish()?;
     right.finish()
 }

@@ -1,7 +1,10 @@
 //! Why an edit isn't made.
 
-ghost use Rattle.std.specs.Prelude.{◌≢◌};
-ghost use Rattle.json5_edit.specs.declared.faults.EditError.TheVariants as edit_errors;
+ghost use Rattle.std.specs.Prelude.{ℕ, List};
+ghost use Rattle.std.specs.Str.{chars};
+ghost use Rattle.json5_edit.specs.Places.{IsValue};
+ghost use Rattle.json5_edit.specs.Refusals.{RefusesText, RefusesPath, RefusesValue, IsOwn};
+ghost use Rattle.json5_edit.specs.declared.paths.Step.{Step};
 
 use json5_types::ErrorCode;
 use json5_types::error::Error;
@@ -30,7 +33,7 @@ pub enum EditError {
     NoKey,
     /// Memory ran out.
     NoMemory,
-    /// The text that was made didn't read as it should.
+    /// The text is a document, and what was made of it didn't read as it should.
     Failed,
 }
 
@@ -41,20 +44,24 @@ impl EditError {
     /// Returns the error of an edit whose reading of the document ended with this fault.
     ///
     /// ```text
-    /// EditError::of_text(error)    // NoMemory where memory ran out, else Text
+    /// EditError::of_text(error)    // NoMemory where memory ran out, Failed where it says so, else Text
     /// ```
     pub fn of_text(error: Error) -> EditError
-        ensures { result ≢ edit_errors.Nowhere }
+        ensures { (text : List ℕ) (path : List Step) → RefusesText text error → RefusesPath text path result }
     {
-        match error.code() {
-            Some(ErrorCode::OutOfMemory) => EditError::NoMemory,
+        let Some(code) = error.code() else {
+            return EditError::Text(error);
+        };
+        match code {
+            ErrorCode::OutOfMemory => EditError::NoMemory,
+            ErrorCode::Failed => EditError::Failed,
             _ => EditError::Text(error),
         }
     }
 
     /// The error that reading what is to be put there ended with.
     pub(crate) fn of_value(error: Error) -> EditError
-        ensures { result ≢ edit_errors.Nowhere }
+        ensures { (room : ℕ) (new : List ℕ) → (IsValue room (chars new) → ⊥) → RefusesValue room new result }
     {
         match error.code() {
             Some(ErrorCode::OutOfMemory) => EditError::NoMemory,
@@ -63,7 +70,9 @@ impl EditError {
     }
 
     /// The error that reading what was made ended with.
-    pub(crate) fn of_made(error: Error) -> EditError {
+    pub(crate) fn of_made(error: Error) -> EditError
+        ensures { IsOwn result }
+    {
         match error.code() {
             Some(ErrorCode::OutOfMemory) => EditError::NoMemory,
             _ => EditError::Failed,

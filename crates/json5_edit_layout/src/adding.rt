@@ -1,4 +1,4 @@
-//! A collection's text with one more entry.
+//! What comes into a collection's text with one more entry.
 
 use crate::collection::Collection;
 use crate::gaps::{Care, Gap, between};
@@ -6,7 +6,8 @@ use crate::keys::key_for;
 use crate::lines::{begins_line, indentation, line_start};
 use crate::removing::joined;
 use crate::spots::{Around, Spot, find_around};
-use json5_types::error::Result;
+use json5_types::ErrorCode;
+use json5_types::error::{Error, Result};
 use json5_value::brackets::BracketKind;
 use std::alloc::Global;
 
@@ -18,23 +19,39 @@ pub struct Added<'x> {
     pub value: &'x str,
 }
 
-/// Returns the collection's text with what is added: on a line of its own, if its neighbour has one, indented like it,
-/// and with a comma after it if the last entry had one.
+/// What comes into a text: perhaps a comma, and after it a part in the place of blanks. Offsets are in bytes.
+///
+/// ```text
+/// Growth { comma: true, at: 3, start: 3, end: 3, part }    // `[80, 443]` of `[80]`, where the part is ` 443`
+/// ```
+#[derive(Drop)]
+pub struct Growth {
+    /// Whether a comma comes, and where.
+    pub comma: bool,
+    pub at: usize,
+    /// The blanks that go: between two brackets, else none.
+    pub start: usize,
+    pub end: usize,
+    pub part: String,
+}
+
+/// Returns what comes into the collection's text with what is added: on a line of its own, if its neighbour has one,
+/// indented like it, and with a comma after it if the last entry had one.
 ///
 /// ```text
 /// let list = Collection { document: "[80]", start: 0, end: 4 };
-/// with_entry(alloc, Care::Lines, &list, Added { kind: BracketKind::Array, key: "", value: "443" })?    // [80, 443]
+/// growth_for(alloc, Care::Lines, &list, Added { kind: BracketKind::Array, key: "", value: "443" })?    // , 443
 /// ```
 ///
 /// # Errors
 ///
 /// As reading, if the text is no value; `OutOfMemory` where there is no memory for the text.
-pub fn with_entry(
+pub fn growth_for(
     alloc: Global,
     care: Care,
     collection: &Collection<'_>,
     added: Added<'_>,
-) -> Result<String> {
+) -> Result<Growth> {
     let around = find_around(alloc, collection.text(), usize::MAX)?;
     let entry = entry(alloc, collection, around, added)?;
     let inner = inner_indentation(alloc, collection)?;
@@ -58,6 +75,84 @@ pub fn with_entry(
             )
         }
     }
+}
+
+/// Returns the blanks that a new entry at the end begins with, if it stands on a line of its own: those of the last
+/// entry, if that has one, or else one step more than the line on which the collection begins.
+///
+/// ```text
+/// let map = Collection { document: "{\n  a: 1,\n}", start: 0, end: 11 };
+/// entry_indentation(alloc, &map)?    // two blanks
+/// ```
+///
+/// # Errors
+///
+/// As reading, if the text is no value; `OutOfMemory` where there is no memory for the blanks.
+pub fn entry_indentation(alloc: Global, collection: &Collection<'_>) -> Result<String> {
+    let text = collection.text();
+    match find_around(alloc, text, usize::MAX)?.before {
+        Some(last) if begins_line(text, last.start) => {
+            joined(alloc, &[indentation(text, last.start)])
+        }
+        _ => inner_indentation(alloc, collection),
+    }
+}
+
+/// Returns what comes into the array's text with one more element before that with this index: on a line of its own, if
+/// that has one, indented like it, or on the same line; in either case before the comments of that.
+///
+/// ```text
+/// let list = Collection { document: "[80]", start: 0, end: 4 };
+/// growth_before(alloc, Care::Lines, &list, 0, "443")?    // 443, with a blank after it
+/// ```
+///
+/// # Errors
+///
+/// - `Failed`, if there is no such element.
+/// - As reading, if the text is no value; `OutOfMemory` where there is no memory for the text.
+pub fn growth_before(
+    alloc: Global,
+    care: Care,
+    collection: &Collection<'_>,
+    index: usize,
+    value: &str,
+) -> Result<Growth> {
+    let text = collection.text();
+    let around = find_around(alloc, text, index)?;
+    let Some(here) = around.here else {
+        return Err(Error::new(ErrorCode::Failed));
+    };
+    let from = match around.before {
+        Some(spot) => spot.full_end(),
+        None => 1,
+    };
+    let gap = Gap::of(care, text, from, here.start);
+    let entry = joined(alloc, &[value])?;
+    let (entry, end) = (entry.as_str(), collection.line_end());
+    match care {
+        Care::Lines if begins_line(text, here.start) => {
+            let indent = indentation(text, here.start);
+            before_at(alloc, gap.lead, indent, entry, end)
+        }
+        _ => before_at(alloc, gap.own, "", entry, blank_before(text, here)),
+    }
+}
+
+/// Puts it at this offset, before another: with these blanks before it, and these after its comma.
+fn before_at<'x>(
+    alloc: Global,
+    at: usize,
+    indent: &'x str,
+    entry: &'x str,
+    blank: &'x str,
+) -> Result<Growth> {
+    Ok(Growth {
+        comma: false,
+        at,
+        start: at,
+        end: at,
+        part: joined(alloc, &[indent, entry, ",", blank])?,
+    })
 }
 
 /// The text of the entry.
@@ -88,7 +183,7 @@ fn colon_like(colon: &str) -> &str {
     colon
 }
 
-/// Puts it after the last one.
+/// Puts it after the last one: on a line of its own, or on the same.
 fn after_last<'x>(
     alloc: Global,
     care: Care,
@@ -98,26 +193,26 @@ fn after_last<'x>(
     end: &'x str,
     inner: &'x str,
     entry: &'x str,
-) -> Result<String> {
+) -> Result<Growth> {
     let gap = Gap::of(care, text, last.full_end(), close);
-    let (before, after) = commas(last);
-    match care {
+    let comma = last.comma.is_none();
+    let after = if comma { "" } else { "," };
+    let (at, before, indent) = match care {
         Care::Lines if begins_line(text, last.start) => {
-            let indent = indentation(text, last.start);
-            on_new_line(
-                alloc, text, last, gap.tail, before, end, indent, entry, after,
-            )
+            (last.end, end, indentation(text, last.start))
         }
         Care::Lines if gap.line_end.is_some() && gap.tail > last.full_end() => {
-            on_new_line(
-                alloc, text, last, gap.tail, before, end, inner, entry, after,
-            )
+            (last.end, end, inner)
         }
-        _ => {
-            let blank = blank_before(text, last);
-            on_same_line(alloc, text, gap.tail, before, blank, entry, after)
-        }
-    }
+        _ => (gap.tail, blank_before(text, last), ""),
+    };
+    Ok(Growth {
+        comma,
+        at,
+        start: gap.tail,
+        end: gap.tail,
+        part: joined(alloc, &[before, indent, entry, after])?,
+    })
 }
 
 /// What stands between a comma and an entry: nothing, if the last entry stands right after a comma.
@@ -126,64 +221,6 @@ fn blank_before(text: &str, last: Spot) -> &'static str {
         ""
     } else {
         " "
-    }
-}
-
-/// Puts it at this offset, after the last entry and its comments.
-fn on_same_line<'x>(
-    alloc: Global,
-    text: &'x str,
-    at: usize,
-    before: &'x str,
-    blank: &'x str,
-    entry: &'x str,
-    after: &'x str,
-) -> Result<String> {
-    joined(
-        alloc,
-        &[
-            between(text, 0, at),
-            before,
-            blank,
-            entry,
-            after,
-            between(text, at, text.len()),
-        ],
-    )
-}
-
-/// Puts it on a line of its own at this offset, where the last entry's line ends.
-fn on_new_line<'x>(
-    alloc: Global,
-    text: &'x str,
-    last: Spot,
-    at: usize,
-    before: &'x str,
-    end: &'x str,
-    indent: &'x str,
-    entry: &'x str,
-    after: &'x str,
-) -> Result<String> {
-    joined(
-        alloc,
-        &[
-            between(text, 0, last.end),
-            before,
-            between(text, last.end, at),
-            end,
-            indent,
-            entry,
-            after,
-            between(text, at, text.len()),
-        ],
-    )
-}
-
-/// The commas before and after what follows the last entry: it has one if that had one.
-fn commas(last: Spot) -> (&'static str, &'static str) {
-    match last.comma {
-        Some(_) => ("", ","),
-        None => (",", ""),
     }
 }
 
@@ -211,61 +248,44 @@ fn into_empty<'x>(
     inner: &'x str,
     blank: &'x str,
     entry: &'x str,
-) -> Result<String> {
+) -> Result<Growth> {
     let gap = Gap::of(care, text, 1, close);
     match (care, gap.mark > 1, gap.line_end) {
-        (Care::Tokens, _, _) => put_at(alloc, text, 1, "", "", entry),
+        (Care::Tokens, _, _) => put_at(alloc, 1, "", "", entry),
         (_, true, Some(_)) if line_start(text, gap.mark) > 0 => {
-            put_at(
-                alloc,
-                text,
-                gap.mark,
-                end,
-                indentation(text, gap.mark),
-                entry,
-            )
+            put_at(alloc, gap.mark, end, indentation(text, gap.mark), entry)
         }
-        (_, true, Some(_)) => put_at(alloc, text, gap.mark, end, inner, entry),
-        (_, true, None) => put_at(alloc, text, gap.mark, " ", "", entry),
-        (_, false, Some(_)) => alone(alloc, text, close, [end, inner, entry, end, outer]),
-        (_, false, None) => alone(alloc, text, close, [blank, "", entry, blank, ""]),
+        (_, true, Some(_)) => put_at(alloc, gap.mark, end, inner, entry),
+        (_, true, None) => put_at(alloc, gap.mark, " ", "", entry),
+        (_, false, Some(_)) => alone(alloc, close, [end, inner, entry, end, outer]),
+        (_, false, None) => alone(alloc, close, [blank, "", entry, blank, ""]),
     }
 }
 
 /// Puts it at this offset, with this before it.
 fn put_at<'x>(
     alloc: Global,
-    text: &'x str,
     at: usize,
     end: &'x str,
     indent: &'x str,
     entry: &'x str,
-) -> Result<String> {
-    joined(
-        alloc,
-        &[
-            between(text, 0, at),
-            end,
-            indent,
-            entry,
-            between(text, at, text.len()),
-        ],
-    )
+) -> Result<Growth> {
+    Ok(Growth {
+        comma: false,
+        at,
+        start: at,
+        end: at,
+        part: joined(alloc, &[end, indent, entry])?,
+    })
 }
 
 /// Puts these alone between the brackets.
-fn alone<'x>(alloc: Global, text: &'x str, close: usize, parts: [&'x str; 5]) -> Result<String> {
-    let [before, indent, entry, after, outer] = parts;
-    joined(
-        alloc,
-        &[
-            between(text, 0, 1),
-            before,
-            indent,
-            entry,
-            after,
-            outer,
-            between(text, close, text.len()),
-        ],
-    )
+fn alone<'x>(alloc: Global, close: usize, parts: [&'x str; 5]) -> Result<Growth> {
+    Ok(Growth {
+        comma: false,
+        at: 1,
+        start: 1,
+        end: close,
+        part: joined(alloc, &parts)?,
+    })
 }

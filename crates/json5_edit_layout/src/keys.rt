@@ -2,7 +2,6 @@
 
 use crate::collection::Collection;
 use crate::gaps::between;
-use crate::removing::joined;
 use crate::spots::{find_around, next_spot, opened};
 use json5_types::ErrorCode;
 use json5_types::error::{Error, Result};
@@ -17,18 +16,29 @@ struct Habit {
     quotes_names: bool,
 }
 
-/// Returns the object's text with another key in the place of that of the member with this index: in the same quotes,
-/// or without, if it has none and the new key is a name.
+/// Another key for a member, and where its old one begins, in bytes.
 ///
 /// ```text
-/// with_key(alloc, "{ 'a': 1 }", 0, "b")?    // { 'b': 1 }
+/// Respelling { at: 2, key }    // of `{ 'a': 1 }`, where the key is `'b'`
+/// ```
+#[derive(Drop)]
+pub struct Respelling {
+    pub at: usize,
+    pub key: String,
+}
+
+/// Returns how the key is spelled for the member with this index of the object: in the same quotes as its old one, or
+/// without, if that has none and the new one is a name.
+///
+/// ```text
+/// respelling_for(alloc, "{ 'a': 1 }", 0, "b")?    // 'b' at 2
 /// ```
 ///
 /// # Errors
 ///
 /// - `Failed`, if there is no such member.
 /// - As reading, if the text is no value; `OutOfMemory` where there is no memory for the text.
-pub fn with_key(alloc: Global, text: &str, index: usize, key: &str) -> Result<String> {
+pub fn respelling_for(alloc: Global, text: &str, index: usize, key: &str) -> Result<Respelling> {
     let Some(here) = find_around(alloc, text, index)?.here else {
         return Err(Error::new(ErrorCode::Failed));
     };
@@ -42,15 +52,10 @@ pub fn with_key(alloc: Global, text: &str, index: usize, key: &str) -> Result<St
             quotes_names: false,
         },
     };
-    let spelled = spelled(alloc, habit, key)?;
-    joined(
-        alloc,
-        &[
-            between(text, 0, here.start),
-            spelled.as_str(),
-            between(text, here.key_end, text.len()),
-        ],
-    )
+    Ok(Respelling {
+        at: here.start,
+        key: spelled(alloc, habit, key)?,
+    })
 }
 
 /// The key as the object's other keys are spelled, or those of the document where it has none.

@@ -11,9 +11,10 @@ mod lines;
 mod removing;
 mod spots;
 
-pub use adding::{Added, with_entry};
+pub use adding::{Added, Growth, entry_indentation, growth_before, growth_for};
 pub use collection::Collection;
 pub use gaps::Care;
-pub use keys::with_key;
-pub use removing::without_entry;
+pub use keys::{Respelling, respelling_for};
+pub use lines::indentation;
+pub use removing::{Cut, cut_for};
 pub use spots::{count_of, index_of};

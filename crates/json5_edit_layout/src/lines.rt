@@ -13,8 +13,12 @@ pub(crate) fn line_start(text: &str, at: usize) -> usize {
     start
 }
 
-/// The blanks at the beginning of the line on which this offset stands.
-pub(crate) fn indentation(text: &str, at: usize) -> &str {
+/// Returns the blanks at the beginning of the line on which this offset stands.
+///
+/// ```text
+/// indentation("{\n  a: 1 }", 7)    // two blanks
+/// ```
+pub fn indentation(text: &str, at: usize) -> &str {
     let line = between(text, line_start(text, at), text.len());
     for (offset, c) in line.char_indices() {
         if !matches!(c, ' ' | '\t') {

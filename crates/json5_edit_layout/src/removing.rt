@@ -1,4 +1,4 @@
-//! A collection's text without one of its entries.
+//! What goes from a collection's text with one of its entries.
 
 use crate::gaps::{Care, Gap, between};
 use crate::lines::after_empty_line;
@@ -7,43 +7,35 @@ use json5_types::ErrorCode;
 use json5_types::error::{Error, Result};
 use std::alloc::Global;
 
-/// What goes: a part, and the comma at an offset before it.
-#[derive(Clone, Copy, Drop)]
-struct Cut {
-    comma: Option<usize>,
-    start: usize,
-    end: usize,
-}
-
-/// Returns the collection's text without the entry with this index: without its comma, the comments that belong to it,
-/// and its line, if it has one to itself.
+/// What goes from a text: a part, and perhaps a comma before it. Offsets are in bytes.
 ///
 /// ```text
-/// without_entry(alloc, Care::Lines, "{ a: 1, /* b */ b: 2 }", 1)?    // { a: 1 }
+/// Cut { comma: Some(5), start: 7, end: 11 }    // the `b: 2` of `{ a: 1, b: 2 }`, and the comma before it
+/// ```
+#[derive(Clone, Copy, Drop)]
+pub struct Cut {
+    pub comma: Option<usize>,
+    pub start: usize,
+    pub end: usize,
+}
+
+/// Returns what goes from the collection's text with the entry with this index: with its comma, the comments that
+/// belong to it, and its line, if it has one to itself.
+///
+/// ```text
+/// cut_for(alloc, Care::Lines, "{ a: 1, /* b */ b: 2 }", 1)?    // leaves { a: 1 }
 /// ```
 ///
 /// # Errors
 ///
 /// - `Failed`, if there is no such entry.
-/// - As reading, if the text is no value; `OutOfMemory` where there is no memory for the text.
-pub fn without_entry(alloc: Global, care: Care, text: &str, index: usize) -> Result<String> {
+/// - As reading, if the text is no value; `OutOfMemory` where there is no memory for a key with an escape.
+pub fn cut_for(alloc: Global, care: Care, text: &str, index: usize) -> Result<Cut> {
     let around = find_around(alloc, text, index)?;
-    let Some(here) = around.here else {
-        return Err(Error::new(ErrorCode::Failed));
-    };
-    let cut = cut_of(care, text, around, here);
-    let (comma, from) = match cut.comma {
-        Some(comma) => (comma, comma.saturating_add(1)),
-        None => (cut.start, cut.start),
-    };
-    joined(
-        alloc,
-        &[
-            between(text, 0, comma),
-            between(text, from, cut.start),
-            between(text, cut.end, text.len()),
-        ],
-    )
+    match around.here {
+        Some(here) => Ok(cut_of(care, text, around, here)),
+        None => Err(Error::new(ErrorCode::Failed)),
+    }
 }
 
 /// The texts one after another.

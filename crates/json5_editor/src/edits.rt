@@ -1,7 +1,9 @@
 //! The text that a request makes of another.
 
 use crate::requests::{Request, Work};
-use json5_edit::{EditError, Result, Step, find, insert, push, remove, rename, set};
+use json5_edit::{
+    EditError, Result, Step, find, insert, insert_element, push, remove, rename, set,
+};
 use std::alloc::Global;
 
 /// The text that is written: the value that was asked for and a line end, or the changed text.
@@ -38,12 +40,13 @@ fn value_at(alloc: Global, text: &str, steps: &[Step<'_>]) -> Result<String> {
     }
 }
 
-/// The text with a member whose key is the last step.
+/// The text with a member whose key is the last step, or with an element before that to which the last step goes.
 fn inserted(alloc: Global, text: &str, steps: &[Step<'_>], value: &str) -> Result<String> {
-    let Some((Step::Key(key), outer)) = steps.split_last() else {
-        return Err(EditError::NoKey);
-    };
-    insert(alloc, text, outer, key, value)
+    match steps.split_last() {
+        Some((Step::Key(key), outer)) => insert(alloc, text, outer, key, value),
+        Some((Step::Index(index), outer)) => insert_element(alloc, text, outer, *index, value),
+        None => Err(EditError::NoKey),
+    }
 }
 
 /// How many steps lead somewhere.

@@ -1,0 +1,2 @@
+-- Lists the lemmas about edits with values.
+pub mod Refused

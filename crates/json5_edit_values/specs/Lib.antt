@@ -1,0 +1,2 @@
+-- Lists the definitions of edits with values.
+pub mod Spelled
