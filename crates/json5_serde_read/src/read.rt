@@ -52,11 +52,11 @@ pub fn from_str_within<'de, T: Deserialize<'de>>(
     let mut format = Json5::new(alloc, limit, text);
     let value = match read_one(alloc, text, &mut format) {
         Ok(value) => value,
-        Err(fault) => return Err(told(alloc, text, fault)),
+        Err(fault) => return Err(told(alloc, text, format.cause(fault))),
     };
     match format.end(limit, text) {
         Ok(()) => Ok(value),
-        Err(fault) => Err(told(alloc, text, fault)),
+        Err(fault) => Err(told(alloc, text, format.cause(fault))),
     }
 }
 
@@ -133,11 +133,11 @@ pub fn from_str_owned<T: DeserializeOwned>(alloc: Global, limit: Limit, text: &s
     let mut format = Json5::new(alloc, limit, text);
     let value = match read_owned(alloc, text, &mut format) {
         Ok(value) => value,
-        Err(fault) => return Err(told(alloc, text, fault)),
+        Err(fault) => return Err(told(alloc, text, format.cause(fault))),
     };
     match format.end(limit, text) {
         Ok(()) => Ok(value),
-        Err(fault) => Err(told(alloc, text, fault)),
+        Err(fault) => Err(told(alloc, text, format.cause(fault))),
     }
 }
 

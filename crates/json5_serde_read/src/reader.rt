@@ -92,6 +92,16 @@ impl<'t> Json5<'t> {
         }
     }
 
+    /// Why reading ended: where a mark wasn't kept since memory ran out, that is the cause of any fault that came after.
+    #[cold]
+    #[inline(never)]
+    pub(crate) fn cause(&self, fault: Fault) -> Fault {
+        if self.is_full {
+            return Fault::Code(ErrorCode::OutOfMemory, None);
+        }
+        fault
+    }
+
     /// The first code at the innermost bracket where the text ends, else the second one here.
     #[cold]
     #[inline(never)]
