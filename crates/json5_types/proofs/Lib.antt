@@ -11,3 +11,11 @@ pub mod DeepestInside
 pub mod InlineDigits
 pub mod LookedUp
 pub mod ValuesCompared
+pub mod ValuesCounted
+pub mod MembersPlaced
+pub mod ValuesChanged
+pub mod MembersMerged
+pub mod PointerParts
+pub mod PointerKeys
+pub mod PointerIndices
+pub mod ValuesHashed

@@ -14,3 +14,10 @@ pub mod ValueMeanings
 pub mod ValueEquality
 pub mod ValueLookups
 pub mod DigitRuns
+pub mod ValueKinds
+pub mod ValueChanges
+pub mod MemberPlaces
+pub mod Pointers
+pub mod PointerSteps
+pub mod LentValues
+pub mod ValueHashes

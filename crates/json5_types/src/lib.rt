@@ -16,8 +16,16 @@ pub mod nesting;
 pub mod number;
 mod u128_halves;
 pub mod value;
+pub mod value_changes;
 mod value_clone;
+pub mod value_from;
+mod value_hash;
+pub mod value_kinds;
 pub mod value_lookup;
+pub mod value_merge;
+pub mod value_numbers;
+pub mod value_places;
+pub mod value_pointer;
 pub mod whole;
 
 pub use json5_grammar::error_code::ErrorCode;
