@@ -1,0 +1,2 @@
+-- Lists the definitions of texts that are bytes.
+pub mod Bytes

@@ -1,0 +1,52 @@
+-- The next element or member of a list, and how deep it is.
+use Rattle.std.proofs.Common.{◌≡◌, ◌∙◌, ℕ, zero, suc, ◌+◌, ◌<◌, ◌≤◌, Bool, true, List, [], ◌∷◌, ◌++◌, length, get_or, drop, refl, sym, ap, subst, append_assoc, rules, arith, String, string_bytes}
+use Rattle.std.specs.Prelude.{ℤ}
+use Rattle.std.specs.declared.alloc.Global.{Global}
+use Rattle.std.specs.Str.{chars}
+use Rattle.json5_grammar.specs.Language.Numbers.{Decimal, decimal, whole}
+use Rattle.json5_types.specs.declared.value.Value.{Value, the_lemmas}
+use Rattle.json5_types.specs.declared.value.Value as value
+use Rattle.json5_types.specs.ValueLookups.{datum_depth, items_depth, fields_depth}
+use Rattle.json5_types.specs.ValueMeanings.{number, value_of, items_view, fields_view}
+use Rattle.json5_write.proofs.ValuesInside.{item_first}
+use Rattle.json5_layouts.specs.LaidBack.{HasNumbers, ItemsHaveNumbers, FieldsHaveNumbers}
+use Rattle.json5_layouts.specs.Styles.{Style, comma_if, laid, items_laid, fields_laid}
+
+entry_then : (k m o r : List ℕ) → k ++ (m ++ (o ++ r)) ≡ (k ++ (m ++ o)) ++ r
+entry_then k m o r = simp append_assoc refl
+
+pub next_item : (s : Style) (d : ℕ) (started : Bool) (vs : List Value) (i : ℕ) (v : Value) → i < length vs → v ≡ get_or vs i v
+    → items_laid s d started (items_view (drop i vs)) ≡ (comma_if started ++ s.line (d + 1)) ++ (laid s (d + 1) (value_of v) ++ items_laid s d true (items_view (drop (i + 1) vs)))
+next_item s d started vs i v h e = ap (λ l. items_laid s d started (items_view l)) (item_first vs i v h e)
+
+pub next_field : (s : Style) (d : ℕ) (started : Bool) (fs : List (String Global × Value)) (i : ℕ) (f : String Global × Value) → i < length fs → f ≡ get_or fs i f
+    → fields_laid s d started (fields_view (drop i fs)) ≡ (comma_if started ++ s.line (d + 1)) ++ ((s.key (chars (string_bytes f.0)) ++ 58 ∷ (s.gap ++ laid s (d + 1) (value_of f.1))) ++ fields_laid s d true (fields_view (drop (i + 1) fs)))
+next_field s d started fs i f h e =
+    ap (λ l. fields_laid s d started (fields_view l)) (item_first fs i f h e)
+    ∙ ap (λ l. (comma_if started ++ s.line (d + 1)) ++ l) (entry_then (s.key (chars (string_bytes f.0))) (58 ∷ s.gap) (laid s (d + 1) (value_of f.1)) (fields_laid s d true (fields_view (drop (i + 1) fs))))
+
+-- ---- numbers
+
+pub items_numbers : (vs : List Value) (i : ℕ) (v : Value) → i < length vs → v ≡ get_or vs i v → HasNumbers (value_of v) → ItemsHaveNumbers (items_view (drop (i + 1) vs)) → ItemsHaveNumbers (items_view (drop i vs))
+items_numbers vs i v h e n rest = subst (λ l. ItemsHaveNumbers (items_view l)) (sym (item_first vs i v h e)) (n, rest)
+
+pub fields_numbers : (fs : List (String Global × Value)) (i : ℕ) (f : String Global × Value) → i < length fs → f ≡ get_or fs i f → HasNumbers (value_of f.1) → FieldsHaveNumbers (fields_view (drop (i + 1) fs)) → FieldsHaveNumbers (fields_view (drop i fs))
+fields_numbers fs i f h e n rest = subst (λ l. FieldsHaveNumbers (fields_view l)) (sym (item_first fs i f h e)) (n, rest)
+
+-- ---- depths
+
+pub item_within : (vs : List Value) (i : ℕ) (v : Value) → i < length vs → v ≡ get_or vs i v → datum_depth (value_of v) ≤ items_depth (items_view vs)
+item_within [] i v h e = absurd (omega (arith, h))
+item_within (w ∷ ws) zero v h e = let k = ap (λ u. datum_depth (value_of u)) e in grind arith
+item_within (w ∷ ws) (suc i) v h e = let k = item_within ws i v (omega (arith, h)) e in grind arith
+
+pub field_within : (fs : List (String Global × Value)) (i : ℕ) (f : String Global × Value) → i < length fs → f ≡ get_or fs i f → datum_depth (value_of f.1) ≤ fields_depth (fields_view fs)
+field_within [] i f h e = absurd (omega (arith, h))
+field_within (g ∷ gs) zero f h e = let k = ap (λ m. datum_depth (value_of m.1)) e in grind arith
+field_within (g ∷ gs) (suc i) f h e = let k = field_within gs i f (omega (arith, h)) e in grind arith
+
+pub view-Decimal : (d : Decimal) → value_of (value.Decimal d) ≡ number (decimal d)
+view-Decimal d = search (rules, the_lemmas)
+
+pub view-Whole : (z : ℤ) → value_of (value.Whole z) ≡ number (whole z)
+view-Whole z = search (rules, the_lemmas)

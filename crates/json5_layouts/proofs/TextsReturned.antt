@@ -1,0 +1,40 @@
+-- What is returned of a text that was put into a string.
+use Rattle.std.proofs.Common.{◌≡◌, ◌≤◌, ◌+◌, ◌∙◌, ℕ, true, false, List, [], Some, None, Result, Ok, Err, sym, arith}
+use Rattle.std.specs.Prelude.{⊤, IfOk, IfErr, IsOk, OnOk, String}
+use Rattle.std.specs.declared.alloc.Global.{Global}
+use Rattle.std.proofs.lemmas.Bool.Decides.{nat_tests}
+use Rattle.json5_grammar.specs.Language.Documents.{max_depth}
+use Rattle.json5_grammar.specs.declared.error_code.ErrorCode.TheVariants as codes
+use Rattle.json5_types.specs.declared.error.Error.{Error}
+use Rattle.json5_types.specs.Errors.{code, SaysAt}
+use Rattle.json5_types.specs.ValueLookups.{fits, datum_depth}
+use Rattle.json5_types.specs.ValueMeanings.{Datum}
+use Rattle.json5_write.specs.Out.{piece}
+use Rattle.json5_write.specs.ShortWrites.{Puts}
+use Rattle.json5_write.specs.WholeOutputs.{IsTextOf, RefusesTextOf, text_kind_by}
+use Rattle.json5_write.specs.Writes.{SerializerState}
+use Rattle.json5_write.specs.declared.refusal.Refused.{Refused}
+use Rattle.json5_write.specs.declared.refusal.Refused.TheVariants as refused
+use Rattle.json5_write.proofs.TextsWhole.{text_returned}
+use Rattle.json5_layouts.specs.WholeTexts.{LaysOut}
+
+-- the writer of a string fails only for want of memory
+no_memory : (t : List ℕ) (old new : SerializerState) (r : Refused) (e : Error) → old.failed ≡ false → Puts (piece t) old (Err r) new → SaysAt (text_kind_by r) None e → SaysAt (code codes.OutOfMemory) None e
+no_memory t old new refused.Before e live p h = absurd (let x : true ≡ false = sym p.was ∙ live in cc)
+no_memory t old new refused.ByWriter e live p h = h
+no_memory t old new refused.TooDeep e live p h = absurd (let x = p.stop in cc)
+no_memory t old new refused.Key e live p h = absurd (let x = p.stop in cc)
+
+pub laid_returned : (t : List ℕ) (x : Datum) (old new : SerializerState) (items : List ℕ) (printed : Result ⊤ Refused) (result : Result (String Global) Error) → fits x ≡ true → old.failed ≡ false → Puts (piece t) old printed new
+    → old.known ≡ Some [] → Some items ≡ new.known → IfOk result (IsTextOf printed items) → IfErr result (RefusesTextOf printed) → LaysOut t x result
+laid_returned t x old new items printed (Ok s) fit live p e f h k = (fit, text_returned (piece t) old new items printed (Ok s) p e f h)
+laid_returned t x old new items (Ok y) (Err z) fit live p e f h k = absurd k
+laid_returned t x old new items (Err r) (Err z) fit live p e f h k = rw fit (no_memory t old new r z live p k)
+
+pub shallow : (x : Datum) → fits x ≡ true → datum_depth x + 0 ≤ max_depth
+shallow x h = grind (arith, nat_tests)
+
+pub numbers_returned : (P : Type 0) (items : List ℕ) (printed : Result ⊤ Refused) (result : Result (String Global) Error) → IfOk result (IsTextOf printed items) → OnOk printed P → IsOk result → P
+numbers_returned P items (Ok y) (Ok s) h p ok = p
+numbers_returned P items (Err r) (Ok s) h p ok = absurd (let x = h.wrote in cc)
+numbers_returned P items printed (Err e) h p ok = absurd (cc)

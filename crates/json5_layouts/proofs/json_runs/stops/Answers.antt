@@ -1,0 +1,13 @@
+use Rattle.std.proofs.Common.{arith}
+use Rattle.std.proofs.lemmas.Simd.{zip2_splat}
+use Rattle.json5_text.proofs.ByteSearch.{hit, either, masked}
+use Rattle.json5_layouts.specs.JsonEscapes.{ends_unescaped}
+use Rattle.json5_layouts.proofs.JsonRuns.{below, unescaped_lane}
+use Rattle.json5_layouts.proofs.json_runs.stops.Goals as goal
+
+pub returns : goal.returns
+returns c =
+    let v = c.args.bytes in
+    let long = c.fits-bytes.0 in
+    let two = either _ _ v (zip2_splat below v 16 32 long) (zip2_splat hit v 16 34 long) in
+    masked _ ends_unescaped v _ (omega arith) (either _ _ v two (zip2_splat hit v 16 92 long)) unescaped_lane

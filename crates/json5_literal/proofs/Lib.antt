@@ -1,0 +1,2 @@
+-- Lists the lemmas of literals.
+pub mod PartsAdded

@@ -1,0 +1,2 @@
+-- Lists the definitions of literals.
+pub mod Literals

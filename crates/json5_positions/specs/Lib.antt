@@ -1,0 +1,2 @@
+-- Lists the definitions of places in a text.
+pub mod Places
