@@ -1,0 +1,3 @@
+-- Lists the lemmas about floats.
+pub mod SpelledNumbers
+pub mod PrintedFloats

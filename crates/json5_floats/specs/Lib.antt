@@ -1,0 +1,2 @@
+-- Lists the definitions of floats.
+pub mod Floats

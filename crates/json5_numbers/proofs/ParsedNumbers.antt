@@ -1,0 +1,69 @@
+-- The text that is scanned as a number is one, and a text that isn't is none.
+use Rattle.std.proofs.Common.{◌≡◌, ℕ, ◌-◌, ◌^◌, ◌<◌, ◌≤◌, Bool, true, false, cond, ◌||◌, List, [], ◌∷◌, ◌++◌, length, refl, ap, sym, subst, ◌∙◌, arith, append-nil, Option, Some, lit<, lit≤, true≢false}
+use Rattle.std.specs.Prelude.{ℤ, pos, ◌+ℤ◌, slice_get}
+use Rattle.std.proofs.lemmas.Int.{ints}
+use Rattle.std.proofs.lemmas.Fmt.{decimal_is_IsNumeral_wide, length-decimal-le_wide}
+use native.Mathlib.Nat.{lt_of_lt_of_le, le_trans}
+use Rattle.std.specs.Fmt.{decimal as decimal_digits}
+use Rattle.json5_grammar.specs.declared.error_code.ErrorCode.{ErrorCode}
+use Rattle.json5_grammar.specs.Language.Characters.{is_digit, Each, NotBegun}
+use Rattle.json5_grammar.specs.Language.Numbers.{Num, Number, lengthens, without_front_zeros, without_zeros, normal_exponent, is_empty, InExponents}
+use Rattle.json5_grammar.specs.Faults.Tokens.{is_sign, begins_number}
+use Rattle.json5_grammar.proofs.NumberFaultsRefused.{no_fault, one_number}
+use Rattle.json5_grammar.proofs.ValueHeads.{number_head}
+use Rattle.json5_grammar.proofs.DecimalsWritten.{length-front}
+use Rattle.json5_types.specs.declared.error.Error.{Error}
+use Rattle.json5_floats.proofs.SpelledNumbers.{each_digit}
+use Rattle.json5_types.specs.Errors.{LacksMemory, kind_of, known_code}
+use Rattle.json5_numbers.specs.NumberTexts.{is_memory}
+use Rattle.json5_text.specs.Cursor.{Cursor, Refused}
+use Rattle.json5_text.specs.TokenFaults.{FaultyNumber, faulty, no_number, number_missing}
+
+abbrev pub NoNumber : List ℕ → Type 0
+NoNumber text = (n : Number) → Num text n → ⊥
+
+pub all_taken : (text s rest : List ℕ) (n : Number) → text ≡ s ++ rest → rest ≡ [] → Num s n → Num text n
+all_taken text s rest n e k h = subst (λ t. Num t n) (sym (e ∙ ap (λ r. s ++ r) k ∙ append-nil s)) h
+
+pub more_left : (text s rest : List ℕ) (n : Number) (c : ℕ) (r : List ℕ) → text ≡ s ++ rest → rest ≡ c ∷ r → Num s n → NotBegun (lengthens s) rest → NoNumber text
+more_left text s rest n c r e k h stops m i =
+    let o = one_number h i stops tt (sym e ∙ sym (append-nil text)) in
+    let q : c ∷ r ≡ [] = sym k ∙ o.2 in
+    absurd (cc)
+
+no_head : (c d : ℕ) (r t : List ℕ) → c ∷ r ≡ d ∷ t → (is_sign c || begins_number c) ≡ false → (is_sign d || begins_number d) ≡ true → ⊥
+no_head c d r t e h k = let q : c ≡ d = cc in true≢false (sym k ∙ ap (λ x. is_sign x || begins_number x) (sym q) ∙ h)
+
+by_fault : {x : List ℕ} {reason : Option ErrorCode} {place : Option (List ℕ)} → FaultyNumber x reason place → NoNumber x
+by_fault {x = x} (faulty f) n h = no_fault [] f (sym (append-nil x)) h tt
+by_fault (no_number c r k) n h = let p = number_head h in no_head c p.0 r p.1 p.2 k p.3
+by_fault number_missing n h = let p = number_head h in let q : [] ≡ p.0 ∷ p.1 = p.2 in absurd (cc)
+
+pub not_memory : (e : Error) (b : Bool) → b ≡ is_memory (known_code (kind_of e)) → b ≡ false → LacksMemory e → ⊥
+not_memory e b h f m = true≢false (sym (ap (λ k. is_memory (known_code k)) m.kind) ∙ sym h ∙ f)
+
+pub first_of_rest : (xs : List ℕ) (v : ℕ) → slice_get xs 0 ≡ Some v → (c : ℕ) × (r : List ℕ) × (xs ≡ c ∷ r)
+first_of_rest [] v h = absurd (cc)
+first_of_rest (c ∷ r) v h = (c, r, refl)
+
+pub refused_none : (s : Cursor) (e : Error) → Refused FaultyNumber s e → NoNumber s.unread
+refused_none s e r = by_fault r.fault
+
+-- ---- exponents of few digits
+
+abbrev if_empty : Bool → ℕ → ℤ
+if_empty b k = cond b (pos 0) (pos 0 +ℤ pos k)
+
+few_if : (b : Bool) (k : ℕ) → k ≤ 100 → InExponents (if_empty b k)
+few_if true k h = (omega (arith, ints), omega (arith, ints))
+few_if false k h = (omega (arith, ints), omega (arith, ints))
+
+pub few_exponent : (s : List ℕ) → length s ≤ 100 → InExponents (normal_exponent s (pos 0))
+few_exponent s h = few_if (is_empty (without_zeros s)) (length (without_front_zeros s) - length (without_zeros s)) (omega (arith, length-front s))
+
+pub whole_digits : (n : ℕ) → n < 2 ^ 128 → Each is_digit (decimal_digits n) × InExponents (normal_exponent (decimal_digits n) (pos 0))
+whole_digits n h =
+    let few : n < 10 ^ 64 = lt_of_lt_of_le h (lit≤ tt) in
+    let short : n < 10 ^ 39 = lt_of_lt_of_le h (lit≤ tt) in
+    let d = decimal_is_IsNumeral_wide n few in
+    (each_digit (decimal_digits n) d.0.1, few_exponent (decimal_digits n) (le_trans (length-decimal-le_wide 39 n (lit< tt) short few) (lit≤ tt)))
