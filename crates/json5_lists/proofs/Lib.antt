@@ -1,0 +1,3 @@
+-- Lists the lemmas on texts that differ.
+pub mod TextsApart
+pub mod TextsThatDiffer

@@ -1,0 +1,39 @@
+//! Labels: a list of strings that differ.
+
+use json5_de::{Deserialize, Deserializer};
+use json5_lists::{Distinct, read_distinct};
+use json5_text::input::Input;
+use json5_types::error::Result;
+
+/// One to eight short labels, no two of which are equal: `['new', 'red']`.
+#[derive(Drop)]
+pub struct Labels {
+    /// In the order of the list.
+    pub texts: Vec<String>,
+}
+
+/// A list of strings; a label that is there already, is too long or is one too many is refused at its quote.
+impl<I: Input> Deserialize<I> for Labels {
+    ghost use Rattle.std.specs.Prelude.{ℕ, List};
+    ghost use Rattle.json5_lists.specs.Distinct.{all_texts, distinct_texts, DistinctFault};
+
+    ghost Content = { List (List ℕ) };
+
+    ghost content = { λ l. all_texts l.texts };
+
+    ghost convert = { distinct_texts 1 8 20 };
+
+    ghost refuses = { DistinctFault 1 8 20 };
+
+    fn deserialize(de: &mut Deserializer<I>) -> Result<Labels> {
+        let rule = Distinct {
+            least: 1,
+            most: 8,
+            longest: 20,
+        };
+        match read_distinct(de, rule) {
+            Ok(texts) => Ok(Labels { texts }),
+            Err(e) => Err(e),
+        }
+    }
+}
