@@ -1,6 +1,7 @@
 //! A report of a fault.
 
-ghost use Rattle.std.specs.Prelude.{◌≡◌, Some, IfOk, string_bytes};
+ghost use Rattle.std.specs.Prelude.{◌≡◌, Some, MatchResult, string_bytes};
+ghost use Rattle.json5_types.specs.Errors.{LacksMemory};
 
 use crate::course::Course;
 use crate::excerpt::{ColouredExcerpt, Excerpt};
@@ -67,7 +68,7 @@ impl Report {
     ///
     /// - `OutOfMemory`, without a position, where a request for memory was refused.
     pub fn new(alloc: Global, name: &str, text: &str, error: &Error) -> Result<Report>
-        ensures { IfOk result (IsReportOf name.now text.now error.now) }
+        ensures { MatchResult result (IsReportOf name.now text.now error.now) LacksMemory }
     {
         Report::within(alloc, WIDTH, name, text, error)
     }
@@ -88,7 +89,7 @@ impl Report {
         text: &str,
         error: &Error,
     ) -> Result<Report>
-        ensures { IfOk result (IsReportOf name.now text.now error.now) }
+        ensures { MatchResult result (IsReportOf name.now text.now error.now) LacksMemory }
     {
         let position = position_of(text, error);
         let offset = offset_of(text, position);
@@ -140,7 +141,7 @@ impl Spot<'_> {
 
     /// The report that says this of the place, and underlines this part.
     pub(crate) fn report(self, alloc: Global, message: String, remark: Remark<'_>) -> Result<Report>
-        ensures { IfOk result (IsReportAt self.entry.name.now self.entry.text.now self.entry.position self.entry.offset) }
+        ensures { MatchResult result (IsReportAt self.entry.name.now self.entry.text.now self.entry.position self.entry.offset) LacksMemory }
     {
         let course = Course::before(alloc, self.text, self.offset)?;
         let hint = match remark.advice {

@@ -1,5 +1,6 @@
 -- Lists the lemmas about the program.
 pub mod LinesJoined
+pub mod RefusalsRead
 pub mod FilesWorked
 pub mod NamesWorked
 pub mod NamesEnded

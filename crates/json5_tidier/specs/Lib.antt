@@ -1,4 +1,5 @@
 -- Lists the definitions of what the program does.
+pub mod Refusals
 pub mod Tidies
 pub mod Answers
 pub mod CommandWords

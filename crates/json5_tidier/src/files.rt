@@ -122,9 +122,10 @@ fn work_on<S: Store, W: Write>(
     let Ok(mut file) = store.open(name) else {
         return Err(Trouble::Failed(Failure::Read));
     };
-    match read_tidied(alloc, style_for(name, request.options.style), &mut file) {
+    let style = style_for(name, request.options.style);
+    match read_tidied(alloc, name, style, &mut file) {
         Ok(tidied) => work_on_texts(store, alloc, request.work, name, &tidied, w),
-        Err(failure) => Err(Trouble::Failed(failure)),
+        Err(trouble) => Err(trouble),
     }
 }
 
