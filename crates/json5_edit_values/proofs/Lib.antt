@@ -1,0 +1,3 @@
+-- Lists the lemmas about edits with values.
+pub mod ValuesSpelled
+pub mod Refused

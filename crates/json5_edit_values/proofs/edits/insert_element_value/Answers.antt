@@ -1,0 +1,20 @@
+use Rattle.std.proofs.Common.{sym, subst, string_bytes}
+use Rattle.std.proofs.lemmas.Result.{err_from_is_err_and}
+use Rattle.std.specs.Str.{chars}
+use Rattle.json5_grammar.specs.Language.Values.{Val}
+use Rattle.json5_edit.specs.Changes.{GainsAt}
+use Rattle.json5_edit.specs.Comparing.{IsWithAt}
+use Rattle.json5_write.specs.EscapeFreeMarks.{marks}
+use Rattle.json5_edit_values.proofs.Refused.{changed_as, at_of, put_in_writing, put_in_refused}
+use Rattle.json5_edit_values.proofs.edits.insert_element_value.Goals as goal
+
+pub returns-in_err-new-clause-refused : goal.returns-in_err-new-clause-refused
+returns-in_err-new-clause-refused g c =
+    let (y, is, from) = err_from_is_err_and c.from_residual.result c.from_residual.ensures.1 in
+    rw (is, from) (put_in_writing (g.T.Serialize.tree c.args.value.now) c.args.text.now c.args.path.now c.args.index c.in_err-new.field-0.0 c.in_err-new.ensures.refused)
+
+pub returns-in-Ok-clause-put_in : goal.returns-in-Ok-clause-put_in
+returns-in-Ok-clause-put_in g c = changed_as (GainsAt c.args.index c.as_str.result.now) (IsWithAt c.args.index (marks (g.T.Serialize.tree c.args.value.now))) c.args.text.now c.args.path.now (string_bytes c.in-Ok.made) (at_of c.args.index c.as_str.result.now (marks (g.T.Serialize.tree c.args.value.now)) (subst (λ z. Val (chars z) (marks (g.T.Serialize.tree c.args.value.now))) (sym c.as_str.ensures.value) c.in_ok-new.ensures.value)) c.in-Ok.ensures.put_in
+
+pub returns-clause-refused : goal.returns-clause-refused
+returns-clause-refused g c = put_in_refused (g.T.Serialize.tree c.args.value.now) c.args.text.now c.args.path.now c.args.index c.as_str.result.now c.in-Err.error c.placeless.result (subst (λ z. Val (chars z) (marks (g.T.Serialize.tree c.args.value.now))) (sym c.as_str.ensures.value) c.in_ok-new.ensures.value) c.in-Err.ensures.refused c.placeless.ensures

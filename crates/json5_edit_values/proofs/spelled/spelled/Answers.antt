@@ -1,0 +1,18 @@
+use Rattle.std.proofs.Common.{sym, subst}
+use Rattle.std.proofs.lemmas.Result.{err_from_is_err_and}
+use Rattle.json5_write.specs.EscapeFreeMarks.{marks}
+use Rattle.json5_write.specs.Out.{written_text}
+use Rattle.json5_edit_values.specs.Refusals.{RefusesWriting}
+use Rattle.json5_edit_values.proofs.ValuesSpelled.{err_then}
+use Rattle.json5_edit_values.proofs.spelled.spelled.Goals as goal
+
+pub returns-in_err-written-clause-refused : goal.returns-in_err-written-clause-refused
+returns-in_err-written-clause-refused g c =
+    let (y, is, from) = err_from_is_err_and c.from_residual.result c.from_residual.ensures.1 in
+    rw (is, from) c.in_err-written.ensures.refused
+
+pub returns-clause-value : goal.returns-clause-value
+returns-clause-value g c = c.laid_out.ensures.same (marks (g.T.Serialize.tree c.args.value.now)) c.in_ok-written.ensures.value
+
+pub returns-clause-refused : goal.returns-clause-refused
+returns-clause-refused g c = err_then c.laid_out.result (λ e k. subst (RefusesWriting (written_text (g.T.Serialize.tree c.args.value.now))) (sym k) tt) c.laid_out.ensures.full

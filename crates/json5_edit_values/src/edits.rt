@@ -1,0 +1,135 @@
+//! The edits.
+
+ghost use Rattle.std.specs.Prelude.{IfOk, IfErr, string_bytes};
+ghost use Rattle.json5_edit_values.specs.Refusals.{IsPlaceless, RefusesInsertOf, RefusesPushOf, RefusesPutInOf, RefusesSetTo};
+ghost use Rattle.json5_edit_values.specs.Trees.{IsInsertedAs, IsPushedAs, IsPutInAs, IsSetTo};
+ghost use Rattle.json5_write.specs.EscapeFreeMarks.{marks};
+
+use crate::seats::Goes;
+use crate::spelled::spelled;
+use json5_edit::{EditError, Result, Step, insert, insert_element, push, set};
+use json5_ser::Serialize;
+use json5_types::ErrorCode;
+use json5_types::error::Error;
+use std::alloc::Global;
+
+/// Returns the text with the value that the path leads to replaced by this one, as json5 writes it: on one line, if that
+/// has at most 80 characters and the old value stands on one, else on lines that are indented like the document's.
+///
+/// ```text
+/// set_value(alloc, "{ port: 80 } // web", &[Step::Key("port")], &8080u16)?    // { port: 8080 } // web
+/// ```
+///
+/// # Errors
+///
+/// - `Value` with the error of `json5::to_string`, if the value can't be written; `TooDeep` too, if it is nested too deep
+///   for its place. It has no position.
+/// - `Text`, `Nowhere`, `NoMemory` and `Failed` as [`set`].
+pub fn set_value<T: Serialize>(
+    alloc: Global,
+    text: &str,
+    path: &[Step<'_>],
+    value: &T,
+) -> Result<String>
+    ensures set { IfOk result (λ made. IsSetTo (marks (T.tree value.now)) text.now path.now (string_bytes made)) }
+    ensures refused { IfErr result (RefusesSetTo (T.tree value.now) text.now path.now) }
+{
+    let new = spelled(alloc, value, text, path, Goes::Instead)?;
+    match set(alloc, text, path, new.as_str()) {
+        Ok(made) => Ok(made),
+        Err(error) => Err(placeless(error)),
+    }
+}
+
+/// Returns the text with one more element at the end of the array that the path leads to: this value, as json5 writes
+/// it, laid out as [`set_value`] does. The rest is as [`push`] has it.
+///
+/// ```text
+/// push_value(alloc, "{ ports: [80] }", &[Step::Key("ports")], &443u16)?    // { ports: [80, 443] }
+/// ```
+///
+/// # Errors
+///
+/// - `Value` as [`set_value`].
+/// - `Text`, `Nowhere`, `NotArray`, `NoMemory` and `Failed` as [`push`].
+pub fn push_value<T: Serialize>(
+    alloc: Global,
+    text: &str,
+    path: &[Step<'_>],
+    value: &T,
+) -> Result<String>
+    ensures pushed { IfOk result (λ made. IsPushedAs (marks (T.tree value.now)) text.now path.now (string_bytes made)) }
+    ensures refused { IfErr result (RefusesPushOf (T.tree value.now) text.now path.now) }
+{
+    let new = spelled(alloc, value, text, path, Goes::Into(0))?;
+    match push(alloc, text, path, new.as_str()) {
+        Ok(made) => Ok(made),
+        Err(error) => Err(placeless(error)),
+    }
+}
+
+/// Returns the text with one more element of the array that the path leads to, before that with this index: this value,
+/// as json5 writes it, laid out as [`set_value`] does. The rest is as [`insert_element`] has it.
+///
+/// ```text
+/// insert_element_value(alloc, "{ ports: [443] }", &[Step::Key("ports")], 0, &80u16)?    // { ports: [80, 443] }
+/// ```
+///
+/// # Errors
+///
+/// - `Value` as [`set_value`].
+/// - `Text`, `Nowhere`, `NotArray`, `NoMemory` and `Failed` as [`insert_element`].
+pub fn insert_element_value<T: Serialize>(
+    alloc: Global,
+    text: &str,
+    path: &[Step<'_>],
+    index: usize,
+    value: &T,
+) -> Result<String>
+    ensures put_in { IfOk result (λ made. IsPutInAs (marks (T.tree value.now)) text.now path.now index (string_bytes made)) }
+    ensures refused { IfErr result (RefusesPutInOf (T.tree value.now) text.now path.now index) }
+{
+    let new = spelled(alloc, value, text, path, Goes::Into(0))?;
+    match insert_element(alloc, text, path, index, new.as_str()) {
+        Ok(made) => Ok(made),
+        Err(error) => Err(placeless(error)),
+    }
+}
+
+/// Returns the text with one more member, the last, of the object that the path leads to: this key, and this value, as
+/// json5 writes it, laid out as [`set_value`] does. The rest is as [`insert`] has it.
+///
+/// ```text
+/// insert_value(alloc, "{ host: 'a' }", &[], "port", &80u16)?    // { host: 'a', port: 80 }
+/// ```
+///
+/// # Errors
+///
+/// - `Value` as [`set_value`].
+/// - `Text`, `Nowhere`, `NotObject`, `Taken`, `NoMemory` and `Failed` as [`insert`].
+pub fn insert_value<T: Serialize>(
+    alloc: Global,
+    text: &str,
+    path: &[Step<'_>],
+    key: &str,
+    value: &T,
+) -> Result<String>
+    ensures inserted { IfOk result (λ made. IsInsertedAs (marks (T.tree value.now)) text.now path.now key.now (string_bytes made)) }
+    ensures refused { IfErr result (RefusesInsertOf (T.tree value.now) text.now path.now key.now) }
+{
+    let new = spelled(alloc, value, text, path, Goes::Into(key.len()))?;
+    match insert(alloc, text, path, key, new.as_str()) {
+        Ok(made) => Ok(made),
+        Err(error) => Err(placeless(error)),
+    }
+}
+
+/// The same error; of a value that doesn't fit, without a position in the text that was written of it.
+fn placeless(error: EditError) -> EditError
+    ensures { IsPlaceless error result }
+{
+    match error {
+        EditError::Value(_) => EditError::Value(Error::new(ErrorCode::TooDeep)),
+        other => other,
+    }
+}

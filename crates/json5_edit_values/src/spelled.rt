@@ -1,0 +1,53 @@
+//! How a value is spelled where it goes.
+
+ghost use Rattle.std.specs.Prelude.{IfOk, IfErr, string_bytes};
+ghost use Rattle.std.specs.Str.{chars};
+ghost use Rattle.json5_edit_values.specs.Refusals.{RefusesWriting};
+ghost use Rattle.json5_grammar.specs.Language.Values.{Val};
+ghost use Rattle.json5_write.specs.EscapeFreeMarks.{marks};
+ghost use Rattle.json5_write.specs.Out.{Out, written_text};
+ghost use Rattle.json5_write.specs.WholeOutputs.{RefusesToString};
+
+use crate::laid_out::laid_out;
+use crate::seats::Goes;
+use json5_edit::{EditError, Result, Step};
+use json5_ser::{Serialize, to_string};
+use json5_types::ErrorCode;
+use json5_types::error::Error;
+use std::alloc::Global;
+
+/// The value as json5 writes it, laid out for where it goes.
+pub(crate) fn spelled<T: Serialize>(
+    alloc: Global,
+    value: &T,
+    text: &str,
+    path: &[Step<'_>],
+    goes: Goes,
+) -> Result<String>
+    ensures value { IfOk result (λ new. Val (chars (string_bytes new)) (marks (T.tree value.now))) }
+    ensures refused { IfErr result (RefusesWriting (written_text (T.tree value.now))) }
+{
+    let written = written(alloc, value)?;
+    laid_out(alloc, text, path, goes, written)
+}
+
+/// The value as json5 writes it.
+fn written<T: Serialize>(alloc: Global, value: &T) -> Result<String>
+    ensures value { IfOk result (λ new. Val (chars (string_bytes new)) (marks (T.tree value.now))) }
+    ensures refused { IfErr result (RefusesWriting (written_text (T.tree value.now))) }
+{
+    match to_string(alloc, value) {
+        Ok(text) => Ok(text),
+        Err(error) => Err(unwritten(error)),
+    }
+}
+
+/// Why the value can't be written.
+fn unwritten(error: Error) -> EditError
+    ensures { (o : Out) → RefusesToString o error → RefusesWriting o result }
+{
+    match error.code() {
+        Some(ErrorCode::OutOfMemory) => EditError::NoMemory,
+        _ => EditError::Value(error),
+    }
+}
