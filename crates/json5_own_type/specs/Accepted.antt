@@ -1,5 +1,5 @@
 -- What the types of this crate accept of what they read.
-use Rattle.std.specs.Prelude.{◌==◌, ℕ, if◌then◌else◌, nat_lt, length, List, [], ◌∷◌, Option, Some, None}
+use Rattle.std.specs.Prelude.{◌==◌, ℕ, if◌then◌else◌, nat_lt, length, List, Option, Some, None}
 use Rattle.json5.specs.Trees.{Tree, Trees}
 use Rattle.json5.specs.Collections.{contents}
 use Rattle.json5.specs.Refinement.{if_more}
@@ -11,11 +11,6 @@ above_zero n = if n == 0 then None else Some n
 -- the second isn't below the first
 abbrev pub ascending : ℕ × ℕ → Option (ℕ × ℕ)
 ascending (first, last) = if nat_lt last first then None else Some (first, last)
-
--- at least one
-abbrev pub not_empty : {A : Type 0} → List A → Option (List A)
-not_empty [] = None
-not_empty (x ∷ xs) = Some (x ∷ xs)
 
 -- these, where they are at most so many
 abbrev pub if_at_most : {C : Type 0} → ℕ → List C → Option (List C)

@@ -1,6 +1,6 @@
 //! Articles, which are written as objects.
 
-use json5::{Result, Serialize, Serializer};
+use json5::{Field, Result, Serialize, Serializer, write_struct};
 use std::io::Write;
 
 /// An article, and what it is about.
@@ -16,16 +16,19 @@ pub struct Article {
 
 /// An object of three fields.
 impl Serialize for Article {
-    ghost use Rattle.json5_own_type.specs.Articles.{article_fields};
-    ghost use Rattle.json5.specs.WrittenTrees.{object};
+    ghost use Rattle.std.specs.Prelude.{codes, string_bytes};
+    ghost use Rattle.std.specs.Str.{chars};
+    ghost use Rattle.json5.specs.WrittenFields.{field_named};
+    ghost use Rattle.json5.specs.WrittenTrees.{object, no_field, text, natural};
 
-    ghost tree = { λ a. object (article_fields a) };
+    ghost tree = { λ a. object (field_named (codes "title") (text (chars (string_bytes a.title))) (field_named (codes "year") (natural a.year) (field_named (codes "tags") (⟦<Vec<String> as Serialize>⟧.tree a.tags) no_field))) };
 
     fn serialize<W: Write + Drop>(&self, ser: &mut Serializer<W>) -> Result<()> {
-        let mut fields = ser.serialize_struct("Article", 3)?;
-        fields.serialize_field("title", &self.title)?;
-        fields.serialize_field("year", &self.year)?;
-        fields.serialize_field("tags", &self.tags)?;
-        fields.end()
+        let fields = (
+            Field("title", &self.title),
+            Field("year", &self.year),
+            Field("tags", &self.tags),
+        );
+        write_struct(ser, &fields)
     }
 }

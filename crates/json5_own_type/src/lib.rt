@@ -3,7 +3,6 @@
 
 mod articles;
 mod at_most;
-mod backups;
 mod colors;
 mod ids;
 mod labels;
@@ -19,7 +18,6 @@ ghost use Rattle.json5.specs.Faults.{EndsWithOrMemory};
 
 pub use articles::Article;
 pub use at_most::AtMost;
-pub use backups::{Backup, Moment};
 pub use colors::{Color, colors_read_back};
 pub use ids::Id;
 use json5::de::value_codes;
@@ -27,7 +25,7 @@ use json5::{Deserialize, Deserializer, Error, Input, Result, SeqAccess};
 pub use labels::Labels;
 pub use levels::Level;
 pub use ports::{Endpoint, OpenPort, PortRange, endpoint_again};
-pub use reminders::Reminder;
+pub use reminders::{Moment, Reminder};
 pub use settings::{Settings, settings_again};
 use std::alloc::Global;
 

@@ -31,15 +31,13 @@ type Values = (String, OpenPort, Option<String>);
 
 /// An object; an unknown field is passed over, and a field that comes twice is refused.
 impl<I: Input> Deserialize<I> for Settings {
-    ghost use Rattle.std.specs.Prelude.{codes};
-    ghost use Rattle.json5.specs.Collections.{object_of};
-    ghost use Rattle.json5.specs.Described.{RefusesDescribed};
+    ghost use Rattle.json5.specs.Structs.{codes, struct_of, RefusesDescribed};
 
     ghost Content = { ⟦<Parts as StructFields<I, Values>>⟧.Content };
 
     ghost content = { λ s. ⟦<Parts as StructFields<I, Values>>⟧.content (s.host, s.port, s.label) };
 
-    ghost convert = { object_of (⟦<Parts as StructFields<I, Values>>⟧.layout (codes "host", ((codes "port", 80), codes "label"))).convert };
+    ghost convert = { struct_of (⟦<Parts as StructFields<I, Values>>⟧.layout (codes "host", ((codes "port", 80), codes "label"))) };
 
     ghost refuses = { RefusesDescribed (⟦<Parts as StructFields<I, Values>>⟧.layout (codes "host", ((codes "port", 80), codes "label"))) ⟦<Parts as StructFields<I, Values>>⟧.faults };
 

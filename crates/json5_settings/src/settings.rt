@@ -21,16 +21,14 @@ type SettingsParts = (Required, Required, Optional, WithDefault<Log>, Optional);
 type SettingsValues = (Server, Vec<Route>, Option<Limits>, Log, Option<Timeouts>);
 
 impl<I: Input> Deserialize<I> for Settings {
-    ghost use Rattle.std.specs.Prelude.{codes};
-    ghost use Rattle.json5.specs.Collections.{object_of};
-    ghost use Rattle.json5.specs.Only.{only_these};
+    ghost use Rattle.json5.specs.Structs.{codes, struct_only};
     ghost use Rattle.json5_settings.specs.declared.names.Log.TheVariants.{Info};
 
     ghost Content = { ⟦<SettingsParts as StructFields<I, SettingsValues>>⟧.Content };
 
     ghost content = { λ s. ⟦<SettingsParts as StructFields<I, SettingsValues>>⟧.content (s.server, s.routes, s.limits, s.log, s.timeouts) };
 
-    ghost convert = { object_of (only_these (⟦<SettingsParts as StructFields<I, SettingsValues>>⟧.layout (codes "server", (codes "routes", (codes "limits", ((codes "log", Info), codes "timeouts")))))) };
+    ghost convert = { struct_only (⟦<SettingsParts as StructFields<I, SettingsValues>>⟧.layout (codes "server", (codes "routes", (codes "limits", ((codes "log", Info), codes "timeouts"))))) };
 
     fn deserialize(de: &mut Deserializer<I>) -> Result<Settings> {
         let log = WithDefault("log", Log::Info);
@@ -71,15 +69,13 @@ type ServerParts = (Required, WithDefault<u16>, Optional);
 type ServerValues = (String, u16, Option<Tls>);
 
 impl<I: Input> Deserialize<I> for Server {
-    ghost use Rattle.std.specs.Prelude.{codes};
-    ghost use Rattle.json5.specs.Collections.{object_of};
-    ghost use Rattle.json5.specs.Only.{only_these};
+    ghost use Rattle.json5.specs.Structs.{codes, struct_only};
 
     ghost Content = { ⟦<ServerParts as StructFields<I, ServerValues>>⟧.Content };
 
     ghost content = { λ s. ⟦<ServerParts as StructFields<I, ServerValues>>⟧.content (s.host, s.port, s.tls) };
 
-    ghost convert = { object_of (only_these (⟦<ServerParts as StructFields<I, ServerValues>>⟧.layout (codes "host", ((codes "port", 80), codes "tls")))) };
+    ghost convert = { struct_only (⟦<ServerParts as StructFields<I, ServerValues>>⟧.layout (codes "host", ((codes "port", 80), codes "tls"))) };
 
     fn deserialize(de: &mut Deserializer<I>) -> Result<Server> {
         match read_struct_only(
@@ -102,15 +98,13 @@ pub struct Tls {
 type Texts = (Required, Required);
 
 impl<I: Input> Deserialize<I> for Tls {
-    ghost use Rattle.std.specs.Prelude.{codes};
-    ghost use Rattle.json5.specs.Collections.{object_of};
-    ghost use Rattle.json5.specs.Only.{only_these};
+    ghost use Rattle.json5.specs.Structs.{codes, struct_only};
 
     ghost Content = { ⟦<Texts as StructFields<I, (String, String)>>⟧.Content };
 
     ghost content = { λ t. ⟦<Texts as StructFields<I, (String, String)>>⟧.content (t.cert, t.key) };
 
-    ghost convert = { object_of (only_these (⟦<Texts as StructFields<I, (String, String)>>⟧.layout (codes "cert", codes "key"))) };
+    ghost convert = { struct_only (⟦<Texts as StructFields<I, (String, String)>>⟧.layout (codes "cert", codes "key")) };
 
     fn deserialize(de: &mut Deserializer<I>) -> Result<Tls> {
         match read_struct_only(de, (Required("cert"), Required("key"))) {
@@ -133,15 +127,13 @@ type RouteParts = (Required, Optional, Required);
 type RouteValues = (String, Option<Vec<Method>>, String);
 
 impl<I: Input> Deserialize<I> for Route {
-    ghost use Rattle.std.specs.Prelude.{codes};
-    ghost use Rattle.json5.specs.Collections.{object_of};
-    ghost use Rattle.json5.specs.Only.{only_these};
+    ghost use Rattle.json5.specs.Structs.{codes, struct_only};
 
     ghost Content = { ⟦<RouteParts as StructFields<I, RouteValues>>⟧.Content };
 
     ghost content = { λ r. ⟦<RouteParts as StructFields<I, RouteValues>>⟧.content (r.path, r.methods, r.upstream) };
 
-    ghost convert = { object_of (only_these (⟦<RouteParts as StructFields<I, RouteValues>>⟧.layout (codes "path", (codes "methods", codes "upstream")))) };
+    ghost convert = { struct_only (⟦<RouteParts as StructFields<I, RouteValues>>⟧.layout (codes "path", (codes "methods", codes "upstream"))) };
 
     fn deserialize(de: &mut Deserializer<I>) -> Result<Route> {
         match read_struct_only(
@@ -168,15 +160,13 @@ pub struct Limits {
 type LimitsParts = (WithDefault<u64>, WithDefault<u32>);
 
 impl<I: Input> Deserialize<I> for Limits {
-    ghost use Rattle.std.specs.Prelude.{codes};
-    ghost use Rattle.json5.specs.Collections.{object_of};
-    ghost use Rattle.json5.specs.Only.{only_these};
+    ghost use Rattle.json5.specs.Structs.{codes, struct_only};
 
     ghost Content = { ⟦<LimitsParts as StructFields<I, (u64, u32)>>⟧.Content };
 
     ghost content = { λ l. ⟦<LimitsParts as StructFields<I, (u64, u32)>>⟧.content (l.body, l.header) };
 
-    ghost convert = { object_of (only_these (⟦<LimitsParts as StructFields<I, (u64, u32)>>⟧.layout ((codes "body", 1048576), (codes "header", 8192)))) };
+    ghost convert = { struct_only (⟦<LimitsParts as StructFields<I, (u64, u32)>>⟧.layout ((codes "body", 1048576), (codes "header", 8192))) };
 
     fn deserialize(de: &mut Deserializer<I>) -> Result<Limits> {
         match read_struct_only(
@@ -199,15 +189,13 @@ pub struct Timeouts {
 type Seconds = (WithDefault<u16>, WithDefault<u16>);
 
 impl<I: Input> Deserialize<I> for Timeouts {
-    ghost use Rattle.std.specs.Prelude.{codes};
-    ghost use Rattle.json5.specs.Collections.{object_of};
-    ghost use Rattle.json5.specs.Only.{only_these};
+    ghost use Rattle.json5.specs.Structs.{codes, struct_only};
 
     ghost Content = { ⟦<Seconds as StructFields<I, (u16, u16)>>⟧.Content };
 
     ghost content = { λ t. ⟦<Seconds as StructFields<I, (u16, u16)>>⟧.content (t.read, t.write) };
 
-    ghost convert = { object_of (only_these (⟦<Seconds as StructFields<I, (u16, u16)>>⟧.layout ((codes "read", 30), (codes "write", 30)))) };
+    ghost convert = { struct_only (⟦<Seconds as StructFields<I, (u16, u16)>>⟧.layout ((codes "read", 30), (codes "write", 30))) };
 
     fn deserialize(de: &mut Deserializer<I>) -> Result<Timeouts> {
         match read_struct_only(de, (WithDefault("read", 30), WithDefault("write", 30))) {

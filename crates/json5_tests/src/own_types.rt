@@ -50,9 +50,14 @@ fn bad_range_is_refused(alloc: Global) -> Result<bool> {
 
 /// Whether a list without labels is refused at its bracket, and a name of no level at its quote.
 fn others_are_refused(alloc: Global) -> Result<bool> {
+    let none = "invalid length 0, expected 1 to 8 elements at line 2 column";
     Ok(
-        refuses::<Labels>(alloc, "\n  []", "expected a label at line 2 column 3")?
-            && refuses::<Vec<Labels>>(alloc, "[['a'],\n[]]", "expected a label at line 2 column 1")?
+        refuses::<Labels>(alloc, "\n  []", format!(in alloc; "{none} 3")?.as_str())?
+            && refuses::<Vec<Labels>>(
+                alloc,
+                "[['a'],\n[]]",
+                format!(in alloc; "{none} 1")?.as_str(),
+            )?
             && refuses::<Level>(
                 alloc,
                 " 'highest'",
