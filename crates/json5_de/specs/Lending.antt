@@ -10,14 +10,12 @@ use Rattle.json5_types.specs.ByteBufs.{bytes_of}
 use Rattle.json5_types.specs.Cows.{cow_bytes, is_borrowed}
 use Rattle.json5_de.specs.State.{State, SameText, GivesUp}
 use Rattle.json5_grammar.specs.Language.Trees.{Tree, Trees, Members}
-use Rattle.json5_de.specs.Arrays.{AccessState, IsFailedAtBracket, OpensArray, PositionedAtBracket, GivesElement, ReadsElement, CompletesClose, ReadsMore, ElementsLeft, LeavesFewer}
-use Rattle.json5_de.specs.DeserializeLaw.{IsUnprompted}
-use Rattle.json5_de.specs.Fields.{IsOwnAtBracket}
+use Rattle.json5_de.specs.Arrays.{AccessState, OpensArray, PositionedAtBracket, GivesElement, ReadsElement, CompletesClose, ReadsMore, ElementsLeft, LeavesFewer}
 use Rattle.json5_de.specs.AccessCalls.{RefusesNext}
 use Rattle.json5_de.specs.Keys.{KeyConversion, ReadsOneKey}
 use Rattle.json5_de.specs.TokenKinds.{null_kind}
 use Rattle.json5_de.specs.KeyKinds.{KeyKind, RefusedAsKey, bytes_key, cow_key, document_key}
-use Rattle.json5_de.specs.Objects.{MapAccessState, KeepsPending, OpensMap, SetsPending, GivesMemberKey, GivesMemberValue, ReadsMemberKey, ReadsMemberValue, ReadsAKey, ReadsAMember, MembersLeft, LeavesAValue, LeavesOthers}
+use Rattle.json5_de.specs.Objects.{MapAccessState, OpensMap, SetsPending, GivesMemberKey, GivesMemberValue, ReadsMemberKey, ReadsMemberValue, ReadsAKey, ReadsAMember, MembersLeft, LeavesAValue, LeavesOthers}
 use Rattle.json5_de.specs.ObjectFaults.{RefusesNextKey, RefusesNextValue}
 use Rattle.json5_de.specs.Stages.{is_comma_due, is_pending}
 use Rattle.json5_de.specs.KeyPlaces.{KeyBegins, BeginsIfGiven}
@@ -75,13 +73,9 @@ module _ {I : Type 0} where
   abbrev pub map_state_of : MapAccess I → MapAccessState
   map_state_of m = record { at = record { reader = record m.de.now { failed = m.failed }; start = m.start; comma_due = is_comma_due m.stage }; pending = is_pending m.stage }
 
-  -- the same, had its object begun at this offset
-  abbrev pub beginning_at : ℕ → MapAccess I → AccessState
-  beginning_at start m = record (map_state_of m).at { start = start }
-
   -- the key that was read last, in place of the opening brace
   abbrev pub at_its_key : MapAccess I → AccessState
-  at_its_key m = beginning_at m.key_start m
+  at_its_key m = record (map_state_of m).at { start = m.key_start }
 
   -- the key that was read last has this name, and begins where the access says
   abbrev pub KeyIsNamed : List ℕ → MapAccess I → Type 0
@@ -201,15 +195,6 @@ pub record KeepsMap {I : Type 0} (old new : MapAccess I) : Type 0 where
   pub blocks : BlocksMapReader new
   pub start : (map_state_of new).at.start ≡ (map_state_of old).at.start
   pub same_text : SameText (map_state_of old).at.reader (map_state_of new).at.reader
-
--- the access refuses a member by a custom fault of the place; after a refusal it answers `Failed` at the opening brace
-pub record RefusesWithOwn {I : Type 0} (place : AccessState) (old : MapAccess I) (e : Error) (new : MapAccess I) : Type 0 where
-  pub access : KeepsMap old new
-  pub pending : KeepsPending (map_state_of old) (map_state_of new)
-  pub failed : (map_state_of new).at.reader.failed ≡ true
-  pub own : (map_state_of old).at.reader.failed ≡ false → IsOwnAtBracket place e
-  pub unprompted : (map_state_of old).at.reader.failed ≡ false → IsUnprompted e
-  pub before : (map_state_of old).at.reader.failed ≡ true → IsFailedAtBracket (map_state_of old).at e
 
 -- the next element is read, or None is returned if the bracket is next
 pub record ReadsNext {I V C : Type 0} (content : V → C) (convert : Tree → Option C) (refuses : State → Error → State → Type 0) (old new : SeqAccess I) (result : Result (Option V) Error) : Type 0 where

@@ -3,10 +3,12 @@
 ghost use Rattle.std.specs.Prelude.{◌≡◌, true, false, Some, IfOk, OnOk, string_bytes};
 ghost use Rattle.json5_grammar.specs.declared.error_code.ErrorCode.TheVariants as codes;
 ghost use Rattle.json5_types.specs.Errors.{code};
+ghost use Rattle.json5_de.specs.Arrays.{IsFailedAtBracket};
 ghost use Rattle.json5_de.specs.Convert.{every_text};
 ghost use Rattle.json5_de.specs.KeyKinds.{RefusedAsKey, string_key};
 ghost use Rattle.json5_de.specs.ObjectFaults.{ReadsKeyAtEntry, ReadsKeyOfMember};
 ghost use Rattle.json5_de.specs.DeserializeLaw.{IsUnprompted};
+ghost use Rattle.json5_de.specs.Objects.{KeepsPending};
 ghost use Rattle.json5_de.specs.FieldNames.{name_text};
 ghost use Rattle.json5_de.specs.Fields.{FieldRead, FieldRequired, IsOwnAtBracket, RefusesHere};
 ghost use Rattle.json5_de.specs.Plans.{PassesMember, ReadsMembers};
@@ -14,7 +16,7 @@ ghost use Rattle.json5_de.specs.ShortWays.{filled_if_given};
 ghost use Rattle.json5_de.specs.KeyPlaces.{BeginsIfGiven};
 ghost use Rattle.json5_grammar.specs.Language.Blanks.{Solid};
 ghost use Rattle.json5_de.specs.StructFaults.{RefusesMembers};
-ghost use Rattle.json5_de.specs.Lending.{map_state_of, at_its_key, beginning_at, RefusesWithOwn, KeepsMap, KeyPending, NoKeyPending, TakesPendingKey, ReadsNextKey, NamesItsKey};
+ghost use Rattle.json5_de.specs.Lending.{map_state_of, at_its_key, KeepsMap, KeyPending, NoKeyPending, TakesPendingKey, ReadsNextKey, NamesItsKey};
 
 use crate::any::IgnoredAny;
 use crate::de::{Deserialize, Deserializer};
@@ -146,27 +148,21 @@ impl<'a, I: Input> MapAccess<'a, I> {
         }
     }
 
-    /// Refuses the member of the key that was read last: makes a custom fault at the offset, and `Failed` at the opening
-    /// brace after a refusal.
-    fn refuse_at<D: fmt::Display + Drop>(&mut self, offset: usize, message: D) -> Error
-        ensures refused { RefusesWithOwn (beginning_at offset self.old) self.old result self.new }
+    /// Refuses a field that has a value.
+    fn duplicate(&mut self, name: &str) -> Error
+        ensures access { KeepsMap self.old self.new }
+        ensures pending { KeepsPending (map_state_of self.old) (map_state_of self.new) }
+        ensures failed { (map_state_of self.new).at.reader.failed ≡ true }
+        ensures own { (map_state_of self.old).at.reader.failed ≡ false → IsOwnAtBracket (map_state_of self.old).at result }
+        ensures unprompted { (map_state_of self.old).at.reader.failed ≡ false → IsUnprompted result }
+        ensures before { (map_state_of self.old).at.reader.failed ≡ true → IsFailedAtBracket (map_state_of self.old).at result }
     {
         self.de.set_failed(true);
         if self.failed {
             return self.place(Error::new(ErrorCode::Failed));
         }
         self.failed = true;
-        match Error::custom(self.de.allocator(), message) {
-            Ok(error) => self.de.with_position_at(offset, error),
-            Err(error) => self.de.with_position_at(offset, error),
-        }
-    }
-
-    /// Refuses a field that has a value.
-    fn duplicate(&mut self, name: &str) -> Error
-        ensures refused { RefusesWithOwn (map_state_of self.old).at self.old result self.new }
-    {
-        self.refuse_at(self.start, format_args!("duplicate field `{name}`"))
+        self.own_fault(format_args!("duplicate field `{name}`"))
     }
 
     /// Refuses the member whose key [`read_fields`](MapAccess::read_fields) read last, such as one that the struct doesn't have:
@@ -184,9 +180,22 @@ impl<'a, I: Input> MapAccess<'a, I> {
     #[cold]
     #[inline(never)]
     pub fn refuse_key<D: fmt::Display + Drop>(&mut self, message: D) -> Error
-        ensures refused { RefusesWithOwn (at_its_key self.old) self.old result self.new }
+        ensures access { KeepsMap self.old self.new }
+        ensures pending { KeepsPending (map_state_of self.old) (map_state_of self.new) }
+        ensures failed { (map_state_of self.new).at.reader.failed ≡ true }
+        ensures own { (map_state_of self.old).at.reader.failed ≡ false → IsOwnAtBracket (at_its_key self.old) result }
+        ensures unprompted { (map_state_of self.old).at.reader.failed ≡ false → IsUnprompted result }
+        ensures before { (map_state_of self.old).at.reader.failed ≡ true → IsFailedAtBracket (map_state_of self.old).at result }
     {
-        self.refuse_at(self.key_start, message)
+        self.de.set_failed(true);
+        if self.failed {
+            return self.place(Error::new(ErrorCode::Failed));
+        }
+        self.failed = true;
+        match Error::custom(self.de.allocator(), message) {
+            Ok(error) => self.de.with_position_at(self.key_start, error),
+            Err(error) => self.de.with_position_at(self.key_start, error),
+        }
     }
 
     /// Reads the value of the key that was read last into this field of a struct. A call that is refused leaves the field as it

@@ -22,7 +22,6 @@ mod key_texts;
 mod key_types;
 mod laws;
 mod lists;
-mod machine_integers;
 mod map;
 mod member_keys;
 mod mismatch;

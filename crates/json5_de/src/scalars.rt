@@ -110,7 +110,7 @@ impl<I: Input> Deserializer<I> {
 
     /// Reads a whole number from 0 to `max`.
     #[inline(never)]
-    pub(crate) fn natural(&mut self, max: u128, name: &str) -> Result<u128>
+    fn natural(&mut self, max: u128, name: &str) -> Result<u128>
         ensures reads { ReadsAs (natural_kind (max + 1)) (λ n. n) self.old self.new result }
         ensures fits { IfOk result (IsUpTo max) }
     {
@@ -123,7 +123,7 @@ impl<I: Input> Deserializer<I> {
 
     /// Reads a whole number from `-max - 1` to `max`.
     #[inline(never)]
-    pub(crate) fn signed_integer(&mut self, max: i128, name: &str) -> Result<i128>
+    fn signed_integer(&mut self, max: i128, name: &str) -> Result<i128>
         requires { pos 0 ≤ℤ max }
         ensures reads { ReadsAs (integer_kind (nat_abs max + 1)) (λ n. n) self.old self.new result }
         ensures fits { IfOk result (IsWithin max) }

@@ -36,7 +36,6 @@ fn read_scalar(alloc: Global, name: &str, text: &str) -> Answer {
     by_type!(name, read_value(alloc, text);
         "u8" => u8, "u16" => u16, "u32" => u32, "u64" => u64, "u128" => u128,
         "i8" => i8, "i16" => i16, "i32" => i32, "i64" => i64, "i128" => i128,
-        "usize" => usize, "isize" => isize, "BTreeMap<usize, isize>" => BTreeMap<usize, isize>,
         "()" => (), "bool" => bool, "char" => char, "&str" => &str, "CowStr" => CowStr,
         "String" => String, "ByteBuf" => ByteBuf, "IgnoredAny" => IgnoredAny;
         read_list(alloc, name, text)

@@ -100,19 +100,6 @@ impl Serialize for u128 {
     }
 }
 
-/// Written as a `u64`.
-impl Serialize for usize {
-    ghost tree = { natural };
-
-    fn serialize<W: Write + Drop>(&self, ser: &mut Serializer<W>) -> Result<()> {
-        ser.serialize_u64(*self as u64)
-    }
-
-    fn put<W: Write + Drop>(&self, ser: &mut Serializer<W>) -> Put {
-        ser.put_unsigned(*self as u128)
-    }
-}
-
 impl Serialize for i8 {
     ghost tree = { integer };
 
@@ -170,19 +157,6 @@ impl Serialize for i128 {
 
     fn put<W: Write + Drop>(&self, ser: &mut Serializer<W>) -> Put {
         ser.put_signed(*self)
-    }
-}
-
-/// Written as an `i64`.
-impl Serialize for isize {
-    ghost tree = { integer };
-
-    fn serialize<W: Write + Drop>(&self, ser: &mut Serializer<W>) -> Result<()> {
-        ser.serialize_i64(*self as i64)
-    }
-
-    fn put<W: Write + Drop>(&self, ser: &mut Serializer<W>) -> Put {
-        ser.put_signed(*self as i128)
     }
 }
 

@@ -76,14 +76,6 @@ impl SerializeKey for u128 {
     }
 }
 
-impl SerializeKey for usize {
-    ghost as_key = { natural_key };
-
-    fn serialize_key<W: Write + Drop>(&self, key: MapKey<'_, W>) -> Result<()> {
-        key.serialize_u64(*self as u64)
-    }
-}
-
 impl SerializeKey for i8 {
     ghost as_key = { integer_key };
 
@@ -121,14 +113,6 @@ impl SerializeKey for i128 {
 
     fn serialize_key<W: Write + Drop>(&self, key: MapKey<'_, W>) -> Result<()> {
         key.serialize_i128(*self)
-    }
-}
-
-impl SerializeKey for isize {
-    ghost as_key = { integer_key };
-
-    fn serialize_key<W: Write + Drop>(&self, key: MapKey<'_, W>) -> Result<()> {
-        key.serialize_i64(*self as i64)
     }
 }
 

@@ -6,11 +6,11 @@ returns-in-Ok-true-clause-takes g c = rw c.in-Ok-true.ensures.same (only_take (g
 
 pub returns-in-Ok-false-clause-takes : goal.returns-in-Ok-false-clause-takes
 returns-in-Ok-false-clause-takes g c =
-    rw c.in-Ok-false.ensures.same (unknown_taken (g.F.StructFields.layout (g.F.StructFields.kept c.args.self.now.reading)) g.F.StructFields.faults _ _ _ _ _ (rw c.in-Ok-false.field-0-test at c.in-Ok-false.ensures.tries) c.refuse_key.result c.refuse_key.new.self c.refuse_key.ensures.refused.failed c.refuse_key.ensures.refused.unprompted)
+    rw c.in-Ok-false.ensures.same (unknown_taken (g.F.StructFields.layout (g.F.StructFields.kept c.args.self.now.reading)) g.F.StructFields.faults _ _ _ _ _ (rw c.in-Ok-false.field-0-test at c.in-Ok-false.ensures.tries) c.refuse_key.result c.refuse_key.new.self c.refuse_key.ensures.failed c.refuse_key.ensures.unprompted)
 
 pub returns-in-Ok-false-clause-refused : goal.returns-in-Ok-false-clause-refused
 returns-in-Ok-false-clause-refused g c =
-    unknown_refused (g.F.StructFields.layout (g.F.StructFields.kept c.args.self.now.reading)) g.F.StructFields.faults _ _ _ _ _ (rw c.in-Ok-false.field-0-test at c.in-Ok-false.ensures.tries) c.refuse_key.result c.requires.named c.refuse_key.ensures.refused.own
+    unknown_refused (g.F.StructFields.layout (g.F.StructFields.kept c.args.self.now.reading)) g.F.StructFields.faults _ _ _ _ _ (rw c.in-Ok-false.field-0-test at c.in-Ok-false.ensures.tries) c.refuse_key.result c.requires.named c.refuse_key.ensures.own
 
 pub returns-in-Err-clause-takes : goal.returns-in-Err-clause-takes
 returns-in-Err-clause-takes g c = rw c.in-Err.ensures.same (only_take (g.F.StructFields.layout (g.F.StructFields.kept c.args.self.now.reading)) g.F.StructFields.faults c.in-Err.ensures.tries)
