@@ -1,6 +1,8 @@
-//! The text that a request makes of another.
+//! What is made of a text.
 
-use crate::requests::{Request, Work};
+use crate::parts::spelled_at;
+use crate::requests::{Task, Work};
+use crate::trouble::Trouble;
 use json5_edit::{
     EditError, Result, Step, find, insert, insert_element, push, remove, rename, set,
 };
@@ -9,34 +11,22 @@ use std::alloc::Global;
 /// The text that is written: the value that was asked for and a line end, or the changed text.
 pub(crate) fn made(
     alloc: Global,
-    request: &Request<'_>,
+    task: &Task<'_>,
     text: &str,
     steps: &[Step<'_>],
-) -> Result<String> {
-    let value = request.value;
-    match request.work {
-        Work::Get => value_at(alloc, text, steps),
+) -> std::result::Result<String, Trouble> {
+    let value = task.value;
+    let made = match task.work {
+        Work::Get => spelled_at(alloc, text, steps),
         Work::Set => set(alloc, text, steps, value),
         Work::Insert => inserted(alloc, text, steps, value),
         Work::Remove => remove(alloc, text, steps),
         Work::Push => push(alloc, text, steps, value),
         Work::Rename => rename(alloc, text, steps, value),
-    }
-}
-
-/// The value that the steps lead to, as it is spelled, and a line end.
-fn value_at(alloc: Global, text: &str, steps: &[Step<'_>]) -> Result<String> {
-    let span = match find(alloc, text, steps) {
-        Ok(Some(span)) => span,
-        Ok(None) => return Err(EditError::Nowhere),
-        Err(error) => return Err(EditError::of_text(error)),
     };
-    let Some(value) = text.get(span.start..span.end) else {
-        return Err(EditError::Failed);
-    };
-    match format!(in alloc; "{value}\n") {
-        Ok(made) => Ok(made),
-        Err(_) => Err(EditError::NoMemory),
+    match made {
+        Ok(new) => Ok(new),
+        Err(error) => Err(Trouble::Edit(error)),
     }
 }
 

@@ -1,0 +1,41 @@
+//! The program over its words and its three streams.
+
+use crate::lines::{HELP, usage};
+use crate::requests::Request;
+use crate::texts::put_texts;
+use crate::works::do_task;
+use json5_formatter::report;
+use json5_tidier::Store;
+use json5_version::VERSION;
+use std::alloc::Global;
+use std::io::{Read, Write};
+
+/// Does what the words ask for, with the files of the store, or from `r` to `w`. Words that ask for nothing are answered
+/// with the usage line. Returns the status that the program ends with.
+///
+/// ```text
+/// answer(&rt, alloc, list, &mut rt.stdin(), &mut rt.stdout(), &mut rt.stderr())    // 0, 1 or 2
+/// ```
+pub fn answer<S: Store, R: Read, W: Write, E: Write>(
+    store: &S,
+    alloc: Global,
+    list: &[String],
+    r: &mut R,
+    w: &mut W,
+    e: &mut E,
+) -> u8 {
+    match Request::of(list) {
+        Some(Request::Help) => say(&[HELP], w, e),
+        Some(Request::Version) => say(&["json5_edit ", VERSION, "\n"], w, e),
+        Some(Request::Task(task)) => do_task(store, alloc, &task, r, w, e),
+        None => usage(e),
+    }
+}
+
+/// Writes the texts to `w`, or to `e` that they can't be written.
+fn say<W: Write, E: Write>(texts: &[&str], w: &mut W, e: &mut E) -> u8 {
+    match put_texts(w, texts) {
+        Ok(()) => 0,
+        Err(failure) => report("output", &failure, e),
+    }
+}

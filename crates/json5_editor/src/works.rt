@@ -1,0 +1,97 @@
+//! A task, from reading the text to writing what was made.
+
+use crate::edits::made;
+use crate::lines::{tell, wrong_path};
+use crate::requests::{Task, Work};
+use crate::texts::{name_of, put_texts, text_of};
+use crate::trouble::Trouble;
+use json5_edit::Step;
+use json5_edit_path::Path;
+use json5_formatter::report;
+use json5_tidier::Store;
+use std::alloc::Global;
+use std::io::{Read, Write};
+
+/// Does what is asked for, and returns the status that the program ends with.
+pub(crate) fn do_task<S: Store, R: Read, W: Write, E: Write>(
+    store: &S,
+    alloc: Global,
+    task: &Task<'_>,
+    r: &mut R,
+    w: &mut W,
+    e: &mut E,
+) -> u8 {
+    let path = match Path::parse(alloc, task.path) {
+        Ok(path) => path,
+        Err(error) => return wrong_path(task.path, &error, e),
+    };
+    match text_of(store, alloc, task.file, r) {
+        Ok(text) => do_at(store, alloc, task, &path, text.as_str(), w, e),
+        Err(failure) => report(name_of(task.file), &failure, e),
+    }
+}
+
+/// The same with the text that was read.
+fn do_at<S: Store, W: Write, E: Write>(
+    store: &S,
+    alloc: Global,
+    task: &Task<'_>,
+    path: &Path,
+    text: &str,
+    w: &mut W,
+    e: &mut E,
+) -> u8 {
+    let steps = match path.steps_in(alloc, text) {
+        Ok(steps) => steps,
+        Err(error) => return tell(alloc, task, text, &[], &Trouble::Edit(error), e),
+    };
+    match work_on(store, alloc, task, text, steps.as_slice(), w) {
+        Ok(()) => 0,
+        Err(trouble) => tell(alloc, task, text, steps.as_slice(), &trouble, e),
+    }
+}
+
+/// The same with the steps of the path.
+fn work_on<S: Store, W: Write>(
+    store: &S,
+    alloc: Global,
+    task: &Task<'_>,
+    text: &str,
+    steps: &[Step<'_>],
+    w: &mut W,
+) -> Result<(), Trouble> {
+    let new = made(alloc, task, text, steps)?;
+    put(store, alloc, task, text, new.as_str(), w)
+}
+
+/// Writes what was made out, or puts it in the place of the file's text.
+fn put<S: Store, W: Write>(
+    store: &S,
+    alloc: Global,
+    task: &Task<'_>,
+    old: &str,
+    new: &str,
+    w: &mut W,
+) -> Result<(), Trouble> {
+    if goes_out(task) {
+        return match put_texts(w, &[new]) {
+            Ok(()) => Ok(()),
+            Err(failure) => Err(Trouble::Failed(failure)),
+        };
+    }
+    if old == new {
+        return Ok(());
+    }
+    match store.replace(alloc, task.file, old, new) {
+        Ok(()) => Ok(()),
+        Err(why) => Err(Trouble::Unwritten(why)),
+    }
+}
+
+/// Whether what is made goes to output.
+fn goes_out(task: &Task<'_>) -> bool {
+    match task.work {
+        Work::Get => true,
+        _ => task.file == "-",
+    }
+}
