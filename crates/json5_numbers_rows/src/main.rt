@@ -1,16 +1,28 @@
 //! Answers rows of numbers: stdin has a call and its texts in each line, and stdout what the call gives.
 #![tactic(auto)]
 
-use json5::{AsF64, Decimal, DecimalExt, Result, Value, from_str};
+use json5_floats::AsF64;
+use json5_numbers::DecimalExt;
+use json5_text::scanner::Scanner;
+use json5_types::decimal::Decimal;
+use json5_types::error::Result;
+use json5_types::number::Number;
+use json5_types::value::Value;
 use std::alloc::Global;
 use std::cmp::Ordering;
 use std::io::{self, BufRead, BufReader, BufWriter, Write};
 
-/// The value of a document, or else the string that the text is.
+/// The value that a row means: a number, null, a boolean or a string.
 fn value(alloc: Global, text: &str) -> Result<Value> {
-    match from_str(alloc, text) {
-        Ok(value) => Ok(value),
-        Err(_) => Value::text(alloc, text),
+    let mut scanner = Scanner::new(alloc, text);
+    match scanner.number() {
+        Ok(Number::Whole(number)) => Ok(Value::Whole(number)),
+        Ok(Number::Decimal(number)) => Ok(Value::Decimal(number)),
+        Err(_) => match text {
+            "null" => Ok(Value::Null),
+            "true" => Ok(Value::Bool(true)),
+            _ => Value::text(alloc, text),
+        },
     }
 }
 
