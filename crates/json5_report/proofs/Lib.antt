@@ -1,5 +1,4 @@
 -- Lists the lemmas for reports.
-pub mod PositionsReached
 pub mod TokensTaken
 pub mod CoursesTaken
 pub mod PathsShown

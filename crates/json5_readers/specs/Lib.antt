@@ -1,2 +1,3 @@
 -- Lists the definitions of texts that are bytes.
 pub mod Bytes
+pub mod Readers

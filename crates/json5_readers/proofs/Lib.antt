@@ -1,0 +1,2 @@
+-- Lists the lemmas of readers.
+pub mod Refusals
