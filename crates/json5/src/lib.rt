@@ -39,7 +39,6 @@ pub use json5_layouts::{
     Layout, is_json, to_json, to_json_compact, to_json_in, to_json_writer, to_json_writer_in,
     to_string_in, to_vec_in, to_writer_in,
 };
-pub use json5_numbers::DecimalExt;
 pub use json5_positions::InText;
 pub use json5_ser::{
     Serialize, SerializeCollection, SerializeKey, Serializer, to_string, to_string_within,

@@ -4,10 +4,8 @@
 #![tactic(auto)]
 
 pub mod decimals;
-pub mod from_floats;
 pub mod nearest;
 pub mod wholes;
 
 pub use decimals::to_f64;
-pub use from_floats::from_f64;
 pub use nearest::AsF64;

@@ -14,10 +14,6 @@ const PIECE: usize = 64 * 1024;
 
 /// Reads all that is left of the reader.
 ///
-/// ```text
-/// let bytes = read_whole(alloc, &mut rt.stdin())?;
-/// ```
-///
 /// # Errors
 ///
 /// - `Read` where a read failed, an interrupted one too.

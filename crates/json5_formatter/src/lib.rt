@@ -24,7 +24,6 @@ pub use disk::Disk;
 pub use failure::Failure;
 pub use files::work_through;
 pub use host_program::{program, words};
-pub use input::read_whole;
 pub use program_runs::answer;
 pub use reports::{report, usage};
 pub use streams::{check, read_text, run};

@@ -1,8 +1,8 @@
 -- The default layout is what is written without one.
-use Rattle.std.proofs.Common.{◌≡◌, ◌≤◌, ◌<◌, ◌+◌, ℕ, Bool, true, false, cond, nat_lt, List, [], ◌∷◌, ◌++◌, refl, sym, ap, ◌∙◌, arith, append_assoc}
+use Rattle.std.proofs.Common.{◌≡◌, ◌≤◌, ◌<◌, ◌+◌, ℕ, suc, max, Bool, true, false, cond, nat_lt, List, [], ◌∷◌, ◌++◌, refl, sym, ap, ◌∙◌, subst, arith, append_assoc}
 use Rattle.std.proofs.lemmas.Bool.Decides.{nat_tests}
 use Rattle.json5_grammar.specs.Language.Documents.{max_depth}
-use Rattle.json5_types.specs.ValueLookups.{datum_depth, items_depth, fields_depth}
+use Rattle.json5_types.specs.ValueLookups.{fits, datum_depth, items_depth, fields_depth}
 use Rattle.json5_types.specs.ValueMeanings.{Datum, null, boolean, number, text, array, object, Items, no_item, item, Fields, no_field, field}
 use Rattle.json5_write.specs.Out.{Out, whole, too_deep, piece, stopped, ◌then◌, out, elements_out, fields_out, opened_by, written_text, line}
 use Rattle.json5_write.specs.ValueTrees.{datum_tree, items_tree, fields_tree}

@@ -1,16 +1,16 @@
 -- Pieces that are written one after another.
-use Rattle.std.proofs.Common.{◌≡◌, ◌∙◌, ℕ, ◌<◌, Bool, true, false, cond, List, [], ◌∷◌, ◌++◌, Result, Ok, Err, refl, sym, ap, subst, arith}
-use Rattle.std.specs.Prelude.{⊤, OnOk}
+use Rattle.std.proofs.Common.{◌≡◌, ◌∙◌, ℕ, ◌+◌, ◌-◌, ◌<◌, ◌≤◌, Bool, true, false, cond, List, [], ◌∷◌, ◌++◌, replicate, take, Result, Ok, Err, refl, sym, ap, subst, arith}
+use Rattle.std.specs.Prelude.{⊤, Some, None, OnOk}
 use Rattle.std.specs.Result.{IsErrAnd}
 use Rattle.std.specs.Str.{chars, encode_utf8_all}
 use Rattle.std.specs.Io.KnownBytes.{Appends}
 use Rattle.json5_grammar.specs.Language.Numbers.{Number}
 use Rattle.json5_grammar.specs.Written.NumberText.{number_text, IsNumber}
 use Rattle.json5_write.proofs.WritableNumbers.{number_whole}
-use Rattle.json5_write.specs.Out.{Out, piece, stopped, no_number, number_out}
+use Rattle.json5_write.specs.Out.{Out, Stop, whole, piece, stopped, no_number, ◌then◌, number_out}
 use Rattle.json5_write.specs.ShortWrites.{Puts, refusal_by}
 use Rattle.json5_write.specs.WritableNumbers.{is_writable}
-use Rattle.json5_write.specs.Writes.{SerializerState, Wrote, RefusesBy}
+use Rattle.json5_write.specs.Writes.{SerializerState, Wrote, Broke, RefusesBy}
 use Rattle.json5_write.specs.declared.refusal.Refused.{Refused}
 use Rattle.json5_write.specs.declared.refusal.Refused.TheVariants as refused
 use Rattle.json5_write.proofs.OutputsJoined.{Reaches, Reaches-first}

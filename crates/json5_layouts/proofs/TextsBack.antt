@@ -1,5 +1,5 @@
 -- What is returned of a value reads back, and what is JSON is in its grammar.
-use Rattle.std.proofs.Common.{◌≡◌, ◌≤◌, ℕ, nat_le, true, Result, Ok, Err, refl, sym, subst, arith}
+use Rattle.std.proofs.Common.{◌≡◌, ◌≤◌, ℕ, nat_le, true, List, Result, Ok, Err, refl, sym, subst, arith}
 use Rattle.std.specs.Prelude.{IfOk, IsOk, String, string_bytes}
 use Rattle.std.specs.declared.alloc.Global.{Global}
 use Rattle.std.specs.Str.{chars}

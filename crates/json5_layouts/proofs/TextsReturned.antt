@@ -1,6 +1,6 @@
 -- What is returned of a text that was put into a string.
-use Rattle.std.proofs.Common.{◌≡◌, ◌≤◌, ◌+◌, ◌∙◌, ℕ, true, false, List, [], Some, None, Result, Ok, Err, sym, arith}
-use Rattle.std.specs.Prelude.{⊤, IfOk, IfErr, IsOk, OnOk, String}
+use Rattle.std.proofs.Common.{◌≡◌, ◌≤◌, ◌+◌, ◌∙◌, ℕ, nat_le, true, false, List, [], Option, Some, None, Result, Ok, Err, sym, arith}
+use Rattle.std.specs.Prelude.{⊤, IfOk, IfErr, IsOk, OnOk, String, string_bytes}
 use Rattle.std.specs.declared.alloc.Global.{Global}
 use Rattle.std.proofs.lemmas.Bool.Decides.{nat_tests}
 use Rattle.json5_grammar.specs.Language.Documents.{max_depth}

@@ -1,5 +1,5 @@
 -- How a text is split at a character that is escaped in JSON. Private clauses and proofs alone cite it.
-use Rattle.std.specs.Prelude.{◌≡◌, ◌<◌, ℕ, List, ◌++◌, Bool, true, false, nat_lt, ◌||◌, ◌==◌, length}
+use Rattle.std.specs.Prelude.{◌≡◌, ◌<◌, ℕ, List, ◌++◌, Bool, true, false, nat_le, nat_lt, ◌&&◌, ◌||◌, not, ◌==◌, length}
 use Rattle.std.specs.Char.{encode_utf8, IsScalar}
 use Rattle.std.specs.Str.{chars, encode_utf8_all, all_scalars, IsUtf8}
 use Rattle.json5_grammar.specs.Language.Characters.{space, double_quote, backslash}

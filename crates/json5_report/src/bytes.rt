@@ -1,7 +1,6 @@
 //! Files whose bytes are no text.
 
-ghost use Rattle.std.specs.Prelude.{MatchResult};
-ghost use Rattle.json5_types.specs.Errors.{LacksMemory};
+ghost use Rattle.std.specs.Prelude.{IfOk};
 
 use crate::advice::Advice;
 use crate::fault::Remark;
@@ -28,7 +27,7 @@ impl Report {
     ///
     /// - `OutOfMemory`, without a position, where a request for memory was refused.
     pub fn of_bytes(alloc: Global, name: &str, bytes: &[u8]) -> Result<Option<Report>>
-        ensures { MatchResult result (IsReportOfBytes name.now bytes.now) LacksMemory }
+        ensures { IfOk result (IsReportOfBytes name.now bytes.now) }
     {
         let Err(error) = str::from_utf8(bytes) else {
             return Ok(None);

@@ -1,7 +1,6 @@
 //! A report of a fault.
 
-ghost use Rattle.std.specs.Prelude.{◌≡◌, Some, MatchResult, string_bytes};
-ghost use Rattle.json5_types.specs.Errors.{LacksMemory};
+ghost use Rattle.std.specs.Prelude.{◌≡◌, Some, IfOk, string_bytes};
 
 use crate::course::Course;
 use crate::excerpt::{ColouredExcerpt, Excerpt};
@@ -68,7 +67,7 @@ impl Report {
     ///
     /// - `OutOfMemory`, without a position, where a request for memory was refused.
     pub fn new(alloc: Global, name: &str, text: &str, error: &Error) -> Result<Report>
-        ensures { MatchResult result (IsReportOf name.now text.now error.now) LacksMemory }
+        ensures { IfOk result (IsReportOf name.now text.now error.now) }
     {
         Report::within(alloc, WIDTH, name, text, error)
     }
@@ -89,7 +88,7 @@ impl Report {
         text: &str,
         error: &Error,
     ) -> Result<Report>
-        ensures { MatchResult result (IsReportOf name.now text.now error.now) LacksMemory }
+        ensures { IfOk result (IsReportOf name.now text.now error.now) }
     {
         let position = position_of(text, error);
         let offset = offset_of(text, position);
@@ -141,7 +140,7 @@ impl Spot<'_> {
 
     /// The report that says this of the place, and underlines this part.
     pub(crate) fn report(self, alloc: Global, message: String, remark: Remark<'_>) -> Result<Report>
-        ensures { MatchResult result (IsReportAt self.entry.name.now self.entry.text.now self.entry.position self.entry.offset) LacksMemory }
+        ensures { IfOk result (IsReportAt self.entry.name.now self.entry.text.now self.entry.position self.entry.offset) }
     {
         let course = Course::before(alloc, self.text, self.offset)?;
         let hint = match remark.advice {

@@ -1,6 +1,5 @@
 -- Lists the lemmas about the program.
 pub mod LinesJoined
-pub mod RefusalsRead
 pub mod FilesWorked
 pub mod NamesWorked
 pub mod NamesEnded

@@ -29,8 +29,6 @@ failure_low failure.Write = omega arith
 
 trouble_low : (e : Trouble) → trouble_status e ≤ 2
 trouble_low (trouble.Failed s) = failure_low s
-trouble_low (trouble.Refused shown) = omega arith
-trouble_low (trouble.Unreported s memory) = failure_low s
 trouble_low (trouble.Unwritten u) = omega arith
 trouble_low trouble.NoFile = omega arith
 
@@ -62,7 +60,7 @@ names_low (named.stopped names rest split g) = each_low g
 
 stream_low : {input output errors written said : Option (List ℕ)} {n : ℕ} → AnswersStream input output written errors said n → n ≤ 2
 stream_low (tidies k) = omega arith
-stream_low (fails e k a) = trouble_low e
+stream_low (fails s k a) = failure_low s
 
 text_low : {text : List ℕ} {output written errors said : Option (List ℕ)} {n : ℕ} → SaysText text output written errors said n → n ≤ 2
 text_low (says a) = omega arith

@@ -4,25 +4,25 @@ use Rattle.std.specs.Prelude.{ℕ, List, Option, IfSome, String}
 use Rattle.std.specs.Io.KnownBytes.{Appends}
 use lib.Chars.{codes}
 use Rattle.json5_write.specs.Pieces.{AppendsFront}
+use Rattle.json5_formatter.specs.declared.failure.Failure.{Failure}
 use Rattle.json5_formatter.specs.declared.failure.Failure.TheVariants as failure
-use Rattle.json5_formatter.specs.Reports.{report_line}
+use Rattle.json5_formatter.specs.Reports.{report_line, status_of}
 use Rattle.json5_tidier.specs.declared.reports.TheConstants.{HELP, VERSION}
 use Rattle.json5_tidier.specs.declared.requests.Request.{Request}
 use Rattle.json5_tidier.specs.declared.requests.Request.TheVariants as requests
-use Rattle.json5_tidier.specs.declared.trouble.Trouble.{Trouble}
 use Rattle.json5_tidier.specs.CommandWords.{Asks, AsksNothing}
 use Rattle.json5_tidier.specs.Names.{WorksThroughNames}
 use Rattle.json5_tidier.specs.Stores.{Known}
-use Rattle.json5_tidier.specs.Tidies.{TidyTrouble, WritesTidied}
-use Rattle.json5_tidier.specs.Troubles.{memory_line, trouble_line, trouble_status, usage_line}
+use Rattle.json5_tidier.specs.Tidies.{TidyFailure, WritesTidied}
+use Rattle.json5_tidier.specs.Troubles.{memory_line, usage_line}
 
 -- what was read, what output and errors held before and after, and the status
 pub data AnswersStream (input output written errors : Option (List ℕ)) : Option (List ℕ) → ℕ → Type 0 where
   -- it wrote the document tidied
   tidies : IfSome input (WritesTidied output written) → AnswersStream input output written errors errors 0
   -- it said why it stopped
-  fails : {said : Option (List ℕ)} (e : Trouble) → TidyTrouble (codes "stdin") input output written e
-      → AppendsFront errors said (trouble_line (codes "stdin") e) → AnswersStream input output written errors said (trouble_status e)
+  fails : {said : Option (List ℕ)} (s : Failure) → TidyFailure input output written s
+      → AppendsFront errors said (report_line (codes "stdin") s) → AnswersStream input output written errors said (status_of s)
 
 -- a text about the program was written; or a prefix of it, and that output can't be written was said
 pub data SaysText (text : List ℕ) (output written errors : Option (List ℕ)) : Option (List ℕ) → ℕ → Type 0 where

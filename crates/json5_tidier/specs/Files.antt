@@ -7,6 +7,7 @@ use Rattle.json5_write.specs.Pieces.{AppendsFront}
 use Rattle.json5_formatter.specs.declared.failure.Failure.{Failure}
 use Rattle.json5_formatter.specs.declared.failure.Failure.TheVariants as failure
 use Rattle.json5_formatter.specs.Files.{Opening}
+use Rattle.json5_formatter.specs.Runs.{ReadFailure}
 use Rattle.json5_tidier.specs.declared.files.Outcome.{Outcome}
 use Rattle.json5_tidier.specs.declared.files.Outcome.TheVariants as outcome
 use Rattle.json5_tidier.specs.declared.tidied.Tidied.{Tidied}
@@ -14,7 +15,6 @@ use Rattle.json5_tidier.specs.declared.trouble.Trouble.{Trouble}
 use Rattle.json5_tidier.specs.declared.trouble.Trouble.TheVariants as trouble
 use Rattle.json5_tidier.specs.declared.work.Work.{Work}
 use Rattle.json5_tidier.specs.declared.work.Work.TheVariants as work
-use Rattle.json5_tidier.specs.Refusals.{IsTroubleOf}
 use Rattle.json5_tidier.specs.Stores.{Known, Replacing}
 use Rattle.json5_tidier.specs.Tidies.{Tidies}
 use Rattle.json5_tidier.specs.Troubles.{trouble_line, trouble_status}
@@ -69,7 +69,7 @@ WorksOnTidied known w name t = WorksOnTexts (known.replaces name) w name (string
 pub data WorksOn (opens : Opening) (replaces : Replacing) (w : Work) (name : List ℕ) (old new : Option (List ℕ)) (result : Result Outcome Trouble) : Type 0 where
   worked : (held : Option (List ℕ)) (before after : List ℕ) → opens (Some held) → IfSome held (λ known. before ≡ known) → Tidies before after
       → WorksOnTexts replaces w name before after old new result → WorksOn opens replaces w name old new result
-  refused : (held : Option (List ℕ)) (e : Trouble) → opens (Some held) → IsTroubleOf name held e → result ≡ Err e → Keeps old new → WorksOn opens replaces w name old new result
+  refused : (held : Option (List ℕ)) (s : Failure) → opens (Some held) → ReadFailure held s → result ≡ Err (trouble.Failed s) → Keeps old new → WorksOn opens replaces w name old new result
   unopened : opens None → result ≡ Err (trouble.Failed failure.Read) → Keeps old new → WorksOn opens replaces w name old new result
 
 -- the work on this file, and what output held before and after it

@@ -1,5 +1,4 @@
 -- Lists the definitions of what the program does.
-pub mod Refusals
 pub mod Tidies
 pub mod Answers
 pub mod CommandWords

@@ -15,18 +15,13 @@ unwritten_line name (unwritten.Taken beside) = named_report name (codes "cannot 
 unwritten_line name (unwritten.Remains beside) = named_report name (codes "cannot be written, and " ++ (string_bytes beside ++ codes " remains"))
 unwritten_line name unwritten.NoMemory = named_report name (codes "out of memory")
 
--- a report names the file itself
 abbrev pub trouble_line : List ℕ → Trouble → List ℕ
 trouble_line name (trouble.Failed failure) = report_line name failure
-trouble_line name (trouble.Refused shown) = string_bytes shown ++ line_feed ∷ []
-trouble_line name (trouble.Unreported failure memory) = report_line name failure
 trouble_line name (trouble.Unwritten u) = unwritten_line name u
 trouble_line name trouble.NoFile = named_report name (codes "no file to tidy is in it")
 
 abbrev pub trouble_status : Trouble → ℕ
 trouble_status (trouble.Failed failure) = status_of failure
-trouble_status (trouble.Refused shown) = 1
-trouble_status (trouble.Unreported failure memory) = status_of failure
 trouble_status (trouble.Unwritten u) = 2
 trouble_status trouble.NoFile = 2
 

@@ -4,7 +4,7 @@ ghost use Rattle.json5_tidier.specs.Answers.{Answers, AnswersRequest, AnswersStr
 
 use crate::files::work_through;
 use crate::options::Fault;
-use crate::reports::{HELP, VERSION, no_memory, report_trouble, usage};
+use crate::reports::{HELP, VERSION, no_memory, usage};
 use crate::requests::Request;
 use crate::stores::Store;
 use crate::streams::tidy_stream;
@@ -77,8 +77,8 @@ fn answer_stream<R: Read, W: Write, E: Write>(
 ) -> u8
     ensures { AnswersStream (R.remaining r.old) (W.contents w.old) (W.contents w.new) (E.contents e.old) (E.contents e.new) result }
 {
-    match tidy_stream(alloc, "stdin", style, r, w) {
+    match tidy_stream(alloc, style, r, w) {
         Ok(()) => 0,
-        Err(trouble) => report_trouble("stdin", &trouble, e),
+        Err(failure) => report("stdin", &failure, e),
     }
 }

@@ -122,10 +122,9 @@ fn work_on<S: Store, W: Write>(
     let Ok(mut file) = store.open(name) else {
         return Err(Trouble::Failed(Failure::Read));
     };
-    let style = style_for(name, request.options.style);
-    match read_tidied(alloc, name, style, &mut file) {
+    match read_tidied(alloc, style_for(name, request.options.style), &mut file) {
         Ok(tidied) => work_on_texts(store, alloc, request.work, name, &tidied, w),
-        Err(trouble) => Err(trouble),
+        Err(failure) => Err(Trouble::Failed(failure)),
     }
 }
 

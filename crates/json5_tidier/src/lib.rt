@@ -2,9 +2,8 @@
 //!
 //! Without a work it tidies standard input to standard output. `check FILE...` names each file that isn't tidy, `diff
 //! FILE...` writes what would change, `print FILE...` writes each file tidied, and `write FILE...` tidies each in
-//! place. A folder stands for the files below it. A text that is refused is shown on standard error by a report of
-//! json5_report, and anything else that is wrong by one line. The status is the greatest that was met: 1 where a text is
-//! refused or isn't tidy, 2 for anything else.
+//! place. A folder stands for the files below it. A refusal is one line on standard error. The status is the greatest
+//! that was met: 1 where a text is refused or isn't tidy, 2 for anything else.
 #![tactic(auto)]
 
 mod answers;
@@ -17,7 +16,6 @@ mod host_program;
 mod hunks;
 mod names;
 mod options;
-mod refusals;
 mod replacing;
 mod reports;
 mod requests;

@@ -64,18 +64,13 @@ pub(crate) fn no_memory<E: Write>(e: &mut E) -> u8
     2
 }
 
-/// Writes why the work on this file ended, as a report or as one line, and returns the status that the program ends with.
+/// Writes why the work on this file ended, as one line, and returns the status that the program ends with.
 pub(crate) fn report_trouble<E: Write>(name: &str, trouble: &Trouble, e: &mut E) -> u8
     ensures status { result ≡ trouble_status trouble.now }
     ensures line { AppendsFront (E.contents e.old) (E.contents e.new) (trouble_line name.now trouble.now) }
 {
     match trouble {
         Trouble::Failed(failure) => report(name, failure, e),
-        Trouble::Refused(shown) => {
-            say(e, &[shown.as_str(), "\n"]);
-            1
-        }
-        Trouble::Unreported(failure, _) => report(name, failure, e),
         Trouble::Unwritten(unwritten) => say_unwritten(e, name, unwritten),
         Trouble::NoFile => {
             say(e, &[name, ": no file to tidy is in it\n"]);

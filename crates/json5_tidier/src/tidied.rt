@@ -1,12 +1,10 @@
 //! Reading a text and tidying it.
 
 ghost use Rattle.std.specs.Prelude.{◌≡◌, ◌≢◌, true, false, IfOk, IfErr, string_bytes};
-ghost use Rattle.json5_tidier.specs.Refusals.{IsTroubleOf};
-ghost use Rattle.json5_tidier.specs.Tidies.{HoldsText, HoldsTidied};
+ghost use Rattle.json5_formatter.specs.Runs.{ReadFailure};
+ghost use Rattle.json5_tidier.specs.Tidies.{HoldsTidied};
 
-use crate::refusals::{refused_text, wrong_bytes};
-use crate::trouble::Trouble;
-use json5_formatter::read_whole;
+use json5_formatter::{Failure, read_text};
 use json5_tidy::{Style, tidy_with};
 use std::alloc::Global;
 use std::io::Read;
@@ -28,39 +26,22 @@ impl Tidied {
     }
 }
 
-/// Reads all of `r`, under this name, and tidies it.
+/// Reads all of `r` and tidies it.
 ///
 /// # Errors
 ///
-/// - `Refused` where what was read is no text, or no document, and `Unreported` where there is no memory to show that.
-/// - `Failed` where memory ran out before, or a read failed.
+/// `NotUtf8`, `Text`, `NoMemory` and `Read`, as `json5_formatter::run`.
 pub(crate) fn read_tidied<R: Read>(
     alloc: Global,
-    name: &str,
     style: Style,
     r: &mut R,
-) -> Result<Tidied, Trouble>
+) -> Result<Tidied, Failure>
     ensures read { IfOk result (HoldsTidied (R.remaining r.old)) }
-    ensures stopped { IfErr result (IsTroubleOf name.now (R.remaining r.old)) }
+    ensures stopped { IfErr result (ReadFailure (R.remaining r.old)) }
 {
-    let before = read_text(alloc, name, r)?;
+    let before = read_text(alloc, r)?;
     match tidy_with(alloc, style, before.as_str()) {
         Ok(after) => Ok(Tidied { before, after }),
-        Err(error) => Err(refused_text(alloc, name, before.as_str(), error)),
-    }
-}
-
-/// Reads all of `r` as a string.
-fn read_text<R: Read>(alloc: Global, name: &str, r: &mut R) -> Result<String, Trouble>
-    ensures read { IfOk result (HoldsText (R.remaining r.old)) }
-    ensures stopped { IfErr result (IsTroubleOf name.now (R.remaining r.old)) }
-{
-    let bytes = match read_whole(alloc, r) {
-        Ok(bytes) => bytes,
-        Err(failure) => return Err(Trouble::Failed(failure)),
-    };
-    match String::from_utf8(bytes) {
-        Ok(text) => Ok(text),
-        Err(e) => Err(wrong_bytes(alloc, name, e.as_bytes())),
+        Err(e) => Err(Failure::at(e)),
     }
 }

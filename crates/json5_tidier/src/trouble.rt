@@ -6,17 +6,12 @@ ghost use Rattle.json5_tidier.specs.declared.trouble.Trouble.TheVariants as trou
 ghost use Rattle.json5_tidier.specs.Troubles.{trouble_status};
 
 use json5_formatter::Failure;
-use json5_types::error::Error;
 
 /// Why the work on a file ended.
 #[derive(Drop)]
 pub enum Trouble {
-    /// Memory ran out, or a stream failed.
+    /// As json5_fmt's work ends: the text is refused, memory ran out, or a stream failed.
     Failed(Failure),
-    /// What was read is no document: what the report of it prints.
-    Refused(String),
-    /// The same, where memory ran out for its report: why it is refused, and the error of making the report.
-    Unreported(Failure, Error),
     /// The file wasn't replaced.
     Unwritten(Unwritten),
     /// It is a folder, and no file below it has an ending that was asked for.
@@ -45,8 +40,6 @@ impl Trouble {
     {
         match self {
             Trouble::Failed(failure) => failure.status(),
-            Trouble::Refused(_) => 1,
-            Trouble::Unreported(failure, _) => failure.status(),
             Trouble::Unwritten(_) | Trouble::NoFile => 2,
         }
     }

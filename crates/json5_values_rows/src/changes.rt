@@ -75,53 +75,20 @@ fn popped(alloc: Global, value: &mut Value) -> Answer {
 /// Replaces the value at a place.
 fn replaced(alloc: Global, row: Row<'_>, value: &mut Value) -> Answer {
     let new = from_str(alloc, row.other)?;
-    let is_there = match row.call {
-        "member_mut" => put_at_member(value, row.key, new),
-        "get_mut" => put_at_key(value, row.key, new),
-        "get_mut_at" => put_at_index(value, row.key, new),
-        "pointer_mut" => put_at_pointer(value, row.key, new),
+    let place = match row.call {
+        "member_mut" => member_of(value, row.key),
+        "get_mut" => value.get_mut(row.key),
+        "get_mut_at" => value.get_mut(row.key.parse::<usize>().unwrap_or(0)),
+        "pointer_mut" => value.pointer_mut(row.key),
         _ => return unknown(alloc),
     };
-    if is_there {
-        done(alloc, Ok(()))
-    } else {
-        found::<u8>(alloc, None)
+    match place {
+        Some(place) => *place = new,
+        None => return found::<u8>(alloc, None),
     }
-}
-
-fn put_at_member(value: &mut Value, key: &str, new: Value) -> bool {
-    if let Some(place) = member_of(value, key) {
-        *place = new;
-        return true;
-    }
-    false
+    done(alloc, Ok(()))
 }
 
 fn member_of<'v>(value: &'v mut Value, key: &str) -> Option<&'v mut Value> {
     member_mut(value.as_object_mut()?, key)
-}
-
-fn put_at_key(value: &mut Value, key: &str, new: Value) -> bool {
-    if let Some(place) = value.get_mut(key) {
-        *place = new;
-        return true;
-    }
-    false
-}
-
-fn put_at_index(value: &mut Value, index: &str, new: Value) -> bool {
-    let index: usize = index.parse().unwrap_or(0);
-    if let Some(place) = value.get_mut(index) {
-        *place = new;
-        return true;
-    }
-    false
-}
-
-fn put_at_pointer(value: &mut Value, path: &str, new: Value) -> bool {
-    if let Some(place) = value.pointer_mut(path) {
-        *place = new;
-        return true;
-    }
-    false
 }

@@ -55,8 +55,9 @@ fn answer_of_value(alloc: Global, row: Row<'_>) -> Answer {
         ),
         "get" | "get_at" | "pointer" | "entries" | "hash" => finds::answer(alloc, row, &value),
         "deeper" => texts::answer(alloc, row, &wrapped(alloc, value)?),
-        "to_string_in" | "to_json" | "to_json_compact" | "to_json_in" | "is_json" | "shown" =>
-            texts::answer(alloc, row, &value),
+        "to_string_in" | "to_json" | "to_json_compact" | "to_json_in" | "is_json" => texts::answer(
+            alloc, row, &value,
+        ),
         _ => changes::answer(alloc, row, value),
     }
 }

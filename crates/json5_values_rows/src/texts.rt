@@ -3,8 +3,8 @@
 use crate::answers::{Answer, found, unknown};
 use crate::rows::Row;
 use json5::{
-    Error, Layout, Result, Value, from_str, is_json, shown, to_json, to_json_compact, to_json_in,
-    to_json_writer_in, to_string_in, to_vec_in, to_writer_in,
+    Error, Layout, Result, Value, from_str, is_json, to_json, to_json_compact, to_json_in,
+    to_string_in,
 };
 use std::alloc::Global;
 
@@ -12,40 +12,24 @@ use std::alloc::Global;
 pub fn answer(alloc: Global, row: Row<'_>, value: &Value) -> Answer {
     match row.call {
         "is_json" => found(alloc, Some(is_json(value))),
-        "shown" => Ok(format!(in alloc; "{}", shown(value))?),
         "to_json" => read_again(alloc, value, to_json(alloc, value)?),
         "to_json_compact" => read_again(alloc, value, to_json_compact(alloc, value)?),
-        "to_json_in" => json_in(alloc, row.words, value),
-        _ => match row.words.split_once(' ') {
-            Some(("json", words)) => json_in(alloc, words, value),
-            _ => text_in(alloc, row.words, value),
-        },
+        "to_json_in" => {
+            let layout = layout_of(alloc, row.words)?;
+            read_again(alloc, value, to_json_in(alloc, layout, value)?)
+        }
+        _ => in_layout(alloc, row, value),
     }
 }
 
-/// The text in a layout, if a writer and bytes get the same.
-fn text_in(alloc: Global, name: &str, value: &Value) -> Answer {
-    let layout = layout_of(alloc, name)?;
-    let text = to_string_in(alloc, layout, value)?;
-    let bytes = to_vec_in(alloc, layout, value)?;
-    let mut written = Vec::new(alloc);
-    to_writer_in(&mut written, layout, value)?;
-    if bytes.as_slice() != text.as_bytes() || written.as_slice() != text.as_bytes() {
-        return unknown(alloc);
+fn in_layout(alloc: Global, row: Row<'_>, value: &Value) -> Answer {
+    match row.words.split_once(' ') {
+        Some(("json", words)) => to_json_in(alloc, layout_of(alloc, words)?, value),
+        _ => {
+            let layout = layout_of(alloc, row.words)?;
+            read_again(alloc, value, to_string_in(alloc, layout, value)?)
+        }
     }
-    read_again(alloc, value, text)
-}
-
-/// The same of JSON.
-fn json_in(alloc: Global, name: &str, value: &Value) -> Answer {
-    let layout = layout_of(alloc, name)?;
-    let text = to_json_in(alloc, layout, value)?;
-    let mut written = Vec::new(alloc);
-    to_json_writer_in(alloc, &mut written, layout, value)?;
-    if written.as_slice() != text.as_bytes() {
-        return unknown(alloc);
-    }
-    read_again(alloc, value, text)
 }
 
 /// The layout with this name: `expanded`, `tabbed`, `compact`, or `indented` and a number.

@@ -1,4 +1,4 @@
-use Rattle.std.proofs.Common.{ap, sym, ◌∙◌, arith}
+use Rattle.std.proofs.Common.{refl, ap, sym, ◌∙◌, arith}
 use lib.Count.{count_trailing_zeros}
 use Rattle.json5_layouts.specs.Json.{is_unescaped}
 use Rattle.json5_layouts.specs.JsonEscapes.{ends_unescaped}

@@ -1,4 +1,4 @@
-use Rattle.std.proofs.Common.{sym, ◌∙◌, append-nil}
+use Rattle.std.proofs.Common.{◌++◌, [], sym, ◌∙◌, append-nil}
 use Rattle.json5_layouts.specs.Styles.{comma_if}
 use Rattle.json5_layouts.proofs.PiecesPut.{put_as}
 use Rattle.json5_layouts.proofs.lines.start_line.Goals as goal

@@ -1,4 +1,4 @@
-use Rattle.std.proofs.Common.{sym, ◌∙◌, arith}
+use Rattle.std.proofs.Common.{refl, sym, ◌∙◌, arith}
 use Rattle.json5_layouts.proofs.JsonEscapesSplit.{seam, shorter, splits, stands_next, stands_all}
 use Rattle.json5_layouts.proofs.strings.split_at_escaped.Goals as goal
 

@@ -1,16 +1,17 @@
-use Rattle.std.proofs.Common.{◌≡◌, ◌+◌, ◌<◌, ◌≤◌, suc, false, [], ◌∷◌, ◌++◌, length, drop_of_length-le, refl, sym, ap, subst, rules, arith, string_bytes}
+use Rattle.std.proofs.Common.{◌≡◌, ◌∙◌, ◌+◌, ◌<◌, ◌≤◌, ℕ, suc, Bool, true, false, [], ◌∷◌, ◌++◌, length, drop, drop_of_length-le, refl, sym, ap, subst, rules, arith, string_bytes}
 use Rattle.std.specs.Str.{chars}
 use Rattle.json5_grammar.specs.Language.Numbers.{decimal, whole}
 use Rattle.json5_types.proofs.ValuesCompared.{view-Null, view-String, view-Array, view-Object}
 use Rattle.json5_types.specs.ValueLookups.{datum_depth, items_depth, fields_depth}
 use Rattle.json5_types.specs.ValueMeanings.{value_of, items_view, fields_view}
 use Rattle.json5_write.specs.Out.{piece}
-use Rattle.json5_write.proofs.OutputsJoined.{Reaches-first, Reaches-next}
+use Rattle.json5_write.specs.ShortWrites.{Puts}
+use Rattle.json5_write.proofs.OutputsJoined.{Reaches, Reaches-first, Reaches-next}
 use Rattle.json5_write.proofs.PiecesWritten.{chars_null, chars_left_bracket, chars_right_bracket, chars_left_brace, chars_right_brace}
 use Rattle.json5_write.proofs.ShortWritesJoined.{Reaches-stop, Reaches-end}
 use Rattle.json5_layouts.specs.LaidBack.{ItemsHaveNumbers, FieldsHaveNumbers}
 use Rattle.json5_layouts.specs.Styles.{comma_if, closed, laid, items_laid, fields_laid}
-use Rattle.json5_layouts.specs.Layouts.{gap_in, key_in, style_of, laid_in}
+use Rattle.json5_layouts.specs.Layouts.{line_in, gap_in, key_in, style_of, laid_in, entry_in}
 use Rattle.json5_layouts.proofs.ItemsLaid.{next_item, next_field, item_within, field_within, items_numbers, fields_numbers, view-Decimal, view-Whole}
 use Rattle.json5_layouts.proofs.PiecesPut.{stop_first, then_second, put_as, wrote_as, refused_as, reaches_as, number_put, number_had, on_ok}
 use Rattle.json5_layouts.proofs.value.+laid.Goals as goal

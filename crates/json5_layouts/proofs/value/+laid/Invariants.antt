@@ -1,4 +1,4 @@
-use Rattle.std.proofs.Common.{◌+◌, ◌*◌, drop}
+use Rattle.std.proofs.Common.{◌+◌, ◌*◌, drop, false}
 use Rattle.json5_types.specs.ValueMeanings.{array, object, value_of, items_view, fields_view}
 use Rattle.json5_types.specs.ValueLookups.{datum_depth, items_depth, fields_depth}
 use Rattle.json5_write.specs.Out.{piece}

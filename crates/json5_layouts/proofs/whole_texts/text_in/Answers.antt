@@ -1,4 +1,4 @@
-use Rattle.std.proofs.Common.{Some, ap, refl, ◌∙◌}
+use Rattle.std.proofs.Common.{Some, ap, refl, sym, ◌∙◌}
 use Rattle.json5_types.specs.ValueMeanings.{value_of}
 use Rattle.json5_write.proofs.TextsWhole.{put_utf8}
 use Rattle.json5_layouts.specs.Layouts.{laid_in}

@@ -5,4 +5,4 @@ pub returns-in-Ok : goal.returns-in-Ok
 returns-in-Ok g c = tidies c.in-Ok.ensures.written
 
 pub returns-in-Err : goal.returns-in-Err
-returns-in-Err g c = rw c.report_trouble.ensures.status (fails c.in-Err.trouble c.in-Err.ensures.stopped c.report_trouble.ensures.line)
+returns-in-Err g c = rw c.report.ensures.status (fails c.in-Err.failure c.in-Err.ensures.stopped c.report.ensures.line)

@@ -10,4 +10,4 @@ returns-in-Ok-read_tidied g c =
     worked _ _ _ (g.met.S.Store.knows_opening _ _ _ c.in-Ok.ensures) c.in-Ok-read_tidied.ensures.read.all c.in-Ok-read_tidied.ensures.read.tidies c.work_on_texts.ensures
 
 pub returns : goal.returns
-returns g c = refused _ c.in-Err.trouble (g.met.S.Store.knows_opening _ _ _ c.in-Ok.ensures) c.in-Err.ensures.stopped refl (search rules)
+returns g c = refused _ c.in-Err.failure (g.met.S.Store.knows_opening _ _ _ c.in-Ok.ensures) c.in-Err.ensures.stopped refl (search rules)

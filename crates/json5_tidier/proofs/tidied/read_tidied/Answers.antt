@@ -1,13 +1,11 @@
-use Rattle.std.proofs.Common.{sym, ◌∙◌, subst}
-use Rattle.json5_formatter.specs.Runs.{RefusesInput}
-use Rattle.json5_tidier.proofs.RefusalsRead.{trouble_read}
+use Rattle.std.proofs.Common.{refl}
+use Rattle.json5_types.specs.Errors.{kind_of}
+use Rattle.json5_formatter.proofs.Refusals.{refused_input, refused_read}
 use Rattle.json5_tidier.proofs.tidied.read_tidied.Goals as goal
-
-pub refused_text-requires : goal.refused_text-requires
-refused_text-requires g c =
-    subst (RefusesInput c.in-Err.error) (c.as_str.ensures.value ∙ sym c.as_str-in-Err.ensures.value) (c.as_str.utf8, c.in-Err.ensures.refused, c.in-Err.ensures.complete)
 
 pub returns-in-Err-clause-stopped : goal.returns-in-Err-clause-stopped
 returns-in-Err-clause-stopped g c =
-    trouble_read c.args.name.now (g.R.Read.remaining c.args.r.now) c.as_str-in-Err.result.now c.refused_text.result
-    (rw c.as_str-in-Err.ensures.value c.in_ok-before.ensures.read) c.refused_text.ensures
+    let text = c.as_str.result.now in
+    let e = c.in-Err.e in
+    let k = c.in-Err.ensures in
+    rw c.at.ensures (refused_read _ (kind_of e) e refl (refused_input _ text e (rw c.as_str.ensures.value c.in_ok-before.ensures.read) (c.as_str.utf8, k.refused, k.complete)))
