@@ -1,5 +1,6 @@
 //! Impls by hand, which call the steps of a format in an order of their own.
 
+use json5_serde_write::raw_number;
 use serde::{Described, Deserialize, Deserializer, Format, Name, Serialize, Serializer};
 use std::alloc::Global;
 
@@ -224,8 +225,8 @@ fn send_step<S: Serializer>(step: char, out: &mut S) -> Result<(), S::Error> {
         't' => out.bool(true),
         's' => out.str("s"),
         '1' => out.u64(1),
-        '#' => json5_serde::raw_number(&"0x1F", out),
-        '%' => json5_serde::raw_number(&"x", out),
+        '#' => raw_number(&"0x1F", out),
+        '%' => raw_number(&"x", out),
         _ => Err(out.custom("no such step")),
     }
 }
