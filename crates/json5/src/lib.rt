@@ -31,21 +31,16 @@ pub use json5_fields::{
     Field, Given, Holding, NoContent, OneOf, Optional, Required, WithDefault, WithDefaultText,
     one_of_names, read_enum, read_struct, read_struct_only, write_struct,
 };
-pub use json5_floats::AsF64;
 pub use json5_format::{format, format_within};
 pub use json5_grammar::error_code::ErrorCode;
 pub use json5_grammar::position::Position;
 pub use json5_layouts::{
-    Layout, is_json, to_json, to_json_compact, to_json_in, to_json_writer, to_json_writer_in,
-    to_string_in, to_vec_in, to_writer_in,
+    Layout, is_json, to_json, to_json_compact, to_json_in, to_string_in,
 };
-pub use json5_numbers::DecimalExt;
-pub use json5_positions::InText;
 pub use json5_ser::{
     Serialize, SerializeCollection, SerializeKey, Serializer, to_string, to_string_within,
     to_writer, to_writer_within,
 };
-pub use json5_shown::{ShownValue, shown};
 pub use json5_text::char;
 pub use json5_text::input::{Borrows, Input};
 pub use json5_types::byte_buf::ByteBuf;

@@ -1,6 +1,5 @@
 -- The steps of an access, and how its calls refuse.
-use Rattle.std.specs.Prelude.{◌≡◌, ℕ, ◌-◌, Bool, true, false, List, [], ◌∷◌, ◌++◌, Option, Some, None, is_some, ◌==◌, ◌||◌, Result, IfOk, IfErr, OnOk, OnErr, IsErrAnd}
-use Rattle.json5_grammar.specs.Language.Trees.{Tree}
+use Rattle.std.specs.Prelude.{◌≡◌, ℕ, ◌-◌, Bool, true, false, List, [], ◌∷◌, ◌++◌, Option, Some, None, ◌==◌, Result, IfOk, IfErr, OnOk, OnErr, IsErrAnd}
 use Rattle.json5_grammar.specs.declared.error_code.ErrorCode.{ErrorCode}
 use Rattle.json5_grammar.specs.declared.error_code.ErrorCode.TheVariants as codes
 use Rattle.json5_grammar.specs.Faults.Codes.{after_text}
@@ -16,7 +15,7 @@ use Rattle.json5_value.specs.declared.brackets.Brackets.{Brackets}
 use Rattle.json5_value.specs.Brackets.{square}
 use Rattle.json5_de.specs.DeserializeLaw.{Unprompted, Steady}
 use Rattle.json5_de.specs.Faults.{RefusedBy, AtEnd, DiffersWith}
-use Rattle.json5_de.specs.Arrays.{AccessState, bare, GivesElement, CompletesElement, CompletesClose, AtClose, HasPosition, PositionedAtBracket, IsAtBracket, is_comma_or_closing, AnswersFailedAtBracket}
+use Rattle.json5_de.specs.Arrays.{AccessState, AtClose, HasPosition, PositionedAtBracket, IsAtBracket, is_comma_or_closing, AnswersFailedAtBracket}
 use Rattle.json5_value.specs.ModelSteps.{Unexpected}
 
 -- y is what follows the gap in front of x
@@ -117,11 +116,3 @@ RefusedAtBracket refuses old e = PositionedFault (RefusesElement refuses old.com
 -- how a call for an element refuses, which asks for a comma or the bracket after the first
 abbrev pub RefusesNext : {V : Type 0} → (State → Error → State → Type 0) → AccessState → State → Result V Error → Type 0
 RefusesNext refuses old new result = RefusesCall (RefusesElement refuses old.comma_due old.reader) old.comma_due (is_comma_or_closing square) codes.EofParsingArray codes.ExpectedComma old new result
-
--- an element was read or refused, or the bracket is next; the access holds nothing of it
-pub record TakesElement {V C : Type 0} (content : V → C) (convert : Tree → Option C) (refuses : State → Error → State → Type 0) (comma_due : Bool) (old new : State) (result : Result (Option V) Error) : Type 0 where
-  pub sound : IfOk result (λ o. GivesElement content convert (bare old comma_due) (bare new (comma_due || is_some o)) o)
-  pub complete : CompletesElement convert (bare old comma_due) result
-  pub closing : CompletesClose square (bare old comma_due) result
-  pub cause : IfErr result (λ e. RefusesElement refuses comma_due old e new)
-  pub steady : Steady old new result

@@ -1,5 +1,5 @@
 -- The law of a type that is read.
-use Rattle.std.specs.Prelude.{◌≡◌, ℕ, ◌+◌, ◌≤◌, Bool, false, true, List, Option, Some, None, Result, Ok, Err, IsOk, IfOk, IfErr, IsErrAnd}
+use Rattle.std.specs.Prelude.{◌≡◌, ℕ, ◌+◌, ◌≤◌, Bool, false, true, List, Option, Some, Result, Ok, Err, IsOk, IfOk, IfErr, IsErrAnd}
 use Rattle.json5_grammar.specs.declared.error_code.ErrorCode.TheVariants as codes
 use Rattle.json5_grammar.specs.Language.Trees.{Tree, depth}
 use Rattle.json5_grammar.specs.Language.Values.{Reads}
@@ -67,10 +67,3 @@ pub record Steady {V : Type 0} (old new : State) (result : Result V Error) : Typ
   pub same_text : SameText old new
   pub unprompted : Unprompted old result
   pub before : AnswersFailed old result
-
--- ---- a call that leaves its error elsewhere
-
--- what the call answers: the value, or the error that it left
-abbrev pub answered : {V : Type 0} → Option V → Error → Result V Error
-answered (Some v) e = Ok v
-answered None e = Err e

@@ -203,7 +203,7 @@ pub record KeepsMap {I : Type 0} (old new : MapAccess I) : Type 0 where
   pub same_text : SameText (map_state_of old).at.reader (map_state_of new).at.reader
 
 -- the access refuses a member by a custom fault of the place; after a refusal it answers `Failed` at the opening brace
-pub record RefusesWithOwn {I : Type 0} (place : AccessState) (old : MapAccess I) (e : Error) (new : MapAccess I) : Type 0 where
+pub record RefusesMember {I : Type 0} (place : AccessState) (old : MapAccess I) (e : Error) (new : MapAccess I) : Type 0 where
   pub access : KeepsMap old new
   pub pending : KeepsPending (map_state_of old) (map_state_of new)
   pub failed : (map_state_of new).at.reader.failed ≡ true

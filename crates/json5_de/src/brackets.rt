@@ -6,7 +6,7 @@ ghost use Rattle.json5_grammar.specs.Language.Characters.{NotBegun};
 ghost use Rattle.json5_grammar.specs.Model.Collections.{IsEnd};
 ghost use Rattle.json5_de.specs.State.{SameText};
 ghost use Rattle.json5_de.specs.Faults.{RefusedBy};
-ghost use Rattle.json5_de.specs.DeserializeLaw.{AnswersFailed, answered};
+ghost use Rattle.json5_de.specs.DeserializeLaw.{AnswersFailed};
 ghost use Rattle.json5_value.specs.Brackets.{brackets_of};
 
 use crate::de::Deserializer;
@@ -66,42 +66,6 @@ impl<I: Input> Deserializer<I> {
             ShortStep::Member => Ok(true),
             ShortStep::Closing => Ok(false),
             ShortStep::Other => self.advance_slowly(kind, comma_due),
-        }
-    }
-
-    /// The same; the error of a refusal is left in `fault`.
-    #[inline(always)]
-    pub(crate) fn take_step(
-        &mut self,
-        kind: BracketKind,
-        comma_due: bool,
-        fault: &mut Error,
-    ) -> Option<bool>
-        ensures { Advances (brackets_of kind) comma_due self.old self.new (answered result fault.new) }
-    {
-        match self.short_step(kind, comma_due) {
-            ShortStep::Member => Some(true),
-            ShortStep::Closing => Some(false),
-            ShortStep::Other => self.take_step_slowly(kind, comma_due, fault),
-        }
-    }
-
-    /// The same for anything in front, in the long way.
-    #[inline(never)]
-    fn take_step_slowly(
-        &mut self,
-        kind: BracketKind,
-        comma_due: bool,
-        fault: &mut Error,
-    ) -> Option<bool>
-        ensures { Advances (brackets_of kind) comma_due self.old self.new (answered result fault.new) }
-    {
-        match self.advance_slowly(kind, comma_due) {
-            Ok(more) => Some(more),
-            Err(error) => {
-                *fault = error;
-                None
-            }
         }
     }
 

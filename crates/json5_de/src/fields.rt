@@ -14,7 +14,7 @@ ghost use Rattle.json5_de.specs.ShortWays.{filled_if_given};
 ghost use Rattle.json5_de.specs.KeyPlaces.{BeginsIfGiven};
 ghost use Rattle.json5_grammar.specs.Language.Blanks.{Solid};
 ghost use Rattle.json5_de.specs.StructFaults.{RefusesMembers};
-ghost use Rattle.json5_de.specs.Lending.{map_state_of, at_its_key, beginning_at, RefusesWithOwn, KeepsMap, KeyPending, NoKeyPending, TakesPendingKey, ReadsNextKey, NamesItsKey};
+ghost use Rattle.json5_de.specs.Lending.{map_state_of, at_its_key, beginning_at, RefusesMember, KeepsMap, KeyPending, NoKeyPending, TakesPendingKey, ReadsNextKey, NamesItsKey};
 
 use crate::any::IgnoredAny;
 use crate::de::{Deserialize, Deserializer};
@@ -149,7 +149,7 @@ impl<'a, I: Input> MapAccess<'a, I> {
     /// Refuses the member of the key that was read last: makes a custom fault at the offset, and `Failed` at the opening
     /// brace after a refusal.
     fn refuse_at<D: fmt::Display + Drop>(&mut self, offset: usize, message: D) -> Error
-        ensures refused { RefusesWithOwn (beginning_at offset self.old) self.old result self.new }
+        ensures refused { RefusesMember (beginning_at offset self.old) self.old result self.new }
     {
         self.de.set_failed(true);
         if self.failed {
@@ -164,7 +164,7 @@ impl<'a, I: Input> MapAccess<'a, I> {
 
     /// Refuses a field that has a value.
     fn duplicate(&mut self, name: &str) -> Error
-        ensures refused { RefusesWithOwn (map_state_of self.old).at self.old result self.new }
+        ensures refused { RefusesMember (map_state_of self.old).at self.old result self.new }
     {
         self.refuse_at(self.start, format_args!("duplicate field `{name}`"))
     }
@@ -184,7 +184,7 @@ impl<'a, I: Input> MapAccess<'a, I> {
     #[cold]
     #[inline(never)]
     pub fn refuse_key<D: fmt::Display + Drop>(&mut self, message: D) -> Error
-        ensures refused { RefusesWithOwn (at_its_key self.old) self.old result self.new }
+        ensures refused { RefusesMember (at_its_key self.old) self.old result self.new }
     {
         self.refuse_at(self.key_start, message)
     }

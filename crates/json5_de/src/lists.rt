@@ -2,8 +2,7 @@
 
 use crate::de::{Deserialize, Deserializer};
 use json5_text::input::Input;
-use json5_types::ErrorCode;
-use json5_types::error::{Error, Result};
+use json5_types::error::Result;
 
 /// Reads an array (JSON5 section 4), each element as a `T`. The faults are those of its brackets and commas, as a `SeqAccess`
 /// lists them, those of the first element that is refused, and `OutOfMemory`.
@@ -21,14 +20,9 @@ impl<I: Input, T: Deserialize<I>> Deserialize<I> for Vec<T> {
     ghost refuses = { RefusesList (every (element T.convert T.refuses)) any_number };
 
     fn deserialize(de: &mut Deserializer<I>) -> Result<Vec<T>> {
-        let mut fault = Error::new(ErrorCode::Failed);
         let mut items = Vec::new(de.allocator());
         let mut seq = de.deserialize_seq()?;
-        loop {
-            let Some(next) = seq.take_next::<T>(&mut fault) else {
-                return Err(fault);
-            };
-            let Some(item) = next else { break };
+        while let Some(item) = seq.next_element::<T>()? {
             items.push(item)?;
         }
         seq.end()?;

@@ -6,11 +6,11 @@ ghost use Rattle.json5_grammar.specs.declared.error_code.ErrorCode.TheVariants a
 ghost use Rattle.json5_grammar.specs.Language.Trees.{Trees};
 ghost use Rattle.json5_text.specs.Cursor.{Locates};
 ghost use Rattle.json5_value.specs.Brackets.{square};
-ghost use Rattle.json5_de.specs.DeserializeLaw.{Steady, Unprompted, answered};
+ghost use Rattle.json5_de.specs.DeserializeLaw.{Steady, Unprompted};
 ghost use Rattle.json5_de.specs.Arrays.{bare, GivesElement, CompletesElement, CompletesClose, PositionedAtBracket, ElementsLeft, ReadsMore};
 ghost use Rattle.json5_de.specs.Enums.{EndsArray};
 ghost use Rattle.json5_de.specs.ListFaults.{IsTooShort, LeavesRequired, RefusesRequired};
-ghost use Rattle.json5_de.specs.AccessCalls.{RefusesElement, TakesElement};
+ghost use Rattle.json5_de.specs.AccessCalls.{RefusesElement};
 
 use crate::de::{Deserialize, Deserializer};
 use crate::stage::Stage;
@@ -19,7 +19,6 @@ use json5_types::error::{Error, Result};
 use json5_types::{ErrorCode, Position};
 use json5_value::brackets::BracketKind;
 use std::alloc::Global;
-use std::mem;
 
 /// The elements of an array, one after another.
 ///
@@ -83,28 +82,6 @@ impl<I: Input> Deserializer<I> {
             Ok(Some(T::deserialize(self)?))
         } else {
             Ok(None)
-        }
-    }
-
-    /// The same; the error of a refusal is left in `fault`.
-    #[inline(always)]
-    fn take_element<T: Deserialize<I>>(
-        &mut self,
-        comma_due: bool,
-        fault: &mut Error,
-    ) -> Option<Option<T>>
-        ensures { TakesElement T.content T.convert T.refuses comma_due self.old self.new (answered result fault.new) }
-    {
-        match self.take_step(BracketKind::Array, comma_due, fault) {
-            Some(true) => match T::deserialize(self) {
-                Ok(value) => Some(Some(value)),
-                Err(error) => {
-                    *fault = error;
-                    None
-                }
-            },
-            Some(false) => Some(None),
-            None => None,
         }
     }
 
@@ -221,35 +198,6 @@ impl<'a, I: Input> SeqAccess<'a, I> {
                 Ok(next)
             }
             Err(e) => Err(self.refused(e)),
-        }
-    }
-
-    /// The same as `refused`, of the fault that was left.
-    #[cold]
-    #[inline(never)]
-    fn refused_in(&mut self, fault: &mut Error)
-        ensures { RefusesIn self.old fault.old self.new fault.new }
-    {
-        let own = mem::replace(fault, Error::new(ErrorCode::Failed));
-        *fault = self.refused(own);
-    }
-
-    /// The same as `next_element`; the error of a refusal is left in `fault`.
-    #[inline(always)]
-    pub(crate) fn take_next<T: Deserialize<I>>(&mut self, fault: &mut Error) -> Option<Option<T>>
-        ensures { ReadsNext T.content T.convert T.refuses self.old self.new (answered result fault.new) }
-    {
-        self.de.set_failed(self.failed);
-        match self.de.take_element(self.stage.is_comma_due(), fault) {
-            Some(next) => {
-                self.de.set_failed(true);
-                self.stage = self.stage.with_element(next.is_some());
-                Some(next)
-            }
-            None => {
-                self.refused_in(fault);
-                None
-            }
         }
     }
 

@@ -1,8 +1,5 @@
 //! Paths that own their keys.
 
-ghost use Rattle.std.specs.Prelude.{IfErr, []};
-ghost use Rattle.json5_edit.specs.Refusals.{RefusesPath};
-
 use crate::dotted::read_dotted;
 use crate::faults::{Expected, PathError};
 use crate::pointers::read_pointer;
@@ -72,9 +69,7 @@ impl Path {
     ///
     /// - `Text` with the fault of reading, if there are digits and the text is no document.
     /// - `NoMemory` where there is no memory for the steps.
-    pub fn steps_in(&self, alloc: Global, text: &str) -> json5_edit::Result<Vec<Step<'_>>>
-        ensures { IfErr result (RefusesPath text.now []) }
-    {
+    pub fn steps_in(&self, alloc: Global, text: &str) -> json5_edit::Result<Vec<Step<'_>>> {
         let mut steps = Vec::new(alloc);
         for written in &self.written {
             let step = match written {
@@ -97,9 +92,7 @@ impl Path {
 }
 
 /// Whether the steps lead to an array.
-fn is_array(alloc: Global, text: &str, steps: &[Step<'_>]) -> json5_edit::Result<bool>
-    ensures { IfErr result (RefusesPath text.now []) }
-{
+fn is_array(alloc: Global, text: &str, steps: &[Step<'_>]) -> json5_edit::Result<bool> {
     match find(alloc, text, steps) {
         Ok(Some(span)) => Ok(text.as_bytes().get(span.start) == Some(&b'[')),
         Ok(None) => Ok(false),

@@ -1,3 +1,2 @@
 -- Lists the lemmas about floats.
 pub mod SpelledNumbers
-pub mod PrintedFloats

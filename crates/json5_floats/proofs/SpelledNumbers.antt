@@ -1,16 +1,15 @@
 -- The text of digits and an exponent is read as the number that they make.
-use Rattle.std.proofs.Common.{◌≡◌, ◌∙◌, ℕ, suc, ◌+◌, ◌*◌, ◌^◌, ◌<◌, Bool, true, false, List, [], ◌∷◌, ◌++◌, length, Result, Ok, Err, refl, sym, ap, subst, arith, append-nil, length-append, lit≤}
-use native.Mathlib.Nat.{lt_of_lt_of_le}
+use Rattle.std.proofs.Common.{◌≡◌, ◌≢◌, ◌∙◌, ℕ, zero, suc, ◌+◌, ◌*◌, ◌^◌, ◌<◌, ◌≤◌, Bool, true, false, List, [], ◌∷◌, ◌++◌, length, Result, Ok, Err, refl, sym, ap, subst, arith, append-nil, length-append, rules}
 use Rattle.std.specs.Prelude.{ℤ, pos, negsuc, IfSome}
 use Rattle.std.specs.Result.{OkIff, result_ok}
 use Rattle.std.specs.Fmt.{decimal, signed_decimal, sign_text}
 use Rattle.std.specs.Str.Parse.{AllDigits, digits_value, ParsesUnsigned}
 use Rattle.std.specs.Float.Ieee.{Float, Format, round}
 use Rattle.std.proofs.lemmas.Bool.Decides.{nat_tests}
-use Rattle.std.proofs.lemmas.Fmt.{decimal_is_IsNumeral, decimal_is_IsNumeral_wide}
-use Rattle.std.proofs.lemmas.Str.Parse.{IsNumeralModel, numerals_by_value, tells_digits, parse_digits, digit_from_value}
+use Rattle.std.proofs.lemmas.Fmt.{decimal_is_IsNumeral}
+use Rattle.std.proofs.lemmas.Str.Parse.{IsNumeralModel, numerals_by_value, tells_digits, parse_digits}
 use Rattle.std.specs.Char.{digit_value}
-use Rattle.fast_float.specs.Text.{Parts, scan, nearest, exponent_text, IsWellFormed}
+use Rattle.fast_float.specs.Text.{Parts, scan, nearest, text_of, exponent_text, IsWellFormed}
 use Rattle.fast_float.specs.Rounding.{nearest_to_decimal}
 use Rattle.fast_float.proofs.Writing.{scan-text_of}
 use Rattle.json5_grammar.specs.Language.Characters.{is_digit, Each, no_char, char}
@@ -19,10 +18,6 @@ use Rattle.json5_grammar.specs.Written.NumberText.{Normal}
 use Rattle.json5_floats.specs.Floats.{nearest_to}
 use Rattle.json5_grammar.specs.Language.Numbers.{Decimal, infinite, nan, finite}
 use Rattle.json5_types.specs.NumberDecimals.{has_minus, is_infinity, is_not_a_number, digits_in, exponent_in}
-
-pub each_digit : (ds : List ℕ) → AllDigits 10 ds → Each is_digit ds
-each_digit [] a = no_char
-each_digit (c ∷ s) a = char (let r = digit_from_value c a.0 in grind (arith, nat_tests)) (each_digit s a.1)
 
 abbrev parts_of : List ℕ → Bool → List ℕ → Parts
 parts_of ds negative es = record { whole = ds; point = false; fraction = []; exponent_negative = negative; exponent = es; len = length ds + length (exponent_text negative es) }
@@ -69,27 +64,6 @@ read_nearest f m ds text (pos n) a h e =
 read_nearest f m ds text (negsuc n) a h e =
     let d = decimal_is_IsNumeral (suc n) h in
     ap (nearest f m) (read_parts ds (decimal (suc n)) text true a d.0.1 d.0.0 e) ∙ rw (append-nil ds, d.1, at_one (digits_value 10 ds), plus_zero (suc n)) refl
-
--- ---- digits alone
-
-abbrev plain : List ℕ → Parts
-plain ds = record { whole = ds; point = false; fraction = []; exponent_negative = false; exponent = []; len = length ds }
-
-plain_well : (ds : List ℕ) → AllDigits 10 ds → IsWellFormed (plain ds)
-plain_well ds a = record {
-  whole_digits = a;
-  fraction_digits = tt;
-  exponent_digits = tt;
-  no_point = λ e. refl;
-  no_exponent = λ e. refl;
-  len_is = sym (ap length (append-nil ds));
-}
-
-pub read_whole : (f : Format) (m : Bool) (n : ℕ) (text : List ℕ) → n < 2 ^ 128 → text ≡ decimal n → nearest f m (scan text) ≡ round f m n 1
-read_whole f m n text h e =
-    let few : n < 10 ^ 64 = lt_of_lt_of_le h (lit≤ tt) in
-    let d = decimal_is_IsNumeral_wide n few in
-    ap (λ x. nearest f m (scan x)) (e ∙ sym (append-nil (decimal n))) ∙ ap (nearest f m) (scan-text_of (plain (decimal n)) (plain_well (decimal n) d.0.1)) ∙ rw (append-nil (decimal n), d.1, at_one n) refl
 
 -- ---- few digits
 

@@ -1,13 +1,8 @@
-//! The floats nearest to numbers of any count of digits, and the decimals of floats.
+//! The floats nearest to numbers of any count of digits.
 //!
 //! A `Decimal` keeps each digit that was read; a float keeps about 16.
 #![tactic(auto)]
 
 pub mod decimals;
-pub mod from_floats;
-pub mod nearest;
-pub mod wholes;
 
 pub use decimals::to_f64;
-pub use from_floats::from_f64;
-pub use nearest::AsF64;

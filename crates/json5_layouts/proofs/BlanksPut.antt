@@ -1,11 +1,10 @@
 -- Rows of blanks.
-use Rattle.std.proofs.Common.{◌≡◌, ◌∙◌, ℕ, zero, suc, ◌+◌, ◌-◌, ◌<◌, ◌≤◌, Bool, true, false, List, ◌∷◌, ◌++◌, length, take, drop, replicate, sym, ap, subst, arith, append_assoc}
+use Rattle.std.proofs.Common.{◌≡◌, ◌∙◌, ℕ, zero, suc, ◌+◌, ◌-◌, ◌<◌, ◌≤◌, List, [], ◌∷◌, ◌++◌, length, take, replicate, get_or, refl, sym, ap, subst, arith}
 use Rattle.std.specs.Str.{chars, IsAscii, IsCharBoundary}
-use Rattle.std.proofs.lemmas.List.{length-replicate, replicate-append-replicate, take-replicate}
-use Rattle.std.proofs.lemmas.Str.{chars-IsAscii, IsCharBoundary-from_ascii}
+use Rattle.std.proofs.lemmas.List.{length-replicate, replicate-append-replicate, take-replicate, get_or-replicate}
+use Rattle.std.proofs.lemmas.Str.{chars-IsAscii}
 use Rattle.std.proofs.lemmas.Str.Ascii.{IsAscii-nil, IsAscii-cons}
 use Rattle.json5_layouts.specs.Blanks.{blank_of}
-use Rattle.json5_layouts.specs.Styles.{comma_if}
 use Rattle.json5_layouts.specs.declared.lines.Blank.{Blank}
 use Rattle.json5_layouts.specs.declared.lines.Blank.TheVariants as blank
 
@@ -17,45 +16,16 @@ all_ascii : (c n : ℕ) → c < 128 → IsAscii (replicate n c)
 all_ascii c zero h = IsAscii-nil
 all_ascii c (suc n) h = IsAscii-cons c _ h (all_ascii c n h)
 
-chars_blanks : (b : Blank) (n : ℕ) → chars (replicate n (blank_of b)) ≡ replicate n (blank_of b)
+pub chars_blanks : (b : Blank) (n : ℕ) → chars (replicate n (blank_of b)) ≡ replicate n (blank_of b)
 chars_blanks b n = chars-IsAscii (replicate n (blank_of b)) (all_ascii (blank_of b) n (blank_small b))
 
-pub cut : (n c : ℕ) → 256 < n → replicate n c ≡ replicate 256 c ++ replicate (n - 256) c
-cut n c h = ap (λ k. replicate k c) (omega arith) ∙ sym (replicate-append-replicate 256 (n - 256) c)
+pub cut : (n c : ℕ) → 64 < n → replicate n c ≡ replicate 64 c ++ replicate (n - 64) c
+cut n c h = ap (λ k. replicate k c) (omega arith) ∙ sym (replicate-append-replicate 64 (n - 64) c)
 
--- a comma, a line feed and so many blanks
-abbrev after_comma : Blank → ℕ → List ℕ
-after_comma b n = 44 ∷ 10 ∷ replicate n (blank_of b)
+pub front : (b : Blank) (run part : List ℕ) (n : ℕ) → run ≡ replicate 64 (blank_of b) → part ≡ take n run → n ≤ 64 → chars part ≡ replicate n (blank_of b)
+front b run part n e f h = ap chars (f ∙ ap (take n) e ∙ take-replicate n 64 (blank_of b) h) ∙ chars_blanks b n
 
-line_ascii : (b : Blank) (n : ℕ) → IsAscii (10 ∷ replicate n (blank_of b))
-line_ascii b n = IsAscii-cons 10 (replicate n (blank_of b)) (omega arith) (all_ascii (blank_of b) n (blank_small b))
-
-comma_ascii : (b : Blank) (n : ℕ) → IsAscii (after_comma b n)
-comma_ascii b n = IsAscii-cons 44 (10 ∷ replicate n (blank_of b)) (omega arith) (line_ascii b n)
-
-length_line : (b : Blank) (n : ℕ) → length (after_comma b n) ≡ 2 + n
-length_line b n = let k : length (replicate n (blank_of b)) ≡ n = length-replicate n (blank_of b) in omega (arith, k)
-
-shorter_line : (b : Blank) (n : ℕ) → n ≤ 256 → take (2 + n) (after_comma b 256) ≡ after_comma b n
-shorter_line b n h = let two : 2 + n ≡ suc (suc n) = omega arith in ap (λ k. take k (after_comma b 256)) two ∙ ap (λ l. 44 ∷ 10 ∷ l) (take-replicate n 256 (blank_of b) h)
-
-pub boundary : (b : Blank) (s : List ℕ) (n : ℕ) → s ≡ after_comma b 256 → n ≤ 256 → IsCharBoundary s (2 + n)
-boundary b s n e h = subst (λ t. IsCharBoundary t (2 + n)) (sym e) (IsCharBoundary-from_ascii (after_comma b 256) (2 + n) (comma_ascii b 256) (let k = length_line b 256 in omega (arith, k, h)))
-
-pub front : (b : Blank) (s part : List ℕ) (n : ℕ) → s ≡ after_comma b 256 → part ≡ take (2 + n) s → n ≤ 256 → part ≡ after_comma b n
-front b s part n e f h = f ∙ ap (take (2 + n)) e ∙ shorter_line b n h
-
-pub with_comma : (b : Blank) (due : Bool) (part : List ℕ) (n : ℕ) → due ≡ true → part ≡ after_comma b n → chars part ≡ comma_if due ++ 10 ∷ replicate n (blank_of b)
-with_comma b true part n h e = ap chars e ∙ chars-IsAscii (after_comma b n) (comma_ascii b n)
-with_comma b false part n h e = absurd (cc)
-
-pub without_comma : (b : Blank) (due : Bool) (part rest : List ℕ) (n : ℕ) → due ≡ false → part ≡ after_comma b n → rest ≡ drop 1 part → chars rest ≡ comma_if due ++ 10 ∷ replicate n (blank_of b)
-without_comma b true part rest n h e f = absurd (cc)
-without_comma b false part rest n h e f = ap chars (f ∙ ap (drop 1) e) ∙ chars-IsAscii (10 ∷ replicate n (blank_of b)) (line_ascii b n)
-
-pub blanks_alone : (b : Blank) (part rest : List ℕ) (n : ℕ) → part ≡ after_comma b n → rest ≡ drop 2 part → chars rest ≡ replicate n (blank_of b)
-blanks_alone b part rest n e f = ap chars (f ∙ ap (drop 2) e) ∙ chars_blanks b n
-
--- a line that is deeper than the longest piece
-pub cut_line : (c : List ℕ) (n b : ℕ) → 256 < n → c ++ 10 ∷ replicate n b ≡ (c ++ 10 ∷ replicate 256 b) ++ replicate (n - 256) b
-cut_line c n b h = ap (λ l. c ++ 10 ∷ l) (cut n b h) ∙ sym (append_assoc c (10 ∷ replicate 256 b) (replicate (n - 256) b))
+pub boundary : (b : Blank) (run : List ℕ) (n : ℕ) → run ≡ replicate 64 (blank_of b) → n ≤ 64 → IsCharBoundary run n
+boundary b run n e h =
+    let l : length run ≡ 64 = ap length e ∙ length-replicate 64 (blank_of b) in
+    (omega arith, λ less high. absurd (let k : get_or run n 0 ≡ blank_of b = ap (λ r. get_or r n 0) e ∙ get_or-replicate 64 n (blank_of b) 0 (omega arith) in let s = blank_small b in omega arith))

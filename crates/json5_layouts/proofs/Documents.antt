@@ -1,5 +1,6 @@
 -- The text of a value in a style is a document that means it.
-use Rattle.std.proofs.Common.{◌≡◌, ◌≤◌, ℕ, suc, refl, sym, ap, ◌∙◌, subst}
+use Rattle.std.proofs.Common.{◌≡◌, ◌≤◌, ℕ, suc, max, refl, sym, ap, ◌∙◌, subst, arith}
+use Rattle.json5_grammar.specs.Language.Documents.{Doc, max_depth}
 use Rattle.json5_grammar.specs.Language.Trees.{Tree, Trees, Members, null, boolean, number, text, array, object, no_more, more, no_member, member, depth, depths, member_depths}
 use Rattle.json5_grammar.proofs.ScalarsWritten.{alone}
 use Rattle.json5_types.specs.ValueLookups.{datum_depth, items_depth, fields_depth}
@@ -7,7 +8,7 @@ use Rattle.json5_types.specs.ValueMeanings.{Datum}
 use Rattle.json5_value.specs.TreeMeanings.{datum_of, items_of, fields_of}
 use Rattle.json5_layouts.specs.Styles.{Style, laid}
 use Rattle.json5_layouts.specs.LaidBack.{HasNumbers, ReadsAs}
-use Rattle.json5_layouts.proofs.ReadBack.{IsStyle, means}
+use Rattle.json5_layouts.proofs.ReadBack.{IsStyle, Means, means}
 
 mutual
   depth_same : (t : Tree) → datum_depth (datum_of t) ≡ depth t

@@ -1,5 +1,5 @@
 -- The next element or member of a list, and how deep it is.
-use Rattle.std.proofs.Common.{◌≡◌, ◌∙◌, ℕ, zero, suc, ◌+◌, ◌<◌, ◌≤◌, Bool, true, List, [], ◌∷◌, ◌++◌, length, get_or, drop, refl, sym, ap, subst, append_assoc, rules, arith, String, string_bytes}
+use Rattle.std.proofs.Common.{◌≡◌, ◌∙◌, ℕ, zero, suc, ◌+◌, ◌<◌, ◌≤◌, max, Bool, true, List, [], ◌∷◌, ◌++◌, length, get_or, drop, refl, sym, ap, subst, append_assoc, rules, arith, String, string_bytes}
 use Rattle.std.specs.Prelude.{ℤ}
 use Rattle.std.specs.declared.alloc.Global.{Global}
 use Rattle.std.specs.Str.{chars}
@@ -9,7 +9,6 @@ use Rattle.json5_types.specs.declared.value.Value as value
 use Rattle.json5_types.specs.ValueLookups.{datum_depth, items_depth, fields_depth}
 use Rattle.json5_types.specs.ValueMeanings.{number, value_of, items_view, fields_view}
 use Rattle.json5_write.proofs.ValuesInside.{item_first}
-use Rattle.json5_layouts.specs.LaidBack.{HasNumbers, ItemsHaveNumbers, FieldsHaveNumbers}
 use Rattle.json5_layouts.specs.Styles.{Style, comma_if, laid, items_laid, fields_laid}
 
 entry_then : (k m o r : List ℕ) → k ++ (m ++ (o ++ r)) ≡ (k ++ (m ++ o)) ++ r
@@ -24,14 +23,6 @@ pub next_field : (s : Style) (d : ℕ) (started : Bool) (fs : List (String Globa
 next_field s d started fs i f h e =
     ap (λ l. fields_laid s d started (fields_view l)) (item_first fs i f h e)
     ∙ ap (λ l. (comma_if started ++ s.line (d + 1)) ++ l) (entry_then (s.key (chars (string_bytes f.0))) (58 ∷ s.gap) (laid s (d + 1) (value_of f.1)) (fields_laid s d true (fields_view (drop (i + 1) fs))))
-
--- ---- numbers
-
-pub items_numbers : (vs : List Value) (i : ℕ) (v : Value) → i < length vs → v ≡ get_or vs i v → HasNumbers (value_of v) → ItemsHaveNumbers (items_view (drop (i + 1) vs)) → ItemsHaveNumbers (items_view (drop i vs))
-items_numbers vs i v h e n rest = subst (λ l. ItemsHaveNumbers (items_view l)) (sym (item_first vs i v h e)) (n, rest)
-
-pub fields_numbers : (fs : List (String Global × Value)) (i : ℕ) (f : String Global × Value) → i < length fs → f ≡ get_or fs i f → HasNumbers (value_of f.1) → FieldsHaveNumbers (fields_view (drop (i + 1) fs)) → FieldsHaveNumbers (fields_view (drop i fs))
-fields_numbers fs i f h e n rest = subst (λ l. FieldsHaveNumbers (fields_view l)) (sym (item_first fs i f h e)) (n, rest)
 
 -- ---- depths
 

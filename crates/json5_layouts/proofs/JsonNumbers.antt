@@ -1,10 +1,11 @@
 -- A number that is written is one of JSON, if it is finite.
-use Rattle.std.proofs.Common.{◌≡◌, ℕ, zero, suc, ◌+◌, ◌-◌, ◌/◌, ◌%◌, ◌^◌, ◌<◌, ◌≤◌, Bool, true, false, cond, nat_lt, List, [], ◌∷◌, ◌++◌, length, take, drop, refl, sym, ap, arith, subst, append-nil, length-append, length-drop}
+use Rattle.std.proofs.Common.{◌≡◌, ◌≢◌, ◌∙◌, ℕ, zero, suc, ◌+◌, ◌-◌, ◌/◌, ◌%◌, ◌^◌, ◌<◌, ◌≤◌, Bool, true, false, cond, nat_lt, List, [], ◌∷◌, ◌++◌, length, take, drop, refl, sym, ap, arith, subst, append_assoc, append-nil, length-append, length-drop}
 use Rattle.std.specs.Prelude.{◌==◌, ℤ, pos, negsuc, reverse}
 use Rattle.std.specs.Fmt.{decimal, signed_decimal, sign_text}
 use Rattle.std.proofs.lemmas.Bool.Decides.{nat_tests}
 use Rattle.std.proofs.lemmas.Fmt.{decimal_by_steps_wide}
 use Rattle.std.proofs.lemmas.Int.{ints}
+use lib.Chars.{codes}
 use Rattle.json5_grammar.specs.Language.Characters.{is_digit, is_in, Each, no_char, char}
 use Rattle.json5_grammar.specs.Language.Numbers.{Number, whole, finite, infinite, nan, Integer, lone_zero, nonzero, InWhole, without_front_zeros, without_zeros}
 use Rattle.json5_grammar.specs.Language.Numbers as numbers

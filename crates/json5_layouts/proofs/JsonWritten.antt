@@ -1,9 +1,9 @@
 -- What is written as JSON is in its grammar.
-use Rattle.std.proofs.Common.{◌≡◌, ℕ, zero, suc, ◌+◌, ◌*◌, ◌<◌, true, false, nat_lt, List, [], ◌∷◌, ◌++◌, replicate, refl, sym, ap, subst, append_assoc, append-nil, arith}
+use Rattle.std.proofs.Common.{◌≡◌, ℕ, zero, suc, ◌+◌, ◌*◌, ◌<◌, Bool, true, false, ◌&&◌, not, cond, nat_lt, List, [], ◌∷◌, ◌++◌, replicate, refl, sym, ap, ◌∙◌, subst, append_assoc, append-nil, arith}
 use Rattle.std.specs.Prelude.{◌==◌}
 use Rattle.std.proofs.lemmas.Bool.{and_parts}
 use Rattle.std.proofs.lemmas.Bool.Decides.{nat_tests}
-use Rattle.json5_grammar.specs.Language.Characters.{no_char, char}
+use Rattle.json5_grammar.specs.Language.Characters.{Each, no_char, char}
 use Rattle.json5_grammar.proofs.CommonLemmas.{by_test}
 use Rattle.json5_types.specs.ValueMeanings.{Datum, null, boolean, number, text, array, object, Items, no_item, item, Fields, no_field, field}
 use Rattle.json5_layouts.specs.declared.layout.Layout.{Layout}
@@ -12,7 +12,7 @@ use Rattle.json5_layouts.specs.declared.layout.Spelling.TheVariants as spelling
 use Rattle.json5_layouts.specs.Styles.{Style, laid, items_laid, fields_laid}
 use Rattle.json5_layouts.specs.Json as json
 use Rattle.json5_layouts.specs.Json.{JsonBlanks, JsonChars, unescaped, letter, code, is_unescaped, JsonString, quoted, JsonValue, is_null, is_true, is_false, is_number, is_string, is_empty_array, is_array, is_empty_object, is_object, JsonElements, last, next, JsonMembers, last_member, next_member, JsonMember, entry, JsonText}
-use Rattle.json5_layouts.specs.JsonTexts.{json_escaped, json_escaped_all, json_string, is_json, items_are_json, fields_are_json}
+use Rattle.json5_layouts.specs.JsonTexts.{control_code, json_escaped, json_escaped_all, json_string, is_json, is_json_number, items_are_json, fields_are_json}
 use Rattle.json5_layouts.specs.Layouts.{line_in, gap_in, style_of, json_text}
 use Rattle.json5_layouts.specs.LaidBack.{HasNumbers, ItemsHaveNumbers, FieldsHaveNumbers}
 use Rattle.json5_layouts.proofs.JsonNumbers.{number_is}

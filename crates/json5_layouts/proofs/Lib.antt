@@ -9,6 +9,3 @@ pub mod PiecesPut
 pub mod ItemsLaid
 pub mod BlanksPut
 pub mod TextsReturned
-pub mod DefaultLayout
-pub mod JsonRuns
-pub mod TextsBack

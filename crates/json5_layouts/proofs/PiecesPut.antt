@@ -1,16 +1,15 @@
 -- Pieces that are written one after another.
-use Rattle.std.proofs.Common.{◌≡◌, ◌∙◌, ℕ, ◌<◌, Bool, true, false, cond, List, [], ◌∷◌, ◌++◌, Result, Ok, Err, refl, sym, ap, subst, arith}
-use Rattle.std.specs.Prelude.{⊤, OnOk}
+use Rattle.std.proofs.Common.{◌≡◌, ◌∙◌, ℕ, ◌+◌, ◌-◌, ◌<◌, ◌≤◌, Bool, true, false, cond, List, [], ◌∷◌, ◌++◌, replicate, take, Result, Ok, Err, refl, sym, ap, subst, arith}
+use Rattle.std.specs.Prelude.{⊤, Some, None}
 use Rattle.std.specs.Result.{IsErrAnd}
 use Rattle.std.specs.Str.{chars, encode_utf8_all}
 use Rattle.std.specs.Io.KnownBytes.{Appends}
 use Rattle.json5_grammar.specs.Language.Numbers.{Number}
-use Rattle.json5_grammar.specs.Written.NumberText.{number_text, IsNumber}
-use Rattle.json5_write.proofs.WritableNumbers.{number_whole}
-use Rattle.json5_write.specs.Out.{Out, piece, stopped, no_number, number_out}
+use Rattle.json5_grammar.specs.Written.NumberText.{number_text}
+use Rattle.json5_write.specs.Out.{Out, Stop, whole, piece, stopped, no_number, ◌then◌, number_out}
 use Rattle.json5_write.specs.ShortWrites.{Puts, refusal_by}
 use Rattle.json5_write.specs.WritableNumbers.{is_writable}
-use Rattle.json5_write.specs.Writes.{SerializerState, Wrote, RefusesBy}
+use Rattle.json5_write.specs.Writes.{SerializerState, Wrote, Broke, RefusesBy}
 use Rattle.json5_write.specs.declared.refusal.Refused.{Refused}
 use Rattle.json5_write.specs.declared.refusal.Refused.TheVariants as refused
 use Rattle.json5_write.proofs.OutputsJoined.{Reaches, Reaches-first}
@@ -61,15 +60,6 @@ by_test false t o n (Err refused.Key) p = absurd (let e = p.stop in cc)
 
 pub number_put : (m : Number) (o n : SerializerState) (x : Result ⊤ Refused) → Puts (number_out m) o x n → Puts (piece (number_text m)) o x n
 number_put m o n x p = by_test (is_writable m) (number_text m) o n x p
-
--- a number that was written is in range, or normal
-pub number_had : (m : Number) (o n : SerializerState) (x : Result ⊤ Refused) → Puts (number_out m) o x n → OnOk x (IsNumber m)
-number_had m o n (Ok y) p = number_whole m p.stop
-number_had m o n (Err r) p = tt
-
-pub on_ok : {P : Type 0} (x : Result ⊤ Refused) → P → OnOk x P
-on_ok (Ok y) p = p
-on_ok (Err r) p = tt
 
 -- ---- signs
 

@@ -1,5 +1,5 @@
 -- The styles of JSON5 and of JSON have blank lines and gaps, and spell strings and keys.
-use Rattle.std.proofs.Common.{◌≡◌, ℕ, zero, suc, ◌+◌, ◌*◌, ◌/◌, ◌%◌, ◌<◌, Bool, true, false, if◌then◌else◌, nat_lt, List, [], ◌∷◌, ◌++◌, replicate, refl, sym, subst, arith}
+use Rattle.std.proofs.Common.{◌≡◌, ◌≢◌, ℕ, zero, suc, ◌+◌, ◌*◌, ◌/◌, ◌%◌, ◌<◌, ◌≤◌, Bool, true, false, ◌&&◌, ◌||◌, not, if◌then◌else◌, nat_lt, List, [], ◌∷◌, ◌++◌, replicate, refl, sym, ap, ◌∙◌, subst, arith}
 use Rattle.std.specs.Prelude.{◌==◌}
 use Rattle.std.specs.Char.{digit_char, digit_value}
 use Rattle.std.proofs.lemmas.Bool.Decides.{nat_tests}
@@ -8,8 +8,8 @@ use Rattle.json5_grammar.specs.Language.Blanks.{Blanks, empty, blank}
 use Rattle.json5_grammar.specs.Language.Characters.{is_in, is_hex_digit, Each, no_char, char}
 use Rattle.json5_grammar.specs.Language.Strings.{Items, no_item, raw, escape, Str, quoted, Escape, short, itself, unicode, single, hex4, is_raw, Unicode}
 use Rattle.json5_grammar.specs.Language.Values.{KeyText, string_key, name_key}
-use Rattle.json5_grammar.specs.Written.Quoting.{is_name, quoted_text}
-use Rattle.json5_grammar.proofs.CommonLemmas.{by_test, eq_from}
+use Rattle.json5_grammar.specs.Written.Quoting.{is_name, quoted_text, key_text}
+use Rattle.json5_grammar.proofs.CommonLemmas.{by_test, eq_from, same_char}
 use Rattle.json5_grammar.proofs.TextsWritten.{quoted_is, name_is}
 use Rattle.json5_layouts.specs.declared.layout.Layout.{Layout}
 use Rattle.json5_layouts.specs.declared.layout.Layout.TheVariants as layout

@@ -1,6 +1,6 @@
 -- What is returned of a text that was put into a string.
-use Rattle.std.proofs.Common.{◌≡◌, ◌≤◌, ◌+◌, ◌∙◌, ℕ, true, false, List, [], Some, None, Result, Ok, Err, sym, arith}
-use Rattle.std.specs.Prelude.{⊤, IfOk, IfErr, IsOk, OnOk, String}
+use Rattle.std.proofs.Common.{◌≡◌, ◌≤◌, ◌+◌, ◌∙◌, ℕ, nat_le, true, false, List, [], Option, Some, None, Result, Ok, Err, sym, arith}
+use Rattle.std.specs.Prelude.{⊤, IfOk, IfErr, String, string_bytes}
 use Rattle.std.specs.declared.alloc.Global.{Global}
 use Rattle.std.proofs.lemmas.Bool.Decides.{nat_tests}
 use Rattle.json5_grammar.specs.Language.Documents.{max_depth}
@@ -33,8 +33,3 @@ laid_returned t x old new items (Err r) (Err z) fit live p e f h k = rw fit (no_
 
 pub shallow : (x : Datum) → fits x ≡ true → datum_depth x + 0 ≤ max_depth
 shallow x h = grind (arith, nat_tests)
-
-pub numbers_returned : (P : Type 0) (items : List ℕ) (printed : Result ⊤ Refused) (result : Result (String Global) Error) → IfOk result (IsTextOf printed items) → OnOk printed P → IsOk result → P
-numbers_returned P items (Ok y) (Ok s) h p ok = p
-numbers_returned P items (Err r) (Ok s) h p ok = absurd (let x = h.wrote in cc)
-numbers_returned P items printed (Err e) h p ok = absurd (cc)

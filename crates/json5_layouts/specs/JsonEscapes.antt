@@ -1,18 +1,13 @@
 -- How a text is split at a character that is escaped in JSON. Private clauses and proofs alone cite it.
-use Rattle.std.specs.Prelude.{◌≡◌, ◌<◌, ℕ, List, ◌++◌, Bool, true, false, nat_lt, ◌||◌, ◌==◌, length}
+use Rattle.std.specs.Prelude.{◌≡◌, ◌<◌, ℕ, List, ◌++◌, Bool, true, false, nat_le, ◌&&◌, not, ◌==◌, length}
 use Rattle.std.specs.Char.{encode_utf8, IsScalar}
 use Rattle.std.specs.Str.{chars, encode_utf8_all, all_scalars, IsUtf8}
-use Rattle.json5_grammar.specs.Language.Characters.{space, double_quote, backslash}
 use Rattle.json5_layouts.specs.Json.{is_unescaped}
 use Rattle.json5_layouts.specs.JsonTexts.{json_escaped, json_escaped_all}
 
 -- a character that is written as it is
 abbrev pub stands_in_json : ℕ → Bool
 stands_in_json c = is_unescaped c
-
--- a byte at which a run of them ends
-abbrev pub ends_unescaped : ℕ → Bool
-ends_unescaped x = nat_lt x space || ((x == double_quote) || (x == backslash))
 
 -- the bytes begin with the character c, and rest follows it
 pub record StartsWithScalar (t : List ℕ) (c : ℕ) (rest : List ℕ) : Type 0 where

@@ -4,7 +4,7 @@ use Rattle.std.specs.Char.{digit_char}
 use lib.Chars.{codes}
 use Rattle.json5_grammar.specs.Language.Characters.{backspace, tab, line_feed, form_feed, carriage_return, space, double_quote, backslash}
 use Rattle.json5_grammar.specs.Language.Numbers.{Number, whole, decimal, infinite, nan, finite}
-use Rattle.json5_types.specs.ValueMeanings.{Datum, number, array, object, Items, no_item, item, Fields, no_field, field}
+use Rattle.json5_types.specs.ValueMeanings.{Datum, null, boolean, number, text, array, object, Items, no_item, item, Fields, no_field, field}
 
 -- the code of a character below 32
 abbrev pub control_code : ℕ → List ℕ

@@ -48,7 +48,7 @@ fn fields_are_json(fields: &[(String, Value)]) -> bool
     true
 }
 
-/// The path of the first number that JSON hasn't, if there is one: `.server.limits[0]`, and nothing for the value itself.
+/// The path of the first number that JSON hasn't, if there is one: `.server.limits[0]`.
 #[cycle(path)]
 pub(crate) fn path_in(alloc: Global, value: &Value) -> Result<Option<String>>
     ensures { IfErr result LacksMemory }

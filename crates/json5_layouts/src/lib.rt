@@ -6,7 +6,6 @@
 //! ```
 #![tactic(auto)]
 
-mod json_runs;
 pub mod json_values;
 pub mod laws;
 pub mod layout;
@@ -14,9 +13,7 @@ mod lines;
 mod strings;
 mod value;
 mod whole_texts;
-mod writers;
 
 pub use json_values::is_json;
 pub use layout::{Layout, Spelling};
-pub use whole_texts::{to_json, to_json_compact, to_json_in, to_string_in, to_vec_in};
-pub use writers::{to_json_writer, to_json_writer_in, to_writer_in};
+pub use whole_texts::{to_json, to_json_compact, to_json_in, to_string_in};

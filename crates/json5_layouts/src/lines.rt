@@ -2,7 +2,7 @@
 
 ghost use Rattle.std.specs.Prelude.{◌≡◌, ◌≤◌, ◌∷◌, ◌++◌, replicate};
 ghost use Rattle.std.specs.Str.{chars};
-ghost use Rattle.json5_grammar.specs.Language.Characters.{colon_sign, comma_sign, line_feed};
+ghost use Rattle.json5_grammar.specs.Language.Characters.{colon_sign};
 ghost use Rattle.json5_write.specs.Out.{piece};
 ghost use Rattle.json5_write.specs.ShortWrites.{Puts};
 ghost use Rattle.json5_layouts.specs.Styles.{comma_if, closed};
@@ -22,37 +22,15 @@ pub(crate) enum Blank {
 }
 
 impl Blank {
-    /// A comma, a line feed, and 256 of it.
-    fn longest_line(self) -> &'static str
-        ensures { result.now ≡ comma_sign ∷ line_feed ∷ replicate 256 (blank_of self) }
+    /// Sixty-four of it.
+    fn run(self) -> &'static str
+        ensures { result.now ≡ replicate 64 (blank_of self) }
     {
         match self {
-            Blank::Space =>
-                ",\n                                                                                                                                                                                                                                                                ",
+            Blank::Space => "                                                                ",
             Blank::Tab =>
-                ",\n\t\t\t\t\t\t\t\t\t\t\t\t\t\t\t\t\t\t\t\t\t\t\t\t\t\t\t\t\t\t\t\t\t\t\t\t\t\t\t\t\t\t\t\t\t\t\t\t\t\t\t\t\t\t\t\t\t\t\t\t\t\t\t\t\t\t\t\t\t\t\t\t\t\t\t\t\t\t\t\t\t\t\t\t\t\t\t\t\t\t\t\t\t\t\t\t\t\t\t\t\t\t\t\t\t\t\t\t\t\t\t\t\t\t\t\t\t\t\t\t\t\t\t\t\t\t\t\t\t\t\t\t\t\t\t\t\t\t\t\t\t\t\t\t\t\t\t\t\t\t\t\t\t\t\t\t\t\t\t\t\t\t\t\t\t\t\t\t\t\t\t\t\t\t\t\t\t\t\t\t\t\t\t\t\t\t\t\t\t\t\t\t\t\t\t\t\t\t\t\t\t\t\t\t\t\t\t\t\t\t\t\t\t\t\t\t\t\t\t\t\t\t\t\t\t\t\t\t\t\t\t\t\t\t\t\t\t\t\t\t\t\t\t\t\t\t\t\t\t\t\t\t\t\t\t\t",
+                "\t\t\t\t\t\t\t\t\t\t\t\t\t\t\t\t\t\t\t\t\t\t\t\t\t\t\t\t\t\t\t\t\t\t\t\t\t\t\t\t\t\t\t\t\t\t\t\t\t\t\t\t\t\t\t\t\t\t\t\t\t\t\t\t",
         }
-    }
-
-    /// A line feed and so many of it, after a comma if one is due.
-    fn line(self, count: usize, comma_due: bool) -> &'static str
-        requires { count ≤ 256 }
-        ensures { chars result.now ≡ comma_if comma_due ++ line_feed ∷ replicate count (blank_of self) }
-    {
-        let (after_comma, _) = self.longest_line().split_at(2 + count);
-        if comma_due {
-            return after_comma;
-        }
-        after_comma.split_at(1).1
-    }
-
-    /// So many of it.
-    fn run(self, count: usize) -> &'static str
-        requires { count ≤ 256 }
-        ensures { chars result.now ≡ replicate count (blank_of self) }
-    {
-        let (after_comma, _) = self.longest_line().split_at(2 + count);
-        after_comma.split_at(2).1
     }
 }
 
@@ -60,28 +38,31 @@ impl Blank {
 fn put_blanks<W: Write + Drop>(blank: Blank, count: usize, printer: &mut Printer<W>) -> Put
     ensures { Puts (piece (replicate count (blank_of blank))) printer.old result printer.new }
 {
+    let run = blank.run();
     let mut left = count;
-    while left > 256 {
-        printer.put_piece(blank.run(256))?;
-        left -= 256;
+    while left > 64 {
+        printer.put_piece(run)?;
+        left -= 64;
     }
-    printer.put_piece(blank.run(left))
+    printer.put_piece(run.split_at(left).0)
 }
 
-/// Begins a line with so many of it, after a comma if one is due. It is one piece, unless the line is very deep.
-fn put_line<W: Write + Drop>(
-    blank: Blank,
-    count: usize,
-    comma_due: bool,
-    printer: &mut Printer<W>,
-) -> Put
-    ensures { Puts (piece (comma_if comma_due ++ line_feed ∷ replicate count (blank_of blank))) printer.old result printer.new }
+/// Begins a line within so many brackets.
+fn put_line<W: Write + Drop>(layout: Layout, depth: usize, printer: &mut Printer<W>) -> Put
+    requires { depth ≤ 128 }
+    ensures { Puts (piece (line_in layout depth)) printer.old result printer.new }
 {
-    if count <= 256 {
-        return printer.put_piece(blank.line(count, comma_due));
+    match layout {
+        Layout::Compact => printer.put_piece(""),
+        Layout::Spaces(spaces) => {
+            printer.put_piece("\n")?;
+            put_blanks(Blank::Space, usize::from(spaces) * depth, printer)
+        }
+        Layout::Tabs => {
+            printer.put_piece("\n")?;
+            put_blanks(Blank::Tab, depth, printer)
+        }
     }
-    printer.put_piece(blank.line(256, comma_due))?;
-    put_blanks(blank, count - 256, printer)
 }
 
 /// A comma, if one is due.
@@ -92,7 +73,7 @@ fn comma(due: bool) -> &'static str
     if due { "," } else { "" }
 }
 
-/// Begins the line of an element, of a member or of a closing bracket within so many brackets, after a comma if one is due.
+/// Begins the line of an element or a member, after a comma if one is due.
 pub(crate) fn start_line<W: Write + Drop>(
     layout: Layout,
     depth: usize,
@@ -102,14 +83,8 @@ pub(crate) fn start_line<W: Write + Drop>(
     requires { depth ≤ 128 }
     ensures { Puts (piece (comma_if comma_due ++ line_in layout depth)) printer.old result printer.new }
 {
-    match layout {
-        Layout::Compact => printer.put_piece(comma(comma_due)),
-        Layout::Spaces(spaces) => {
-            let count = usize::from(spaces) * depth;
-            put_line(Blank::Space, count, comma_due, printer)
-        }
-        Layout::Tabs => put_line(Blank::Tab, depth, comma_due, printer),
-    }
+    printer.put_piece(comma(comma_due))?;
+    put_line(layout, depth, printer)
 }
 
 /// Whether a comma follows the last element or member.
@@ -135,7 +110,8 @@ pub(crate) fn end_lines<W: Write + Drop>(
     if !started {
         return printer.put_piece("");
     }
-    start_line(form.layout, depth, has_last_comma(form), printer)
+    printer.put_piece(comma(has_last_comma(form)))?;
+    put_line(form.layout, depth, printer)
 }
 
 /// A colon, and a space where lines have blanks.

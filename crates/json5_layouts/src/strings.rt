@@ -9,7 +9,6 @@ ghost use Rattle.json5_layouts.specs.JsonTexts.{control_code, json_escaped, json
 ghost use Rattle.json5_layouts.specs.Layouts.{string_in, key_in};
 ghost use Rattle.json5_layouts.specs.JsonEscapes.{stands_in_json, StartsWithScalar, SplitsAtChar};
 
-use crate::json_runs::skip_unescaped;
 use crate::layout::Spelling;
 use json5_write::Printer;
 use json5_write::refusal::Put;
@@ -138,7 +137,7 @@ fn front(text: &str) -> Option<(char, &str)>
 fn split_at_escaped(text: &str) -> Option<(&str, char, &str)>
     ensures { MatchOption result (json_escaped_all (chars text.now) ≡ chars text.now) (λ p. SplitsAtChar text.now p.0.now p.1 p.2.now) }
 {
-    let mut rest = skip_unescaped(text);
+    let mut rest = text;
     while let Some((c, after)) = front(rest) {
         if !stands_in_json(c) {
             let (raw, _) = text.split_at(text.len() - rest.len());

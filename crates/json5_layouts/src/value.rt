@@ -1,13 +1,12 @@
 //! Values in a layout. Calls return small values, so that no frame holds an `Error`.
 
-ghost use Rattle.std.specs.Prelude.{◌+◌, ◌≤◌, ◌<◌, OnOk};
+ghost use Rattle.std.specs.Prelude.{◌+◌, ◌≤◌, ◌<◌};
 ghost use Rattle.std.specs.Str.{chars};
 ghost use Rattle.json5_grammar.specs.Language.Documents.{max_depth};
 ghost use Rattle.json5_types.specs.ValueLookups.{datum_depth, items_depth, fields_depth};
 ghost use Rattle.json5_types.specs.ValueMeanings.{array, object, value_of, items_view, fields_view};
 ghost use Rattle.json5_write.specs.Out.{piece};
 ghost use Rattle.json5_write.specs.ShortWrites.{Puts};
-ghost use Rattle.json5_layouts.specs.LaidBack.{HasNumbers, ItemsHaveNumbers, FieldsHaveNumbers};
 ghost use Rattle.json5_layouts.specs.Layouts.{laid_in, entry_in};
 
 use crate::layout::Form;
@@ -29,8 +28,7 @@ pub(crate) fn put_value<W: Write + Drop>(
     printer: &mut Printer<W>,
 ) -> Put
     requires shallow { datum_depth (value_of value.now) + depth ≤ max_depth }
-    ensures text { Puts (piece (laid_in form depth (value_of value.now))) printer.old result printer.new }
-    ensures numbers { OnOk result (HasNumbers (value_of value.now)) }
+    ensures { Puts (piece (laid_in form depth (value_of value.now))) printer.old result printer.new }
 {
     match value {
         Value::Null => printer.put_piece("null"),
@@ -52,8 +50,7 @@ fn put_items<W: Write + Drop>(
     printer: &mut Printer<W>,
 ) -> Put
     requires shallow { items_depth (items_view items.now) + depth < max_depth }
-    ensures text { Puts (piece (laid_in form depth (array (items_view items.now)))) printer.old result printer.new }
-    ensures numbers { OnOk result (ItemsHaveNumbers (items_view items.now)) }
+    ensures { Puts (piece (laid_in form depth (array (items_view items.now)))) printer.old result printer.new }
 {
     printer.put_piece("[")?;
     let mut started = false;
@@ -75,8 +72,7 @@ fn put_fields<W: Write + Drop>(
     printer: &mut Printer<W>,
 ) -> Put
     requires shallow { fields_depth (fields_view fields.now) + depth < max_depth }
-    ensures text { Puts (piece (laid_in form depth (object (fields_view fields.now)))) printer.old result printer.new }
-    ensures numbers { OnOk result (FieldsHaveNumbers (fields_view fields.now)) }
+    ensures { Puts (piece (laid_in form depth (object (fields_view fields.now)))) printer.old result printer.new }
 {
     printer.put_piece("{")?;
     let mut started = false;
@@ -99,8 +95,7 @@ fn put_entry<W: Write + Drop>(
     printer: &mut Printer<W>,
 ) -> Put
     requires shallow { datum_depth (value_of value.now) + depth ≤ max_depth }
-    ensures text { Puts (piece (entry_in form depth (chars key.now) (value_of value.now))) printer.old result printer.new }
-    ensures numbers { OnOk result (HasNumbers (value_of value.now)) }
+    ensures { Puts (piece (entry_in form depth (chars key.now) (value_of value.now))) printer.old result printer.new }
 {
     put_key(key, form.spelling, printer)?;
     printer.put_piece(colon(form.layout))?;

@@ -1,15 +1,10 @@
 //! Whole texts of values, in a layout.
 
-ghost use Rattle.std.specs.Prelude.{◌≡◌, true, MatchResult, None, IsOk, IfOk, string_bytes, vec_items};
-ghost use Rattle.std.specs.Str.{chars};
-ghost use Rattle.json5_grammar.specs.Language.Documents.{max_depth};
+ghost use Rattle.std.specs.Prelude.{MatchResult, None};
 ghost use Rattle.json5_types.specs.Errors.{IsCustomAt, LacksMemory};
-ghost use Rattle.json5_types.specs.ValueLookups.{fits};
 ghost use Rattle.json5_types.specs.ValueMeanings.{value_of};
 ghost use Rattle.json5_layouts.specs.Layouts.{laid_in, laid_out, json_text};
-ghost use Rattle.json5_layouts.specs.Json.{JsonText};
-ghost use Rattle.json5_layouts.specs.LaidBack.{HasNumbers, ReadsAs};
-ghost use Rattle.json5_layouts.specs.WholeTexts.{LaysOut, LaysOutAs, WritesJson};
+ghost use Rattle.json5_layouts.specs.WholeTexts.{LaysOut, WritesJson};
 ghost use Rattle.json5_layouts.specs.declared.layout.Layout.TheVariants as layout;
 
 use crate::json_values::{is_json, path_in};
@@ -25,10 +20,11 @@ use std::alloc::Global;
 
 /// The text of a value in a form.
 fn text_in(alloc: Global, form: Form, value: &Value) -> Result<String>
-    requires { fits (value_of value.now) ≡ true }
-    ensures text { LaysOut (laid_in form 0 (value_of value.now)) (value_of value.now) result }
-    ensures numbers { IsOk result → HasNumbers (value_of value.now) }
+    ensures { LaysOut (laid_in form 0 (value_of value.now)) (value_of value.now) result }
 {
+    if !value.fits() {
+        return Err(Error::new(ErrorCode::TooDeep));
+    }
     let mut printer = Printer::within(StringWriter::new(alloc), Limit::full());
     let printed = put_value(value, form, 0, &mut printer);
     text_of(printed, printer.into_inner().into_bytes())
@@ -46,26 +42,10 @@ fn text_in(alloc: Global, form: Form, value: &Value) -> Result<String>
 /// - `TooDeep` where more than 128 brackets are open at once in the value.
 /// - `OutOfMemory` where a request for memory was refused.
 pub fn to_string_in(alloc: Global, layout: Layout, value: &Value) -> Result<String>
-    ensures text { LaysOut (laid_out layout (value_of value.now)) (value_of value.now) result }
-    ensures reads_back { IfOk result (λ s. ReadsAs max_depth (chars (string_bytes s)) (value_of value.now)) }
+    ensures { LaysOut (laid_out layout (value_of value.now)) (value_of value.now) result }
 {
-    if !value.fits() {
-        return Err(Error::new(ErrorCode::TooDeep));
-    }
     let spelling = Spelling::Json5;
     text_in(alloc, Form { spelling, layout }, value)
-}
-
-/// Returns the text of a value in a layout, in bytes. See [`to_string_in`].
-///
-/// ```text
-/// to_vec_in(alloc, Layout::compact(), &value)?    // b"{a:[1,2]}"
-/// ```
-pub fn to_vec_in(alloc: Global, layout: Layout, value: &Value) -> Result<Vec<u8>>
-    ensures { LaysOutAs vec_items (laid_out layout (value_of value.now)) (value_of value.now) result }
-{
-    let text = to_string_in(alloc, layout, value)?;
-    Ok(text.into_bytes())
 }
 
 /// Returns a value as JSON (RFC 8259) in a layout: strings and keys are between double quotes, no comma is last, and a number has
@@ -82,9 +62,7 @@ pub fn to_vec_in(alloc: Global, layout: Layout, value: &Value) -> Result<Vec<u8>
 /// - A custom fault for infinity and for not-a-number, which JSON hasn't: it names the first one's path.
 /// - `OutOfMemory` where a request for memory was refused.
 pub fn to_json_in(alloc: Global, layout: Layout, value: &Value) -> Result<String>
-    ensures text { WritesJson (json_text layout (value_of value.now)) (value_of value.now) result }
-    ensures is_json { IfOk result (λ s. JsonText (chars (string_bytes s))) }
-    ensures reads_back { IfOk result (λ s. ReadsAs max_depth (chars (string_bytes s)) (value_of value.now)) }
+    ensures { WritesJson (json_text layout (value_of value.now)) (value_of value.now) result }
 {
     if !value.fits() {
         return Err(Error::new(ErrorCode::TooDeep));
@@ -98,24 +76,20 @@ pub fn to_json_in(alloc: Global, layout: Layout, value: &Value) -> Result<String
 
 /// Returns a value as JSON, with two spaces a level. See [`to_json_in`].
 pub fn to_json(alloc: Global, value: &Value) -> Result<String>
-    ensures text { WritesJson (json_text (layout.Spaces 2) (value_of value.now)) (value_of value.now) result }
-    ensures is_json { IfOk result (λ s. JsonText (chars (string_bytes s))) }
-    ensures reads_back { IfOk result (λ s. ReadsAs max_depth (chars (string_bytes s)) (value_of value.now)) }
+    ensures { WritesJson (json_text (layout.Spaces 2) (value_of value.now)) (value_of value.now) result }
 {
     to_json_in(alloc, Layout::expanded(), value)
 }
 
 /// Returns a value as JSON on one line. See [`to_json_in`].
 pub fn to_json_compact(alloc: Global, value: &Value) -> Result<String>
-    ensures text { WritesJson (json_text layout.Compact (value_of value.now)) (value_of value.now) result }
-    ensures is_json { IfOk result (λ s. JsonText (chars (string_bytes s))) }
-    ensures reads_back { IfOk result (λ s. ReadsAs max_depth (chars (string_bytes s)) (value_of value.now)) }
+    ensures { WritesJson (json_text layout.Compact (value_of value.now)) (value_of value.now) result }
 {
     to_json_in(alloc, Layout::compact(), value)
 }
 
 /// The fault of a value that JSON hasn't.
-pub(crate) fn no_json(alloc: Global, value: &Value) -> Result<Error>
+fn no_json(alloc: Global, value: &Value) -> Result<Error>
     ensures { MatchResult result (IsCustomAt None) LacksMemory }
 {
     let path = path_in(alloc, value)?;
@@ -123,10 +97,6 @@ pub(crate) fn no_json(alloc: Global, value: &Value) -> Result<Error>
         Some(path) => path.as_str(),
         None => "",
     };
-    if place.is_empty() {
-        return Error::custom(alloc, "JSON has no infinity and no not-a-number");
-    }
-    let place = place.strip_prefix('.').unwrap_or(place);
     Error::custom(
         alloc,
         format_args!("JSON has no infinity and no not-a-number, at `{place}`"),

@@ -10,7 +10,6 @@ mod inputs;
 mod own_types;
 mod reads;
 mod sample;
-mod values;
 
 use json5::Result;
 use std::alloc::Global;
@@ -49,6 +48,5 @@ fn main(rt: HostRuntime) -> io::Result<()> {
     calls::print_all(alloc, &mut out)?;
     reads::print_all(alloc, &mut out)?;
     own_types::print_all(alloc, &mut out)?;
-    faulty_inputs::print_all(alloc, &mut out)?;
-    values::print_all(alloc, &mut out)
+    faulty_inputs::print_all(alloc, &mut out)
 }

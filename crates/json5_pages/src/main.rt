@@ -3,14 +3,12 @@
 
 mod log;
 mod server;
-mod values;
 mod written;
 
 use json5::{Limit, Result, Value};
 use log::Log;
 use server::Server;
 use std::alloc::Global;
-use values::prepared;
 
 fn main(rt: HostRuntime) -> Result<()> {
     let alloc = rt.alloc();
@@ -23,11 +21,6 @@ fn main(rt: HostRuntime) -> Result<()> {
     let level: Log = json5::from_str(alloc, "'info'")?;
     println!(rt; "{level:?}")?;
     println!(rt; "{}", shallow(alloc, "[[1], 0x2]")?)?;
-    let (json, line) = prepared(alloc, b"{server: {port: 0x1BB}, log: 'info', tags: ['eu']}")?;
-    println!(rt; "{json}\n{line}")?;
-    if let Err(fault) = prepared(alloc, b"{sever: {}}") {
-        println!(rt; "{fault}")?;
-    }
     Ok(())
 }
 

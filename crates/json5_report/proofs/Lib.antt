@@ -1,4 +1,5 @@
 -- Lists the lemmas for reports.
+pub mod PositionsReached
 pub mod TokensTaken
 pub mod CoursesTaken
 pub mod PathsShown

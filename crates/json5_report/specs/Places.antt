@@ -3,12 +3,15 @@ use Rattle.std.specs.Prelude.{◌≡◌, ◌≤◌, ◌+◌, ◌++◌, ℕ, List
 use Rattle.std.specs.Str.{chars}
 use Rattle.json5_grammar.specs.declared.position.Position.{Position}
 use Rattle.json5_grammar.specs.Faults.Positions.{position_after}
-use Rattle.json5_positions.specs.Places.{HasPosition}
 
 -- the position that is shown: the fault's own, or that of the text's end
 abbrev pub shown_position : List ℕ → Option Position → Position
 shown_position text (Some p) = p
 shown_position text None = position_after (chars text)
+
+-- some of the text's characters come before the position
+abbrev pub HasPosition : List ℕ → Position → Type 0
+HasPosition text p = (before after : List ℕ) × (chars text ≡ before ++ after) × (position_after before ≡ p)
 
 -- the offset is within the text, and at the position if the text has it
 pub record IsOffsetOf (text : List ℕ) (p : Position) (offset : ℕ) : Type 0 where

@@ -32,10 +32,10 @@ pub(crate) enum Fault {
     Misfit(usize, Wanted),
     /// Bytes are wanted at the offset, and no bytes stand in a text as they are.
     BorrowedBytes(usize),
-    /// The value at the offset names no variant. The names that were expected, as far as they are known.
+    /// The value at the offset names no variant. What was expected, as far as it is known.
     UnknownVariant(usize, Option<String>),
-    /// The key at the offset names no field. The names that were expected, as far as they are known.
-    UnknownKey(usize, Option<String>),
+    /// The key at the offset names no field.
+    UnknownKey(usize),
     /// The bracket at the offset, and the field's name.
     Missing(usize, Option<String>),
     /// The second key at its offset, and the field's name.
@@ -56,22 +56,6 @@ impl Fault {
             },
             Fault::Code(code, at) => Some((*code, *at)),
             _ => None,
-        }
-    }
-
-    /// Whether it is one of names, of which a second reading may tell more.
-    pub(crate) fn is_of_names(&self) -> bool {
-        matches!(
-            self,
-            Fault::UnknownVariant(_, _) | Fault::UnknownKey(_, _) | Fault::Missing(_, _)
-        )
-    }
-
-    /// The fault of the second reading, if that is one of names too.
-    pub(crate) fn or(self, again: Option<Fault>) -> Fault {
-        match again {
-            Some(again) => { if again.is_of_names() { again } else { self } }
-            None => self,
         }
     }
 

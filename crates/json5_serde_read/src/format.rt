@@ -21,39 +21,6 @@ fn out_of_range(whole: Whole) -> Wanted {
     }
 }
 
-impl<'t> Json5<'t> {
-    /// An integer that has no short way.
-    #[inline(never)]
-    fn long_i64(&mut self) -> Step<i64> {
-        match self.whole()?.as_i128().and_then(|n| i64::try_from(n).ok()) {
-            Some(n) => Ok(n),
-            None => Err(self.misfit(Wanted::In64Bits)),
-        }
-    }
-
-    /// An integer that has no short way.
-    #[inline(never)]
-    fn long_u64(&mut self) -> Step<u64> {
-        let whole = self.whole()?;
-        match whole.as_u128().and_then(|n| u64::try_from(n).ok()) {
-            Some(n) => Ok(n),
-            None => Err(self.misfit(out_of_range(whole))),
-        }
-    }
-
-    /// A text that has no short way.
-    #[inline(never)]
-    fn long_string(&mut self, alloc: Global) -> Step<String> {
-        match self.cow()? {
-            CowStr::Owned(text) => Ok(text),
-            CowStr::Borrowed(text) => match String::from_str(alloc, text) {
-                Ok(text) => Ok(text),
-                Err(_) => Err(self.no_memory()),
-            },
-        }
-    }
-}
-
 impl<'t> Format for Json5<'t> {
     type Error = Fault;
 
@@ -83,7 +50,10 @@ impl<'t> Format for Json5<'t> {
                 return Ok(n);
             }
         }
-        self.long_i64()
+        match self.whole()?.as_i128().and_then(|n| i64::try_from(n).ok()) {
+            Some(n) => Ok(n),
+            None => Err(self.misfit(Wanted::In64Bits)),
+        }
     }
 
     fn u64(&mut self, _input: &[u8]) -> Step<u64> {
@@ -92,7 +62,11 @@ impl<'t> Format for Json5<'t> {
                 return Ok(n);
             }
         }
-        self.long_u64()
+        let whole = self.whole()?;
+        match whole.as_u128().and_then(|n| u64::try_from(n).ok()) {
+            Some(n) => Ok(n),
+            None => Err(self.misfit(out_of_range(whole))),
+        }
     }
 
     fn i128(&mut self, _input: &[u8]) -> Step<i128> {
@@ -171,10 +145,14 @@ impl<'t> Format for Json5<'t> {
     }
 
     fn string(&mut self, alloc: Global, _input: &[u8]) -> Step<String> {
-        let Some(text) = self.short_text() else {
-            return self.long_string(alloc);
+        let made = match self.short_text() {
+            Some(text) => String::from_str(alloc, text),
+            None => match self.cow()? {
+                CowStr::Owned(text) => return Ok(text),
+                CowStr::Borrowed(text) => String::from_str(alloc, text),
+            },
         };
-        match String::from_str(alloc, text) {
+        match made {
             Ok(text) => Ok(text),
             Err(_) => Err(self.no_memory()),
         }
@@ -234,7 +212,6 @@ impl<'t> Format for Json5<'t> {
         self.open(BracketKind::Array)
     }
 
-    #[inline(always)]
     fn next_item(&mut self, _input: &[u8]) -> Step<bool> {
         if let Some(comes) = self.short_on() {
             return Ok(comes);
@@ -243,10 +220,6 @@ impl<'t> Format for Json5<'t> {
     }
 
     fn end_tuple(&mut self, _input: &[u8]) -> Step<()> {
-        if let Some(bracket) = self.walk.short_close() {
-            self.closed = bracket.start;
-            return Ok(());
-        }
         self.gap()?;
         if self.walk.comma() {
             self.gap()?;
@@ -270,22 +243,18 @@ impl<'t> Format for Json5<'t> {
 
     #[inline(always)]
     fn next_key(&mut self, _input: &[u8], names: &[Name<'_>]) -> Step<Option<usize>> {
-        if self.short_past() {
-            let start = self.walk.offset();
-            if let Some(key) = self.walk.short_key() {
-                self.last = start;
-                return Ok(Some(self.found(names, key)));
-            }
-        } else if self.short_end().is_some() {
-            self.ended(names);
+        if self.short_on() == Some(false) {
             return Ok(None);
         }
+        self.stand();
+        if let Some(key) = self.walk.short_key() {
+            return Ok(Some(self.found(names, key)));
+        }
         if !self.goes_on(BracketKind::Object)? {
-            self.ended(names);
             return Ok(None);
         }
         let key = self.key()?;
-        Ok(Some(self.found_name(names, key.as_str())))
+        Ok(Some(self.found(names, key.as_str())))
     }
 
     fn next_entry(&mut self, _input: &[u8]) -> Step<bool> {
@@ -302,11 +271,8 @@ impl<'t> Format for Json5<'t> {
             self.at_raw = true;
             return Ok(0);
         }
-        if let Some(name) = self.short_text() {
-            return Ok(self.found_name(names, name));
-        }
         let name = self.cow()?;
-        Ok(self.found_name(names, name.as_str()))
+        Ok(self.found(names, name.as_str()))
     }
 
     fn skip(&mut self, _input: &[u8]) -> Step<()> {
@@ -358,7 +324,7 @@ impl<'t> Format for Json5<'t> {
     }
 
     fn missing(&self, name: &str) -> Fault {
-        Fault::Missing(self.closed, self.key_of(name))
+        Fault::Missing(self.closed, self.kept(name))
     }
 
     fn duplicate(&self, name: &str) -> Fault {
@@ -366,11 +332,15 @@ impl<'t> Format for Json5<'t> {
     }
 
     fn unknown_key(&self) -> Fault {
-        Fault::UnknownKey(self.here(), self.expected())
+        Fault::UnknownKey(self.here())
     }
 
     fn unknown_variant(&self) -> Fault {
-        Fault::UnknownVariant(self.past_blanks(self.unknown), self.expected())
+        let expected = match &self.expected {
+            Some(list) => self.kept(list.as_str()),
+            None => None,
+        };
+        Fault::UnknownVariant(self.past_blanks(self.unknown), expected)
     }
 
     fn wrong_len(&self) -> Fault {

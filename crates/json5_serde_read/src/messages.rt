@@ -20,19 +20,19 @@ pub(crate) fn told(alloc: Global, text: &str, fault: Fault) -> Error {
         Fault::Unread(at) => custom(alloc, text, at, "a type did not read its value to the end"),
         Fault::Misfit(at, expected) => misfit(alloc, text, at, expected),
         Fault::BorrowedBytes(at) => custom(alloc, text, at, "bytes can't be borrowed from a text"),
-        Fault::UnknownVariant(at, expected) => unknown(alloc, text, at, "variant", &expected),
-        Fault::UnknownKey(at, expected) => unknown(alloc, text, at, "field", &expected),
+        Fault::UnknownVariant(at, expected) => unknown_variant(alloc, text, at, &expected),
+        Fault::UnknownKey(at) => match named(alloc, text, at) {
+            Ok(found) => custom(alloc, text, at, format_args!("unknown field `{found}`")),
+            Err(_) => custom(alloc, text, at, "unknown field"),
+        },
         Fault::Missing(at, field) => {
             let field = words(&field);
             custom(alloc, text, at, format_args!("missing field `{field}`"))
         }
-        Fault::Duplicate(at, field) => match named(alloc, text, at) {
-            Ok(key) => custom(alloc, text, at, format_args!("duplicate field `{key}`")),
-            Err(_) => {
-                let field = words(&field);
-                custom(alloc, text, at, format_args!("duplicate field `{field}`"))
-            }
-        },
+        Fault::Duplicate(at, field) => {
+            let field = words(&field);
+            custom(alloc, text, at, format_args!("duplicate field `{field}`"))
+        }
         Fault::WrongLength(at) => custom(alloc, text, at, "invalid length"),
         Fault::Custom(at, message) => {
             let message = words(&message);
@@ -112,17 +112,16 @@ fn misfit(alloc: Global, text: &str, at: usize, wanted: Wanted) -> Error {
     )
 }
 
-/// A name at the offset that is none of those of fields or variants.
-fn unknown(alloc: Global, text: &str, at: usize, what: &str, expected: &Option<String>) -> Error {
+fn unknown_variant(alloc: Global, text: &str, at: usize, expected: &Option<String>) -> Error {
     let Ok(found) = named(alloc, text, at) else {
-        return custom(alloc, text, at, format_args!("unknown {what}"));
+        return custom(alloc, text, at, "unknown variant");
     };
     match expected {
         Some(expected) => {
-            let message = format_args!("unknown {what} `{found}`, {expected}");
+            let message = format_args!("unknown variant `{found}`, {expected}");
             custom(alloc, text, at, message)
         }
-        None => custom(alloc, text, at, format_args!("unknown {what} `{found}`")),
+        None => custom(alloc, text, at, format_args!("unknown variant `{found}`")),
     }
 }
 

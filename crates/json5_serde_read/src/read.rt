@@ -40,8 +40,7 @@ pub fn from_str<'de, T: Deserialize<'de>>(alloc: Global, text: &'de str) -> Resu
 ///
 /// - The code of the first fault of the text, as json5 has it, at its place.
 /// - `TooDeep` at the bracket past the limit.
-/// - A custom fault where the value isn't one of `T`: at the value, the key, or the bracket whose field is missing. Where a
-///   name is unknown or missing, the text is read once more, to tell which names were expected.
+/// - A custom fault where the value isn't one of `T`: at the value, the key, or the bracket whose field is missing.
 /// - `OutOfMemory` where a request for memory was refused.
 pub fn from_str_within<'de, T: Deserialize<'de>>(
     alloc: Global,
@@ -51,31 +50,14 @@ pub fn from_str_within<'de, T: Deserialize<'de>>(
     ensures { OnOk result (IsDocumentWithin limit text.now) }
 {
     let mut format = Json5::new(alloc, limit, text);
-    let value = match read_one::<T>(alloc, text, &mut format) {
+    let value = match read_one(alloc, text, &mut format) {
         Ok(value) => value,
-        Err(fault) => return Err(refused::<T>(limit, text, &format, fault)),
+        Err(fault) => return Err(told(alloc, text, format.cause(fault))),
     };
     match format.end(limit, text) {
         Ok(()) => Ok(value),
         Err(fault) => Err(told(alloc, text, format.cause(fault))),
     }
-}
-
-/// The fault of a text. Where it is one of names, the text is read once more for the names that were expected.
-#[cold]
-fn refused<'de, T: Deserialize<'de>>(
-    limit: Limit,
-    text: &'de str,
-    format: &Json5<'_>,
-    fault: Fault,
-) -> Error {
-    let alloc = format.alloc;
-    if !fault.is_of_names() {
-        return told(alloc, text, format.cause(fault));
-    }
-    let mut second = Json5::asking(limit, text, format, &fault);
-    let again = read_one::<T>(alloc, text, &mut second).err();
-    told(alloc, text, format.cause(fault.or(again)))
 }
 
 fn read_one<'de, T: Deserialize<'de>>(
@@ -149,31 +131,14 @@ pub fn from_str_owned<T: DeserializeOwned>(alloc: Global, limit: Limit, text: &s
     ensures { OnOk result (IsDocumentWithin limit text.now) }
 {
     let mut format = Json5::new(alloc, limit, text);
-    let value = match read_owned::<T>(alloc, text, &mut format) {
+    let value = match read_owned(alloc, text, &mut format) {
         Ok(value) => value,
-        Err(fault) => return Err(refused_owned::<T>(limit, text, &format, fault)),
+        Err(fault) => return Err(told(alloc, text, format.cause(fault))),
     };
     match format.end(limit, text) {
         Ok(()) => Ok(value),
         Err(fault) => Err(told(alloc, text, format.cause(fault))),
     }
-}
-
-/// As [`refused`].
-#[cold]
-fn refused_owned<T: DeserializeOwned>(
-    limit: Limit,
-    text: &str,
-    format: &Json5<'_>,
-    fault: Fault,
-) -> Error {
-    let alloc = format.alloc;
-    if !fault.is_of_names() {
-        return told(alloc, text, format.cause(fault));
-    }
-    let mut second = Json5::asking(limit, text, format, &fault);
-    let again = read_owned::<T>(alloc, text, &mut second).err();
-    told(alloc, text, format.cause(fault.or(again)))
 }
 
 fn read_owned<T: DeserializeOwned>(

@@ -15,7 +15,7 @@ use json5_value::brackets::BracketKind;
 use json5_value::kinds::Literal;
 use json5_walk::next::Next;
 use json5_walk::walk::Walk;
-use serde::{Kind, Name};
+use serde::{Kind, Name, NameKind};
 use std::alloc::Global;
 
 pub(crate) type Step<T> = std::result::Result<T, Fault>;
@@ -41,20 +41,8 @@ pub(crate) struct Json5<'t> {
     pub(crate) wanted: Wanted,
     /// Where the last name stands that was none of those asked for, or the blanks before it.
     pub(crate) unknown: usize,
-    /// Where an unknown name stands, or a bracket without a field, of which the fault is to tell more. Only a text that was
-    /// refused is read for that.
-    pub(crate) asked: Option<usize>,
-    /// The names that were expected there.
+    /// What was expected there, if it was to be a variant's.
     pub(crate) expected: Option<String>,
-    /// The names of the fields there, and their keys.
-    pub(crate) fields: Vec<Field>,
-}
-
-/// The name of a field, as it stands in Rust or is renamed, and its key.
-#[derive(Drop)]
-pub(crate) struct Field {
-    name: String,
-    key: String,
 }
 
 #[derive(Drop)]
@@ -76,25 +64,8 @@ impl<'t> Json5<'t> {
             closed: 0,
             wanted: Wanted::Another,
             unknown: 0,
-            asked: None,
             expected: None,
-            fields: Vec::new(alloc),
         }
-    }
-
-    /// The same over a text that was refused with this fault of names, which is to tell more.
-    pub(crate) fn asking(
-        limit: Limit,
-        text: &'t str,
-        first: &Json5<'_>,
-        fault: &Fault,
-    ) -> Json5<'t> {
-        let mut format = Json5::new(first.alloc, limit, text);
-        format.asked = match fault {
-            Fault::Missing(bracket, _) => Some(*bracket),
-            _ => Some(first.unknown),
-        };
-        format
     }
 
     /// Where the innermost bracket begins that is open.
@@ -168,57 +139,17 @@ impl<'t> Json5<'t> {
     /// Goes to the next member by a short way, and says whether one comes; None where there is no short way.
     #[inline(always)]
     pub(crate) fn short_on(&mut self) -> Option<bool> {
-        if !self.short_past() {
-            return self.short_end();
+        if let Next::Comma = self.walk.next() {
+            if self.walk.short_comma() {
+                return match self.walk.peek() {
+                    Some('0'..='9' | '"' | '\'' | '-' | '{' | '[') => Some(true),
+                    _ => None,
+                };
+            }
         }
-        if let Some('0'..='9' | '"' | '\'' | '-' | '{' | '[' | 'a'..='z' | 'A'..='Z') = self
-            .walk
-            .peek()
-        {
-            return Some(true);
-        }
-        if let Some(comes) = self.short_end() {
-            return Some(comes);
-        }
-        match self.solid() {
-            Some(b'!'..=b'.' | b'0'..=b'~') => Some(true),
-            _ => None,
-        }
-    }
-
-    /// Takes the comma by a short way, if one is due, and says whether none is due any more.
-    #[inline(always)]
-    pub(crate) fn short_past(&mut self) -> bool {
-        !matches!(self.walk.next(), Next::Comma) || self.walk.short_comma()
-    }
-
-    /// Takes the closing bracket by a short way, and says that no member comes.
-    #[inline(always)]
-    pub(crate) fn short_end(&mut self) -> Option<bool> {
         let bracket = self.walk.short_close()?;
         self.closed = bracket.start;
         Some(false)
-    }
-
-    /// The first byte after ASCII blanks.
-    #[inline(always)]
-    fn solid(&self) -> Option<u8> {
-        let text: &'t str = self.walk.text();
-        let rest = text.as_bytes().get(self.walk.offset()..)?;
-        for byte in rest {
-            if !matches!(*byte, b' ' | b'\n' | b'\r' | b'\t') {
-                return Some(*byte);
-            }
-        }
-        None
-    }
-
-    /// Takes blanks if ASCII blanks alone are in front.
-    #[inline(never)]
-    fn short_gap(&mut self) {
-        if let Some(b'!'..=b'.' | b'0'..=b'~') = self.solid() {
-            let _ = self.walk.gap();
-        }
     }
 
     /// Where the last value or key begins.
@@ -243,29 +174,9 @@ impl<'t> Json5<'t> {
         Scanner::new(self.alloc, text.get(offset..).unwrap_or(""))
     }
 
-    /// Goes to the next value by a short way, past a colon if one is due, and says whether it did.
-    #[inline(always)]
-    fn short_begin(&mut self) -> bool {
-        self.past_colon();
-        if let Some(' ' | '\n' | '\r' | '\t') = self.walk.peek() {
-            self.short_gap();
-        }
-        self.stand();
-        matches!(self.walk.peek(), Some('!'..='.' | '0'..='~'))
-            && !matches!(self.walk.next(), Next::Colon)
-    }
-
     /// Goes to the next value, past a colon if one is due.
     #[inline(always)]
     pub(crate) fn begin(&mut self) -> Step<()> {
-        if self.short_begin() {
-            return Ok(());
-        }
-        self.begin_slowly()
-    }
-
-    #[inline(never)]
-    fn begin_slowly(&mut self) -> Step<()> {
         if let Next::Colon = self.walk.next() {
             self.gap()?;
             if !self.walk.colon() {
@@ -388,16 +299,7 @@ impl<'t> Json5<'t> {
         self.walk.short_string()
     }
 
-    #[inline(always)]
     pub(crate) fn open(&mut self, kind: BracketKind) -> Step<()> {
-        if !self.at_key && self.short_begin() && self.walk.open(kind) {
-            return Ok(());
-        }
-        self.open_slowly(kind)
-    }
-
-    #[inline(never)]
-    fn open_slowly(&mut self, kind: BracketKind) -> Step<()> {
         if self.at_key {
             return Err(Fault::Code(ErrorCode::ExpectedIdentifier, Some(self.walk.offset())));
         }
@@ -436,7 +338,6 @@ impl<'t> Json5<'t> {
     }
 
     /// Goes to the next member, past a comma if one is due, and says whether one comes. At the end it takes the bracket.
-    #[inline(never)]
     pub(crate) fn goes_on(&mut self, kind: BracketKind) -> Step<bool> {
         self.gap()?;
         if let Next::Comma = self.walk.next() {
@@ -503,62 +404,36 @@ impl<'t> Json5<'t> {
         String::from_str(self.alloc, text).ok()
     }
 
-    /// Where a name was looked up: notes its place, if it is none of these.
+    /// Where a name of a variant was looked up: notes what was expected, if it is none.
     #[inline(always)]
     pub(crate) fn found(&mut self, names: &[Name<'_>], key: &str) -> usize {
         let found = serde::find(names, key);
         if found == usize::MAX {
             self.unknown = self.last;
-            if self.asked == Some(self.last) {
-                self.expected = list_of(self.alloc, names);
-            }
+            self.expected = self.list_of(names);
         }
         found
     }
 
-    /// The same out of line: one search in line in each type is enough, and makes more searches fast.
-    #[inline(never)]
-    pub(crate) fn found_name(&mut self, names: &[Name<'_>], key: &str) -> usize {
-        self.found(names, key)
-    }
-
-    /// Where an object ended whose keys were looked up: notes the keys of its fields, if they were asked for.
-    #[inline(always)]
-    pub(crate) fn ended(&mut self, names: &[Name<'_>]) {
-        if self.asked == Some(self.closed) {
-            self.note_fields(names);
-        }
-    }
-
+    /// What a name of a variant has to be.
     #[cold]
     #[inline(never)]
-    fn note_fields(&mut self, names: &[Name<'_>]) {
-        self.fields.clear();
+    fn list_of(&self, names: &[Name<'_>]) -> Option<String> {
+        if !matches!(names.first(), Some(first) if first.kind == NameKind::Variant) {
+            return None;
+        }
+        let mut list = String::from_str(self.alloc, "expected one of ").ok()?;
+        let mut is_first = true;
         for name in names {
-            if let Some(field) = field_of(self.alloc, name) {
-                let _ = self.fields.push(field);
+            if !name.skipped {
+                if !is_first {
+                    list.push_str(", ").ok()?;
+                }
+                is_first = false;
+                push_name(&mut list, name)?;
             }
         }
-    }
-
-    /// The key of a field, as far as it was noted.
-    #[cold]
-    pub(crate) fn key_of(&self, name: &str) -> Option<String> {
-        for field in &self.fields {
-            if field.name.as_str() == name {
-                return self.kept(field.key.as_str());
-            }
-        }
-        self.kept(name)
-    }
-
-    /// The names that were expected, if they were asked for.
-    #[cold]
-    pub(crate) fn expected(&self) -> Option<String> {
-        match &self.expected {
-            Some(list) => self.kept(list.as_str()),
-            None => None,
-        }
+        Some(list)
     }
 
     /// Ends the walk, which has to be one of this text. Whoever reads by a `Format` may put another in its place.
@@ -593,54 +468,11 @@ impl<'t> Json5<'t> {
     }
 }
 
-/// What a name has to be: `` expected `a` ``, `` expected `a` or `b` ``, or `` expected one of `a`, `b`, `c` ``.
-#[cold]
-#[inline(never)]
-fn list_of(alloc: Global, names: &[Name<'_>]) -> Option<String> {
-    let count = count_of(names);
-    let (lead, mark) = match count {
-        0 => return None,
-        1 | 2 => ("expected ", " or "),
-        _ => ("expected one of ", ", "),
-    };
-    let mut list = String::from_str(alloc, lead).ok()?;
-    let mut left = count;
-    for name in names {
-        if !name.skipped {
-            left = left.saturating_sub(1);
-            push_name(&mut list, name, if left == 0 { "" } else { mark })?;
-        }
-    }
-    Some(list)
-}
-
-/// The name and the key of a field.
-fn field_of(alloc: Global, name: &Name<'_>) -> Option<Field> {
-    let mut key = String::new(alloc);
-    name.case.append(name.kind, name.name, &mut key).ok()?;
-    Some(Field {
-        name: String::from_str(alloc, name.name).ok()?,
-        key,
-    })
-}
-
-/// How many of the names may be read.
-fn count_of(names: &[Name<'_>]) -> usize {
-    let mut count: usize = 0;
-    for name in names {
-        if !name.skipped {
-            count = count.saturating_add(1);
-        }
-    }
-    count
-}
-
-/// Puts the name to the list, between backquotes, and what follows it.
-fn push_name(list: &mut String, name: &Name<'_>, after: &str) -> Option<()> {
+/// Puts the name to the list, between backquotes.
+fn push_name(list: &mut String, name: &Name<'_>) -> Option<()> {
     list.push('`').ok()?;
     name.case.append(name.kind, name.name, list).ok()?;
-    list.push('`').ok()?;
-    list.push_str(after).ok()
+    list.push('`').ok()
 }
 
 /// A number that stands alone in a text.

@@ -18,4 +18,3 @@ pub mod MembersMerged
 pub mod PointerParts
 pub mod PointerKeys
 pub mod PointerIndices
-pub mod ValuesHashed

@@ -2,10 +2,8 @@
 use Rattle.std.proofs.Common.{◌≡◌, ◌∙◌, ◌<◌, ◌≤◌, ◌+◌, ℕ, get_or, nat_lt, zero, suc, Bool, true, false, nat_eq, List, [], ◌∷◌, drop, length, Option, Some, None, option_map, is_some, refl, sym, ap, arith, String, string_bytes}
 use Rattle.std.specs.declared.alloc.Global.{Global}
 use Rattle.std.proofs.lemmas.List.{drop_more}
-use Rattle.std.proofs.Math.Nat.{lt_of_not-le}
-use Rattle.std.specs.Borrow.{Bor, MutBor}
+use Rattle.std.specs.Borrow.{Bor}
 use Rattle.std.specs.Option.{IfSome}
-use Rattle.std.specs.Prelude.{IsSome, ◌↔◌}
 use Rattle.std.specs.Str.{chars, IsUtf8}
 use Rattle.std.specs.Cmp.Lexicographic.{pointwise}
 use Rattle.json5_types.specs.declared.value.Value.{Value}
@@ -44,11 +42,6 @@ no_item_here (v ∷ vs) (suc n) h = no_item_here vs n (omega (arith, h))
 pub element_found : (vs : List Value) (n : ℕ) (found : Option (Bor Value)) → is_some found ≡ nat_lt n (length vs) → IfSome found (λ x. x.now ≡ get_or vs n x.now) → option_map (λ x. value_of x.now) found ≡ item_at n (items_view vs)
 element_found vs n None h is = sym (no_item_here vs n (grind (arith, h)))
 element_found vs n (Some x) h is = ap (λ v. Some (value_of v)) is ∙ sym (item_here vs n x.now (grind (arith, h)))
-
--- the same of an element that is lent
-pub element_lent : (vs : List Value) (n m : ℕ) (found : Option (MutBor Value)) → m ≡ length vs → IsSome found ↔ (n < m) → IfSome found (λ x. x.now ≡ get_or vs n x.now) → option_map (λ x. value_of x.now) found ≡ item_at n (items_view vs)
-element_lent vs n m None counted h is = sym (no_item_here vs n (omega (arith, counted, lt_of_not-le (λ l. let e : false ≡ true = h.1 l in absurd (cc)))))
-element_lent vs n m (Some x) counted h is = ap (λ v. Some (value_of v)) is ∙ sym (item_here vs n x.now (omega (arith, counted, h.0 refl)))
 
 -- the members from the i-th on
 pub from_here : (fs : List (String Global × Value)) (i : ℕ) (f : String Global × Value) → i < length fs → f ≡ get_or fs i f → drop i fs ≡ f ∷ drop (i + 1) fs

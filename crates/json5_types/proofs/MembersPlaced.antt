@@ -79,7 +79,7 @@ without_none key (field u x fs) h =
 
 -- ---- how it is found, from the last member on
 
-pub same_element : (fs : List Member) (i : ℕ) (f g : Member) → i < length fs → slice_index_or fs i f ≡ slice_index_or fs i g
+same_element : (fs : List Member) (i : ℕ) (f g : Member) → i < length fs → slice_index_or fs i f ≡ slice_index_or fs i g
 same_element [] i f g h = absurd (omega (arith, h))
 same_element (x ∷ xs) zero f g h = refl
 same_element (x ∷ xs) (suc i) f g h = same_element xs i f g (omega (arith, h))

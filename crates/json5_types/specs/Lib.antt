@@ -20,4 +20,3 @@ pub mod MemberPlaces
 pub mod Pointers
 pub mod PointerSteps
 pub mod LentValues
-pub mod ValueHashes

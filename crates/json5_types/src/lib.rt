@@ -19,7 +19,6 @@ pub mod value;
 pub mod value_changes;
 mod value_clone;
 pub mod value_from;
-mod value_hash;
 pub mod value_kinds;
 pub mod value_lookup;
 pub mod value_merge;

@@ -7,7 +7,6 @@ ghost use Rattle.json5_types.specs.ValueLookups.{is_null, boolean_of, whole_of, 
 
 use crate::decimal::Decimal;
 use crate::value::Value;
-use crate::value_places::member_mut;
 use crate::whole::Whole;
 
 /// What is looked for in a value: an element of an array by its index, counted from 0, or the value of an object's member by
@@ -25,10 +24,6 @@ pub trait Index {
     /// Returns what is found, or None.
     fn find_in<'v>(&self, value: &'v Value) -> Option<&'v Value>
         ensures { option_map (λ v. value_of v.now) result ≡ finds self.now (value_of value.now) };
-
-    /// Returns what is found, so that it can be changed, or None.
-    fn find_in_mut<'v>(&self, value: &'v mut Value) -> Option<&'v mut Value>
-        ensures { option_map (λ v. value_of v.now) result ≡ finds self.now (value_of value.old) };
 }
 
 impl Index for usize {
@@ -37,10 +32,6 @@ impl Index for usize {
     fn find_in<'v>(&self, value: &'v Value) -> Option<&'v Value> {
         value.as_array()?.get(*self)
     }
-
-    fn find_in_mut<'v>(&self, value: &'v mut Value) -> Option<&'v mut Value> {
-        value.as_array_mut()?.get_mut(*self)
-    }
 }
 
 impl Index for &str {
@@ -48,10 +39,6 @@ impl Index for &str {
 
     fn find_in<'v>(&self, value: &'v Value) -> Option<&'v Value> {
         last_named(value.as_object()?, self)
-    }
-
-    fn find_in_mut<'v>(&self, value: &'v mut Value) -> Option<&'v mut Value> {
-        member_mut(value.as_object_mut()?, self)
     }
 }
 
@@ -79,17 +66,6 @@ impl Value {
         ensures { option_map (λ v. value_of v.now) result ≡ I.finds index (value_of self.now) }
     {
         index.find_in(self)
-    }
-
-    /// Returns what [`get`](Value::get) finds, so that it can be changed.
-    ///
-    /// ```text
-    /// *settings.get_mut("server")?.get_mut("port")? = Value::from(8080u16);
-    /// ```
-    pub fn get_mut<I: Index + Drop>(&mut self, index: I) -> Option<&mut Value>
-        ensures { option_map (λ v. value_of v.now) result ≡ I.finds index (value_of self.old) }
-    {
-        index.find_in_mut(self)
     }
 
     /// Says whether it is `null`.

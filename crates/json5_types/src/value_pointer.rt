@@ -4,7 +4,7 @@ ghost use Rattle.std.specs.Prelude.{◌≡◌, option_map, nat_eq, MatchOption, 
 ghost use Rattle.std.specs.Cmp.Lexicographic.{pointwise};
 ghost use Rattle.json5_types.specs.ValueMeanings.{value_of, fields_view};
 ghost use Rattle.json5_types.specs.Pointers.{escaped_byte, escaped_key, member_written, begins_index, index_in, step_from, pointed};
-ghost use Rattle.json5_types.specs.PointerSteps.{StripsEscaped, FindsWritten};
+ghost use Rattle.json5_types.specs.PointerSteps.{StripsEscaped};
 
 use crate::value::Value;
 
@@ -30,26 +30,6 @@ impl Value {
         }
         step(target, rest)
     }
-
-    /// Returns what is at a JSON pointer, so that it can be changed: see [`pointer`](Value::pointer).
-    ///
-    /// ```text
-    /// *settings.pointer_mut("/server/ports/0")? = Value::from(8080u16);
-    /// ```
-    pub fn pointer_mut(&mut self, path: &str) -> Option<&mut Value>
-        ensures { option_map (λ v. value_of v.now) result ≡ pointed path.now (value_of self.old) }
-    {
-        if path.is_empty() {
-            return Some(self);
-        }
-        let mut rest = path.strip_prefix('/')?;
-        let mut target = self;
-        'parts: while let Some((part, more)) = rest.split_once('/') {
-            target = step_mut(target, part)?;
-            rest = more;
-        }
-        step_mut(target, rest)
-    }
 }
 
 /// What a step of a pointer leads to.
@@ -63,45 +43,17 @@ fn step<'v>(target: &'v Value, part: &str) -> Option<&'v Value>
     }
 }
 
-/// The same, so that it can be changed.
-fn step_mut<'v>(target: &'v mut Value, part: &str) -> Option<&'v mut Value>
-    ensures { option_map (λ v. value_of v.now) result ≡ step_from part.now (value_of target.old) }
-{
-    match target {
-        Value::Array(_) => target.as_array_mut()?.get_mut(index_of(part)?),
-        _ => member_written_mut(target.as_object_mut()?, part),
-    }
-}
-
 /// The value of the last member whose key is written so.
 fn member_written<'v>(fields: &'v [(String, Value)], part: &str) -> Option<&'v Value>
     ensures { option_map (λ v. value_of v.now) result ≡ member_written part.now (fields_view fields.now) }
 {
-    let place = written_place(fields, part)?;
-    Some(&fields[place].1)
-}
-
-/// The same, so that it can be changed.
-fn member_written_mut<'v>(fields: &'v mut Vec<(String, Value)>, part: &str) -> Option<&'v mut Value>
-    ensures { option_map (λ v. value_of v.now) result ≡ member_written part.now (fields_view fields.old.items) }
-{
-    let place = written_place(fields, part)?;
-    let field = &mut fields[place];
-    Some(&mut field.1)
-}
-
-/// The place of the last member whose key is written so.
-fn written_place(fields: &[(String, Value)], part: &str) -> Option<usize>
-    ensures { FindsWritten part.now fields.now result }
-{
-    let mut end = fields.len();
-    while end > 0 {
-        end -= 1;
-        if is_written(fields[end].0.as_str().as_bytes(), part.as_bytes()) {
-            return Some(end);
+    let mut found = None;
+    for (name, value) in fields {
+        if is_written(name.as_str().as_bytes(), part.as_bytes()) {
+            found = Some(value);
         }
     }
-    None
+    found
 }
 
 /// Whether the key is written so.

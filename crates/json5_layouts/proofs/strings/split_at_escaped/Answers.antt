@@ -1,5 +1,5 @@
-use Rattle.std.proofs.Common.{sym, ◌∙◌, arith}
-use Rattle.json5_layouts.proofs.JsonEscapesSplit.{seam, shorter, splits, stands_next, stands_all}
+use Rattle.std.proofs.Common.{refl, sym, ◌∙◌, arith}
+use Rattle.json5_layouts.proofs.JsonEscapesSplit.{seam, shorter, splits, stands_next, stands_all, stands_first}
 use Rattle.json5_layouts.proofs.strings.split_at_escaped.Goals as goal
 
 pub split_at-requires : goal.split_at-requires
@@ -9,7 +9,7 @@ pub loop-c-smaller : goal.loop-c-smaller
 loop-c-smaller c = let less = shorter _ _ _ c.in-Some.ensures in omega arith
 
 pub loop-c-init : goal.loop-c-init
-loop-c-init c = c.skip_unescaped-rest.ensures
+loop-c-init c = stands_first _ c.utf8.text
 
 pub returns : goal.returns
 returns c = stands_all _ _ c.loop-c.invariant c.in_default.ensures

@@ -1,9 +1,8 @@
-use Rattle.std.proofs.Common.{◌+◌, ◌*◌, drop}
+use Rattle.std.proofs.Common.{◌+◌, ◌*◌, drop, false}
 use Rattle.json5_types.specs.ValueMeanings.{array, object, value_of, items_view, fields_view}
 use Rattle.json5_types.specs.ValueLookups.{datum_depth, items_depth, fields_depth}
 use Rattle.json5_write.specs.Out.{piece}
 use Rattle.json5_write.proofs.OutputsJoined.{Reaches}
-use Rattle.json5_layouts.specs.LaidBack.{ItemsHaveNumbers, FieldsHaveNumbers}
 use Rattle.json5_layouts.specs.Styles.{items_laid, fields_laid}
 use Rattle.json5_layouts.specs.Layouts.{style_of, laid_in}
 use Rattle.json5_layouts.proofs.value.+laid.Given as goal
@@ -11,13 +10,11 @@ use Rattle.json5_layouts.proofs.value.+laid.Given as goal
 abbrev pub invariant-put_items-loop-item : goal.invariant-put_items-loop-item
 invariant-put_items-loop-item g l = record {
   reaches : Reaches (piece (laid_in l.fn.form l.fn.depth (array (items_view l.items)))) l.fn.printer l.printer (piece (items_laid (style_of l.fn.form.spelling l.fn.form.layout) l.fn.depth l.started (items_view (drop l.item-index l.items))));
-  numbers : ItemsHaveNumbers (items_view (drop l.item-index l.items)) → ItemsHaveNumbers (items_view l.items);
 }
 
 abbrev pub invariant-put_fields-loop-key : goal.invariant-put_fields-loop-key
 invariant-put_fields-loop-key g l = record {
   reaches : Reaches (piece (laid_in l.fn.form l.fn.depth (object (fields_view l.fields)))) l.fn.printer l.printer (piece (fields_laid (style_of l.fn.form.spelling l.fn.form.layout) l.fn.depth l.started (fields_view (drop l.key-index l.fields))));
-  numbers : FieldsHaveNumbers (fields_view (drop l.key-index l.fields)) → FieldsHaveNumbers (fields_view l.fields);
 }
 
 -- the deepest inside, and then the calls at one depth

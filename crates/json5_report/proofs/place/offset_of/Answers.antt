@@ -1,8 +1,39 @@
-use Rattle.std.proofs.Common.{rules}
+use Rattle.std.proofs.Common.{◌≡◌, ◌+◌, ◌++◌, ◌==◌, false, IsUtf8, ap, sym, ◌∙◌, subst, rules}
+use Rattle.std.specs.Prelude.{IsTrue}
+use Rattle.std.specs.Char.{encode_utf8, len_utf8}
+use Rattle.std.specs.Str.Iter.{chars_rest}
+use Rattle.json5_grammar.specs.Model.PositionSteps.{position_step}
+use Rattle.json5_report.proofs.PositionsReached.{Walk, text_start, same_place, walk_start, walk_step, walk_found, walk_done}
 use Rattle.json5_report.proofs.place.offset_of.Goals as goal
 
-pub returns-in-Some : goal.returns-in-Some
-returns-in-Some c = let found = c.in-Some.ensures in record { within = found.boundary.0; at = λ h. found.at }
+pub loop-c-init : goal.loop-c-init
+loop-c-init c =
+    let utf8 : IsUtf8 c.args.text.now = search rules in
+    let same : chars_rest c.into_iter-c-iterator.result ≡ c.args.text.now = search rules in
+    subst (λ z. Walk c.args.text.now c.args.wanted z text_start false 0) (sym same) (walk_start c.args.text.now c.args.wanted utf8)
 
-pub returns-in-None : goal.returns-in-None
-returns-in-None c = record { within = search rules; at = λ h. absurd (c.in-None.ensures h) }
+pub returns-then-is_passed : goal.returns-then-is_passed
+returns-then-is_passed c =
+    let l = c.loop-c in
+    let yes : IsTrue c.is_passed.result = search rules in
+    let there = c.is_passed.ensures.found yes in
+    walk_found c.args.text.now c.args.wanted (chars_rest l.c-iterator) l.position l.is_after_cr l.offset (same_place l.position c.args.wanted there.0 there.1) l.invariant
+
+pub loop-c-preserved : goal.loop-c-preserved
+loop-c-preserved c =
+    let l = c.loop-c in
+    let next = c.stepped-next.result in
+    let split : chars_rest l.c-iterator ≡ encode_utf8 c.in-Some.c ++ chars_rest c.next.new.self = c.in-Some.ensures.steps.0 in
+    let no : c.is_passed.result ≡ false = search rules in
+    let moved : next ≡ position_step l.position l.is_after_cr c.in-Some.c = c.stepped-next.ensures in
+    let width : c.len_utf8-offset.result ≡ len_utf8 c.in-Some.c = search rules in
+    let stays : l.position ≡ c.args.wanted → position_step l.position l.is_after_cr c.in-Some.c ≡ l.position =
+    λ same. let kept = c.is_passed.ensures.passed no (ap (λ p. p.line) same) (ap (λ p. p.column) same) in sym moved ∙ same_place next l.position kept.0 kept.1 in
+    let walked = walk_step c.args.text.now c.args.wanted (chars_rest l.c-iterator) (chars_rest c.next.new.self) l.position l.is_after_cr l.offset c.in-Some.c stays split l.invariant in
+    subst (λ p. Walk c.args.text.now c.args.wanted (chars_rest c.next.new.self) p (c.in-Some.c == 13) (l.offset + c.len_utf8-offset.result)) (sym moved)
+    (subst (λ k. Walk c.args.text.now c.args.wanted (chars_rest c.next.new.self) (position_step l.position l.is_after_cr c.in-Some.c) (c.in-Some.c == 13) (l.offset + k)) (sym width) walked)
+
+pub returns : goal.returns
+returns c =
+    let l = c.loop-c in
+    walk_done c.args.text.now c.args.wanted (chars_rest l.c-iterator) l.position l.is_after_cr l.offset c.in-None.ensures.steps.0.0 l.invariant

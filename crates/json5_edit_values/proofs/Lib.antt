@@ -1,3 +1,0 @@
--- Lists the lemmas about edits with values.
-pub mod ValuesSpelled
-pub mod Refused

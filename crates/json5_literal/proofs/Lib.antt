@@ -1,2 +1,0 @@
--- Lists the lemmas of literals.
-pub mod PartsAdded

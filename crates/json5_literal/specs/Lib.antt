@@ -1,2 +1,0 @@
--- Lists the definitions of literals.
-pub mod Literals

@@ -1,2 +1,0 @@
--- Lists the lemmas of readers.
-pub mod Refusals
