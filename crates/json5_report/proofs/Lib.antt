@@ -3,3 +3,4 @@ pub mod PositionsReached
 pub mod TokensTaken
 pub mod CoursesTaken
 pub mod PathsShown
+pub mod ReportsPut
