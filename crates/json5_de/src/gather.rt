@@ -10,7 +10,8 @@ ghost use Rattle.json5_de.specs.MapFaults.{sides, RefusesMap};
 use crate::de::{Deserialize, Deserializer};
 use crate::key::DeserializeKey;
 use json5_text::input::Input;
-use json5_types::error::Result;
+use json5_types::ErrorCode;
+use json5_types::error::{Error, Result};
 
 /// A map that members are inserted into, one after another.
 pub(crate) trait Gathers<K, V>: Sized + Drop {
@@ -37,9 +38,16 @@ pub(crate) fn gather<I: Input, K: DeserializeKey<I>, V: Deserialize<I>, M: Gathe
     ensures unprompted { Unprompted de.old result }
     ensures same_text { SameText de.old de.new }
 {
+    let mut fault = Error::new(ErrorCode::Failed);
     let mut map = de.deserialize_map()?;
-    while let Some(key) = map.next_key::<K>()? {
-        let value = map.next_value::<V>()?;
+    loop {
+        let Some(next) = map.take_key::<K>(&mut fault) else {
+            return Err(fault);
+        };
+        let Some(key) = next else { break };
+        let Some(value) = map.take_value::<V>(&mut fault) else {
+            return Err(fault);
+        };
         items.put(key, value)?;
     }
     map.end()?;

@@ -4,6 +4,7 @@ ghost use Rattle.std.specs.Prelude.{◌≡◌};
 ghost use Rattle.std.specs.Borrow.{sem};
 ghost use Rattle.json5_text.specs.Cursor.{Locates};
 ghost use Rattle.json5_de.specs.Arrays.{PositionedAtBracket};
+ghost use Rattle.json5_de.specs.DeserializeLaw.{answered};
 ghost use Rattle.json5_de.specs.Enums.{EndsObject};
 ghost use Rattle.json5_de.specs.ObjectFaults.{PassesColon, ReadsValueOfMember};
 
@@ -15,6 +16,7 @@ use json5_types::error::{Error, Result};
 use json5_types::{ErrorCode, Position};
 use json5_value::brackets::BracketKind;
 use std::alloc::Global;
+use std::mem;
 
 /// The members of an object, one after another: a key, then its value.
 ///
@@ -158,6 +160,48 @@ impl<I: Input> Deserializer<I> {
         self.colon()?;
         V::deserialize(self)
     }
+
+    /// The same as `colon`; the error of a refusal is left in `fault`.
+    #[inline(always)]
+    fn take_colon(&mut self, fault: &mut Error) -> Option<()>
+        ensures { PassesColon self.old self.new (answered result fault.new) }
+    {
+        if self.short_colon() {
+            return Some(());
+        }
+        self.take_colon_slowly(fault)
+    }
+
+    /// The same after any blanks.
+    #[inline(never)]
+    fn take_colon_slowly(&mut self, fault: &mut Error) -> Option<()>
+        ensures { PassesColon self.old self.new (answered result fault.new) }
+    {
+        match self.colon_slowly() {
+            Ok(()) => Some(()),
+            Err(error) => {
+                *fault = error;
+                None
+            }
+        }
+    }
+
+    /// The same as `member_value`; the error of a refusal is left in `fault`.
+    #[inline(always)]
+    fn take_member_value<V: Deserialize<I>>(&mut self, fault: &mut Error) -> Option<V>
+        ensures { ReadsValueOfMember V.content V.convert V.refuses self.old self.new (answered result fault.new) }
+    {
+        match self.take_colon(fault) {
+            Some(()) => match V::deserialize(self) {
+                Ok(value) => Some(value),
+                Err(error) => {
+                    *fault = error;
+                    None
+                }
+            },
+            None => None,
+        }
+    }
 }
 
 impl<'a, I: Input> MapAccess<'a, I> {
@@ -243,6 +287,56 @@ impl<'a, I: Input> MapAccess<'a, I> {
                 Ok(value)
             }
             Err(e) => Err(self.refused(e)),
+        }
+    }
+
+    /// The same as `refused`, of the fault that was left.
+    #[cold]
+    #[inline(never)]
+    fn refused_in(&mut self, fault: &mut Error)
+        ensures { RefusesInMap self.old fault.old self.new fault.new }
+    {
+        let own = mem::replace(fault, Error::new(ErrorCode::Failed));
+        *fault = self.refused(own);
+    }
+
+    /// The same as `next_key`; the error of a refusal is left in `fault`.
+    #[inline(always)]
+    pub(crate) fn take_key<K: DeserializeKey<I>>(&mut self, fault: &mut Error) -> Option<Option<K>>
+        requires no_key { NoKeyPending self.old }
+        ensures { ReadsNextKey K.content K.convert K.refuses self.old self.new (answered result fault.new) }
+    {
+        self.de.set_failed(self.failed);
+        match self.de.take_member_key(self.stage.is_comma_due(), fault) {
+            Some(key) => {
+                self.de.set_failed(true);
+                self.stage = self.stage.with_key(key.is_some());
+                Some(key)
+            }
+            None => {
+                self.refused_in(fault);
+                None
+            }
+        }
+    }
+
+    /// The same as `next_value`; the error of a refusal is left in `fault`.
+    #[inline(always)]
+    pub(crate) fn take_value<V: Deserialize<I>>(&mut self, fault: &mut Error) -> Option<V>
+        requires key { KeyPending self.old }
+        ensures { ReadsNextValue V.content V.convert V.refuses self.old self.new (answered result fault.new) }
+    {
+        self.de.set_failed(self.failed);
+        match self.de.take_member_value::<V>(fault) {
+            Some(value) => {
+                self.de.set_failed(true);
+                self.stage = Stage::Started;
+                Some(value)
+            }
+            None => {
+                self.refused_in(fault);
+                None
+            }
         }
     }
 

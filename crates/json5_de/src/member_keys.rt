@@ -4,6 +4,7 @@ ghost use Rattle.std.specs.Prelude.{◌≡◌, true, false, IfOk, IfSome};
 ghost use Rattle.json5_grammar.specs.Language.Characters.{NotBegun};
 ghost use Rattle.json5_types.specs.Errors.{kind_of};
 ghost use Rattle.json5_value.specs.Offsets.{StartsAfter};
+ghost use Rattle.json5_de.specs.DeserializeLaw.{answered};
 ghost use Rattle.json5_de.specs.Keys.{GivesKey};
 ghost use Rattle.json5_de.specs.ObjectFaults as faults;
 ghost use Rattle.json5_de.specs.ObjectFaults.{BeginsKey, PositionsKey, ReadsKeyAtEntry, ReadsKeyOfMember, is_positionless};
@@ -104,6 +105,36 @@ impl<I: Input> Deserializer<I> {
             Ok(true) => self.entry_key(),
             Ok(false) => Ok(None),
             Err(e) => Err(e),
+        }
+    }
+
+    /// The same as `entry_key`; the error of a refusal is left in `fault`.
+    #[inline(always)]
+    fn take_entry_key<K: DeserializeKey<I>>(&mut self, fault: &mut Error) -> Option<Option<K>>
+        ensures { ReadsKeyAtEntry K.content K.convert K.refuses self.old self.new (answered result fault.new) }
+    {
+        match self.entry_key::<K>() {
+            Ok(key) => Some(key),
+            Err(error) => {
+                *fault = error;
+                None
+            }
+        }
+    }
+
+    /// The same as `member_key`; the error of a refusal is left in `fault`.
+    #[inline(always)]
+    pub(crate) fn take_member_key<K: DeserializeKey<I>>(
+        &mut self,
+        comma_due: bool,
+        fault: &mut Error,
+    ) -> Option<Option<K>>
+        ensures { ReadsKeyOfMember K.content K.convert K.refuses comma_due self.old self.new (answered result fault.new) }
+    {
+        match self.take_step(BracketKind::Object, comma_due, fault) {
+            Some(true) => self.take_entry_key::<K>(fault),
+            Some(false) => Some(None),
+            None => None,
         }
     }
 }
