@@ -18,6 +18,10 @@ pub count_snoc : (ts : Trees) (t : Tree) → count (snoc ts t) ≡ suc (count ts
 count_snoc no_more t = refl
 count_snoc (more s ts) t = ap suc (count_snoc ts t)
 
+pub count_snoc_member : (ps : Members) (u : List ℕ) (e : Bool) (t : Tree) → count_members (snoc_member ps u e t) ≡ suc (count_members ps)
+count_snoc_member no_member u e t = refl
+count_snoc_member (member k b s ps) u e t = ap suc (count_snoc_member ps u e t)
+
 element_here : (ts : Trees) (t : Tree) → element_of (count ts) (snoc ts t) ≡ Some t
 element_here no_more t = refl
 element_here (more s ts) t = element_here ts t

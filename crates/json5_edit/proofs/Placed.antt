@@ -14,7 +14,7 @@ use Rattle.json5_text.specs.Cursor.{Cursor}
 use Rattle.json5_text.specs.Outcome.{bytes_in}
 use Rattle.json5_value.specs.ModelSteps.{Gave, value_at}
 use Rattle.json5_walk.specs.declared.place.Place.{Place}
-use Rattle.json5_walk.specs.Frames.{Frame, in_array, in_object, ClosesTo, At, at_value, at_comma, value_frames}
+use Rattle.json5_walk.specs.Frames.{Frame, in_array, in_object, text_end, ClosesTo, At, at_value, at_comma, value_frames}
 use Rattle.json5_walk.specs.Moves.{Stays, stays}
 use Rattle.json5_walk.specs.Walks.{Walked, at_start, Trail, Marked, IsMarked, IsAt, Moved, Ends}
 use Rattle.json5_walk.proofs.Rests.{append_nil, value_completes}
@@ -50,7 +50,7 @@ closes_put limit (in_array ts ∷ o) path x t s v w e (us, r, tl, f, h) =
 closes_put limit (in_object ps u b ∷ o) path x t s v w e (qs, r, tl, f, h) =
     (qs, r, tl, f, closes_put limit o (count_members ps ∷ path) r (object (joined_members ps (member u b t qs))) (object (joined_members ps (member u b s qs))) v w (ap object (ap (λ z. joined_members ps (member u b z qs)) e ∙ sym (put_joined_members ps qs u b path t v))) h)
 
-closes_part : (limit : ℕ) (o : List Frame) (path x : List ℕ) (t w : Tree) → ClosesTo limit o t x w → part (positions o path) w ≡ part path t
+pub closes_part : (limit : ℕ) (o : List Frame) (path x : List ℕ) (t w : Tree) → ClosesTo limit o t x w → part (positions o path) w ≡ part path t
 closes_part limit [] path x t w (l, is) = ap (part path) is
 closes_part limit (in_array ts ∷ o) path x t w (us, r, tl, f, h) = closes_part limit o (count ts ∷ path) r (array (joined_trees ts (more t us))) w h ∙ part_joined ts us path t
 closes_part limit (in_object ps u b ∷ o) path x t w (qs, r, tl, f, h) = closes_part limit o (count_members ps ∷ path) r (object (joined_members ps (member u b t qs))) w h ∙ part_joined_members ps qs u b path t
@@ -89,7 +89,7 @@ is_place limit bytes path w p o l led q =
       welcome = λ other t v d.
           let h : ClosesTo limit o t q.after (put (positions o []) w t) = closes_put limit o [] q.after q.tree t t w refl c in
           let fits = room_fits limit (length (value_frames q.from)) (depth t) p.room (subst (λ z. length z ≤ limit) (sym q.around) q.inside) (q.room ∙ ap (λ z. limit - length z) (sym q.around)) d in
-          subst (λ n. Doc n (q.before ++ (other ++ q.after)) (put (positions o []) w t)) l (q.front (other ++ q.after) (put (positions o []) w t) (value_completes limit q.from [] other q.after t (put (positions o []) w t) q.due Blanks.empty v fits (subst (λ f. ClosesTo limit f t q.after (put (positions o []) w t)) (sym q.around) h)));
+          subst (λ n. Doc n (q.before ++ (other ++ q.after)) (put (positions o []) w t)) l (q.front (other ++ q.after) (put (positions o []) w t) (value_completes limit text_end q.from [] other q.after t (put (positions o []) w t) q.due Blanks.empty v fits (subst (λ f. ClosesTo limit f t q.after (put (positions o []) w t)) (sym q.around) h)));
     }
 
 placed : (limit : ℕ) (bytes : List ℕ) (path : List Step) (w : Tree) (place : Option Place) (m : Option (List Frame)) → limit ≡ max_depth → Finds [] path w m → IsMarked limit bytes (λ z. z ≡ w) place m → MatchOption place (positions_of path w ≡ None) (IsPlace bytes path w)

@@ -5,7 +5,6 @@ use Rattle.std.specs.Prelude.{slice_get, IfErr, Result, Ok, Err}
 use Rattle.std.specs.Str.{chars, IsUtf8, all_scalars, encode_utf8_all}
 use Rattle.std.proofs.lemmas.Bool.{eqb-false}
 use Rattle.std.proofs.lemmas.Str.{chars-encodes, scalars-chars}
-use Rattle.json5_grammar.specs.declared.error_code.ErrorCode.{ErrorCode}
 use Rattle.json5_grammar.specs.declared.error_code.ErrorCode.TheVariants as codes
 use Rattle.json5_grammar.specs.Language.Blanks.{Blanks}
 use Rattle.json5_grammar.specs.Language.Documents.{Doc, max_depth}
@@ -18,7 +17,7 @@ use Rattle.json5_grammar.proofs.OneFault.{no_blame}
 use Rattle.json5_grammar.proofs.ValueHeads.{stops_all}
 use Rattle.json5_grammar.proofs.ValuesRead.{read_complete}
 use Rattle.json5_types.specs.declared.error.Error.{Error}
-use Rattle.json5_types.specs.Errors.{FaultKind, code, custom, failed_write, kind_of, known_code}
+use Rattle.json5_types.specs.Errors.{kind_of, known_code}
 use Rattle.json5_text.specs.Cursor.{Cursor, Refused, IsOutOfMemory}
 use Rattle.json5_value.specs.declared.brackets.BracketKind.{BracketKind as Kind}
 use Rattle.json5_value.specs.declared.brackets.BracketKind.TheVariants as kind
@@ -55,28 +54,17 @@ no_steps (s ∷ path) e = absurd (omega (arith, e))
 
 -- ---- the fault of a text
 
-of_code : {c : ErrorCode} (k : FaultKind) → known_code k ≡ Some c → k ≡ code c
-of_code {c = c} (code d) e = let same : d ≡ c = cc in ap code same
-of_code (custom s) e = absurd (cc)
-of_code failed_write e = absurd (cc)
-
 -- what a check of the document refuses
 pub faulty : (bytes : List ℕ) (e : Error) → IsRefusedWithin max_depth (chars bytes) e → RefusesText bytes e
 faulty bytes e r = by_cause r.cause
   where
     by_cause : IsOutOfMemory e ⊎ Refused (FaultyDocument max_depth) (unread_text (chars bytes)) e → RefusesText bytes e
     by_cause (inl m) = inl m
-    by_cause (inr f) = inr (inl (record { no_document = λ d. no_blame max_depth (chars bytes) d.0 f.reason f.place d.1 f.fault; fault = f; unprompted = r.unprompted }))
+    by_cause (inr f) = inr (record { no_document = λ d. no_blame max_depth (chars bytes) d.0 f.reason f.place d.1 f.fault; fault = f; unprompted = r.unprompted })
 
-pub is_faulty : (bytes : List ℕ) (e : Error) → (known_code (kind_of e) ≡ Some codes.OutOfMemory → ⊥) → (known_code (kind_of e) ≡ Some codes.Failed → ⊥) → RefusesText bytes e → IsFaulty bytes e
-is_faulty bytes e memory failed (inl m) = absurd (memory (ap known_code m))
-is_faulty bytes e memory failed (inr (inl f)) = f
-is_faulty bytes e memory failed (inr (inr (k, d))) = absurd (failed (ap known_code k))
-
-pub is_document : (bytes : List ℕ) (e : Error) → known_code (kind_of e) ≡ Some codes.Failed → RefusesText bytes e → IsDocument bytes
-is_document bytes e c (inl m) = let k : Some codes.OutOfMemory ≡ Some codes.Failed = sym (ap known_code m) ∙ c in absurd (cc)
-is_document bytes e c (inr (inl f)) = absurd (f.unprompted (of_code (kind_of e) c))
-is_document bytes e c (inr (inr (k, d))) = d
+pub is_faulty : (bytes : List ℕ) (e : Error) → (known_code (kind_of e) ≡ Some codes.OutOfMemory → ⊥) → RefusesText bytes e → IsFaulty bytes e
+is_faulty bytes e memory (inl m) = absurd (memory (ap known_code m))
+is_faulty bytes e memory (inr f) = f
 
 -- ---- values alone
 
@@ -139,16 +127,16 @@ own P error.Failed m f k = f
 pub own_then : {A : Type 0} (P : EditError → Type 0) (r : Result A EditError) → P error.NoMemory → P error.Failed → IfErr r IsOwn → IfErr r P
 own_then P r m f k = err_then r (λ e h. own P e m f h) k
 
-at_path : (P : EditError → Type 0) (bytes : List ℕ) (path : List Step) (e : EditError) → ((x : Error) → IsFaulty bytes x → P (error.Text x)) → (LeadsNowhere bytes path → P error.Nowhere) → P error.NoMemory → (IsDocument bytes → P error.Failed) → RefusesPath bytes path e → P e
-at_path P bytes path (error.Text x) t n m f k = t x k
-at_path P bytes path error.Nowhere t n m f k = n k
-at_path P bytes path (error.Value x) t n m f k = absurd k
-at_path P bytes path error.Taken t n m f k = absurd k
-at_path P bytes path error.NotObject t n m f k = absurd k
-at_path P bytes path error.NotArray t n m f k = absurd k
-at_path P bytes path error.NoKey t n m f k = absurd k
-at_path P bytes path error.NoMemory t n m f k = m
-at_path P bytes path error.Failed t n m f k = f k
+at_path : (P : EditError → Type 0) (bytes : List ℕ) (path : List Step) (e : EditError) → ((x : Error) → IsFaulty bytes x → P (error.Text x)) → (LeadsNowhere bytes path → P error.Nowhere) → P error.NoMemory → RefusesPath bytes path e → P e
+at_path P bytes path (error.Text x) t n m k = t x k
+at_path P bytes path error.Nowhere t n m k = n k
+at_path P bytes path (error.Value x) t n m k = absurd k
+at_path P bytes path error.Taken t n m k = absurd k
+at_path P bytes path error.NotObject t n m k = absurd k
+at_path P bytes path error.NotArray t n m k = absurd k
+at_path P bytes path error.NoKey t n m k = absurd k
+at_path P bytes path error.NoMemory t n m k = m
+at_path P bytes path error.Failed t n m k = absurd k
 
 at_step : (P : EditError → Type 0) (old : List ℕ) (s : Step) (e : EditError) → (LeadsNowhere old (s ∷ []) → P error.Nowhere) → P error.NoMemory → P error.Failed → RefusesStep old s e → P e
 at_step P old s (error.Text x) n m f k = absurd k
@@ -190,22 +178,22 @@ outer_nowhere : (bytes : List ℕ) (path outer : List Step) (s : Step) → path 
 outer_nowhere bytes path outer s is (t, d, n) = (t, d, ap (λ z. positions_of z t) is ∙ nowhere_on outer (s ∷ []) t n)
 
 pub path_set : (bytes new : List ℕ) (path : List Step) (e : EditError) → RefusesPath bytes path e → RefusesSet bytes path new e
-path_set bytes new path e k = at_path (RefusesSet bytes path new) bytes path e (λ x f. f) (λ n. n) tt (λ d. d) k
+path_set bytes new path e k = at_path (RefusesSet bytes path new) bytes path e (λ x f. f) (λ n. n) tt k
 
 pub path_push : (bytes value : List ℕ) (path : List Step) (e : EditError) → RefusesPath bytes path e → RefusesPush bytes path value e
-path_push bytes value path e k = at_path (RefusesPush bytes path value) bytes path e (λ x f. f) (λ n. n) tt (λ d. d) k
+path_push bytes value path e k = at_path (RefusesPush bytes path value) bytes path e (λ x f. f) (λ n. n) tt k
 
 pub path_put_in : (bytes value : List ℕ) (path : List Step) (i : ℕ) (e : EditError) → RefusesPath bytes path e → RefusesPutIn bytes path i value e
-path_put_in bytes value path i e k = at_path (RefusesPutIn bytes path i value) bytes path e (λ x f. f) (λ n. outer_nowhere bytes (path ++ (step.Index i ∷ [])) path (step.Index i) refl n) tt (λ d. d) k
+path_put_in bytes value path i e k = at_path (RefusesPutIn bytes path i value) bytes path e (λ x f. f) (λ n. outer_nowhere bytes (path ++ (step.Index i ∷ [])) path (step.Index i) refl n) tt k
 
 pub path_insert : (bytes key value : List ℕ) (path : List Step) (e : EditError) → RefusesPath bytes path e → RefusesInsert bytes path key value e
-path_insert bytes key value path e k = at_path (RefusesInsert bytes path key value) bytes path e (λ x f. f) (λ n. n) tt (λ d. d) k
+path_insert bytes key value path e k = at_path (RefusesInsert bytes path key value) bytes path e (λ x f. f) (λ n. n) tt k
 
 pub path_remove : (bytes : List ℕ) (path outer : List Step) (s : Step) (e : EditError) → path ≡ outer ++ (s ∷ []) → RefusesPath bytes outer e → RefusesRemove bytes path e
-path_remove bytes path outer s e is k = at_path (RefusesRemove bytes path) bytes outer e (λ x f. f) (λ n. inl (outer_nowhere bytes path outer s is n)) tt (λ d. d) k
+path_remove bytes path outer s e is k = at_path (RefusesRemove bytes path) bytes outer e (λ x f. f) (λ n. inl (outer_nowhere bytes path outer s is n)) tt k
 
 pub path_rename : (bytes key : List ℕ) (path outer : List Step) (s : Step) (e : EditError) → path ≡ outer ++ (s ∷ []) → RefusesPath bytes outer e → RefusesRename bytes path key e
-path_rename bytes key path outer s e is k = at_path (RefusesRename bytes path key) bytes outer e (λ x f. f) (λ n. outer_nowhere bytes path outer s is n) tt (λ d. d) k
+path_rename bytes key path outer s e is k = at_path (RefusesRename bytes path key) bytes outer e (λ x f. f) (λ n. outer_nowhere bytes path outer s is n) tt k
 
 -- ---- a place that was found
 

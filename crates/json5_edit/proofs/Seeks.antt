@@ -18,11 +18,11 @@ use Rattle.json5_walk.specs.Nexts.{takes_value}
 use Rattle.json5_walk.specs.Frames.{Frame, in_array, in_object, At, at_value, at_element, at_key, at_comma, next_of, value_frames}
 use Rattle.json5_walk.specs.Moves.{Stays, stays, TakesValue, takes, Opens, opens_array, opens_object, TakesKeyOf, takes_key, TakesColon, takes_colon, TakesComma, after_element, after_member, Closes, closes_elements, closes_array, closes_members, closes_object}
 use Rattle.json5_walk.specs.Walks.{Walked, IsAt, Moved, MovedMarking, Unmarked, room_of, PassesValue, NotOpened}
-use Rattle.json5_edit.specs.Parts.{positions_of, count, positions}
+use Rattle.json5_edit.specs.Parts.{positions_of, count, count_members, positions}
 use Rattle.json5_edit.specs.Seeks.{Finds, Seeks, SeeksFrom, SeeksOrSkips, Ended, TakesName, takes_name, Named}
 use Rattle.json5_edit.specs.declared.paths.Step.{Step}
 use Rattle.json5_edit.specs.declared.paths.Step.TheVariants as step
-use Rattle.json5_edit.proofs.PartsFound.{count_snoc, found_element, same_element, found_member, same_member}
+use Rattle.json5_edit.proofs.PartsFound.{count_snoc, count_snoc_member, found_element, same_element, found_member, same_member}
 
 -- ---- one step after another
 
@@ -93,7 +93,7 @@ comma_in_array (after_element ts t o) = refl
 comma_in_object : {t : Tree} {ps : Members} {u : List ℕ} {e : Bool} {o : List Frame} {b : At} → TakesComma (at_comma t (in_object ps u e ∷ o)) b → b ≡ at_key (snoc_member ps u e t) o
 comma_in_object (after_member ps u e t o) = refl
 
-name_gives : {key : List ℕ} {same : Bool} {ps : Members} {o : List Frame} {b : At} → TakesName key same (at_key ps o) b → (u : List ℕ) × (e : Bool) × (b ≡ at_value (in_object ps u e ∷ o)) × (same ≡ pointwise nat_eq (encode_utf8_all u) key)
+pub name_gives : {key : List ℕ} {same : Bool} {ps : Members} {o : List Frame} {b : At} → TakesName key same (at_key ps o) b → (u : List ℕ) × (e : Bool) × (b ≡ at_value (in_object ps u e ∷ o)) × (same ≡ pointwise nat_eq (encode_utf8_all u) key)
 name_gives (takes_name ps u e o h) = (u, e, refl, h)
 
 pub there : {v : Walked} {a b : At} {m : Option (List Frame)} → a ≡ b → IsAt v (record { now = a; marked = m }) → IsAt v (record { now = b; marked = m })
@@ -275,24 +275,24 @@ more_elements {i = i} {n = n} {path = path} {first = first} {now = now} p = let 
 
 -- ---- members
 
-pub record MembersOf (key : Bor (List ℕ)) (path : List Step) (first now : Walked) : Type 0 where
+pub record MembersOf (key : Bor (List ℕ)) (path : List Step) (first now : Walked) (n : ℕ) : Type 0 where
   pub text : now.text ≡ first.text
   pub limit : now.limit ≡ first.limit
-  pub leads : (o : List Frame) → IsAt first (record { now = at_key no_member o; marked = None }) → (ps : Members) × (m : Option (List Frame)) × IsAt now (record { now = at_key ps o; marked = m }) × Finds o (step.Key key ∷ path) (object ps) m
+  pub leads : (o : List Frame) → IsAt first (record { now = at_key no_member o; marked = None }) → (ps : Members) × (m : Option (List Frame)) × IsAt now (record { now = at_key ps o; marked = m }) × (count_members ps ≡ n) × Finds o (step.Key key ∷ path) (object ps) m
 
-pub record MembersAnd (key : Bor (List ℕ)) (path : List Step) (first now : Walked) : Type 0 where
+pub record MembersAnd (key : Bor (List ℕ)) (path : List Step) (first now : Walked) (n : ℕ) : Type 0 where
   pub text : now.text ≡ first.text
   pub limit : now.limit ≡ first.limit
-  pub leads : (o : List Frame) → IsAt first (record { now = at_key no_member o; marked = None }) → (ps : Members) × (u : List ℕ) × (e : Bool) × (t : Tree) × (m : Option (List Frame)) × IsAt now (record { now = at_comma t (in_object ps u e ∷ o); marked = m }) × Finds o (step.Key key ∷ path) (object (snoc_member ps u e t)) m
+  pub leads : (o : List Frame) → IsAt first (record { now = at_key no_member o; marked = None }) → (ps : Members) × (u : List ℕ) × (e : Bool) × (t : Tree) × (m : Option (List Frame)) × IsAt now (record { now = at_comma t (in_object ps u e ∷ o); marked = m }) × (count_members ps ≡ n) × Finds o (step.Key key ∷ path) (object (snoc_member ps u e t)) m
 
-pub no_members : (key : Bor (List ℕ)) (path : List Step) (v : Walked) → MembersOf key path v v
-no_members key path v = record { text = refl; limit = refl; leads = λ o f. (no_member, None, f, refl) }
+pub no_members : (key : Bor (List ℕ)) (path : List Step) (v : Walked) → MembersOf key path v v 0
+no_members key path v = record { text = refl; limit = refl; leads = λ o f. (no_member, None, f, refl, refl) }
 
-pub members_end : {key : Bor (List ℕ)} {path : List Step} {first now new : Walked} → MembersOf key path first now → Moved Closes now new → SeeksFrom (at_key no_member) (step.Key key ∷ path) first new
+pub members_end : {n : ℕ} {key : Bor (List ℕ)} {path : List Step} {first now new : Walked} → MembersOf key path first now n → Moved Closes now new → SeeksFrom (at_key no_member) (step.Key key ∷ path) first new
 members_end p q = record {
   text = q.text ∙ p.text;
   limit = q.limit ∙ p.limit;
-  leads = λ o f. let (ps, m, g, k) = p.leads o f in let (b, is, h) = q.leads (record { now = at_key ps o; marked = m }) g in (object ps, m, there (members_closed is) h, k);
+  leads = λ o f. let (ps, m, g, e, k) = p.leads o f in let (b, is, h) = q.leads (record { now = at_key ps o; marked = m }) g in (object ps, m, there (members_closed is) h, k);
 }
 
 member_passed : {v w : Walked} {m : Option (List Frame)} (key : Bor (List ℕ)) (path : List Step) (ps : Members) (u : List ℕ) (b : Bool) (o : List Frame) (same : Bool) → same ≡ pointwise nat_eq (encode_utf8_all u) key.now → IsAt v (record { now = at_value (in_object ps u b ∷ o); marked = m }) → Finds o (step.Key key ∷ path) (object ps) m → SeeksOrSkips same path v w → (t : Tree) × (r : Option (List Frame)) × IsAt w (record { now = at_comma t (in_object ps u b ∷ o); marked = r }) × Finds o (step.Key key ∷ path) (object (snoc_member ps u b t)) r
@@ -304,38 +304,41 @@ member_passed {m = m} key path ps u b o false e f k q =
     let (t, x, at, d, split, val, small) = value_taken is in
     (t, m, there at g, same_member o (step.Key key) key.now path ps u b t m (λ qs. refl) (sym e) k)
 
-pub members_and : {key : Bor (List ℕ)} {bytes : List ℕ} {path : List Step} {first now mid named new : Walked} (same : Bool) → key.now ≡ bytes → MembersOf key path first now → Moved Stays now mid → Named bytes same mid named → SeeksOrSkips same path named new → MembersAnd key path first new
+pub members_and : {n : ℕ} {key : Bor (List ℕ)} {bytes : List ℕ} {path : List Step} {first now mid named new : Walked} (same : Bool) → key.now ≡ bytes → MembersOf key path first now n → Moved Stays now mid → Named bytes same mid named → SeeksOrSkips same path named new → MembersAnd key path first new n
 members_and {key = key} {path = path} {named = named} {new = new} same is_key p gap n q = record {
   text = passed_text path named new same q ∙ n.text ∙ gap.text ∙ p.text;
   limit = passed_limit path named new same q ∙ n.limit ∙ gap.limit ∙ p.limit;
   leads = λ o f.
-      let (ps, m, g, k) = p.leads o f in
+      let (ps, m, g, c, k) = p.leads o f in
       let (a, still, h) = gap.leads (record { now = at_key ps o; marked = m }) g in
       let (b, is, i) = n.leads (record { now = at_key ps o; marked = m }) (stayed still h) in
       let (u, e, at, eq) = name_gives is in
       let (t, r, j, l) = member_passed key path ps u e o same (eq ∙ ap (pointwise nat_eq (encode_utf8_all u)) (sym is_key)) (there at i) k q in
-      (ps, u, e, t, r, j, l);
+      (ps, u, e, t, r, j, c, l);
 }
 
-pub members_go_on : {key : Bor (List ℕ)} {path : List Step} {first now new : Walked} → MembersAnd key path first now → Moved TakesComma now new → MembersOf key path first new
+pub members_go_on : {n : ℕ} {key : Bor (List ℕ)} {path : List Step} {first now new : Walked} → MembersAnd key path first now n → Moved TakesComma now new → MembersOf key path first new (suc n)
 members_go_on p q = record {
   text = q.text ∙ p.text;
   limit = q.limit ∙ p.limit;
   leads = λ o f.
-      let (ps, u, e, t, m, g, k) = p.leads o f in
+      let (ps, u, e, t, m, g, c, k) = p.leads o f in
       let (b, is, h) = q.leads (record { now = at_comma t (in_object ps u e ∷ o); marked = m }) g in
-      (snoc_member ps u e t, m, there (comma_in_object is) h, k);
+      (snoc_member ps u e t, m, there (comma_in_object is) h, count_snoc_member ps u e t ∙ ap suc c, k);
 }
 
-pub members_and_end : {key : Bor (List ℕ)} {path : List Step} {first now new : Walked} → MembersAnd key path first now → Moved Closes now new → SeeksFrom (at_key no_member) (step.Key key ∷ path) first new
+pub members_and_end : {n : ℕ} {key : Bor (List ℕ)} {path : List Step} {first now new : Walked} → MembersAnd key path first now n → Moved Closes now new → SeeksFrom (at_key no_member) (step.Key key ∷ path) first new
 members_and_end p q = record {
   text = q.text ∙ p.text;
   limit = q.limit ∙ p.limit;
   leads = λ o f.
-      let (ps, u, e, t, m, g, k) = p.leads o f in
+      let (ps, u, e, t, m, g, c, k) = p.leads o f in
       let (b, is, h) = q.leads (record { now = at_comma t (in_object ps u e ∷ o); marked = m }) g in
       (object (snoc_member ps u e t), m, there (object_closed is) h, k);
 }
+
+pub more_members : {n : ℕ} {key : Bor (List ℕ)} {path : List Step} {first now : Walked} → MembersOf key path first now (suc n) → MembersOf key path first now (n + 1)
+more_members {n = n} {key = key} {path = path} {first = first} {now = now} p = let e : suc n ≡ n + 1 = omega arith in subst (λ m. MembersOf key path first now m) e p
 
 -- ---- results
 

@@ -1,14 +1,12 @@
--- Why an edit isn't made. `NoMemory` says nothing, and `Failed` only that the text is a document: it leaves open whether
--- the edit could be made.
+-- Why an edit isn't made. `NoMemory` says nothing. `find` and `set` never answer `Failed`; where another edit does, the
+-- text is a document, and whether the edit could be made is left open.
 use Rattle.std.specs.Prelude.{◌≡◌, ◌≢◌, ◌⊎◌, ℕ, ◌+◌, ◌-◌, List, [], ◌∷◌, ◌++◌, length, Some, ⊤}
 use Rattle.std.specs.Str.{chars}
-use Rattle.json5_grammar.specs.declared.error_code.ErrorCode.TheVariants as codes
 use Rattle.json5_grammar.specs.Faults.Refusals.{BlamesText}
 use Rattle.json5_grammar.specs.Language.Documents.{Doc, max_depth}
 use Rattle.json5_grammar.specs.Language.Trees.{Tree, object}
 use Rattle.json5_grammar.specs.Language.Values.{Val}
 use Rattle.json5_types.specs.declared.error.Error.{Error}
-use Rattle.json5_types.specs.Errors.{code, kind_of}
 use Rattle.json5_text.specs.Cursor.{Refused, IsOutOfMemory}
 use Rattle.json5_value.specs.declared.brackets.BracketKind.{BracketKind as Kind}
 use Rattle.json5_value.specs.declared.brackets.BracketKind.TheVariants as kind
@@ -64,16 +62,15 @@ EndsInNoKey path = (path ≡ []) ⊎ ((outer : List Step) × (i : ℕ) × (path 
 
 -- ---- the refusals of each call
 
--- `find`: with the text's fault, or without a document's fault where memory ran out or the code is `Failed`
+-- `find`: with the text's fault, or because memory ran out
 abbrev pub RefusesText : List ℕ → Error → Type 0
-RefusesText text e = IsOutOfMemory e ⊎ (IsFaulty text e ⊎ ((kind_of e ≡ code codes.Failed) × IsDocument text))
+RefusesText text e = IsOutOfMemory e ⊎ IsFaulty text e
 
 -- what every edit can be refused with
 abbrev pub RefusesPath : List ℕ → List Step → EditError → Type 0
 RefusesPath text path (error.Text e) = IsFaulty text e
 RefusesPath text path error.Nowhere = LeadsNowhere text path
 RefusesPath text path error.NoMemory = ⊤
-RefusesPath text path error.Failed = IsDocument text
 RefusesPath text path _ = ⊥
 
 -- `set`
@@ -84,12 +81,14 @@ RefusesSet text path new e = RefusesPath text path e
 -- `remove`
 abbrev pub RefusesRemove : List ℕ → List Step → EditError → Type 0
 RefusesRemove text path error.Nowhere = LeadsNowhere text path ⊎ (path ≡ [])
+RefusesRemove text path error.Failed = IsDocument text
 RefusesRemove text path e = RefusesPath text path e
 
 -- `push`
 abbrev pub RefusesPush : List ℕ → List Step → List ℕ → EditError → Type 0
 RefusesPush text path value error.NotArray = Reaches (IsNo kind.Array) text path
 RefusesPush text path value (error.Value e) = Misfits 1 text path value
+RefusesPush text path value error.Failed = IsDocument text
 RefusesPush text path value e = RefusesPath text path e
 
 -- `insert_element`: there is no element with the index
@@ -97,6 +96,7 @@ abbrev pub RefusesPutIn : List ℕ → List Step → ℕ → List ℕ → EditEr
 RefusesPutIn text path i value error.Nowhere = LeadsNowhere text (path ++ (step.Index i ∷ []))
 RefusesPutIn text path i value error.NotArray = Reaches (IsNo kind.Array) text path
 RefusesPutIn text path i value (error.Value e) = Misfits 1 text path value
+RefusesPutIn text path i value error.Failed = IsDocument text
 RefusesPutIn text path i value e = RefusesPath text path e
 
 -- `insert`
@@ -104,12 +104,14 @@ abbrev pub RefusesInsert : List ℕ → List Step → List ℕ → List ℕ → 
 RefusesInsert text path key value error.NotObject = Reaches (IsNo kind.Object) text path
 RefusesInsert text path key value error.Taken = Reaches (HasKey key) text path
 RefusesInsert text path key value (error.Value e) = Misfits 1 text path value
+RefusesInsert text path key value error.Failed = IsDocument text
 RefusesInsert text path key value e = RefusesPath text path e
 
 -- `rename`: the member's object has the new key
 abbrev pub RefusesRename : List ℕ → List Step → List ℕ → EditError → Type 0
 RefusesRename text path key error.NoKey = EndsInNoKey path
 RefusesRename text path key error.Taken = (outer : List Step) × (s : Step) × (path ≡ outer ++ (s ∷ [])) × Reaches (HasKey key) text outer
+RefusesRename text path key error.Failed = IsDocument text
 RefusesRename text path key e = RefusesPath text path e
 
 -- ---- within a collection's text

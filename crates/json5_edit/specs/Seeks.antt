@@ -1,12 +1,15 @@
 -- How the part of a value is found that a path leads to.
 use denote.Ref.{Bor}
-use Rattle.std.specs.Prelude.{◌≡◌, ℕ, Bool, true, false, nat_eq, List, [], ◌∷◌, Option, None, option_map}
+use Rattle.std.specs.Prelude.{◌≡◌, ℕ, Bool, true, false, nat_eq, List, [], ◌∷◌, Option, None, option_map, ⊤}
 use Rattle.std.specs.Cmp.Lexicographic.{pointwise}
 use Rattle.std.specs.Str.{encode_utf8_all}
 use Rattle.json5_grammar.specs.Language.Trees.{Tree, Members, no_more, no_member}
-use Rattle.json5_walk.specs.Frames.{Frame, in_object, At, at_value, at_element, at_key, at_comma, value_frames}
+use Rattle.json5_grammar.specs.Language.Blanks.{Solid}
+use Rattle.json5_types.specs.declared.error.Error.{Error}
+use Rattle.json5_types.specs.Errors.{LacksMemory}
+use Rattle.json5_walk.specs.Frames.{Frame, in_object, At, at_value, at_element, at_key, at_colon, at_comma, value_frames}
 use Rattle.json5_walk.specs.Moves.{Stays, TakesComma, Closes}
-use Rattle.json5_walk.specs.Walks.{Walked, Trail, IsAt, Moved, PassesValue}
+use Rattle.json5_walk.specs.Walks.{Walked, Trail, IsAt, Moved, PassesValue, IsDocumentWithin, AwaitsValue, NotClosed}
 use Rattle.json5_edit.specs.Parts.{positions, positions_of}
 use Rattle.json5_edit.specs.declared.paths.Step.{Step}
 use Rattle.json5_edit.specs.declared.paths.Step.TheVariants as step
@@ -55,3 +58,30 @@ pub data TakesName (key : List ℕ) (same : Bool) : At → At → Type 0 where
 
 abbrev pub Named : List ℕ → Bool → Walked → Walked → Type 0
 Named key same old new = Moved (TakesName key same) old new
+
+-- ---- refusals
+
+-- in a document this is answered only where memory was refused
+abbrev pub NeedsMemory : Walked → Error → Type 0
+NeedsMemory v e = IsDocumentWithin v.limit v.text → LacksMemory e
+
+-- the same where a value must come
+abbrev pub Spares : Walked → Error → Type 0
+Spares v e = (s : Trail) → IsAt v s → AwaitsValue v → NeedsMemory v e
+
+-- the same after a bracket that was just opened
+abbrev pub SparesFrom : (List Frame → At) → Walked → Error → Type 0
+SparesFrom opened v e = (o : List Frame) → IsAt v (record { now = opened o; marked = None }) → NeedsMemory v e
+
+-- blanks were taken, and no closing bracket
+abbrev pub Stands : Walked → Type 0
+Stands v = Solid v.unread × NotClosed v
+
+-- an element or a member has ended
+abbrev pub IsAfterEntry : At → Type 0
+IsAfterEntry (at_value o) = ⊥
+IsAfterEntry (at_element ts o) = ⊥
+IsAfterEntry (at_key ps o) = ⊥
+IsAfterEntry (at_colon ps u escape_free o) = ⊥
+IsAfterEntry (at_comma t []) = ⊥
+IsAfterEntry (at_comma t (f ∷ o)) = ⊤

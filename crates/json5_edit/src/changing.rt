@@ -16,7 +16,7 @@ use crate::pieces::{cut, grown, respelled};
 use crate::places::find_place;
 use crate::setting::{check_value, place_of, put_made};
 use json5_edit_layout::{
-    Added, Care, Collection, count_of, cut_for, growth_before, growth_for, index_of, respelling_for,
+    Added, Care, Collection, Which, cut_for, growth_before, growth_for, respelling_for,
 };
 use json5_text::scanner::Scanner;
 use json5_value::brackets::BracketKind;
@@ -46,8 +46,8 @@ pub fn remove(alloc: Global, text: &str, path: &[Step<'_>]) -> Result<String>
     };
     let place = place_of(alloc, text, outer)?;
     let old = part_text(text, place);
-    let index = index_in(alloc, old, *step)?;
-    let new = removed(alloc, old, *step, index)?;
+    check_step(alloc, old, *step)?;
+    let new = removed(alloc, old, *step)?;
     put_made(alloc, text, place, new.as_str())
 }
 
@@ -112,7 +112,7 @@ pub fn insert_element(
     if !begins(alloc, old, BracketKind::Array) {
         return Err(EditError::NotArray);
     }
-    index_in(alloc, old, Step::Index(index))?;
+    check_step(alloc, old, Step::Index(index))?;
     check_entry(alloc, value, place)?;
     let collection = collection(text, place);
     let new = put_in(alloc, &collection, old, index, value)?;
@@ -183,9 +183,9 @@ pub fn rename(alloc: Global, text: &str, path: &[Step<'_>], key: &str) -> Result
     }
     let place = place_of(alloc, text, outer)?;
     let old = part_text(text, place);
-    let index = index_in(alloc, old, *step)?;
+    check_step(alloc, old, *step)?;
     check_key(alloc, old, key)?;
-    let new = renamed(alloc, old, *step, index, key)?;
+    let new = renamed(alloc, old, *step, key)?;
     put_made(alloc, text, place, new.as_str())
 }
 
@@ -211,29 +211,22 @@ fn begins(alloc: Global, old: &str, kind: BracketKind) -> bool
     first == kind.brackets().opening
 }
 
-/// Refuses a step that goes to no entry of the collection, and returns how many come before its entry.
-fn index_in(alloc: Global, old: &str, step: Step<'_>) -> Result<usize>
+/// Refuses a step that goes to no entry of the collection.
+fn check_step(alloc: Global, old: &str, step: Step<'_>) -> Result<()>
     ensures { IfErr result (RefusesStep old.now step.entry) }
 {
     match find_place(alloc, old, &[step]) {
-        Ok(Some(_)) => entries_before(alloc, old, step),
+        Ok(Some(_)) => Ok(()),
         Ok(None) => Err(EditError::Nowhere),
         Err(error) => Err(EditError::of_made(error)),
     }
 }
 
-/// How many entries come before the one that the step goes to.
-fn entries_before(alloc: Global, old: &str, step: Step<'_>) -> Result<usize>
-    ensures { IfErr result IsOwn }
-{
-    let key = match step {
-        Step::Index(index) => return Ok(index),
-        Step::Key(key) => key,
-    };
-    match index_of(alloc, old, key) {
-        Ok(Some(index)) => Ok(index),
-        Ok(None) => Err(EditError::Failed),
-        Err(error) => Err(EditError::of_made(error)),
+/// The entry that the step goes to, in the layout's words.
+fn which(step: Step<'_>) -> Which<'_> {
+    match step {
+        Step::Key(key) => Which::Key(key),
+        Step::Index(index) => Which::Index(index),
     }
 }
 
@@ -248,26 +241,16 @@ fn check_key(alloc: Global, old: &str, key: &str) -> Result<()>
     }
 }
 
-/// How many entries there are.
-fn count(alloc: Global, old: &str) -> Result<usize>
-    ensures { IfErr result IsOwn }
-{
-    match count_of(alloc, old) {
-        Ok(count) => Ok(count),
-        Err(error) => Err(EditError::of_made(error)),
-    }
-}
-
 /// The collection without the entry: with its lines and comments, or else without what stands up to the next token.
-fn removed(alloc: Global, old: &str, step: Step<'_>, index: usize) -> Result<String>
+fn removed(alloc: Global, old: &str, step: Step<'_>) -> Result<String>
     ensures removed { IfOk result (λ new. ChangesBy (IsWithout step.entry) old.now (string_bytes new)) }
     ensures cuts { IfOk result (λ new. Cuts old.now (string_bytes new)) }
     ensures own { IfErr result IsOwn }
 {
     for care in [Care::Lines, Care::Tokens] {
-        let gone = laid(cut_for(alloc, care, old, index))?;
+        let gone = laid(cut_for(alloc, care, old, which(step)))?;
         let new = cut(alloc, old, gone)?;
-        match check_removed(alloc, old, new.as_str(), step, index) {
+        match check_removed(alloc, old, new.as_str(), step, gone.index) {
             Ok(()) => return Ok(new),
             Err(_) => {}
         }
@@ -288,12 +271,11 @@ fn added(
     ensures grows { IfOk result (λ new. Grows old.now (string_bytes new)) }
     ensures own { IfErr result IsOwn }
 {
-    let count = count(alloc, old)?;
     for care in [Care::Lines, Care::Tokens] {
         let added = Added { kind, key, value };
         let growth = laid(growth_for(alloc, care, collection, added))?;
         let new = grown(alloc, old, &growth)?;
-        match check_added(alloc, old, new.as_str(), count, kind, key, value) {
+        match check_added(alloc, old, new.as_str(), growth.count, kind, key, value) {
             Ok(()) => return Ok(new),
             Err(_) => {}
         }
@@ -325,14 +307,14 @@ fn put_in(
 }
 
 /// The object with another key for a member.
-fn renamed(alloc: Global, old: &str, step: Step<'_>, index: usize, key: &str) -> Result<String>
+fn renamed(alloc: Global, old: &str, step: Step<'_>, key: &str) -> Result<String>
     ensures renamed { IfOk result (λ new. ChangesBy (IsRenamed step.entry key.now) old.now (string_bytes new)) }
     ensures respells { IfOk result (λ new. Respells old.now (string_bytes new)) }
     ensures own { IfErr result IsOwn }
 {
-    let respelling = laid(respelling_for(alloc, old, index, key))?;
+    let respelling = laid(respelling_for(alloc, old, which(step), key))?;
     let new = respelled(alloc, old, &respelling)?;
-    match check_renamed(alloc, old, new.as_str(), step, index, key) {
+    match check_renamed(alloc, old, new.as_str(), step, respelling.index, key) {
         Ok(()) => Ok(new),
         Err(error) => Err(EditError::of_made(error)),
     }

@@ -44,7 +44,7 @@ impl EditError {
     /// Returns the error of an edit whose reading of the document ended with this fault.
     ///
     /// ```text
-    /// EditError::of_text(error)    // NoMemory where memory ran out, Failed where it says so, else Text
+    /// EditError::of_text(error)    // NoMemory where memory ran out, else Text
     /// ```
     pub fn of_text(error: Error) -> EditError
         ensures { (text : List ℕ) (path : List Step) → RefusesText text error → RefusesPath text path result }
@@ -54,7 +54,6 @@ impl EditError {
         };
         match code {
             ErrorCode::OutOfMemory => EditError::NoMemory,
-            ErrorCode::Failed => EditError::Failed,
             _ => EditError::Text(error),
         }
     }

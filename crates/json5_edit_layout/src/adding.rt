@@ -5,7 +5,7 @@ use crate::gaps::{Care, Gap, between};
 use crate::keys::key_for;
 use crate::lines::{begins_line, indentation, line_start};
 use crate::removing::joined;
-use crate::spots::{Around, Spot, find_around};
+use crate::spots::{Around, Spot, Which, find_around};
 use json5_types::ErrorCode;
 use json5_types::error::{Error, Result};
 use json5_value::brackets::BracketKind;
@@ -22,10 +22,12 @@ pub struct Added<'x> {
 /// What comes into a text: perhaps a comma, and after it a part in the place of blanks. Offsets are in bytes.
 ///
 /// ```text
-/// Growth { comma: true, at: 3, start: 3, end: 3, part }    // `[80, 443]` of `[80]`, where the part is ` 443`
+/// Growth { count: 1, comma: true, at: 3, start: 3, end: 3, part }    // `[80, 443]` of `[80]`, where the part is ` 443`
 /// ```
 #[derive(Drop)]
 pub struct Growth {
+    /// How many entries come before the new one.
+    pub count: usize,
     /// Whether a comma comes, and where.
     pub comma: bool,
     pub at: usize,
@@ -52,12 +54,12 @@ pub fn growth_for(
     collection: &Collection<'_>,
     added: Added<'_>,
 ) -> Result<Growth> {
-    let around = find_around(alloc, collection.text(), usize::MAX)?;
+    let around = find_around(alloc, collection.text(), Which::Index(usize::MAX))?;
     let entry = entry(alloc, collection, around, added)?;
     let inner = inner_indentation(alloc, collection)?;
     let (text, end) = (collection.text(), collection.line_end());
     let (entry, inner) = (entry.as_str(), inner.as_str());
-    match around.before {
+    let growth = match around.before {
         Some(last) => after_last(alloc, care, text, around.close, last, end, inner, entry),
         None => {
             let blank = blank_beside(added.kind);
@@ -74,6 +76,16 @@ pub fn growth_for(
                 entry,
             )
         }
+    }?;
+    Ok(growth.after(around.count))
+}
+
+impl Growth {
+    /// The same after so many entries.
+    fn after(self, count: usize) -> Growth {
+        let mut growth = self;
+        growth.count = count;
+        growth
     }
 }
 
@@ -90,7 +102,7 @@ pub fn growth_for(
 /// As reading, if the text is no value; `OutOfMemory` where there is no memory for the blanks.
 pub fn entry_indentation(alloc: Global, collection: &Collection<'_>) -> Result<String> {
     let text = collection.text();
-    match find_around(alloc, text, usize::MAX)?.before {
+    match find_around(alloc, text, Which::Index(usize::MAX))?.before {
         Some(last) if begins_line(text, last.start) => {
             joined(alloc, &[indentation(text, last.start)])
         }
@@ -118,7 +130,7 @@ pub fn growth_before(
     value: &str,
 ) -> Result<Growth> {
     let text = collection.text();
-    let around = find_around(alloc, text, index)?;
+    let around = find_around(alloc, text, Which::Index(index))?;
     let Some(here) = around.here else {
         return Err(Error::new(ErrorCode::Failed));
     };
@@ -129,13 +141,14 @@ pub fn growth_before(
     let gap = Gap::of(care, text, from, here.start);
     let entry = joined(alloc, &[value])?;
     let (entry, end) = (entry.as_str(), collection.line_end());
-    match care {
+    let growth = match care {
         Care::Lines if begins_line(text, here.start) => {
             let indent = indentation(text, here.start);
             before_at(alloc, gap.lead, indent, entry, end)
         }
         _ => before_at(alloc, gap.own, "", entry, blank_before(text, here)),
-    }
+    }?;
+    Ok(growth.after(index))
 }
 
 /// Puts it at this offset, before another: with these blanks before it, and these after its comma.
@@ -147,6 +160,7 @@ fn before_at<'x>(
     blank: &'x str,
 ) -> Result<Growth> {
     Ok(Growth {
+        count: 0,
         comma: false,
         at,
         start: at,
@@ -207,6 +221,7 @@ fn after_last<'x>(
         _ => (gap.tail, blank_before(text, last), ""),
     };
     Ok(Growth {
+        count: 0,
         comma,
         at,
         start: gap.tail,
@@ -271,6 +286,7 @@ fn put_at<'x>(
     entry: &'x str,
 ) -> Result<Growth> {
     Ok(Growth {
+        count: 0,
         comma: false,
         at,
         start: at,
@@ -282,6 +298,7 @@ fn put_at<'x>(
 /// Puts these alone between the brackets.
 fn alone<'x>(alloc: Global, close: usize, parts: [&'x str; 5]) -> Result<Growth> {
     Ok(Growth {
+        count: 0,
         comma: false,
         at: 1,
         start: 1,

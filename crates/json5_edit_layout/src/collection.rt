@@ -2,7 +2,7 @@
 
 use crate::gaps::between;
 use crate::lines::{begins_line, indentation, line_end};
-use crate::spots::find_around;
+use crate::spots::first_start;
 use json5_types::error::Result;
 use std::alloc::Global;
 
@@ -36,12 +36,12 @@ impl<'t> Collection<'t> {
 
     /// By how much the document indents: as its first entry stands, or two blanks.
     pub(crate) fn step(&self, alloc: Global) -> Result<&'t str> {
-        let Some(spot) = find_around(alloc, self.document, 0)?.here else {
+        let Some(start) = first_start(alloc, self.document)? else {
             return Ok("  ");
         };
-        if !begins_line(self.document, spot.start) {
+        if !begins_line(self.document, start) {
             return Ok("  ");
         }
-        Ok(indentation(self.document, spot.start))
+        Ok(indentation(self.document, start))
     }
 }

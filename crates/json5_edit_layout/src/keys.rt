@@ -2,7 +2,7 @@
 
 use crate::collection::Collection;
 use crate::gaps::between;
-use crate::spots::{find_around, next_spot, opened};
+use crate::spots::{Which, find_around, next_spot, opened};
 use json5_types::ErrorCode;
 use json5_types::error::{Error, Result};
 use std::alloc::{AllocError, Global};
@@ -19,27 +19,35 @@ struct Habit {
 /// Another key for a member, and where its old one begins, in bytes.
 ///
 /// ```text
-/// Respelling { at: 2, key }    // of `{ 'a': 1 }`, where the key is `'b'`
+/// Respelling { index: 0, at: 2, key }    // of `{ 'a': 1 }`, where the key is `'b'`
 /// ```
 #[derive(Drop)]
 pub struct Respelling {
+    /// How many members come before it.
+    pub index: usize,
     pub at: usize,
     pub key: String,
 }
 
-/// Returns how the key is spelled for the member with this index of the object: in the same quotes as its old one, or
-/// without, if that has none and the new one is a name.
+/// Returns how the key is spelled for this member of the object: in the same quotes as its old one, or without, if that
+/// has none and the new one is a name.
 ///
 /// ```text
-/// respelling_for(alloc, "{ 'a': 1 }", 0, "b")?    // 'b' at 2
+/// respelling_for(alloc, "{ 'a': 1 }", Which::Key("a"), "b")?    // 'b' at 2
 /// ```
 ///
 /// # Errors
 ///
 /// - `Failed`, if there is no such member.
 /// - As reading, if the text is no value; `OutOfMemory` where there is no memory for the text.
-pub fn respelling_for(alloc: Global, text: &str, index: usize, key: &str) -> Result<Respelling> {
-    let Some(here) = find_around(alloc, text, index)?.here else {
+pub fn respelling_for(
+    alloc: Global,
+    text: &str,
+    which: Which<'_>,
+    key: &str,
+) -> Result<Respelling> {
+    let around = find_around(alloc, text, which)?;
+    let Some(here) = around.here else {
         return Err(Error::new(ErrorCode::Failed));
     };
     let habit = match quote_of(between(text, here.start, here.key_end)) {
@@ -53,6 +61,7 @@ pub fn respelling_for(alloc: Global, text: &str, index: usize, key: &str) -> Res
         },
     };
     Ok(Respelling {
+        index: around.index,
         at: here.start,
         key: spelled(alloc, habit, key)?,
     })

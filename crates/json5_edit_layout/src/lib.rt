@@ -17,4 +17,4 @@ pub use gaps::Care;
 pub use keys::{Respelling, respelling_for};
 pub use lines::indentation;
 pub use removing::{Cut, cut_for};
-pub use spots::{count_of, index_of};
+pub use spots::Which;

@@ -4,13 +4,12 @@ use crate::gaps::{between, is_line_end};
 
 /// Where the line begins on which this offset stands.
 pub(crate) fn line_start(text: &str, at: usize) -> usize {
-    let mut start = 0;
-    for (offset, c) in between(text, 0, at).char_indices() {
+    for (offset, c) in between(text, 0, at).char_indices().rev() {
         if is_line_end(c) {
-            start = offset.saturating_add(c.len_utf8());
+            return offset.saturating_add(c.len_utf8());
         }
     }
-    start
+    0
 }
 
 /// Returns the blanks at the beginning of the line on which this offset stands.

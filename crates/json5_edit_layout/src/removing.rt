@@ -2,7 +2,7 @@
 
 use crate::gaps::{Care, Gap, between};
 use crate::lines::after_empty_line;
-use crate::spots::{Around, Spot, find_around};
+use crate::spots::{Around, Spot, Which, find_around};
 use json5_types::ErrorCode;
 use json5_types::error::{Error, Result};
 use std::alloc::Global;
@@ -10,28 +10,30 @@ use std::alloc::Global;
 /// What goes from a text: a part, and perhaps a comma before it. Offsets are in bytes.
 ///
 /// ```text
-/// Cut { comma: Some(5), start: 7, end: 11 }    // the `b: 2` of `{ a: 1, b: 2 }`, and the comma before it
+/// Cut { index: 1, comma: Some(6), start: 7, end: 12 }    // the ` b: 2` of `{ a: 1, b: 2 }`, and the comma before it
 /// ```
 #[derive(Clone, Copy, Drop)]
 pub struct Cut {
+    /// How many entries come before the one that goes.
+    pub index: usize,
     pub comma: Option<usize>,
     pub start: usize,
     pub end: usize,
 }
 
-/// Returns what goes from the collection's text with the entry with this index: with its comma, the comments that
-/// belong to it, and its line, if it has one to itself.
+/// Returns what goes from the collection's text with this entry: with its comma, the comments that belong to it, and
+/// its line, if it has one to itself.
 ///
 /// ```text
-/// cut_for(alloc, Care::Lines, "{ a: 1, /* b */ b: 2 }", 1)?    // leaves { a: 1 }
+/// cut_for(alloc, Care::Lines, "{ a: 1, /* b */ b: 2 }", Which::Key("b"))?    // leaves { a: 1 }
 /// ```
 ///
 /// # Errors
 ///
 /// - `Failed`, if there is no such entry.
 /// - As reading, if the text is no value; `OutOfMemory` where there is no memory for a key with an escape.
-pub fn cut_for(alloc: Global, care: Care, text: &str, index: usize) -> Result<Cut> {
-    let around = find_around(alloc, text, index)?;
+pub fn cut_for(alloc: Global, care: Care, text: &str, which: Which<'_>) -> Result<Cut> {
+    let around = find_around(alloc, text, which)?;
     match around.here {
         Some(here) => Ok(cut_of(care, text, around, here)),
         None => Err(Error::new(ErrorCode::Failed)),
@@ -61,6 +63,7 @@ fn cut_of(care: Care, text: &str, around: Around, here: Spot) -> Cut {
     let (start, end) = part(text, around, from, left, right);
     if around.count == 1 && !has_comment(text, 1, start) && !has_comment(text, end, around.close) {
         return Cut {
+            index: around.index,
             comma: None,
             start: 1,
             end: around.close,
@@ -68,11 +71,17 @@ fn cut_of(care: Care, text: &str, around: Around, here: Spot) -> Cut {
     }
     match comma_before(around, here) {
         Some(comma) if start == from => Cut {
+            index: around.index,
             comma: None,
             start: comma,
             end,
         },
-        comma => Cut { comma, start, end },
+        comma => Cut {
+            index: around.index,
+            comma,
+            start,
+            end,
+        },
     }
 }
 

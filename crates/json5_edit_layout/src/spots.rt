@@ -31,76 +31,81 @@ impl Spot {
     }
 }
 
+/// Which entry is meant.
+///
+/// ```text
+/// Which::Key("a")    // of `{ a: 1, b: 2, a: 3 }` the third
+/// ```
+#[derive(Clone, Copy, Drop)]
+pub enum Which<'k> {
+    /// The last member with this key.
+    Key(&'k str),
+    /// The entry that so many others come before.
+    Index(usize),
+}
+
+impl<'k> Which<'k> {
+    /// Whether it may be the entry with this index and this key.
+    fn fits(self, index: usize, key: &str) -> bool {
+        match self {
+            Which::Key(wanted) => key == wanted,
+            Which::Index(wanted) => index == wanted,
+        }
+    }
+}
+
 /// An entry, those beside it, and where the closing bracket begins.
 #[derive(Clone, Copy, Drop)]
 pub(crate) struct Around {
     pub(crate) before: Option<Spot>,
     pub(crate) here: Option<Spot>,
     pub(crate) after: Option<Spot>,
+    /// How many come before it.
+    pub(crate) index: usize,
     /// How many there are in all.
     pub(crate) count: usize,
     pub(crate) close: usize,
 }
 
-/// Returns the index of the last member with the key, or None.
-///
-/// ```text
-/// index_of(alloc, "{ a: 1, b: 2 }", "b")?    // Some(1)
-/// ```
-///
-/// # Errors
-///
-/// As reading, if the text is no value; `OutOfMemory` where there is no memory for a key with an escape.
-pub fn index_of(alloc: Global, text: &str, key: &str) -> Result<Option<usize>> {
+/// Where the first entry begins, or None if there is none.
+pub(crate) fn first_start(alloc: Global, text: &str) -> Result<Option<usize>> {
     let mut walk = opened(alloc, text)?;
-    let mut found = None;
-    for index in 0..text.len() {
-        let Some((_, name)) = next_spot(&mut walk)? else {
-            return Ok(found);
-        };
-        if name.as_str() == key {
-            found = Some(index);
-        }
+    walk.gap()?;
+    if walk.close().is_some() {
+        return Ok(None);
     }
-    Ok(found)
+    Ok(Some(walk.offset()))
 }
 
-/// Returns how many entries there are.
-///
-/// ```text
-/// count_of(alloc, "[80, 443]")?    // 2
-/// ```
-///
-/// # Errors
-///
-/// As [`index_of`].
-pub fn count_of(alloc: Global, text: &str) -> Result<usize> {
-    Ok(find_around(alloc, text, usize::MAX)?.count)
-}
-
-/// The entry with this index, and what is beside it.
-pub(crate) fn find_around(alloc: Global, text: &str, index: usize) -> Result<Around> {
+/// The entry that is meant, and what is beside it; where there is none, the last entry is before it.
+pub(crate) fn find_around(alloc: Global, text: &str, which: Which<'_>) -> Result<Around> {
     let mut walk = opened(alloc, text)?;
+    let mut last = None;
     let mut around = Around {
         before: None,
         here: None,
         after: None,
+        index: 0,
         count: 0,
         close: 0,
     };
     for count in 0..text.len() {
-        let Some((spot, _)) = next_spot(&mut walk)? else {
+        let Some((spot, key)) = next_spot(&mut walk)? else {
             around.count = count;
             around.close = text.len().saturating_sub(1);
             return Ok(around);
         };
-        if count == index {
+        if which.fits(count, key.as_str()) {
+            around.before = last;
             around.here = Some(spot);
-        } else if count < index {
+            around.after = None;
+            around.index = count;
+        } else if around.here.is_none() {
             around.before = Some(spot);
         } else if around.after.is_none() {
             around.after = Some(spot);
         }
+        last = Some(spot);
     }
     Err(Error::new(ErrorCode::Failed))
 }

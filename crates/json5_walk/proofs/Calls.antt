@@ -1,12 +1,12 @@
 -- What each call of a walk does.
 use Rattle.std.proofs.Common.{◌≡◌, ℕ, ◌+◌, ◌≤◌, ◌<◌, ◌-◌, Bool, true, false, List, [], ◌∷◌, ◌++◌, length, refl, ap, sym, ◌∙◌, append_assoc, arith, subst, Option, Some, None, drop}
-use Rattle.std.specs.Prelude.{slice_get, option_to_list}
+use Rattle.std.specs.Prelude.{slice_get, option_to_list, IsSome, ◌↔◌}
 use Rattle.std.specs.Str.{chars, IsUtf8, IsCharBoundary, all_scalars, encode_utf8_all}
 use Rattle.std.proofs.lemmas.Str.{encodes-chars, encodes-append, chars-encodes, IsCharBoundary-at_seam}
 use Rattle.std.proofs.lemmas.List.{length-append}
 use Rattle.std.proofs.Math.Seq.{drop-append_seam}
 use Rattle.json5_grammar.specs.Faults.Fronts.{BracketKind}
-use Rattle.json5_grammar.specs.Language.Blanks.{Blanks, LastBlanks, Gap}
+use Rattle.json5_grammar.specs.Language.Blanks.{Blanks, LastBlanks, Gap, Solid}
 use Rattle.json5_grammar.specs.Language.Documents.{Doc, max_depth}
 use Rattle.json5_grammar.specs.Language.Names.{Key}
 use Rattle.json5_grammar.specs.Language.Trees.{Tree, null, boolean, number, text, depth}
@@ -17,7 +17,7 @@ use Rattle.json5_grammar.specs.Model.Collections.{IsSign, ReadsKey}
 use Rattle.json5_grammar.specs.Model.Reading.{Read, got, bad}
 use Rattle.json5_grammar.specs.Model.ReadSteps.{forget}
 use Rattle.json5_grammar.specs.Model.ReadValues.{read}
-use Rattle.json5_grammar.proofs.OneTree.{phrase_document}
+use Rattle.json5_grammar.proofs.OneTree.{document_phrase, phrase_document}
 use Rattle.json5_grammar.proofs.BlanksSound.{gap_end}
 use Rattle.json5_grammar.proofs.ValueHeads.{val_head}
 use Rattle.json5_grammar.proofs.ValuesSound.{text_stops, read_sound}
@@ -36,10 +36,10 @@ use Rattle.json5_walk.specs.declared.next.Next.{Next}
 use Rattle.json5_walk.specs.declared.next.Next.TheVariants as next
 use Rattle.json5_walk.specs.declared.place.Place.{Place}
 use Rattle.json5_walk.specs.Nexts.{takes_value}
-use Rattle.json5_walk.specs.Frames.{Frame, in_array, in_object, Fits, At, at_value, at_element, at_key, at_colon, at_comma, next_of, kinds_of, value_frames, CompletesTo}
+use Rattle.json5_walk.specs.Frames.{Frame, in_array, in_object, Fits, Until, text_end, value_end, Spells, At, at_value, at_element, at_key, at_colon, at_comma, next_of, kinds_of, value_frames, CompletesUntil, CompletesTo}
 use Rattle.json5_walk.specs.Moves.{Stays, TakesValue, takes, Opens, TakesKeyOf, TakesColon, TakesComma, Closes}
-use Rattle.json5_walk.specs.Walks.{kinds_onto, kinds_in, count_in, member_next, may_close, Walked, at_start, room_of, Trail, IsMarked, IsAt, Live, IsWalk, Moved, MovedMarking, Unmarked, IsDocument, IsDocumentWithin, Ends}
-use Rattle.json5_walk.proofs.Rests.{append_nil, reads_gap, token_reads, value_kinds, value_count, Move, gap_move, value_completes, value_move, key_move, colon_move, comma_move, open_move, close_move}
+use Rattle.json5_walk.specs.Walks.{kinds_onto, kinds_in, IsInnermost, count_in, member_next, may_close, Walked, at_start, room_of, Trail, IsMarked, IsAt, Live, IsWalk, Moved, MovedMarking, Unmarked, IsDocument, IsDocumentWithin, Ends}
+use Rattle.json5_walk.proofs.Rests.{append_nil, reads_gap, token_reads, value_kinds, value_count, Move, gap_move, inner_value, value_completes, value_due, value_move, key_move, colon_move, comma_move, open_move, close_move}
 
 -- ---- the open brackets
 
@@ -62,6 +62,17 @@ kinds_left None bs less e = ap (kinds_onto []) (sym (append_all less) ∙ sym e)
     append_all [] = refl
     append_all (x ∷ xs) = ap (λ z. x ∷ z) (append_all xs)
 kinds_left (Some b) bs less e = sym (kinds_push [] less b) ∙ ap (kinds_onto []) (sym e)
+
+-- the bracket that was popped is the innermost
+pub none_popped : (bs less : List OpenBracket) (i : Option OpenBracket) → bs ≡ less ++ option_to_list i → (IsSome i ↔ (0 < length bs)) → IsInnermost i less
+none_popped bs less (Some b) e k = tt
+none_popped bs [] None e k = refl
+none_popped bs (b ∷ less) None e k = let h : false ≡ true = k.1 (let n = ap length e in omega (arith, n)) in absurd (cc)
+
+-- no bracket is open
+pub none_open : (i : Option OpenBracket) (bs : List OpenBracket) → i ≡ None → IsInnermost i bs → kinds_in i bs ≡ []
+none_open None bs e k = ap (kinds_onto []) k
+none_open (Some b) bs e k = absurd (cc)
 
 inner_kinds : (i : Option OpenBracket) (bs : List OpenBracket) (b : OpenBracket) → i ≡ Some b → kinds_in i bs ≡ bracket_of b.kind ∷ kinds_onto [] bs
 inner_kinds i bs b e = ap (λ z. kinds_in z bs) e
@@ -107,8 +118,10 @@ goes_on v s f c y m p Step e l k = record {
   split = f.split ∙ ap (λ z. f.front ++ z) e ∙ sym (append_assoc f.front c y);
   is_next = k.is_next;
   is_kinds = k.is_kinds;
-  goes = λ z w n h. subst (λ x. Doc v.limit x w) (sym (append_assoc f.front c z)) (f.goes (c ++ z) w (still_ends c v.unread y z e n) (k.step z w n h));
-  marked = marked_rest v.limit v.text (CompletesTo v.limit s.now v.unread) (CompletesTo v.limit k.to y) v.place s.marked (λ w h. subst (λ x. CompletesTo v.limit s.now x w) (sym e) (k.step y w (λ n. n) h)) f.marked;
+  goes = λ z w n h. subst (λ x. Doc v.limit x w) (sym (append_assoc f.front c z)) (f.goes (c ++ z) w (still_ends c v.unread y z e n) (k.step text_end z w refl n h));
+  exact = λ i z w n h. subst (λ x. Spells value_end v.limit x w) (sym (append_assoc f.front c z)) (f.exact (k.inner i) (c ++ z) w (still_ends c v.unread y z e n) (k.step value_end z w i n h));
+  back = λ end w d. k.back end w (subst (λ x. CompletesUntil end v.limit s.now x w) e (f.back end w d));
+  marked = marked_rest v.limit v.text (CompletesTo v.limit s.now v.unread) (CompletesTo v.limit k.to y) v.place s.marked (λ w h. subst (λ x. CompletesTo v.limit s.now x w) (sym e) (k.step text_end y w refl (λ n. n) h)) f.marked;
 }
 
 moved : (v : Walked) (c y : List ℕ) (m : Next) (p : List BracketKind) (Step : At → At → Type 0) → v.unread ≡ c ++ y → ((s : Trail) → IsAt v s → (length p ≤ v.limit) × Move v.limit s.now c y m p Step) → Moved Step v (after_token v y p m)
@@ -133,8 +146,12 @@ keeps_marking {old = old} {new = new} w l k = record {
 
 -- ---- what each call does
 
+whole_due : (limit : ℕ) (e : Until) (x : List ℕ) (w : Tree) → Spells e limit x w → CompletesUntil e limit (at_value []) x w
+whole_due limit text_end x w d = let (r, p, l, s) = document_phrase limit x w d in (w, r, p, omega (arith, s), (l, refl))
+whole_due limit value_end x w (p, s) = (w, [], p, omega (arith, s), (refl, refl))
+
 pub starts_at : {bytes : List ℕ} {limit : ℕ} → IsUtf8 bytes → IsAt (at_start bytes limit) (record { now = at_value []; marked = None })
-starts_at {limit = limit} u = record {
+starts_at {bytes = bytes} {limit = limit} u = record {
   fits = omega arith;
   is_text = u;
   front = [];
@@ -142,6 +159,8 @@ starts_at {limit = limit} u = record {
   is_next = refl;
   is_kinds = refl;
   goes = λ z w n (t, r, p, d, (b, is)). subst (λ x. Doc limit z x) (sym is) (phrase_document limit z r t p b (omega (arith, d)));
+  exact = λ i z w n (t, r, p, d, (b, is)). subst (λ x. Spells value_end limit z x) (sym is) (subst (λ q. Reads z t q) b p, omega (arith, d));
+  back = λ end w d. whole_due limit end (chars bytes) w d;
   marked = tt;
 }
 
@@ -149,7 +168,7 @@ pub starts : {bytes : List ℕ} {limit : ℕ} → IsUtf8 bytes → limit ≤ max
 starts u l = record { small = l; live = λ h. (record { now = at_value []; marked = None }, starts_at u) }
 
 pub unmarks : {old : Walked} → Unmarked old (record { text = old.text; unread = old.unread; limit = old.limit; kinds = old.kinds; next = old.next; place = None })
-unmarks {old = old} = record { text = refl; limit = refl; same_next = refl; same_kinds = refl; leads = λ s f. record { fits = f.fits; is_text = f.is_text; front = f.front; split = f.split; is_next = f.is_next; is_kinds = f.is_kinds; goes = f.goes; marked = tt } }
+unmarks {old = old} = record { text = refl; limit = refl; same_next = refl; same_kinds = refl; same_unread = refl; leads = λ s f. record { fits = f.fits; is_text = f.is_text; front = f.front; split = f.split; is_next = f.is_next; is_kinds = f.is_kinds; goes = f.goes; exact = f.exact; back = f.back; marked = tt } }
 
 pub keeps_unmarked : {old new : Walked} → IsWalk old → Unmarked old new → IsWalk new
 keeps_unmarked {old = old} {new = new} w k = record {
@@ -157,9 +176,9 @@ keeps_unmarked {old = old} {new = new} w k = record {
   live = λ h. let (s, f) = w.live (subst Live k.same_next h) in (record { now = s.now; marked = None }, k.leads s f);
 }
 
-pub gap_moves : {old : Walked} {y : List ℕ} (w : List ℕ) → old.unread ≡ w ++ y → Gap w y → Moved Stays old (after_token old y old.kinds old.next)
-gap_moves {old = old} {y = y} w e g =
-    moved old w y old.next old.kinds Stays e (λ s f. (f.fits, subst (λ p. Move old.limit s.now w y old.next p Stays) f.is_kinds (subst (λ n. Move old.limit s.now w y n (kinds_of s.now) Stays) f.is_next (gap_move old.limit s.now w y g))))
+pub gap_moves : {old : Walked} {y : List ℕ} (w : List ℕ) → old.unread ≡ w ++ y → Gap w y → Solid y → Moved Stays old (after_token old y old.kinds old.next)
+gap_moves {old = old} {y = y} w e g solid =
+    moved old w y old.next old.kinds Stays e (λ s f. (f.fits, subst (λ p. Move old.limit s.now w y old.next p Stays) f.is_kinds (subst (λ n. Move old.limit s.now w y n (kinds_of s.now) Stays) f.is_next (gap_move old.limit s.now w y g solid))))
 
 due : {old : Walked} (s : Trail) → IsAt old s → true ≡ takes_value old.next → true ≡ takes_value (next_of s.now)
 due s f v = v ∙ ap takes_value (sym f.is_next)
@@ -340,7 +359,9 @@ mark_moves {old = old} {y = y} p v r k start end = record {
           split = all;
           is_next = refl;
           is_kinds = value_kinds s.now d ∙ f.is_kinds;
-          goes = λ z w n c. subst (λ x. Doc old.limit x w) (sym (append_assoc f.front k.taken z)) (f.goes (k.taken ++ z) w (λ e. absurd (begun k e)) (value_completes old.limit s.now [] k.taken z k.tree w d Blanks.empty k.value (room_fits old.limit (length o) (depth k.tree) p.room l room k.shallow) c));
+          goes = λ z w n c. subst (λ x. Doc old.limit x w) (sym (append_assoc f.front k.taken z)) (f.goes (k.taken ++ z) w (λ e. absurd (begun k e)) (value_completes old.limit text_end s.now [] k.taken z k.tree w d Blanks.empty k.value (room_fits old.limit (length o) (depth k.tree) p.room l room k.shallow) c));
+          exact = λ i z w n c. subst (λ x. Spells value_end old.limit x w) (sym (append_assoc f.front k.taken z)) (f.exact (inner_value s.now d) (k.taken ++ z) w (λ e. absurd (begun k e)) (value_completes old.limit value_end s.now [] k.taken z k.tree w d Blanks.empty k.value (room_fits old.limit (length o) (depth k.tree) p.room l room k.shallow) c));
+          back = λ end w h. value_due old.limit end s.now old.unread y k.tree w d (token_reads old.unread k.taken y k.tree k.split k.value k.stops) (f.back end w h);
           marked = record {
             before = f.front;
             old = k.taken;

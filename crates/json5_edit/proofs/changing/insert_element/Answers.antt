@@ -29,10 +29,10 @@ returns-in_err-place-clause-refused c =
 pub returns-then-not-begins-clause-refused : goal.returns-then-not-begins-clause-refused
 returns-then-not-begins-clause-refused c = reaches_no c.args.text.now c.part_text-old.result.now c.args.path.now c.in_ok-place.place c.utf8.text c.in_ok-place.ensures.found c.part_text-old.ensures kind.Array (c.if-not-begins.ensures refl)
 
-pub returns-in_err-index_in-clause-refused : goal.returns-in_err-index_in-clause-refused
-returns-in_err-index_in-clause-refused c =
-    let (y, is, from) = err_from_is_err_and c.from_residual-in_err-index_in.result c.from_residual-in_err-index_in.ensures.1 in
-    rw (is, from) (step_put_in c.args.text.now c.part_text-old.result.now c.args.path.now c.in_ok-place.place c.utf8.text c.in_ok-place.ensures.found c.part_text-old.ensures c.args.value.now c.args.index c.in_err-index_in.field-0.0 c.in_err-index_in.ensures)
+pub returns-in_err-check_step-clause-refused : goal.returns-in_err-check_step-clause-refused
+returns-in_err-check_step-clause-refused c =
+    let (y, is, from) = err_from_is_err_and c.from_residual-in_err-check_step.result c.from_residual-in_err-check_step.ensures.1 in
+    rw (is, from) (step_put_in c.args.text.now c.part_text-old.result.now c.args.path.now c.in_ok-place.place c.utf8.text c.in_ok-place.ensures.found c.part_text-old.ensures c.args.value.now c.args.index c.in_err-check_step.field-0.0 c.in_err-check_step.ensures)
 
 pub returns-in_err-check_entry-clause-refused : goal.returns-in_err-check_entry-clause-refused
 returns-in_err-check_entry-clause-refused c =

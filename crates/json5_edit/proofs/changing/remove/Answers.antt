@@ -26,10 +26,10 @@ returns-in_err-place-clause-refused c =
     let (y, is, from) = err_from_is_err_and c.from_residual.result c.from_residual.ensures.1 in
     rw (is, from) (path_remove c.args.text.now c.args.path.now c.in-Some.outer.now c.in-Some.step.now c.in_err-place.field-0.0 c.in-Some.ensures.cases.0 c.in_err-place.ensures.refused)
 
-pub returns-in_err-index-clause-refused : goal.returns-in_err-index-clause-refused
-returns-in_err-index-clause-refused c =
-    let (y, is, from) = err_from_is_err_and c.from_residual-in_err-index.result c.from_residual-in_err-index.ensures.1 in
-    rw (is, from) (step_remove c.args.text.now c.part_text-old.result.now c.in-Some.outer.now c.in_ok-place.place c.utf8.text c.in_ok-place.ensures.found c.part_text-old.ensures c.args.path.now c.in-Some.step.now c.in_err-index.field-0.0 c.in-Some.ensures.cases.0 c.in_err-index.ensures)
+pub returns-in_err-check_step-clause-refused : goal.returns-in_err-check_step-clause-refused
+returns-in_err-check_step-clause-refused c =
+    let (y, is, from) = err_from_is_err_and c.from_residual-in_err-check_step.result c.from_residual-in_err-check_step.ensures.1 in
+    rw (is, from) (step_remove c.args.text.now c.part_text-old.result.now c.in-Some.outer.now c.in_ok-place.place c.utf8.text c.in_ok-place.ensures.found c.part_text-old.ensures c.args.path.now c.in-Some.step.now c.in_err-check_step.field-0.0 c.in-Some.ensures.cases.0 c.in_err-check_step.ensures)
 
 pub returns-in_err-new-clause-refused : goal.returns-in_err-new-clause-refused
 returns-in_err-new-clause-refused c =

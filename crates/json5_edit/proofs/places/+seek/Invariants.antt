@@ -18,5 +18,5 @@ decreases-seek_or_skip l = 3 * length l.path.now + 1
 abbrev pub invariant-seek_element-loop-count : goal.invariant-seek_element-loop-count
 invariant-seek_element-loop-count l = Elements l.fn.index l.fn.path l.fn.walk l.walk l.count
 
-abbrev pub invariant-seek_member-loop : goal.invariant-seek_member-loop
-invariant-seek_member-loop l = (k : Bor (List ℕ)) → k.now ≡ l.fn.key → MembersOf k l.fn.path l.fn.walk l.walk
+abbrev pub invariant-seek_member-loop-passed : goal.invariant-seek_member-loop-passed
+invariant-seek_member-loop-passed l = (k : Bor (List ℕ)) → k.now ≡ l.fn.key → MembersOf k l.fn.path l.fn.walk l.walk l.passed

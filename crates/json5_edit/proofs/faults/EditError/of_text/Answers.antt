@@ -1,15 +1,11 @@
-use Rattle.std.proofs.Common.{◌≡◌, ap, sym, ◌∙◌, Some, None}
+use Rattle.std.proofs.Common.{◌≡◌, sym, ◌∙◌, Some, None}
 use Rattle.json5_grammar.specs.declared.error_code.ErrorCode.TheVariants as codes
-use Rattle.json5_edit.proofs.Refused.{is_faulty, is_document}
+use Rattle.json5_edit.proofs.Refused.{is_faulty}
 use Rattle.json5_edit.proofs.faults.EditError.of_text.Goals as goal
 
 pub returns-in_default : goal.returns-in_default
-returns-in_default c = λ bytes path r. is_faulty bytes c.args.error (λ h. let k : Some codes.OutOfMemory ≡ None = sym h ∙ sym c.code.ensures ∙ c.in_default.is in absurd (cc)) (λ h. let k : Some codes.Failed ≡ None = sym h ∙ sym c.code.ensures ∙ c.in_default.is in absurd (cc)) r
-
-pub returns-in-Failed : goal.returns-in-Failed
-returns-in-Failed c = λ bytes path r. is_document bytes c.args.error (sym c.code.ensures ∙ c.in-Some.is ∙ ap Some c.in-Failed.is) r
+returns-in_default c = λ bytes path r. is_faulty bytes c.args.error (λ h. let k : Some codes.OutOfMemory ≡ None = sym h ∙ sym c.code.ensures ∙ c.in_default.is in absurd (cc)) r
 
 pub returns-in_default-code : goal.returns-in_default-code
 returns-in_default-code c = λ bytes path r. is_faulty bytes c.args.error
-    (λ h. let k : Some c.in-Some.code ≡ Some codes.OutOfMemory = sym c.in-Some.is ∙ c.code.ensures ∙ h in let same : c.in-Some.code ≡ codes.OutOfMemory = cc in c.in_default-code.not-OutOfMemory same)
-    (λ h. let k : Some c.in-Some.code ≡ Some codes.Failed = sym c.in-Some.is ∙ c.code.ensures ∙ h in let same : c.in-Some.code ≡ codes.Failed = cc in c.in_default-code.not-Failed same) r
+    (λ h. let k : Some c.in-Some.code ≡ Some codes.OutOfMemory = sym c.in-Some.is ∙ c.code.ensures ∙ h in let same : c.in-Some.code ≡ codes.OutOfMemory = cc in c.in_default-code.not-OutOfMemory same) r

@@ -2,4 +2,4 @@ use Rattle.json5_walk.proofs.Calls.{unmarks, keeps_unmarked}
 use Rattle.json5_walk.proofs.walk.Walk.unmark.Goals as goal
 
 pub invariant_of-self : goal.invariant_of-self
-invariant_of-self c = keeps_unmarked c.self.invariant unmarks
+invariant_of-self c = (keeps_unmarked c.self.invariant.0 unmarks, c.self.invariant.1)

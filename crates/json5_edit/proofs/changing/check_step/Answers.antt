@@ -1,9 +1,6 @@
 use Rattle.json5_edit.specs.Refusals.{RefusesStep}
-use Rattle.json5_edit.proofs.Refused.{own, own_then}
-use Rattle.json5_edit.proofs.changing.index_in.Goals as goal
-
-pub returns-in-Ok-Some : goal.returns-in-Ok-Some
-returns-in-Ok-Some c = own_then (RefusesStep c.args.old.now c.args.step) c.entries_before.result tt tt c.entries_before.ensures
+use Rattle.json5_edit.proofs.Refused.{own}
+use Rattle.json5_edit.proofs.changing.check_step.Goals as goal
 
 pub returns-in-Ok-None : goal.returns-in-Ok-None
 returns-in-Ok-None c = let l = rw c.in-Ok-None.field-0-is at c.in-Ok-None.ensures.found in (l.tree, l.document, l.placed)
