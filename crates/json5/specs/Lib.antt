@@ -1,6 +1,7 @@
 -- Lists the definitions that contracts and users' types cite.
 pub mod DocumentReads
 pub mod ReadsBack
+pub mod Structs
 -- What else contracts cite, and what a user's type cites: trees, and what an input holds.
 pub use Rattle.json5_grammar.specs.Language.Trees
 pub use Rattle.json5_grammar.specs.Language.Values
@@ -57,6 +58,7 @@ pub use Rattle.json5_fields.specs.Only
 pub use Rattle.json5_fields.specs.Named
 pub use Rattle.json5_fields.specs.WrittenFields
 pub use Rattle.json5_fields.specs.VariantContents
+pub use Rattle.json5_lists.specs.Distinct
 -- Writing. Seven modules of json5_ser name the definitions of json5_write again, whose own names a goal shows.
 pub use Rattle.json5_ser.specs.WrittenTrees
 pub use Rattle.json5_ser.specs.ValueTrees

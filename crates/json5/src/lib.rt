@@ -20,7 +20,7 @@
 mod laws;
 pub mod ser;
 
-pub use json5_bytes::{from_slice, read_text, text_of_bytes};
+pub use json5_bytes::{from_slice, to_vec};
 pub use json5_de as de;
 pub use json5_de::{
     Deserialize, DeserializeKey, Deserializer, EnumAccess, IgnoredAny, MapAccess, SeqAccess,
@@ -39,8 +39,11 @@ pub use json5_layouts::{
     Layout, is_json, to_json, to_json_compact, to_json_in, to_json_writer, to_json_writer_in,
     to_string_in, to_vec_in, to_writer_in,
 };
+pub use json5_lists::{Distinct, read_distinct};
+pub use json5_literal::{ToValue, json5};
 pub use json5_numbers::DecimalExt;
 pub use json5_positions::InText;
+pub use json5_readers::{from_reader, read_text, text_of_bytes};
 pub use json5_ser::{
     Serialize, SerializeCollection, SerializeKey, Serializer, to_string, to_string_within,
     to_writer, to_writer_within,

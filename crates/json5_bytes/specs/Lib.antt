@@ -1,2 +1,0 @@
--- Lists the definitions of texts that are bytes.
-pub mod Bytes
