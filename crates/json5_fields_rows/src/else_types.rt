@@ -19,15 +19,14 @@ type DefaultParts = (WithDefaultText, WithDefault<Vec<u8>>);
 type DefaultValues = (String, Vec<u8>);
 
 impl<I: Input> Deserialize<I> for Defaults {
-    ghost use Rattle.std.specs.Prelude.{codes, []};
-    ghost use Rattle.json5.specs.Collections.{object_of};
-    ghost use Rattle.json5.specs.Described.{RefusesDescribed};
+    ghost use Rattle.json5.specs.Structs.{codes, struct_of, RefusesDescribed};
+    ghost use Rattle.std.specs.Prelude.{[]};
 
     ghost Content = { ⟦<DefaultParts as StructFields<I, DefaultValues>>⟧.Content };
 
     ghost content = { λ d. ⟦<DefaultParts as StructFields<I, DefaultValues>>⟧.content (d.host, d.tags) };
 
-    ghost convert = { object_of (⟦<DefaultParts as StructFields<I, DefaultValues>>⟧.layout ((codes "host", codes "localhost"), (codes "tags", []))).convert };
+    ghost convert = { struct_of (⟦<DefaultParts as StructFields<I, DefaultValues>>⟧.layout ((codes "host", codes "localhost"), (codes "tags", []))) };
 
     ghost refuses = { RefusesDescribed (⟦<DefaultParts as StructFields<I, DefaultValues>>⟧.layout ((codes "host", codes "localhost"), (codes "tags", []))) ⟦<DefaultParts as StructFields<I, DefaultValues>>⟧.faults };
 

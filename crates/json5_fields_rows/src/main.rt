@@ -7,7 +7,7 @@ mod types;
 
 use else_types::Defaults;
 use json5::{Deserialize, Result, Serialize};
-use json5_own_type::Backup;
+use json5_own_type::{Labels, Reminder};
 use std::alloc::Global;
 use std::io::{self, BufRead, BufReader, BufWriter, Write};
 use types::{Long, Only, Prefixes};
@@ -21,13 +21,20 @@ fn again<'a, T: Deserialize<&'a str> + Serialize + Drop>(
     json5::to_string(alloc, &value)
 }
 
+/// The same of labels.
+fn labels_again(alloc: Global, text: &str) -> Result<String> {
+    let labels = json5::from_str::<Labels>(alloc, text)?;
+    json5::to_string(alloc, &labels.texts)
+}
+
 fn answer(alloc: Global, name: &str, text: &str) -> Result<String> {
     match name {
         "prefixes" => again::<Prefixes>(alloc, text),
         "only" => again::<Only>(alloc, text),
         "both" => again::<Vec<Only>>(alloc, text),
         "defaults" => again::<Defaults>(alloc, text),
-        "backup" => again::<Backup>(alloc, text),
+        "labels" => labels_again(alloc, text),
+        "reminder" => again::<Reminder>(alloc, text),
         _ => again::<Long>(alloc, text),
     }
 }

@@ -20,14 +20,13 @@ type PrefixParts = (Required, WithDefault<u8>, Optional);
 type PrefixValues = (u8, u8, Option<bool>);
 
 impl<I: Input> Deserialize<I> for Prefixes {
-    ghost use Rattle.std.specs.Prelude.{codes};
-    ghost use Rattle.json5.specs.Collections.{object_of};
+    ghost use Rattle.json5.specs.Structs.{codes, struct_of};
 
     ghost Content = { ⟦<PrefixParts as StructFields<I, PrefixValues>>⟧.Content };
 
     ghost content = { λ p. ⟦<PrefixParts as StructFields<I, PrefixValues>>⟧.content (p.a, p.ab, p.abc) };
 
-    ghost convert = { object_of (⟦<PrefixParts as StructFields<I, PrefixValues>>⟧.layout (codes "a", ((codes "ab", 7), codes "abc"))).convert };
+    ghost convert = { struct_of (⟦<PrefixParts as StructFields<I, PrefixValues>>⟧.layout (codes "a", ((codes "ab", 7), codes "abc"))) };
 
     fn deserialize(de: &mut Deserializer<I>) -> Result<Prefixes> {
         match read_struct(de, (Required("a"), WithDefault("ab", 7), Optional("abc"))) {
@@ -63,16 +62,13 @@ pub struct Only {
 }
 
 impl<I: Input> Deserialize<I> for Only {
-    ghost use Rattle.std.specs.Prelude.{codes};
-    ghost use Rattle.json5.specs.Collections.{object_of};
-    ghost use Rattle.json5.specs.Only.{only_these};
-    ghost use Rattle.json5.specs.Described.{RefusesOnly};
+    ghost use Rattle.json5.specs.Structs.{codes, struct_only, RefusesOnly};
 
     ghost Content = { ⟦<PrefixParts as StructFields<I, PrefixValues>>⟧.Content };
 
     ghost content = { λ o. ⟦<PrefixParts as StructFields<I, PrefixValues>>⟧.content (o.prefixes.a, o.prefixes.ab, o.prefixes.abc) };
 
-    ghost convert = { object_of (only_these (⟦<PrefixParts as StructFields<I, PrefixValues>>⟧.layout (codes "a", ((codes "ab", 7), codes "abc")))) };
+    ghost convert = { struct_only (⟦<PrefixParts as StructFields<I, PrefixValues>>⟧.layout (codes "a", ((codes "ab", 7), codes "abc"))) };
 
     ghost refuses = { RefusesOnly (⟦<PrefixParts as StructFields<I, PrefixValues>>⟧.layout (codes "a", ((codes "ab", 7), codes "abc"))) ⟦<PrefixParts as StructFields<I, PrefixValues>>⟧.faults };
 
@@ -107,14 +103,13 @@ type LongParts = (Required, Required, Optional);
 type LongValues = (u8, u8, Option<Prefixes>);
 
 impl<I: Input> Deserialize<I> for Long {
-    ghost use Rattle.std.specs.Prelude.{codes};
-    ghost use Rattle.json5.specs.Collections.{object_of};
+    ghost use Rattle.json5.specs.Structs.{codes, struct_of};
 
     ghost Content = { ⟦<LongParts as StructFields<I, LongValues>>⟧.Content };
 
     ghost content = { λ l. ⟦<LongParts as StructFields<I, LongValues>>⟧.content (l.short, l.long, l.nested) };
 
-    ghost convert = { object_of (⟦<LongParts as StructFields<I, LongValues>>⟧.layout (codes "a2345678901234567890123456789012", (codes "a23456789012345678901234567890123", codes "nested"))).convert };
+    ghost convert = { struct_of (⟦<LongParts as StructFields<I, LongValues>>⟧.layout (codes "a2345678901234567890123456789012", (codes "a23456789012345678901234567890123", codes "nested"))) };
 
     fn deserialize(de: &mut Deserializer<I>) -> Result<Long> {
         let short = Required("a2345678901234567890123456789012");

@@ -1,36 +1,36 @@
-//! Labels: a list of strings that isn't empty.
+//! Labels: a list of strings that differ.
 
-use json5::{Deserialize, Deserializer, Error, Input, Result, Spanned};
+use json5::{Deserialize, Deserializer, Distinct, Input, Result, read_distinct};
 
-/// Labels, at least one.
+/// One to eight short labels, no two of which are equal: `['new', 'red']`.
 #[derive(Drop)]
 pub struct Labels {
     /// In the order of the list.
     pub texts: Vec<String>,
 }
 
-/// A list of strings; an empty one is refused at its bracket.
+/// A list of strings; a label that is there already, is too long or is one too many is refused at its quote.
 impl<I: Input> Deserialize<I> for Labels {
-    ghost use Rattle.std.specs.Prelude.{ℕ, List, map, string_bytes};
-    ghost use Rattle.json5.specs.Collections.{array_of, contents};
-    ghost use Rattle.json5.specs.Convert.{text_of};
-    ghost use Rattle.json5.specs.Refinement.{refined, RefusesOwn};
-    ghost use Rattle.json5_own_type.specs.Accepted.{not_empty};
+    ghost use Rattle.std.specs.Prelude.{ℕ, List};
+    ghost use Rattle.json5.specs.Distinct.{all_texts, distinct_texts, DistinctFault};
 
     ghost Content = { List (List ℕ) };
 
-    ghost content = { λ l. map string_bytes l.texts.items };
+    ghost content = { λ l. all_texts l.texts };
 
-    ghost convert = { refined (array_of (contents text_of)) not_empty };
+    ghost convert = { distinct_texts 1 8 20 };
 
-    ghost refuses = { RefusesOwn (array_of (contents text_of)) not_empty ⟦<Spanned<Vec<String>> as Deserialize<I>>⟧.refuses };
+    ghost refuses = { DistinctFault 1 8 20 };
 
     fn deserialize(de: &mut Deserializer<I>) -> Result<Labels> {
-        let texts = Spanned::<Vec<String>>::deserialize(de)?;
-        if texts.value.is_empty() {
-            let place = de.position_of(texts.start);
-            return Err(Error::custom_at(de.allocator(), place, "expected a label")?);
+        let rule = Distinct {
+            least: 1,
+            most: 8,
+            longest: 20,
+        };
+        match read_distinct(de, rule) {
+            Ok(texts) => Ok(Labels { texts }),
+            Err(e) => Err(e),
         }
-        Ok(Labels { texts: texts.value })
     }
 }

@@ -1,154 +1,100 @@
-//! Reminders, which are read and written as an enum is: each variant by its name.
+//! When one is reminded, read and written by a description of the variants.
 
-ghost use Rattle.json5.specs.Lending.{enum_state_of};
-ghost use Rattle.json5.specs.Variants.{FinishesVariant};
-ghost use Rattle.json5.specs.Writes.{WritesTree};
-ghost use Rattle.json5_own_type.specs.Reminders.{reminded, off_read, daily_read, weekly_tree, once_tree};
+ghost use Rattle.json5.specs.Structs.{codes, struct_of};
+ghost use Rattle.json5_own_type.specs.Written.{reminder_tree, moment_tree};
 
-use crate::missing;
-use json5::de::Fields;
+use json5::OneOf::{First, Later};
+use json5::fields::{EnumVariants, StructFields};
 use json5::{
-    Deserialize, Deserializer, EnumAccess, Input, MapAccess, Result, Serialize, Serializer,
+    Deserialize, Deserializer, Field, Holding, Input, NoContent, OneOf, Required, Result,
+    Serialize, Serializer, read_enum, read_struct, write_struct,
 };
 use std::io::Write;
 
 /// When one is reminded.
 #[derive(Drop)]
 pub enum Reminder {
-    /// `"off"`
+    /// `'off'`
     Off,
     /// Each day at this hour: `{ daily: 7 }`.
     Daily(u8),
     /// On this day of each week, at this hour: `{ weekly: [1, 7] }`.
     Weekly(u8, u8),
-    /// Once: `{ once: { day: "today", hour: 7 } }`.
-    Once {
-        /// The day, as it was given.
-        day: String,
-        /// The hour.
-        hour: u8,
-    },
+    /// Once: `{ once: { day: 'today', hour: 7 } }`.
+    Once(Moment),
 }
+
+type Variants = OneOf<NoContent, OneOf<Holding<u8>, OneOf<Holding<(u8, u8)>, Holding<Moment>>>>;
 
 /// The name of a variant, and then its content.
 impl<I: Input> Deserialize<I> for Reminder {
-    ghost use Rattle.json5.specs.Variants.{one_of};
-    ghost use Rattle.json5_own_type.specs.Reminders.{Reminded, reminders};
+    ghost use Rattle.json5.specs.Enums.{enum_of};
+    ghost use Rattle.json5.specs.VariantContents.{RefusesEnum};
+    ghost use Rattle.json5_own_type.specs.Accepted.{reminder_names, reminder_content};
 
-    ghost Content = { Reminded };
+    ghost Content = { ⟦<Variants as EnumVariants<I>>⟧.Content };
 
-    ghost content = { reminded };
+    ghost content = { reminder_content };
 
-    ghost convert = { one_of reminders };
+    ghost convert = { enum_of reminder_names ⟦<Variants as EnumVariants<I>>⟧.convert };
+
+    ghost refuses = { RefusesEnum reminder_names ⟦<Variants as EnumVariants<I>>⟧.faults };
 
     fn deserialize(de: &mut Deserializer<I>) -> Result<Reminder> {
-        let alloc = de.allocator();
-        let access = de.deserialize_enum("Reminder", &["off", "daily", "weekly", "once"])?;
-        match access.variant() {
-            0 => read_off(access),
-            1 => read_daily(access),
-            2 => {
-                let mut seq = access.tuple_variant(2)?;
-                let Some(day) = seq.next_element::<u8>()? else {
-                    return Err(missing(&seq, alloc, "day"));
-                };
-                let Some(hour) = seq.next_element::<u8>()? else {
-                    return Err(missing(&seq, alloc, "hour"));
-                };
-                seq.end()?;
-                Ok(Reminder::Weekly(day, hour))
-            }
-            _ => {
-                let mut found = Found {
-                    day: None,
-                    hour: None,
-                };
-                let mut map = access.struct_variant(&["day", "hour"])?;
-                map.read_fields(&mut found)?;
-                let day = map.required_field("day", found.day)?;
-                let hour = map.required_field("hour", found.hour)?;
-                map.end()?;
-                Ok(Reminder::Once { day, hour })
-            }
-        }
-    }
-}
-
-/// Reads the content of `off`, which is none.
-fn read_off<I: Input>(access: EnumAccess<'_, I>) -> Result<Reminder>
-    ensures { FinishesVariant reminded off_read.convert (enum_state_of access.entry) access.exit.0.now result }
-{
-    access.unit_variant()?;
-    Ok(Reminder::Off)
-}
-
-/// Reads the content of `daily`, an hour.
-fn read_daily<I: Input>(access: EnumAccess<'_, I>) -> Result<Reminder>
-    ensures { FinishesVariant reminded daily_read.convert (enum_state_of access.entry) access.exit.0.now result }
-{
-    let hour = access.newtype_variant::<u8>()?;
-    Ok(Reminder::Daily(hour))
-}
-
-/// The fields of `once`, as far as they were read.
-#[derive(Drop)]
-struct Found {
-    day: Option<String>,
-    hour: Option<u8>,
-}
-
-impl<I: Input> Fields<I> for Found {
-    ghost use Rattle.std.specs.Prelude.{ℕ, List, Option, string_bytes};
-    ghost use Rattle.json5.specs.ConvertLists.{if_some};
-    ghost use Rattle.json5_own_type.specs.Reminders.{once_fields_read};
-
-    ghost Content = { Option (List ℕ) × Option ℕ };
-
-    ghost content = { λ f. (if_some string_bytes f.day, if_some (λ hour. hour) f.hour) };
-
-    ghost step = { once_fields_read.step };
-
-    fn read(&mut self, map: &mut MapAccess<'_, I>, name: &str) -> Result<()> {
-        match name {
-            "day" => map.next_field(name, &mut self.day),
-            "hour" => map.next_field(name, &mut self.hour),
-            _ => map.skip_value(),
+        match read_enum::<I, Variants>(de, &["off", "daily", "weekly", "once"]) {
+            Ok(First(_)) => Ok(Reminder::Off),
+            Ok(Later(First(Holding(hour)))) => Ok(Reminder::Daily(hour)),
+            Ok(Later(Later(First(Holding((day, hour)))))) => Ok(Reminder::Weekly(day, hour)),
+            Ok(Later(Later(Later(Holding(moment))))) => Ok(Reminder::Once(moment)),
+            Err(e) => Err(e),
         }
     }
 }
 
 /// A string for the variant that holds nothing, and else an object with the variant's name as its one key.
 impl Serialize for Reminder {
-    ghost use Rattle.json5_own_type.specs.Reminders.{reminder_tree};
-
     ghost tree = { reminder_tree };
 
     fn serialize<W: Write + Drop>(&self, ser: &mut Serializer<W>) -> Result<()> {
         match self {
             Reminder::Off => ser.serialize_unit_variant("Reminder", 0, "off"),
             Reminder::Daily(hour) => ser.serialize_newtype_variant("Reminder", 1, "daily", hour),
-            Reminder::Weekly(day, hour) => write_weekly(day, hour, ser),
-            Reminder::Once { day, hour } => write_once(day, hour, ser),
+            Reminder::Weekly(day, hour) => {
+                ser.serialize_newtype_variant("Reminder", 2, "weekly", &(*day, *hour))
+            }
+            Reminder::Once(moment) => ser.serialize_newtype_variant("Reminder", 3, "once", moment),
         }
     }
 }
 
-/// Writes `weekly` with its list, a day and an hour.
-fn write_weekly<W: Write + Drop>(day: &u8, hour: &u8, ser: &mut Serializer<W>) -> Result<()>
-    ensures { WritesTree (weekly_tree day.now hour.now) ser.old result ser.new }
-{
-    let mut list = ser.serialize_tuple_variant("Reminder", 2, "weekly", 2)?;
-    list.serialize_element(day)?;
-    list.serialize_element(hour)?;
-    list.end()
+/// A day and an hour.
+#[derive(Drop)]
+pub struct Moment {
+    /// The day, as it was given.
+    pub day: String,
+    /// The hour.
+    pub hour: u8,
 }
 
-/// Writes `once` with its fields, a day and an hour.
-fn write_once<W: Write + Drop>(day: &String, hour: &u8, ser: &mut Serializer<W>) -> Result<()>
-    ensures { WritesTree (once_tree day.now hour.now) ser.old result ser.new }
-{
-    let mut fields = ser.serialize_struct_variant("Reminder", 3, "once", 2)?;
-    fields.serialize_field("day", day)?;
-    fields.serialize_field("hour", hour)?;
-    fields.end()
+impl<I: Input> Deserialize<I> for Moment {
+    ghost Content = { ⟦<(Required, Required) as StructFields<I, (String, u8)>>⟧.Content };
+
+    ghost content = { λ m. ⟦<(Required, Required) as StructFields<I, (String, u8)>>⟧.content (m.day, m.hour) };
+
+    ghost convert = { struct_of (⟦<(Required, Required) as StructFields<I, (String, u8)>>⟧.layout (codes "day", codes "hour")) };
+
+    fn deserialize(de: &mut Deserializer<I>) -> Result<Moment> {
+        match read_struct(de, (Required("day"), Required("hour"))) {
+            Ok((day, hour)) => Ok(Moment { day, hour }),
+            Err(e) => Err(e),
+        }
+    }
+}
+
+impl Serialize for Moment {
+    ghost tree = { moment_tree };
+
+    fn serialize<W: Write + Drop>(&self, ser: &mut Serializer<W>) -> Result<()> {
+        write_struct(ser, &(Field("day", &self.day), Field("hour", &self.hour)))
+    }
 }

@@ -2,7 +2,9 @@
 
 ghost use Rattle.std.specs.Prelude.{◌≡◌, ◌<◌, MatchResult};
 ghost use Rattle.json5.specs.Cursor.{IsOutOfMemory};
-ghost use Rattle.json5_own_type.specs.Settings.{settings_content};
+ghost use Rattle.json5.specs.Structs.{codes, struct_of, RefusesDescribed};
+ghost use Rattle.json5_own_type.specs.Accepted.{settings_content};
+ghost use Rattle.json5_own_type.specs.Written.{settings_tree};
 
 use crate::ports::OpenPort;
 use json5::fields::StructFields;
@@ -31,15 +33,11 @@ type Values = (String, OpenPort, Option<String>);
 
 /// An object; an unknown field is passed over, and a field that comes twice is refused.
 impl<I: Input> Deserialize<I> for Settings {
-    ghost use Rattle.std.specs.Prelude.{codes};
-    ghost use Rattle.json5.specs.Collections.{object_of};
-    ghost use Rattle.json5.specs.Described.{RefusesDescribed};
-
     ghost Content = { ⟦<Parts as StructFields<I, Values>>⟧.Content };
 
     ghost content = { λ s. ⟦<Parts as StructFields<I, Values>>⟧.content (s.host, s.port, s.label) };
 
-    ghost convert = { object_of (⟦<Parts as StructFields<I, Values>>⟧.layout (codes "host", ((codes "port", 80), codes "label"))).convert };
+    ghost convert = { struct_of (⟦<Parts as StructFields<I, Values>>⟧.layout (codes "host", ((codes "port", 80), codes "label"))) };
 
     ghost refuses = { RefusesDescribed (⟦<Parts as StructFields<I, Values>>⟧.layout (codes "host", ((codes "port", 80), codes "label"))) ⟦<Parts as StructFields<I, Values>>⟧.faults };
 
@@ -54,8 +52,6 @@ impl<I: Input> Deserialize<I> for Settings {
 
 /// An object of the host, the port, and the label if there is one.
 impl Serialize for Settings {
-    ghost use Rattle.json5_own_type.specs.Settings.{settings_tree};
-
     ghost tree = { settings_tree };
 
     fn serialize<W: Write + Drop>(&self, ser: &mut Serializer<W>) -> Result<()> {

@@ -18,14 +18,13 @@ type Parts = (Required, WithDefault<u16>, Optional);
 type Values = (String, u16, Option<String>);
 
 impl<I: Input> Deserialize<I> for Server {
-    ghost use Rattle.std.specs.Prelude.{codes};
-    ghost use Rattle.json5.specs.Collections.{object_of};
+    ghost use Rattle.json5.specs.Structs.{codes, struct_of};
 
     ghost Content = { ⟦<Parts as StructFields<I, Values>>⟧.Content };
 
     ghost content = { λ s. ⟦<Parts as StructFields<I, Values>>⟧.content (s.host, s.port, s.label) };
 
-    ghost convert = { object_of (⟦<Parts as StructFields<I, Values>>⟧.layout (codes "host", ((codes "port", 80), codes "label"))).convert };
+    ghost convert = { struct_of (⟦<Parts as StructFields<I, Values>>⟧.layout (codes "host", ((codes "port", 80), codes "label"))) };
 
     fn deserialize(de: &mut Deserializer<I>) -> Result<Server> {
         match read_struct(

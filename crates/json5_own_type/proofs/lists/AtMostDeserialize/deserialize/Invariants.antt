@@ -1,7 +1,7 @@
 use Rattle.std.proofs.Common.{◌≤◌, length}
 use Rattle.json5.specs.Lending.{state_of, HoldsTheSame}
 use Rattle.json5.proofs.ElementLoops.{Reading}
-use Rattle.json5_own_type.proofs.at_most.AtMostDeserialize.deserialize.Given as goal
+use Rattle.json5_own_type.proofs.lists.AtMostDeserialize.deserialize.Given as goal
 
 abbrev pub invariant-loop-seq : goal.invariant-loop-seq
 invariant-loop-seq g l = record {

@@ -6,7 +6,7 @@ use Rattle.json5.specs.declared.Spanned.{Spanned}
 use Rattle.json5.specs.Lending.{state_of}
 use Rattle.json5.proofs.ElementLoops.{HasContents, HasAtMost, begins, steps, stops, next_completes, past_completes, end_completes}
 use Rattle.json5_own_type.specs.Accepted.{at_most}
-use Rattle.json5_own_type.proofs.at_most.AtMostDeserialize.deserialize.Goals as goal
+use Rattle.json5_own_type.proofs.lists.AtMostDeserialize.deserialize.Goals as goal
 
 has_contents : {C : Type 0} (f : Tree → Option C) (n : ℕ) → HasContents f (at_most n f)
 has_contents f n ts d e = grind arith

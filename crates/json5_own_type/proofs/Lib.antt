@@ -1,3 +1,0 @@
--- Lists the proofs that these types read back what they write.
-pub mod EndpointsBack
-pub mod SettingsBack
