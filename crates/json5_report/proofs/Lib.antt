@@ -2,3 +2,4 @@
 pub mod TokensTaken
 pub mod CoursesTaken
 pub mod PathsShown
+pub mod ReportsPut

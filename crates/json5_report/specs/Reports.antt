@@ -1,5 +1,5 @@
 -- What a report says of a fault.
-use Rattle.std.specs.Prelude.{◌≡◌, ◌++◌, ℕ, List, [], ◌∷◌, take, Option, Some, None, codes, string_bytes}
+use Rattle.std.specs.Prelude.{◌≡◌, ◌≢◌, ◌++◌, ℕ, List, [], ◌∷◌, take, All, Option, Some, None, codes, string_bytes}
 use Rattle.std.specs.Str.{chars, IsUtf8, IsValidUpTo}
 use Rattle.std.specs.Str.Lossy.{utf8_lossy}
 use Rattle.json5_grammar.specs.declared.position.Position.{Position}
@@ -12,12 +12,21 @@ use Rattle.json5_report.specs.Paths.{IsPathAt}
 use Rattle.json5_report.specs.Painted.{painted_text}
 use Rattle.json5_report.specs.Excerpts.{excerpt_text, coloured_excerpt_text}
 
--- the report has this name, the place of the fault in the text, and the path of what is open there
-pub record IsReportOf (name text : List ℕ) (error : Error) (report : Report) : Type 0 where
+-- the report has this name, this position of the text, and the path of what is open there
+pub record IsReportThere (name text : List ℕ) (p : Position) (report : Report) : Type 0 where
   pub named : string_bytes report.name ≡ name
-  pub placed : report.position ≡ shown_position text (error_position error)
+  pub placed : report.position ≡ p
   pub offset : IsOffsetOf text report.position report.offset
   pub path : IsPathAt (chars text) report.offset (string_bytes report.path)
+
+-- the report has this name, the place of the fault in the text, and the path of what is open there
+abbrev pub IsReportOf : (name text : List ℕ) → Error → Report → Type 0
+IsReportOf name text error = IsReportThere name text (shown_position text (error_position error))
+
+-- there are reports, each of them at the place of the fault
+pub record AreReportsOf (name text : List ℕ) (error : Error) (reports : List Report) : Type 0 where
+  pub some : reports ≢ []
+  pub each : All (IsReportOf name text error) reports
 
 -- the report has this name, this place, and the path of what is open there
 pub record IsReportAt (name text : List ℕ) (p : Position) (offset : ℕ) (report : Report) : Type 0 where

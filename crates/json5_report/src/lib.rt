@@ -10,6 +10,7 @@ mod custom;
 mod due;
 mod excerpt;
 mod fault;
+mod field_messages;
 mod fields;
 mod found;
 mod hints;

@@ -1,0 +1,110 @@
+//! What is said of the faulty fields of one object.
+
+use crate::lexemes::Lexeme;
+use crate::members::member_keys;
+use crate::path::{is_named, unquoted};
+use crate::place::{offset_of, position_of};
+use json5_types::error::Error;
+use std::alloc::{AllocError, Global};
+
+/// What is said of the faulty fields of the object at the error, if that is one of a field; else nothing.
+pub(crate) fn field_messages(
+    alloc: Global,
+    text: &str,
+    error: &Error,
+    known: &[&str],
+    required: &[&str],
+) -> Result<Vec<String>, AllocError> {
+    let mut messages = Vec::new(alloc);
+    if !is_of_field(error.message()) {
+        return Ok(messages);
+    }
+    let keys = member_keys(alloc, text, offset_of(text, position_of(text, error)))?;
+    let object = Object {
+        alloc,
+        text,
+        keys: &keys,
+    };
+    object.present(known, &mut messages)?;
+    object.missing(required, &mut messages)?;
+    Ok(messages)
+}
+
+/// Whether the message is that of a fault of a field.
+fn is_of_field(message: &str) -> bool {
+    message.starts_with("unknown field `")
+        || message.starts_with("missing field `")
+        || message.starts_with("duplicate field `")
+}
+
+/// An object of a text, by its keys.
+#[derive(Clone, Copy)]
+struct Object<'t> {
+    alloc: Global,
+    text: &'t str,
+    keys: &'t [Lexeme],
+}
+
+impl Object<'_> {
+    /// Adds what is said of the fields that are unknown, or stand twice.
+    fn present(self, known: &[&str], messages: &mut Vec<String>) -> Result<(), AllocError> {
+        let (alloc, keys) = (self.alloc, self.keys);
+        for index in 0..keys.len() {
+            let Some(key) = keys.get(index) else {
+                return Ok(());
+            };
+            let field = unquoted(key.of(self.text));
+            let before = self.count(keys.get(..index).unwrap_or(keys), field);
+            if is_among(known, field) {
+                if before == 1 {
+                    messages.push(format!(in alloc; "duplicate field `{field}`")?)?;
+                }
+            } else if before == 0 {
+                messages.push(unknown_message(alloc, field, known)?)?;
+            }
+        }
+        Ok(())
+    }
+
+    /// Adds what is said of the required fields that are missing.
+    fn missing(self, required: &[&str], messages: &mut Vec<String>) -> Result<(), AllocError> {
+        let alloc = self.alloc;
+        for field in required {
+            if self.count(self.keys, *field) == 0 {
+                messages.push(format!(in alloc; "missing field `{field}`")?)?;
+            }
+        }
+        Ok(())
+    }
+
+    /// How many of the keys have this name.
+    fn count(self, keys: &[Lexeme], field: &str) -> usize {
+        let mut count: usize = 0;
+        for key in keys {
+            if is_named(self.text, *key, field) {
+                count = count.saturating_add(1);
+            }
+        }
+        count
+    }
+}
+
+fn is_among(names: &[&str], name: &str) -> bool {
+    for one in names {
+        if *one == name {
+            return true;
+        }
+    }
+    false
+}
+
+/// What is said of an unknown field.
+fn unknown_message(alloc: Global, field: &str, known: &[&str]) -> Result<String, AllocError> {
+    let mut message = format!(in alloc; "unknown field `{field}`")?;
+    let mut lead = ", expected one of ";
+    for name in known {
+        write!(message, "{lead}`{name}`")?;
+        lead = ", ";
+    }
+    Ok(message)
+}
