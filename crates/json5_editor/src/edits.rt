@@ -1,6 +1,11 @@
-//! The text that a request makes of another.
+//! What is made of a text.
 
-use crate::requests::{Request, Work};
+ghost use Rattle.std.specs.Prelude.{◌≡◌, IfErr, IfOk, string_bytes};
+ghost use Rattle.json5_editor.specs.Makes.{Inserts, Makes, RefusesInserting, RefusesWork, edited};
+
+use crate::parts::{json_at, spelled_at};
+use crate::requests::{Task, Work};
+use crate::trouble::Trouble;
 use json5_edit::{
     EditError, Result, Step, find, insert, insert_element, push, remove, rename, set,
 };
@@ -9,39 +14,40 @@ use std::alloc::Global;
 /// The text that is written: the value that was asked for and a line end, or the changed text.
 pub(crate) fn made(
     alloc: Global,
-    request: &Request<'_>,
+    task: &Task<'_>,
     text: &str,
     steps: &[Step<'_>],
-) -> Result<String> {
-    let value = request.value;
-    match request.work {
-        Work::Get => value_at(alloc, text, steps),
-        Work::Set => set(alloc, text, steps, value),
-        Work::Insert => inserted(alloc, text, steps, value),
-        Work::Remove => remove(alloc, text, steps),
-        Work::Push => push(alloc, text, steps, value),
-        Work::Rename => rename(alloc, text, steps, value),
+) -> std::result::Result<String, Trouble>
+    ensures made { IfOk result (λ new. Makes task.now.work text.now steps.now task.now.value.now (string_bytes new)) }
+    ensures refused { IfErr result (RefusesWork task.now.work text.now steps.now task.now.value.now) }
+{
+    let value = task.value;
+    match task.work {
+        Work::Get => edited(spelled_at(alloc, text, steps)),
+        Work::Json => json_at(alloc, text, steps),
+        Work::Set => edited(set(alloc, text, steps, value)),
+        Work::Insert => edited(inserted(alloc, text, steps, value)),
+        Work::Remove => edited(remove(alloc, text, steps)),
+        Work::Push => edited(push(alloc, text, steps, value)),
+        Work::Rename => edited(rename(alloc, text, steps, value)),
     }
 }
 
-/// The value that the steps lead to, as it is spelled, and a line end.
-fn value_at(alloc: Global, text: &str, steps: &[Step<'_>]) -> Result<String> {
-    let span = match find(alloc, text, steps) {
-        Ok(Some(span)) => span,
-        Ok(None) => return Err(EditError::Nowhere),
-        Err(error) => return Err(EditError::of_text(error)),
-    };
-    let Some(value) = text.get(span.start..span.end) else {
-        return Err(EditError::Failed);
-    };
-    match format!(in alloc; "{value}\n") {
-        Ok(made) => Ok(made),
-        Err(_) => Err(EditError::NoMemory),
+/// What an edit returned, as the work's own.
+fn edited(made: Result<String>) -> std::result::Result<String, Trouble>
+    ensures { result ≡ edited made }
+{
+    match made {
+        Ok(new) => Ok(new),
+        Err(error) => Err(Trouble::Edit(error)),
     }
 }
 
 /// The text with a member whose key is the last step, or with an element before that to which the last step goes.
-fn inserted(alloc: Global, text: &str, steps: &[Step<'_>], value: &str) -> Result<String> {
+fn inserted(alloc: Global, text: &str, steps: &[Step<'_>], value: &str) -> Result<String>
+    ensures inserted { IfOk result (λ new. Inserts text.now steps.now value.now (string_bytes new)) }
+    ensures refused { IfErr result (RefusesInserting text.now steps.now value.now) }
+{
     match steps.split_last() {
         Some((Step::Key(key), outer)) => insert(alloc, text, outer, key, value),
         Some((Step::Index(index), outer)) => insert_element(alloc, text, outer, *index, value),

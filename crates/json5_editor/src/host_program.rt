@@ -1,13 +1,18 @@
 //! The program over the system that it runs on.
 
+ghost use Rattle.std.specs.Prelude.{◌≡◌, ◌≤◌};
+ghost use Rattle.json5_editor.specs.Requests.{AsksNothing};
+ghost use Rattle.json5_tidier.specs.Folders.{names_of};
+
+use crate::answers::answer;
 use crate::lines::{no_memory, usage};
-use crate::requests::Request;
-use crate::runs::run;
+use std::alloc::Global;
 use std::env;
 use std::io::{self, ErrorKind};
 use std::process::ExitCode;
 
-/// Runs the whole program: what the words after its name ask for, or the usage line where they ask for nothing.
+/// Runs the whole program: [`words`] of the words after its name, or the usage line where the system doesn't give them
+/// as text.
 ///
 /// ```text
 /// fn main(rt: HostRuntime) -> ExitCode {
@@ -16,14 +21,24 @@ use std::process::ExitCode;
 /// ```
 pub fn program(rt: &HostRuntime) -> ExitCode {
     let status = match given_words(rt) {
-        Ok(list) => match Request::of(list.as_slice()) {
-            Some(request) => run(rt, &request),
-            None => usage(&mut rt.stderr()),
-        },
+        Ok(list) => words(rt, rt.alloc(), list.as_slice()),
         Err(e) if e.kind() == ErrorKind::OutOfMemory => no_memory(&mut rt.stderr()),
         Err(_) => usage(&mut rt.stderr()),
     };
     ExitCode::from(status)
+}
+
+/// Does what the words ask for, and returns the status that the program ends with.
+///
+/// ```text
+/// words(&rt, rt.alloc(), list.as_slice())    // list: `get`, `app.json5` and `server.port`
+/// ```
+pub fn words(rt: &HostRuntime, alloc: Global, list: &[String]) -> u8
+    ensures status { result ≤ 2 }
+    ensures usage { AsksNothing (names_of list.now) → result ≡ 2 }
+{
+    let (mut input, mut output, mut errors) = (rt.stdin(), rt.stdout(), rt.stderr());
+    answer(rt, alloc, list, &mut input, &mut output, &mut errors)
 }
 
 /// The words after the program's name.

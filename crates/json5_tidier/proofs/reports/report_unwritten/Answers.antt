@@ -1,7 +1,7 @@
 use Rattle.std.proofs.Common.{ℕ, List, sym, subst}
 use Rattle.json5_write.specs.Pieces.{AppendsFront}
 use Rattle.json5_tidier.proofs.LinesJoined.{taken_joined, remains_joined}
-use Rattle.json5_tidier.proofs.reports.say_unwritten.Goals as goal
+use Rattle.json5_tidier.proofs.reports.report_unwritten.Goals as goal
 
 pub returns-in-Refused-clause-line : goal.returns-in-Refused-clause-line
 returns-in-Refused-clause-line g c = rw c.in-Refused.is c.say.ensures

@@ -1,0 +1,4 @@
+-- Lists the lemmas about what the program does.
+pub mod PartsRead
+pub mod EditsMade
+pub mod Statuses

@@ -1,0 +1,7 @@
+-- Lists the definitions of what the program does.
+pub mod Requests
+pub mod Parts
+pub mod Makes
+pub mod Troubles
+pub mod Works
+pub mod Answers
