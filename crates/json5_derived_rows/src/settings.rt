@@ -11,7 +11,7 @@ pub fn eighty() -> u16 {
     80
 }
 
-#[derive(Drop, PartialEq, Serialize, Deserialize)]
+#[derive(Drop, Serialize, Deserialize)]
 #[serde(rename_all = "camelCase", deny_unknown_fields)]
 pub struct Config {
     name: String,
@@ -30,7 +30,7 @@ pub struct Config {
     window: (u8, u8),
 }
 
-#[derive(Drop, PartialEq, Serialize, Deserialize)]
+#[derive(Drop, Serialize, Deserialize)]
 #[serde(rename_all = "camelCase")]
 pub struct Listener {
     #[serde(default = "eighty")]
@@ -40,7 +40,7 @@ pub struct Listener {
     tls: Option<Tls>,
 }
 
-#[derive(Drop, PartialEq, Serialize, Deserialize)]
+#[derive(Drop, Serialize, Deserialize)]
 #[serde(rename_all = "kebab-case")]
 pub struct Tls {
     cert_file: String,
@@ -49,7 +49,7 @@ pub struct Tls {
     protocols: Vec<Protocol>,
 }
 
-#[derive(Drop, PartialEq, Serialize, Deserialize)]
+#[derive(Drop, Serialize, Deserialize)]
 pub enum Protocol {
     #[serde(rename = "TLSv1.2")]
     Old,
@@ -57,7 +57,7 @@ pub enum Protocol {
     New,
 }
 
-#[derive(Drop, PartialEq, Serialize, Deserialize)]
+#[derive(Drop, Serialize, Deserialize)]
 #[serde(default, rename_all = "camelCase")]
 pub struct Limits {
     max_body: u64,
@@ -73,7 +73,7 @@ impl Default for Limits {
     }
 }
 
-#[derive(Drop, PartialEq, Serialize, Deserialize)]
+#[derive(Drop, Serialize, Deserialize)]
 #[serde(tag = "to", rename_all = "lowercase")]
 pub enum Logging {
     Stdout,
@@ -81,21 +81,21 @@ pub enum Logging {
     Syslog { host: String, port: u16 },
 }
 
-#[derive(Drop, PartialEq, Serialize, Deserialize)]
+#[derive(Drop, Serialize, Deserialize)]
 pub struct Common {
     #[serde(default)]
     retries: u8,
     weight: f64,
 }
 
-#[derive(Drop, PartialEq, Serialize, Deserialize)]
+#[derive(Drop, Serialize, Deserialize)]
 pub struct Route {
     target: Target,
     #[serde(flatten)]
     common: Common,
 }
 
-#[derive(Drop, PartialEq, Serialize, Deserialize)]
+#[derive(Drop, Serialize, Deserialize)]
 #[serde(untagged)]
 pub enum Target {
     Port(u16),

@@ -1,5 +1,6 @@
 //! Impls by hand, which call the steps of a format in an order of their own.
 
+use json5_serde_write::raw_number;
 use serde::{Described, Deserialize, Deserializer, Format, Name, Serialize, Serializer};
 use std::alloc::Global;
 
@@ -75,7 +76,7 @@ impl<'de> Deserialize<'de> for Keyless {
     }
 }
 
-/// Asks an array for keys.
+/// Asks an array for a key.
 #[derive(Drop)]
 pub struct Mixed;
 
@@ -85,7 +86,7 @@ impl<'de> Deserialize<'de> for Mixed {
         from: &mut Deserializer<'de, '_, F>,
     ) -> Result<Mixed, F::Error> {
         from.begin_seq()?;
-        while from.next_key(&[Name::exact("a")])?.is_some() {
+        if from.next_key(&[Name::exact("a")])?.is_some() {
             from.skip()?;
         }
         Ok(Mixed)
@@ -224,8 +225,8 @@ fn send_step<S: Serializer>(step: char, out: &mut S) -> Result<(), S::Error> {
         't' => out.bool(true),
         's' => out.str("s"),
         '1' => out.u64(1),
-        '#' => json5_serde::raw_number(&"0x1F", out),
-        '%' => json5_serde::raw_number(&"x", out),
+        '#' => raw_number(&"0x1F", out),
+        '%' => raw_number(&"x", out),
         _ => Err(out.custom("no such step")),
     }
 }

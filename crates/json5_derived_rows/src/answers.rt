@@ -1,11 +1,13 @@
 //! The answers by the name of a type.
 
 use crate::hand::*;
-use crate::own::{Blob, Order, Raw};
-use crate::page;
+use crate::own::{Blob, Bytes, Raw};
 use crate::settings::Config;
-use crate::types::*;
-use json5_serde::{Error, Limit, Result};
+use json5_format::read_document;
+use json5_serde_read::{from_reader, from_str, from_str_owned};
+use json5_serde_write::{to_string, to_writer};
+use json5_types::error::{Error, Result};
+use json5_types::nesting::Limit;
 use serde::{Deserialize, DeserializeOwned, Serialize};
 use std::alloc::Global;
 use std::borrow::CowStr;
@@ -22,46 +24,49 @@ fn words(alloc: Global, text: &str) -> Result<String> {
 }
 
 /// What is written of what is read.
-pub(crate) fn again<'a, T: Deserialize<'a> + Serialize>(alloc: Global, text: &'a str) -> Result<String> {
-    let value = json5_serde::from_str::<T>(alloc, text)?;
-    words(alloc, json5_serde::to_string(alloc, &value)?.as_str())
+pub(crate) fn again<'a, T: Deserialize<'a> + Serialize>(
+    alloc: Global,
+    text: &'a str,
+) -> Result<String> {
+    let value = from_str::<T>(alloc, text)?;
+    words(alloc, to_string(alloc, &value)?.as_str())
 }
 
-/// The same, where it reads back as the same value, and from the `Value` as well.
-fn back<T: DeserializeOwned + Serialize + PartialEq>(alloc: Global, text: &str) -> Result<String> {
-    let value = json5_serde::from_str_owned::<T>(alloc, Limit::full(), text)?;
-    let written = json5_serde::to_vec(alloc, &value)?;
-    let second = json5_serde::from_reader::<T, _>(alloc, Limit::full(), &mut written.as_slice())?;
-    let third = json5_serde::from_value::<T>(alloc, &json5_serde::to_value(alloc, &value)?)?;
-    if value != second || value != third {
+/// The same of a type that borrows nothing, if the text that is written reads back: what is written of that is the same
+/// text.
+pub(crate) fn back<T: DeserializeOwned + Serialize>(alloc: Global, text: &str) -> Result<String> {
+    let value = from_str_owned::<T>(alloc, Limit::full(), text)?;
+    let written = to_string(alloc, &value)?;
+    let second = from_reader::<T, _>(alloc, Limit::full(), &mut written.as_bytes())?;
+    let mut output = Vec::new(alloc);
+    to_writer(alloc, &mut output, &second)?;
+    if output.as_slice() != written.as_bytes() {
         return Err(Error::custom(alloc, "it doesn't read back")?);
     }
-    let mut output = Vec::new(alloc);
-    json5_serde::to_writer(alloc, &mut output, &second)?;
-    words(alloc, std::str::from_utf8(&output).unwrap_or(""))
+    words(alloc, written.as_str())
 }
 
 /// That it is read.
 fn read<'a, T: Deserialize<'a>>(alloc: Global, text: &'a str) -> Result<String> {
-    let _ = json5_serde::from_str::<T>(alloc, text)?;
+    let _ = from_str::<T>(alloc, text)?;
     Ok(String::from_str(alloc, " read")?)
 }
 
 /// What is written of a value that no text is read for.
 fn send<T: Serialize>(alloc: Global, value: &T) -> Result<String> {
-    words(alloc, json5_serde::to_string(alloc, value)?.as_str())
+    words(alloc, to_string(alloc, value)?.as_str())
 }
 
 /// The text of a value as it stands.
 fn raw(alloc: Global, text: &str) -> Result<String> {
-    let value = json5_serde::from_str::<Raw>(alloc, text)?;
+    let value = from_str::<Raw>(alloc, text)?;
     words(alloc, value.0)
 }
 
-/// Whether derived types refuse what json5 refuses, and with the same fault.
+/// Whether a type that passes over any value refuses what json5_format refuses, and with the same fault.
 fn same(alloc: Global, text: &str) -> Result<String> {
-    let here = json5_serde::from_str::<Skip>(alloc, text).err();
-    let there = json5_de::from_str::<json5_de::IgnoredAny>(alloc, text).err();
+    let here = from_str::<Skip>(alloc, text).err();
+    let there = read_document(alloc, text).err();
     if here == there {
         return Ok(String::from_str(alloc, " same")?);
     }
@@ -73,14 +78,10 @@ pub fn answer(alloc: Global, name: &str, line: &str) -> Result<String> {
     let text = line.replace(alloc, "␤", "\n")?;
     let text = text.as_str();
     match name {
-        "PageSettings" => page::settings(alloc, text),
-        "PageRoute" => page::route(alloc, text),
         "()" => back::<()>(alloc, text),
-        "UnitStruct" => back::<UnitStruct>(alloc, text),
         "bool" => back::<bool>(alloc, text),
-        "Newtype" => back::<Newtype>(alloc, text),
-        "f64" => again::<f64>(alloc, text),
-        "f32" => again::<f32>(alloc, text),
+        "f64" => back::<f64>(alloc, text),
+        "f32" => back::<f32>(alloc, text),
         "i8" => back::<i8>(alloc, text),
         "u8" => back::<u8>(alloc, text),
         "u32" => back::<u32>(alloc, text),
@@ -95,11 +96,12 @@ pub fn answer(alloc: Global, name: &str, line: &str) -> Result<String> {
         "Bytes" => again::<Bytes>(alloc, text),
         "Blob" => read::<Blob>(alloc, text),
         "Raw" => raw(alloc, text),
-        _ => lists(alloc, name, text),
+        "Config" => back::<Config>(alloc, text),
+        _ => collections(alloc, name, text),
     }
 }
 
-fn lists(alloc: Global, name: &str, text: &str) -> Result<String> {
+fn collections(alloc: Global, name: &str, text: &str) -> Result<String> {
     match name {
         "Vec<()>" => back::<Vec<()>>(alloc, text),
         "Vec<i32>" => back::<Vec<i32>>(alloc, text),
@@ -107,7 +109,6 @@ fn lists(alloc: Global, name: &str, text: &str) -> Result<String> {
         "Vec<Vec<i32>>" => back::<Vec<Vec<i32>>>(alloc, text),
         "(i32, i32)" => back::<(i32, i32)>(alloc, text),
         "(char, i32, &str)" => again::<(char, i32, &str)>(alloc, text),
-        "TupleStruct" => back::<TupleStruct>(alloc, text),
         "Option<bool>" => back::<Option<bool>>(alloc, text),
         "BTreeMap<&str, usize>" => again::<BTreeMap<&str, usize>>(alloc, text),
         "BTreeMap<String, u8>" => back::<BTreeMap<String, u8>>(alloc, text),
@@ -115,28 +116,6 @@ fn lists(alloc: Global, name: &str, text: &str) -> Result<String> {
         "BTreeMap<bool, &str>" => again::<BTreeMap<bool, &str>>(alloc, text),
         "BTreeMap<(), &str>" => again::<BTreeMap<(), &str>>(alloc, text),
         "BTreeMap<Option<char>, u8>" => again::<BTreeMap<Option<char>, u8>>(alloc, text),
-        "BTreeMap<K, u8>" => back::<BTreeMap<K, u8>>(alloc, text),
-        _ => structs(alloc, name, text),
-    }
-}
-
-fn structs(alloc: Global, name: &str, text: &str) -> Result<String> {
-    match name {
-        "Example" => again::<Example>(alloc, text),
-        "Person" => back::<Person>(alloc, text),
-        "Vec<Person>" => back::<Vec<Person>>(alloc, text),
-        "Strict" => back::<Strict>(alloc, text),
-        "E" => back::<E>(alloc, text),
-        "External" => back::<External>(alloc, text),
-        "Internal" => back::<Internal>(alloc, text),
-        "Wrapped" => back::<Wrapped>(alloc, text),
-        "Adjacent" => back::<Adjacent>(alloc, text),
-        "Untagged" => back::<Untagged>(alloc, text),
-        "Vec<Port>" => back::<Vec<Port>>(alloc, text),
-        "Folder" => back::<Folder>(alloc, text),
-        "Site" => again::<Site>(alloc, text),
-        "Config" => back::<Config>(alloc, text),
-        "Order" => back::<Order>(alloc, text),
         _ => by_hand(alloc, name, text),
     }
 }
