@@ -1,6 +1,6 @@
 -- A walk over a document is refused nowhere but where memory was.
 use denote.Ref.{Bor}
-use Rattle.std.proofs.Common.{◌≡◌, ℕ, ◌+◌, ◌≤◌, ◌<◌, Bool, true, false, List, [], ◌∷◌, length, refl, ap, sym, ◌∙◌, subst, inl, inr, Option, Some, None, arith}
+use Rattle.std.proofs.Common.{◌≡◌, ℕ, suc, ◌+◌, ◌≤◌, ◌<◌, Bool, true, false, List, [], ◌∷◌, ◌++◌, length, refl, ap, sym, ◌∙◌, subst, inl, inr, Option, Some, None, arith}
 use Rattle.std.specs.Option.{is_some}
 use Rattle.std.specs.Prelude.{IfNone, IfErr, OnErr, Result, Ok, Err}
 use Rattle.std.specs.Str.{chars, IsUtf8}
@@ -10,7 +10,7 @@ use Rattle.json5_grammar.specs.Language.Blanks.{Solid}
 use Rattle.json5_grammar.specs.Language.Characters.{NotBegun}
 use Rattle.json5_grammar.specs.Language.Documents.{Doc, max_depth}
 use Rattle.json5_grammar.specs.Language.Trees.{Tree, array, object, Trees, Members, no_more, more, no_member, member}
-use Rattle.json5_grammar.specs.Model.Collections.{Tail, MembersTail, joined_trees, joined_members}
+use Rattle.json5_grammar.specs.Model.Collections.{IsSign, Tail, MembersTail, joined_trees, joined_members}
 use Rattle.json5_grammar.proofs.ArraysPartlyRead.{element_shorter, sign_shorter}
 use Rattle.json5_grammar.proofs.ObjectsRead.{key_shorter, key_value_shorter}
 use Rattle.json5_types.specs.declared.error.Error.{Error}
@@ -19,7 +19,7 @@ use Rattle.json5_value.specs.declared.brackets.OpenBracket.{OpenBracket}
 use Rattle.json5_value.specs.declared.brackets.BracketKind.TheVariants as kind
 use Rattle.json5_walk.specs.declared.next.Next.TheVariants as next
 use Rattle.json5_walk.specs.Nexts.{takes_value}
-use Rattle.json5_walk.specs.Frames.{Frame, in_array, in_object, frame_kinds, text_end, At, at_value, at_element, at_key, at_colon, at_comma, value_frames}
+use Rattle.json5_walk.specs.Frames.{Frame, in_array, in_object, frame_kinds, text_end, At, at_value, at_element, at_key, at_colon, at_comma, value_frames, CompletesTo}
 use Rattle.json5_walk.specs.Moves.{Stays, Opens, TakesKeyOf, takes_key, TakesColon, takes_colon}
 use Rattle.json5_walk.specs.Walks.{Walked, at_start, Trail, IsAt, Live, Moved, Unmarked, may_close, IsDocument, IsDocumentWithin, IsHopeless, AwaitsValue, AwaitsKey, AwaitsColon, HasEnded, NotClosed, NotParted}
 use Rattle.json5_walk.proofs.Calls.{utf8_len, starts_at}
@@ -32,11 +32,11 @@ use Rattle.json5_edit.proofs.Seeks.{Elements, ElementsAnd, MembersOf, MembersAnd
 
 -- ---- what is needed in one walk is needed in another over the same text
 
-pub needs_as : (v w : Walked) {e : Error} → w.text ≡ v.text → w.limit ≡ v.limit → NeedsMemory w e → NeedsMemory v e
-needs_as v w {e = e} t l k = subst (λ n. IsDocumentWithin n v.text → LacksMemory e) l (subst (λ x. IsDocumentWithin w.limit x → LacksMemory e) t k)
+pub needs_as : {v w : Walked} {e : Error} → w.text ≡ v.text → w.limit ≡ v.limit → NeedsMemory w e → NeedsMemory v e
+needs_as {v = v} {w = w} {e = e} t l k = subst (λ n. IsDocumentWithin n v.text → LacksMemory e) l (subst (λ x. IsDocumentWithin w.limit x → LacksMemory e) t k)
 
-pub hopeless_needs : (v : Walked) {e : Error} → IsHopeless v → NeedsMemory v e
-hopeless_needs v h d = absurd (h d)
+pub hopeless_needs : {v : Walked} {e : Error} → IsHopeless v → NeedsMemory v e
+hopeless_needs h d = absurd (h d)
 
 -- ---- what must come
 
@@ -59,23 +59,23 @@ unmarked_awaits {v = v} {w = w} p a = record {
 -- ---- a value
 
 pub mark_spares : {v w : Walked} {e : Error} → Unmarked v w → (AwaitsValue w → IsHopeless w) → Spares v e
-mark_spares {v = v} {w = w} p h = λ s f a. needs_as v w p.text p.limit (hopeless_needs w (h (unmarked_awaits p a)))
+mark_spares p h = λ s f a. needs_as p.text p.limit (hopeless_needs (h (unmarked_awaits p a)))
 
 pub skip_spares : {v w x : Walked} {e : Error} → Unmarked v w → x ≡ w → (AwaitsValue x → IsHopeless x) → Spares v e
-skip_spares {v = v} {w = w} p same h = λ s f a. needs_as v w p.text p.limit (hopeless_needs w (subst (λ z. AwaitsValue z → IsHopeless z) same h (unmarked_awaits p a)))
+skip_spares {w = w} p same h = λ s f a. needs_as p.text p.limit (hopeless_needs (subst (λ z. AwaitsValue z → IsHopeless z) same h (unmarked_awaits p a)))
 
 pub array_spares : {v w x : Walked} {e : Error} → Unmarked v w → Moved (Opens kind.Array) w x → SparesFrom (at_element no_more) x e → Spares v e
-array_spares {v = v} {x = x} p q k = λ s f a.
+array_spares p q k = λ s f a.
     let (b, is, g) = q.leads (record { now = s.now; marked = None }) (p.leads s f) in
-    needs_as v x (q.text ∙ p.text) (q.limit ∙ p.limit) (k (value_frames s.now) (there (array_opened is) g))
+    needs_as (q.text ∙ p.text) (q.limit ∙ p.limit) (k (value_frames s.now) (there (array_opened is) g))
 
 pub object_spares : {v w x : Walked} {e : Error} → Unmarked v w → Moved (Opens kind.Object) w x → SparesFrom (at_key no_member) x e → Spares v e
-object_spares {v = v} {x = x} p q k = λ s f a.
+object_spares p q k = λ s f a.
     let (b, is, g) = q.leads (record { now = s.now; marked = None }) (p.leads s f) in
-    needs_as v x (q.text ∙ p.text) (q.limit ∙ p.limit) (k (value_frames s.now) (there (object_opened is) g))
+    needs_as (q.text ∙ p.text) (q.limit ∙ p.limit) (k (value_frames s.now) (there (object_opened is) g))
 
 pub skips_spare : {v : Walked} {e : Error} → (AwaitsValue v → IsHopeless v) → Spares v e
-skips_spare {v = v} h = λ s f a. hopeless_needs v (h a)
+skips_spare h = λ s f a. hopeless_needs (h a)
 
 -- ---- elements
 
@@ -122,7 +122,7 @@ fewer_members (member u e t ps) x r (y, z, k, v, tl) = let n = after ps z r tl i
 
 -- so many elements can't be passed
 pub too_many : {i n : ℕ} {path : List Step} {first now : Walked} {e : Error} → Elements i path first now n → length first.text ≤ n → SparesFrom (at_element no_more) first e
-too_many {n = n} {first = first} {now = now} {e = e} p l = λ o f. needs_as first now p.text p.limit (none o f)
+too_many {n = n} {first = first} {now = now} {e = e} p l = λ o f. needs_as p.text p.limit (none o f)
   where
     none : (o : List Frame) → IsAt first (record { now = at_element no_more o; marked = None }) → NeedsMemory now e
     none o f d =
@@ -139,22 +139,22 @@ too_many {n = n} {first = first} {now = now} {e = e} p l = λ o f. needs_as firs
         absurd (omega (arith, j, few, short, c, l))
 
 pub elements_end_spare : {i n : ℕ} {path : List Step} {first now : Walked} {e : Error} → Elements i path first now n → (Live now.next → IsHopeless now) → SparesFrom (at_element no_more) first e
-elements_end_spare {first = first} {now = now} p h = λ o f. let (ts, m, g, c, k) = p.leads o f in needs_as first now p.text p.limit (hopeless_needs now (h (subst Live g.is_next tt)))
+elements_end_spare p h = λ o f. let (ts, m, g, c, k) = p.leads o f in needs_as p.text p.limit (hopeless_needs (h (subst Live g.is_next tt)))
 
 pub element_spares : {i n : ℕ} {path : List Step} {first now mid : Walked} {e : Error} → Elements i path first now n → Moved Stays now mid → Stands mid → Spares mid e → SparesFrom (at_element no_more) first e
-element_spares {first = first} {mid = mid} p gap stands sp = λ o f.
+element_spares p gap stands sp = λ o f.
     let (ts, m, g, c, k) = p.leads o f in
     let (a, still, h) = gap.leads (record { now = at_element ts o; marked = m }) g in
     let is = stayed still h in
-    needs_as first mid (gap.text ∙ p.text) (gap.limit ∙ p.limit) (sp (record { now = at_element ts o; marked = m }) is (awaits_element is stands))
+    needs_as (gap.text ∙ p.text) (gap.limit ∙ p.limit) (sp (record { now = at_element ts o; marked = m }) is (awaits_element is stands))
 
 pub elements_on_spare : {i n : ℕ} {path : List Step} {first now : Walked} {e : Error} → ElementsAnd i path first now n → ((s : Trail) → IsAt now s → IsAfterEntry s.now → IsHopeless now) → SparesFrom (at_element no_more) first e
-elements_on_spare {first = first} {now = now} p h = λ o f. let (ts, t, m, g, c, k) = p.leads o f in needs_as first now p.text p.limit (hopeless_needs now (h (record { now = at_comma t (in_array ts ∷ o); marked = m }) g tt))
+elements_on_spare p h = λ o f. let (ts, t, m, g, c, k) = p.leads o f in needs_as p.text p.limit (hopeless_needs (h (record { now = at_comma t (in_array ts ∷ o); marked = m }) g tt))
 
 -- ---- members
 
 pub too_many_members : {n : ℕ} {key : Bor (List ℕ)} {path : List Step} {first now : Walked} {e : Error} → MembersOf key path first now n → length first.text ≤ n → SparesFrom (at_key no_member) first e
-too_many_members {n = n} {first = first} {now = now} {e = e} p l = λ o f. needs_as first now p.text p.limit (none o f)
+too_many_members {n = n} {first = first} {now = now} {e = e} p l = λ o f. needs_as p.text p.limit (none o f)
   where
     none : (o : List Frame) → IsAt first (record { now = at_key no_member o; marked = None }) → NeedsMemory now e
     none o f d =
@@ -171,26 +171,26 @@ too_many_members {n = n} {first = first} {now = now} {e = e} p l = λ o f. needs
         absurd (omega (arith, j, few, short, c, l))
 
 pub members_end_spare : {n : ℕ} {key : Bor (List ℕ)} {path : List Step} {first now : Walked} {e : Error} → MembersOf key path first now n → (Live now.next → IsHopeless now) → SparesFrom (at_key no_member) first e
-members_end_spare {first = first} {now = now} p h = λ o f. let (ps, m, g, c, k) = p.leads o f in needs_as first now p.text p.limit (hopeless_needs now (h (subst Live g.is_next tt)))
+members_end_spare p h = λ o f. let (ps, m, g, c, k) = p.leads o f in needs_as p.text p.limit (hopeless_needs (h (subst Live g.is_next tt)))
 
 pub name_spares : {n : ℕ} {key : Bor (List ℕ)} {path : List Step} {first now mid : Walked} {e : Error} → MembersOf key path first now n → Moved Stays now mid → Stands mid → ((s : Trail) → IsAt mid s → AwaitsKey mid → NeedsMemory mid e) → SparesFrom (at_key no_member) first e
-name_spares {first = first} {mid = mid} p gap stands sp = λ o f.
+name_spares p gap stands sp = λ o f.
     let (ps, m, g, c, k) = p.leads o f in
     let (a, still, h) = gap.leads (record { now = at_key ps o; marked = m }) g in
     let is = stayed still h in
-    needs_as first mid (gap.text ∙ p.text) (gap.limit ∙ p.limit) (sp (record { now = at_key ps o; marked = m }) is (awaits_key is stands))
+    needs_as (gap.text ∙ p.text) (gap.limit ∙ p.limit) (sp (record { now = at_key ps o; marked = m }) is (awaits_key is stands))
 
 pub member_spares : {n : ℕ} {key : Bor (List ℕ)} {bytes : List ℕ} {path : List Step} {first now mid named : Walked} {same : Bool} {e : Error} → MembersOf key path first now n → Moved Stays now mid → Named bytes same mid named → Solid named.unread → Spares named e → SparesFrom (at_key no_member) first e
-member_spares {first = first} {named = named} p gap q solid sp = λ o f.
+member_spares p gap q solid sp = λ o f.
     let (ps, m, g, c, k) = p.leads o f in
     let (a, still, h) = gap.leads (record { now = at_key ps o; marked = m }) g in
     let (b, is, i) = q.leads (record { now = at_key ps o; marked = m }) (stayed still h) in
     let (u, d, at, eq) = name_gives is in
     let j = there at i in
-    needs_as first named (q.text ∙ gap.text ∙ p.text) (q.limit ∙ gap.limit ∙ p.limit) (sp (record { now = at_value (in_object ps u d ∷ o); marked = m }) j (awaits_value j solid))
+    needs_as (q.text ∙ gap.text ∙ p.text) (q.limit ∙ gap.limit ∙ p.limit) (sp (record { now = at_value (in_object ps u d ∷ o); marked = m }) j (awaits_value j solid))
 
 pub members_on_spare : {n : ℕ} {key : Bor (List ℕ)} {path : List Step} {first now : Walked} {e : Error} → MembersAnd key path first now n → ((s : Trail) → IsAt now s → IsAfterEntry s.now → IsHopeless now) → SparesFrom (at_key no_member) first e
-members_on_spare {first = first} {now = now} p h = λ o f. let (ps, u, d, t, m, g, c, k) = p.leads o f in needs_as first now p.text p.limit (hopeless_needs now (h (record { now = at_comma t (in_object ps u d ∷ o); marked = m }) g tt))
+members_on_spare p h = λ o f. let (ps, u, d, t, m, g, c, k) = p.leads o f in needs_as p.text p.limit (hopeless_needs (h (record { now = at_comma t (in_object ps u d ∷ o); marked = m }) g tt))
 
 -- ---- the tokens of an entry
 
@@ -201,28 +201,28 @@ colon_is : {a b : At} → TakesColon a b → (o : List Frame) × (b ≡ at_value
 colon_is (takes_colon ps u d o) = (in_object ps u d ∷ o, refl)
 
 pub gap_spares_name : {v w : Walked} {bytes : List ℕ} {e : Error} → Moved (TakesKeyOf bytes) v w → (Live w.next → IsHopeless w) → (s : Trail) → IsAt v s → AwaitsKey v → NeedsMemory v e
-gap_spares_name {v = v} {w = w} p h s f a =
+gap_spares_name p h s f a =
     let (b, is, g) = p.leads s f in
     let (ps, u, d, o, at) = key_is is in
     let k = there at g in
-    needs_as v w p.text p.limit (hopeless_needs w (h (subst Live k.is_next tt)))
+    needs_as p.text p.limit (hopeless_needs (h (subst Live k.is_next tt)))
 
 pub colon_spares_name : {v w x : Walked} {bytes : List ℕ} {e : Error} → Moved (TakesKeyOf bytes) v w → Moved Stays w x → Solid x.unread → (AwaitsColon x → IsHopeless x) → (s : Trail) → IsAt v s → AwaitsKey v → NeedsMemory v e
-colon_spares_name {v = v} {x = x} p gap solid h s f a =
+colon_spares_name p gap solid h s f a =
     let (b, is, g) = p.leads s f in
     let (c, still, k) = gap.leads (record { now = b; marked = s.marked }) g in
     let (ps, u, d, o, at) = key_is is in
     let j = there at (stayed still k) in
-    needs_as v x (gap.text ∙ p.text) (gap.limit ∙ p.limit) (hopeless_needs x (h (record { due = sym j.is_next; solid = solid })))
+    needs_as (gap.text ∙ p.text) (gap.limit ∙ p.limit) (hopeless_needs (h (record { due = sym j.is_next; solid = solid })))
 
 pub end_spares_name : {v w x y : Walked} {bytes : List ℕ} {e : Error} → Moved (TakesKeyOf bytes) v w → Moved Stays w x → Moved TakesColon x y → (Live y.next → IsHopeless y) → (s : Trail) → IsAt v s → AwaitsKey v → NeedsMemory v e
-end_spares_name {v = v} {y = y} p gap q h s f a =
+end_spares_name p gap q h s f a =
     let (b, is, g) = p.leads s f in
     let (c, still, k) = gap.leads (record { now = b; marked = s.marked }) g in
     let (d, taken, j) = q.leads (record { now = b; marked = s.marked }) (stayed still k) in
     let (o, at) = colon_is taken in
     let i = there at j in
-    needs_as v y (q.text ∙ gap.text ∙ p.text) (q.limit ∙ gap.limit ∙ p.limit) (hopeless_needs y (h (subst Live i.is_next tt)))
+    needs_as (q.text ∙ gap.text ∙ p.text) (q.limit ∙ gap.limit ∙ p.limit) (hopeless_needs (h (subst Live i.is_next tt)))
 
 after_is : (a : At) → IsAfterEntry a → (t : Tree) × (f : Frame) × (o : List Frame) × (a ≡ at_comma t (f ∷ o))
 after_is (at_comma t (f ∷ o)) k = (t, f, o, refl)
@@ -242,21 +242,17 @@ part_after {v = v} {w = w} gap solid parted same closed s f k d =
     let i = there at (stayed still g) in
     within_hopeless i solid parted (subst NotClosed same closed) (subst (λ n. IsDocumentWithin n w.text) (sym gap.limit) (subst (λ x. IsDocumentWithin v.limit x) (sym gap.text) d))
 
-pub option_stands : (mid new : Walked) (closed : Option OpenBracket) (done : Bool) → done ≡ is_some closed → Solid mid.unread → IfNone closed (NotClosed mid) → IfNone closed (new ≡ mid) → done ≡ false → Stands new
-option_stands mid new None done e solid n same h = subst Stands (sym same) (solid, n)
-option_stands mid new (Some b) done e solid n same h = let k : true ≡ false = sym e ∙ h in absurd (cc)
-
-pub none_closed : {A : Type 0} (closed : Option OpenBracket) (done : Bool) → done ≡ is_some closed → IfNone closed A → done ≡ false → A
-none_closed None done e a h = a
-none_closed (Some b) done e a h = let k : true ≡ false = sym e ∙ h in absurd (cc)
+pub option_stands : {mid : Walked} (new : Walked) (closed : Option OpenBracket) (done : Bool) → done ≡ is_some closed → Solid mid.unread → IfNone closed (NotClosed mid) → IfNone closed (new ≡ mid) → done ≡ false → Stands new
+option_stands new None done e solid n same h = subst Stands (sym same) (solid, n)
+option_stands new (Some b) done e solid n same h = let k : true ≡ false = sym e ∙ h in absurd (cc)
 
 -- ---- the whole text
 
 start_needs : {bytes : List ℕ} {limit : ℕ} {v : Walked} {e : Error} → limit ≡ max_depth → v ≡ at_start bytes limit → NeedsMemory v e → IsDocument bytes → LacksMemory e
-start_needs {bytes = bytes} {e = e} l start k d = subst (λ (w : Walked). IsDocumentWithin w.limit w.text → LacksMemory e) start k (subst (λ n. IsDocumentWithin n bytes) (sym l) d)
+start_needs {bytes = bytes} l start k d = subst (λ (w : Walked). IsDocumentWithin w.limit w.text → LacksMemory _) start k (subst (λ n. IsDocumentWithin n bytes) (sym l) d)
 
 pub gap_needs : {bytes : List ℕ} {limit : ℕ} {v : Walked} {e : Error} → limit ≡ max_depth → v ≡ at_start bytes limit → (Live v.next → IsHopeless v) → IsDocument bytes → LacksMemory e
-gap_needs {v = v} l start h = start_needs l start (hopeless_needs v (h (subst (λ (w : Walked). Live w.next) (sym start) tt)))
+gap_needs l start h = start_needs l start (hopeless_needs (h (subst (λ (w : Walked). Live w.next) (sym start) tt)))
 
 at_first : {v w : Walked} {bytes : List ℕ} {limit : ℕ} → IsUtf8 bytes → v ≡ at_start bytes limit → Moved Stays v w → IsAt w (record { now = at_value []; marked = None })
 at_first u start gap =
@@ -264,14 +260,14 @@ at_first u start gap =
     stayed still g
 
 pub seek_needs : {bytes : List ℕ} {limit : ℕ} {v w : Walked} {e : Error} → IsUtf8 bytes → limit ≡ max_depth → v ≡ at_start bytes limit → Moved Stays v w → Solid w.unread → Spares w e → IsDocument bytes → LacksMemory e
-seek_needs {v = v} {w = w} u l start gap solid sp =
+seek_needs u l start gap solid sp =
     let f = at_first u start gap in
-    start_needs l start (needs_as v w gap.text gap.limit (sp (record { now = at_value []; marked = None }) f (awaits_value f solid)))
+    start_needs l start (needs_as gap.text gap.limit (sp (record { now = at_value []; marked = None }) f (awaits_value f solid)))
 
 pub finish_needs : {bytes : List ℕ} {limit : ℕ} {path : List Step} {v w x : Walked} {e : Error} → IsUtf8 bytes → limit ≡ max_depth → v ≡ at_start bytes limit → Moved Stays v w → Seeks path w x → (HasEnded x → IsHopeless x) → IsDocument bytes → LacksMemory e
-finish_needs {v = v} {x = x} u l start gap seek h =
+finish_needs u l start gap seek h =
     let (t, m, g, k) = seek.leads (record { now = at_value []; marked = None }) (at_first u start gap) in
-    start_needs l start (needs_as v x (seek.text ∙ gap.text) (seek.limit ∙ gap.limit) (hopeless_needs x (h (record { due = sym g.is_next; none = sym g.is_kinds }))))
+    start_needs l start (needs_as (seek.text ∙ gap.text) (seek.limit ∙ gap.limit) (hopeless_needs (h (record { due = sym g.is_next; none = sym g.is_kinds }))))
 
 -- ---- results
 

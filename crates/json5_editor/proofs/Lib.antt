@@ -1,4 +1,5 @@
 -- Lists the lemmas about what the program does.
 pub mod PartsRead
-pub mod EditsMade
+pub mod WordsAsked
 pub mod Statuses
+pub mod TextsRead

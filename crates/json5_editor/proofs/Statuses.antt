@@ -5,14 +5,12 @@ use Rattle.json5_formatter.specs.declared.failure.Failure.{Failure}
 use Rattle.json5_formatter.specs.declared.failure.Failure.TheVariants as failure
 use Rattle.json5_formatter.specs.Reports.{status_of}
 use Rattle.json5_tidier.specs.Stores.{Known}
-use Rattle.json5_tidier.proofs.Statuses.{text_low}
 use Rattle.json5_edit.specs.declared.faults.EditError.{EditError}
 use Rattle.json5_edit.specs.declared.faults.EditError.TheVariants as error
 use Rattle.json5_editor.specs.declared.trouble.Trouble.{Trouble}
 use Rattle.json5_editor.specs.declared.trouble.Trouble.TheVariants as trouble
 use Rattle.json5_editor.specs.declared.requests.Task.{Task}
-use Rattle.json5_editor.specs.declared.requests.Request.TheVariants as requests
-use Rattle.json5_editor.specs.Answers.{Answers, helps, tells_version, does, says_usage}
+use Rattle.json5_editor.specs.Answers.{Answers, SaysText, helps, tells_version, does, says_usage, says, stops}
 use Rattle.json5_editor.specs.Requests.{AsksNothing}
 use Rattle.json5_editor.specs.Troubles.{edit_status, trouble_status}
 use Rattle.json5_editor.specs.Works.{Does, DoesAt, reads, reads_none, no_path, worked, stopped, no_steps}
@@ -51,15 +49,19 @@ does_small (reads text h d) = at_small d
 does_small (reads_none f h k) = failure_small f
 does_small (no_path k) = omega arith
 
+says_small : {text : List ℕ} {output errors written said : Option (List ℕ)} {status : ℕ} → SaysText text output errors written said status → status ≤ 2
+says_small (says a) = omega arith
+says_small (stops a b) = omega arith
+
 pub small : {known : Known} {words : List (List ℕ)} {input output errors written said : Option (List ℕ)} {status : ℕ} → Answers known words input output errors written said status → status ≤ 2
-small (helps a s) = text_low s
-small (tells_version a s) = text_low s
+small (helps a s) = says_small s
+small (tells_version a s) = says_small s
 small (does t a d) = does_small d
 small (says_usage n) = omega arith
 
 -- words that ask for nothing
 pub usage_status : {known : Known} {words : List (List ℕ)} {input output errors written said : Option (List ℕ)} {status : ℕ} → Answers known words input output errors written said status → AsksNothing words → status ≡ 2
-usage_status (helps a s) n = absurd (n requests.Help a)
-usage_status (tells_version a s) n = absurd (n requests.Version a)
-usage_status (does t a d) n = absurd (n (requests.Task t) a)
+usage_status (helps a s) n = absurd (n _ a)
+usage_status (tells_version a s) n = absurd (n _ a)
+usage_status (does t a d) n = absurd (n _ a)
 usage_status (says_usage m) n = refl

@@ -1,6 +1,5 @@
 -- What is made of a text.
-use Rattle.std.specs.declared.alloc.Global.{Global}
-use Rattle.std.specs.Prelude.{◌≡◌, ◌⊎◌, ℕ, List, [], ◌∷◌, ◌++◌, Result, Ok, Err, String}
+use Rattle.std.specs.Prelude.{◌≡◌, ◌⊎◌, ℕ, List, [], ◌∷◌, ◌++◌}
 use Rattle.json5_edit.specs.Changes.{IsInserted, IsPushed, IsPutIn, IsRekeyed, IsRemoved}
 use Rattle.json5_edit.specs.Refusals.{RefusesInsert, RefusesPath, RefusesPush, RefusesPutIn, RefusesRemove, RefusesRename, RefusesSet}
 use Rattle.json5_edit.specs.Sets.{IsSet}
@@ -53,8 +52,3 @@ abbrev pub RefusesWork : Work → List ℕ → List Step → List ℕ → Troubl
 RefusesWork w text steps value (trouble.Edit e) = RefusesEdit w text steps value e
 RefusesWork w text steps value (trouble.NoJson e) = (w ≡ work.Json) × RefusesJsonAt text steps (trouble.NoJson e)
 RefusesWork w text steps value _ = ⊥
-
--- what an edit returns, as the work's own
-abbrev pub edited : Result (String Global) EditError → Result (String Global) Trouble
-edited (Ok made) = Ok made
-edited (Err e) = Err (trouble.Edit e)

@@ -1,5 +1,5 @@
 -- What is read, and what is written of it.
-use Rattle.std.specs.Prelude.{◌≡◌, ◌⊎◌, ℕ, List, [], Option, None, Some, IfSome}
+use Rattle.std.specs.Prelude.{◌≡◌, ◌⊎◌, ℕ, List, [], ◌∷◌, Option, None, Some, IfSome}
 use Rattle.std.specs.Io.KnownBytes.{Appends, Keeps}
 use lib.Chars.{codes}
 use Rattle.json5_write.specs.Pieces.{AppendsFront}
@@ -12,6 +12,7 @@ use Rattle.json5_edit.specs.Refusals.{RefusesPath}
 use Rattle.json5_edit.specs.declared.faults.EditError.{EditError}
 use Rattle.json5_edit.specs.declared.paths.Step.{Step}
 use Rattle.json5_editor.specs.declared.requests.Task.{Task}
+use Rattle.json5_editor.specs.declared.requests.Work.{Work}
 use Rattle.json5_editor.specs.declared.requests.Work.TheVariants as work
 use Rattle.json5_editor.specs.declared.trouble.Trouble.{Trouble}
 use Rattle.json5_editor.specs.declared.trouble.Trouble.TheVariants as trouble

@@ -1,12 +1,15 @@
 //! The program over its words and its three streams.
 
-ghost use Rattle.json5_editor.specs.Answers.{Answers};
+ghost use Rattle.json5_editor.specs.Answers.{Answers, SaysText};
+ghost use Rattle.json5_formatter.specs.JoinedTexts.{joined_texts};
 ghost use Rattle.json5_tidier.specs.Folders.{names_of};
 
 use crate::lines::{HELP, usage};
 use crate::requests::Request;
+use crate::texts::put_texts;
 use crate::works::do_task;
-use json5_tidier::{Store, answer_with};
+use json5_formatter::report;
+use json5_tidier::Store;
 use json5_version::VERSION;
 use std::alloc::Global;
 use std::io::{Read, Write};
@@ -28,9 +31,19 @@ pub fn answer<S: Store, R: Read, W: Write, E: Write>(
     ensures { Answers (S.known store.now) (names_of list.now) (R.remaining r.old) (W.contents w.old) (E.contents e.old) (W.contents w.new) (E.contents e.new) result }
 {
     match Request::of(list) {
-        Some(Request::Help) => answer_with(&[HELP], w, e),
-        Some(Request::Version) => answer_with(&["json5_edit ", VERSION, "\n"], w, e),
+        Some(Request::Help) => say(&[HELP], w, e),
+        Some(Request::Version) => say(&["json5_edit ", VERSION, "\n"], w, e),
         Some(Request::Task(task)) => do_task(store, alloc, &task, r, w, e),
         None => usage(e),
+    }
+}
+
+/// Writes the texts to `w`, or to `e` that they can't be written.
+fn say<W: Write, E: Write>(texts: &[&str], w: &mut W, e: &mut E) -> u8
+    ensures { SaysText (joined_texts texts.now) (W.contents w.old) (E.contents e.old) (W.contents w.new) (E.contents e.new) result }
+{
+    match put_texts(w, texts) {
+        Ok(()) => 0,
+        Err(failure) => report("output", &failure, e),
     }
 }

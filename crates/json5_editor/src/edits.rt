@@ -1,7 +1,7 @@
 //! What is made of a text.
 
-ghost use Rattle.std.specs.Prelude.{◌≡◌, IfErr, IfOk, string_bytes};
-ghost use Rattle.json5_editor.specs.Makes.{Inserts, Makes, RefusesInserting, RefusesWork, edited};
+ghost use Rattle.std.specs.Prelude.{IfErr, IfOk, string_bytes};
+ghost use Rattle.json5_editor.specs.Makes.{Inserts, Makes, RefusesInserting, RefusesWork};
 
 use crate::parts::{json_at, spelled_at};
 use crate::requests::{Task, Work};
@@ -22,21 +22,15 @@ pub(crate) fn made(
     ensures refused { IfErr result (RefusesWork task.now.work text.now steps.now task.now.value.now) }
 {
     let value = task.value;
-    match task.work {
-        Work::Get => edited(spelled_at(alloc, text, steps)),
-        Work::Json => json_at(alloc, text, steps),
-        Work::Set => edited(set(alloc, text, steps, value)),
-        Work::Insert => edited(inserted(alloc, text, steps, value)),
-        Work::Remove => edited(remove(alloc, text, steps)),
-        Work::Push => edited(push(alloc, text, steps, value)),
-        Work::Rename => edited(rename(alloc, text, steps, value)),
-    }
-}
-
-/// What an edit returned, as the work's own.
-fn edited(made: Result<String>) -> std::result::Result<String, Trouble>
-    ensures { result ≡ edited made }
-{
+    let made = match task.work {
+        Work::Get => spelled_at(alloc, text, steps),
+        Work::Json => return json_at(alloc, text, steps),
+        Work::Set => set(alloc, text, steps, value),
+        Work::Insert => inserted(alloc, text, steps, value),
+        Work::Remove => remove(alloc, text, steps),
+        Work::Push => push(alloc, text, steps, value),
+        Work::Rename => rename(alloc, text, steps, value),
+    };
     match made {
         Ok(new) => Ok(new),
         Err(error) => Err(Trouble::Edit(error)),

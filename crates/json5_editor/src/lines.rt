@@ -10,7 +10,7 @@ use crate::trouble::Trouble;
 use json5_edit::{EditError, Step};
 use json5_edit_path::PathError;
 use json5_report::Report;
-use json5_tidier::report_unwritten;
+use json5_tidier::Unwritten;
 use json5_types::error::Error;
 use std::alloc::Global;
 use std::io::Write;
@@ -20,8 +20,7 @@ const USAGE: &str =
     "usage: json5_edit get FILE PATH [--json], json5_edit remove FILE PATH, or json5_edit set|insert|push|rename FILE PATH VALUE\n";
 
 /// What `--help` writes.
-pub(crate) const HELP: &str =
-    "usage: json5_edit get FILE PATH [--json], or json5_edit remove FILE PATH,
+pub(crate) const HELP: &str = "usage: json5_edit get FILE PATH [--json], or json5_edit remove FILE PATH,
        or json5_edit set|insert|push|rename FILE PATH VALUE
 Changes one value of a JSON5 file, and keeps the rest as it is.
 
@@ -85,18 +84,10 @@ pub(crate) fn tell<E: Write>(
         Trouble::Edit(EditError::Text(error)) => show(alloc, name, text, error, e),
         Trouble::Edit(EditError::Value(error)) => show(alloc, "VALUE", task.value, error, e),
         Trouble::Edit(EditError::Nowhere) => nowhere(alloc, name, text, steps, e),
-        Trouble::Edit(error) => {
-            let _ = writeln!(e, "{name}: {error}");
-        }
-        Trouble::NoJson(error) => {
-            let _ = writeln!(e, "{name}: {error}");
-        }
-        Trouble::Failed(_) => {
-            let _ = writeln!(e, "output: cannot be written");
-        }
-        Trouble::Unwritten(why) => {
-            let _ = report_unwritten(task.file, why, e);
-        }
+        Trouble::Edit(error) => { let _ = writeln!(e, "{name}: {error}"); }
+        Trouble::NoJson(error) => { let _ = writeln!(e, "{name}: {error}"); }
+        Trouble::Failed(_) => { let _ = writeln!(e, "output: cannot be written"); }
+        Trouble::Unwritten(why) => unwritten(task.file, why, e),
     }
     trouble.status()
 }
@@ -104,12 +95,8 @@ pub(crate) fn tell<E: Write>(
 /// Writes the report of a fault of this text, or one line where there is no memory for it.
 fn show<E: Write>(alloc: Global, name: &str, text: &str, error: &Error, e: &mut E) {
     match Report::new(alloc, name, text, error) {
-        Ok(report) => {
-            let _ = writeln!(e, "{report}");
-        }
-        Err(_) => {
-            let _ = writeln!(e, "{name}: {error}");
-        }
+        Ok(report) => { let _ = writeln!(e, "{report}"); }
+        Err(_) => { let _ = writeln!(e, "{name}: {error}"); }
     }
 }
 
@@ -117,14 +104,19 @@ fn show<E: Write>(alloc: Global, name: &str, text: &str, error: &Error, e: &mut 
 fn nowhere<E: Write>(alloc: Global, name: &str, text: &str, steps: &[Step<'_>], e: &mut E) {
     let lead = "the path leads nowhere";
     match steps.get(steps_that_lead(alloc, text, steps)) {
-        Some(Step::Key(key)) => {
-            let _ = writeln!(e, "{name}: {lead}: there is no member `{key}`");
-        }
-        Some(Step::Index(index)) => {
-            let _ = writeln!(e, "{name}: {lead}: there is no element {index}");
-        }
-        None => {
-            let _ = writeln!(e, "{name}: {lead}");
-        }
+        Some(Step::Key(key)) => { let _ = writeln!(e, "{name}: {lead}: there is no member `{key}`"); }
+        Some(Step::Index(index)) => { let _ = writeln!(e, "{name}: {lead}: there is no element {index}"); }
+        None => { let _ = writeln!(e, "{name}: {lead}"); }
+    }
+}
+
+/// Writes why the file wasn't replaced, in the words of json5_tidy.
+fn unwritten<E: Write>(file: &str, why: &Unwritten, e: &mut E) {
+    match why {
+        Unwritten::Refused => { let _ = writeln!(e, "{file}: cannot be written"); }
+        Unwritten::Changed => { let _ = writeln!(e, "{file}: changed meanwhile, and was left as it is"); }
+        Unwritten::NoMemory => { let _ = writeln!(e, "{file}: out of memory"); }
+        Unwritten::Taken(beside) => { let _ = writeln!(e, "{file}: cannot be written: {beside} is there"); }
+        Unwritten::Remains(beside) => { let _ = writeln!(e, "{file}: cannot be written, and {beside} remains"); }
     }
 }

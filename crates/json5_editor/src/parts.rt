@@ -34,7 +34,11 @@ pub(crate) fn spelled_at(
 }
 
 /// The value that the steps lead to, as JSON, and a line end.
-pub(crate) fn json_at(alloc: Global, text: &str, steps: &[Step<'_>]) -> Result<String, Trouble>
+pub(crate) fn json_at(
+    alloc: Global,
+    text: &str,
+    steps: &[Step<'_>],
+) -> Result<String, Trouble>
     ensures json { IfOk result (λ made. IsJsonAt text.now steps.now (string_bytes made)) }
     ensures refused { IfErr result (RefusesJsonAt text.now steps.now) }
 {
@@ -49,13 +53,14 @@ fn part_at<'t>(alloc: Global, text: &'t str, steps: &[Step<'_>]) -> json5_edit::
     ensures part { IfOk result (λ part. IsPartAt text.now steps.now part.now) }
     ensures refused { IfErr result (RefusesPath text.now steps.now) }
 {
-    match find_place(alloc, text, steps) {
-        Ok(Some(place)) => match text.get(place.start..place.end) {
-            Some(part) => Ok(part),
-            None => unreachable!(),
-        },
-        Ok(None) => Err(EditError::Nowhere),
-        Err(error) => Err(EditError::of_text(error)),
+    let place = match find_place(alloc, text, steps) {
+        Ok(Some(place)) => place,
+        Ok(None) => return Err(EditError::Nowhere),
+        Err(error) => return Err(EditError::of_text(error)),
+    };
+    match text.get(place.start..place.end) {
+        Some(part) => Ok(part),
+        None => Err(EditError::Failed),
     }
 }
 

@@ -7,12 +7,12 @@ ghost use Rattle.json5_editor.specs.Works.{Does, DoesAt, GoesOut, Puts, PutsNot,
 use crate::edits::made;
 use crate::lines::{tell, wrong_path};
 use crate::requests::{Task, Work};
-use crate::texts::{name_of, text_of};
+use crate::texts::{name_of, put_texts, text_of};
 use crate::trouble::Trouble;
 use json5_edit::Step;
 use json5_edit_path::Path;
 use json5_formatter::report;
-use json5_tidier::{Store, put_texts};
+use json5_tidier::Store;
 use std::alloc::Global;
 use std::io::{Read, Write};
 

@@ -5,7 +5,8 @@ use crate::reads::{read, taken};
 use indexmap::IndexMap;
 use json5::{Result, Spanned, from_str, to_string};
 use json5_own_type::{
-    AtMost, Bounds, Color, Endpoint, Id, Labels, OpenPort, Reminder, Settings, settings_again,
+    Article, AtMost, Bounds, Color, Endpoint, Id, Labels, Level, OpenPort, Point, Port, PortRange,
+    Reminder, Settings, endpoint_again, settings_again,
 };
 use std::alloc::Global;
 use std::collections::BTreeMap;
@@ -16,9 +17,14 @@ fn bounds(alloc: Global, text: &str) -> Result<String> {
     to_string(alloc, &(&bounds.low, &bounds.high))
 }
 
-fn ids(alloc: Global) -> Result<String> {
-    let ids: Vec<Id> = taken(alloc, "[80,443]")?;
-    match ids.as_slice() {
+fn point(alloc: Global) -> Result<String> {
+    let point: Point<String> = taken(alloc, "['x','y']")?;
+    to_string(alloc, &(&point.x, &point.y))
+}
+
+fn ports(alloc: Global) -> Result<String> {
+    let ports: Vec<Port> = taken(alloc, "[80,443]")?;
+    match ports.as_slice() {
         [first, ..] => to_string(alloc, &first.number),
         [] => to_string(alloc, &()),
     }
@@ -34,10 +40,29 @@ fn labels(alloc: Global, text: &str) -> Result<String> {
     to_string(alloc, &labels.texts)
 }
 
+fn range(alloc: Global, text: &str) -> Result<String> {
+    let range: PortRange = from_str(alloc, text)?;
+    to_string(alloc, &(range.first, range.last))
+}
+
+fn level(alloc: Global, text: &str) -> Result<String> {
+    let level: Level = from_str(alloc, text)?;
+    Ok(format!(in alloc; "{level:?}")?)
+}
+
 fn spanned(alloc: Global) -> Result<String> {
     let name: Spanned<String> = taken(alloc, " 'a'")?;
     let (start, end) = (name.start, name.end);
     Ok(format!(in alloc; "{start} to {end}")?)
+}
+
+fn article(alloc: Global) -> Result<String> {
+    let article = Article {
+        title: String::from_str(alloc, "a")?,
+        year: 2024,
+        tags: from_str(alloc, "['b','c']")?,
+    };
+    to_string(alloc, &article)
 }
 
 fn again(alloc: Global) -> Result<String> {
@@ -48,28 +73,39 @@ fn again(alloc: Global) -> Result<String> {
     to_string(alloc, &settings_again(alloc, &settings)?)
 }
 
+fn endpoint(alloc: Global) -> Result<String> {
+    let endpoint: Endpoint = from_str(alloc, "['a',80]")?;
+    if endpoint.port.number == 0 {
+        return to_string(alloc, &());
+    }
+    to_string(alloc, &endpoint_again(alloc, &endpoint)?)
+}
+
 fn print_lists<W: Write>(alloc: Global, out: &mut W) -> io::Result<()> {
     print(out, "Bounds", bounds(alloc, "['a','b']"))?;
     print(out, "Bounds of one", bounds(alloc, "['a']"))?;
-    print(out, "Ids", ids(alloc))?;
+    print(out, "Point", point(alloc))?;
+    print(out, "Port", ports(alloc))?;
     print(out, "AtMost", at_most(alloc, "['a','b']"))?;
     print(out, "AtMost of three", at_most(alloc, "['a','b','c']"))?;
     print(out, "Labels", labels(alloc, "['a','b']"))?;
     print(out, "Labels of none", labels(alloc, "[]"))?;
+    print(out, "PortRange", range(alloc, "[1,2]"))?;
+    print(out, "PortRange of none", range(alloc, "[2,1]"))?;
     print(out, "Spanned", spanned(alloc))
 }
 
 fn print_names<W: Write>(alloc: Global, out: &mut W) -> io::Result<()> {
-    print(out, "Color", read::<Color>(alloc, "'blue'"))?;
-    print(out, "no Color", read::<Color>(alloc, "'pink'"))?;
+    print(out, "Level", level(alloc, "'high'"))?;
+    print(out, "no Level", level(alloc, "'highest'"))?;
     print(
         out,
-        "Color as a key",
+        "Color",
         read::<BTreeMap<Color, u8>>(alloc, "{red:1,'bl\\u0075e':2}"),
     )?;
     print(
         out,
-        "no Color as a key",
+        "no Color",
         read::<BTreeMap<Color, u8>>(alloc, "{pink:1}"),
     )?;
     print(out, "Id", read::<IndexMap<Id, String>>(alloc, "{'7':'a'}"))?;
@@ -84,6 +120,7 @@ fn print_structs<W: Write>(alloc: Global, out: &mut W) -> io::Result<()> {
     print(out, "OpenPort", read::<OpenPort>(alloc, "8080"))?;
     print(out, "Endpoint", read::<Endpoint>(alloc, "['a',80]"))?;
     print(out, "Endpoint at 0", read::<Endpoint>(alloc, "['a',0]"))?;
+    print(out, "Endpoint again", endpoint(alloc))?;
     print(
         out,
         "Settings",
@@ -94,7 +131,8 @@ fn print_structs<W: Write>(alloc: Global, out: &mut W) -> io::Result<()> {
         "Settings of none",
         read::<Settings>(alloc, "{label:'b'}"),
     )?;
-    print(out, "Settings again", again(alloc))
+    print(out, "Settings again", again(alloc))?;
+    print(out, "Article", article(alloc))
 }
 
 fn print_reminders<W: Write>(alloc: Global, out: &mut W) -> io::Result<()> {

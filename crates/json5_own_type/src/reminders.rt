@@ -1,8 +1,5 @@
 //! When one is reminded, read and written by a description of the variants.
 
-ghost use Rattle.json5.specs.Structs.{codes, struct_of};
-ghost use Rattle.json5_own_type.specs.Written.{reminder_tree, moment_tree};
-
 use json5::OneOf::{First, Later};
 use json5::fields::{EnumVariants, StructFields};
 use json5::{
@@ -30,7 +27,7 @@ type Variants = OneOf<NoContent, OneOf<Holding<u8>, OneOf<Holding<(u8, u8)>, Hol
 impl<I: Input> Deserialize<I> for Reminder {
     ghost use Rattle.json5.specs.Enums.{enum_of};
     ghost use Rattle.json5.specs.VariantContents.{RefusesEnum};
-    ghost use Rattle.json5_own_type.specs.Accepted.{reminder_names, reminder_content};
+    ghost use Rattle.json5_own_type.specs.Reminders.{reminder_names, reminder_content};
 
     ghost Content = { ⟦<Variants as EnumVariants<I>>⟧.Content };
 
@@ -53,6 +50,8 @@ impl<I: Input> Deserialize<I> for Reminder {
 
 /// A string for the variant that holds nothing, and else an object with the variant's name as its one key.
 impl Serialize for Reminder {
+    ghost use Rattle.json5_own_type.specs.Reminders.{reminder_tree};
+
     ghost tree = { reminder_tree };
 
     fn serialize<W: Write + Drop>(&self, ser: &mut Serializer<W>) -> Result<()> {
@@ -76,12 +75,18 @@ pub struct Moment {
     pub hour: u8,
 }
 
+type MomentParts = (Required, Required);
+
+type MomentValues = (String, u8);
+
 impl<I: Input> Deserialize<I> for Moment {
-    ghost Content = { ⟦<(Required, Required) as StructFields<I, (String, u8)>>⟧.Content };
+    ghost use Rattle.json5.specs.Structs.{codes, struct_of};
 
-    ghost content = { λ m. ⟦<(Required, Required) as StructFields<I, (String, u8)>>⟧.content (m.day, m.hour) };
+    ghost Content = { ⟦<MomentParts as StructFields<I, MomentValues>>⟧.Content };
 
-    ghost convert = { struct_of (⟦<(Required, Required) as StructFields<I, (String, u8)>>⟧.layout (codes "day", codes "hour")) };
+    ghost content = { λ m. ⟦<MomentParts as StructFields<I, MomentValues>>⟧.content (m.day, m.hour) };
+
+    ghost convert = { struct_of (⟦<MomentParts as StructFields<I, MomentValues>>⟧.layout (codes "day", codes "hour")) };
 
     fn deserialize(de: &mut Deserializer<I>) -> Result<Moment> {
         match read_struct(de, (Required("day"), Required("hour"))) {
@@ -92,6 +97,8 @@ impl<I: Input> Deserialize<I> for Moment {
 }
 
 impl Serialize for Moment {
+    ghost use Rattle.json5_own_type.specs.Reminders.{moment_tree};
+
     ghost tree = { moment_tree };
 
     fn serialize<W: Write + Drop>(&self, ser: &mut Serializer<W>) -> Result<()> {

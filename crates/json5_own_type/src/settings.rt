@@ -2,9 +2,7 @@
 
 ghost use Rattle.std.specs.Prelude.{◌≡◌, ◌<◌, MatchResult};
 ghost use Rattle.json5.specs.Cursor.{IsOutOfMemory};
-ghost use Rattle.json5.specs.Structs.{codes, struct_of, RefusesDescribed};
-ghost use Rattle.json5_own_type.specs.Accepted.{settings_content};
-ghost use Rattle.json5_own_type.specs.Written.{settings_tree};
+ghost use Rattle.json5_own_type.specs.Settings.{settings_content};
 
 use crate::ports::OpenPort;
 use json5::fields::StructFields;
@@ -33,6 +31,8 @@ type Values = (String, OpenPort, Option<String>);
 
 /// An object; an unknown field is passed over, and a field that comes twice is refused.
 impl<I: Input> Deserialize<I> for Settings {
+    ghost use Rattle.json5.specs.Structs.{codes, struct_of, RefusesDescribed};
+
     ghost Content = { ⟦<Parts as StructFields<I, Values>>⟧.Content };
 
     ghost content = { λ s. ⟦<Parts as StructFields<I, Values>>⟧.content (s.host, s.port, s.label) };
@@ -52,6 +52,8 @@ impl<I: Input> Deserialize<I> for Settings {
 
 /// An object of the host, the port, and the label if there is one.
 impl Serialize for Settings {
+    ghost use Rattle.json5_own_type.specs.Settings.{settings_tree};
+
     ghost tree = { settings_tree };
 
     fn serialize<W: Write + Drop>(&self, ser: &mut Serializer<W>) -> Result<()> {

@@ -2,6 +2,7 @@
 //! are refused.
 #![tactic(auto)]
 
+mod names;
 mod settings;
 
 use anyhow::Result;
@@ -11,15 +12,22 @@ use std::{env, fs};
 
 fn main(rt: HostRuntime) -> Result<()> {
     let alloc = rt.alloc();
-    for path in env::args(&rt)?.skip(1) {
-        let text = fs::read_to_string(&rt, &path)?;
-        match json5::from_str::<Settings>(alloc, &text) {
+    let words: Vec<String> = env::args(&rt)?.skip(1).collect(alloc)?;
+    for word in &words {
+        let path = word.as_str();
+        let text = fs::read_to_string(&rt, path)?;
+        match json5::from_str::<Settings>(alloc, text.as_str()) {
             Ok(settings) => {
-                let (server, routes) = (&settings.server, settings.routes.len());
-                let (host, port, log) = (&server.host, server.port, settings.log);
-                println!(rt; "{path}: {host}:{port}, {routes} routes, log {log:?}")?
+                let server = &settings.server;
+                println!(rt;
+                    "{path}: {}:{}, {} routes, log {:?}",
+                    server.host,
+                    server.port,
+                    settings.routes.len(),
+                    settings.log
+                )?
             }
-            Err(error) => println!(rt; "{}", Report::new(alloc, &path, &text, &error)?)?,
+            Err(error) => println!(rt; "{}", Report::new(alloc, path, text.as_str(), &error)?)?,
         }
     }
     Ok(())

@@ -1,47 +1,56 @@
 //! The settings of a web server. An unknown field is refused.
 
-ghost use Rattle.std.specs.Prelude.{[], ◌∷◌};
-ghost use Rattle.json5.specs.Named.{one_named};
-ghost use Rattle.json5.specs.Structs.{codes, struct_only};
-ghost use Rattle.json5_settings.specs.declared.settings.Log.TheVariants.{Error, Info, Debug};
-ghost use Rattle.json5_settings.specs.declared.settings.Method.TheVariants.{Get, Post};
-
+use crate::names::{Log, Method};
 use json5::fields::StructFields;
 use json5::{
-    Deserialize, Deserializer, Input, Optional, Required, Result, WithDefault, one_of_names,
-    read_struct_only,
+    Deserialize, Deserializer, Input, Optional, Required, Result, WithDefault, read_struct_only,
 };
 
-/// `{ server: { .. }, routes: [ .. ], limits: { .. }, log: 'error' }`
+/// `{ server: { .. }, routes: [ .. ], limits: { .. }, log: 'info', timeouts: { .. } }`
 #[derive(Drop)]
 pub struct Settings {
     pub server: Server,
     pub routes: Vec<Route>,
     pub limits: Option<Limits>,
     pub log: Log,
+    pub timeouts: Option<Timeouts>,
 }
 
-type SettingsParts = (Required, Required, Optional, WithDefault<Log>);
+type SettingsParts = (Required, Required, Optional, WithDefault<Log>, Optional);
 
-type SettingsValues = (Server, Vec<Route>, Option<Limits>, Log);
+type SettingsValues = (Server, Vec<Route>, Option<Limits>, Log, Option<Timeouts>);
 
 impl<I: Input> Deserialize<I> for Settings {
+    ghost use Rattle.json5.specs.Structs.{codes, struct_only};
+    ghost use Rattle.json5_settings.specs.declared.names.Log.TheVariants.{Info};
+
     ghost Content = { ⟦<SettingsParts as StructFields<I, SettingsValues>>⟧.Content };
 
-    ghost content = { λ s. ⟦<SettingsParts as StructFields<I, SettingsValues>>⟧.content (s.server, s.routes, s.limits, s.log) };
+    ghost content = { λ s. ⟦<SettingsParts as StructFields<I, SettingsValues>>⟧.content (s.server, s.routes, s.limits, s.log, s.timeouts) };
 
-    ghost convert = { struct_only (⟦<SettingsParts as StructFields<I, SettingsValues>>⟧.layout (codes "server", (codes "routes", (codes "limits", (codes "log", Info))))) };
+    ghost convert = { struct_only (⟦<SettingsParts as StructFields<I, SettingsValues>>⟧.layout (codes "server", (codes "routes", (codes "limits", ((codes "log", Info), codes "timeouts"))))) };
 
     fn deserialize(de: &mut Deserializer<I>) -> Result<Settings> {
-        let (server, routes) = (Required("server"), Required("routes"));
         let log = WithDefault("log", Log::Info);
-        match read_struct_only(de, (server, routes, Optional("limits"), log)) {
-            Ok((server, routes, limits, log)) => Ok(Settings {
-                server,
-                routes,
-                limits,
+        match read_struct_only(
+            de,
+            (
+                Required("server"),
+                Required("routes"),
+                Optional("limits"),
                 log,
-            }),
+                Optional("timeouts"),
+            ),
+        ) {
+            Ok((server, routes, limits, log, timeouts)) => {
+                Ok(Settings {
+                    server,
+                    routes,
+                    limits,
+                    log,
+                    timeouts,
+                })
+            }
             Err(e) => Err(e),
         }
     }
@@ -60,6 +69,8 @@ type ServerParts = (Required, WithDefault<u16>, Optional);
 type ServerValues = (String, u16, Option<Tls>);
 
 impl<I: Input> Deserialize<I> for Server {
+    ghost use Rattle.json5.specs.Structs.{codes, struct_only};
+
     ghost Content = { ⟦<ServerParts as StructFields<I, ServerValues>>⟧.Content };
 
     ghost content = { λ s. ⟦<ServerParts as StructFields<I, ServerValues>>⟧.content (s.host, s.port, s.tls) };
@@ -67,8 +78,10 @@ impl<I: Input> Deserialize<I> for Server {
     ghost convert = { struct_only (⟦<ServerParts as StructFields<I, ServerValues>>⟧.layout (codes "host", ((codes "port", 80), codes "tls"))) };
 
     fn deserialize(de: &mut Deserializer<I>) -> Result<Server> {
-        let fields = (Required("host"), WithDefault("port", 80), Optional("tls"));
-        match read_struct_only(de, fields) {
+        match read_struct_only(
+            de,
+            (Required("host"), WithDefault("port", 80), Optional("tls")),
+        ) {
             Ok((host, port, tls)) => Ok(Server { host, port, tls }),
             Err(e) => Err(e),
         }
@@ -82,12 +95,16 @@ pub struct Tls {
     pub key: String,
 }
 
+type Texts = (Required, Required);
+
 impl<I: Input> Deserialize<I> for Tls {
-    ghost Content = { ⟦<(Required, Required) as StructFields<I, (String, String)>>⟧.Content };
+    ghost use Rattle.json5.specs.Structs.{codes, struct_only};
 
-    ghost content = { λ t. ⟦<(Required, Required) as StructFields<I, (String, String)>>⟧.content (t.cert, t.key) };
+    ghost Content = { ⟦<Texts as StructFields<I, (String, String)>>⟧.Content };
 
-    ghost convert = { struct_only (⟦<(Required, Required) as StructFields<I, (String, String)>>⟧.layout (codes "cert", codes "key")) };
+    ghost content = { λ t. ⟦<Texts as StructFields<I, (String, String)>>⟧.content (t.cert, t.key) };
+
+    ghost convert = { struct_only (⟦<Texts as StructFields<I, (String, String)>>⟧.layout (codes "cert", codes "key")) };
 
     fn deserialize(de: &mut Deserializer<I>) -> Result<Tls> {
         match read_struct_only(de, (Required("cert"), Required("key"))) {
@@ -110,6 +127,8 @@ type RouteParts = (Required, Optional, Required);
 type RouteValues = (String, Option<Vec<Method>>, String);
 
 impl<I: Input> Deserialize<I> for Route {
+    ghost use Rattle.json5.specs.Structs.{codes, struct_only};
+
     ghost Content = { ⟦<RouteParts as StructFields<I, RouteValues>>⟧.Content };
 
     ghost content = { λ r. ⟦<RouteParts as StructFields<I, RouteValues>>⟧.content (r.path, r.methods, r.upstream) };
@@ -117,8 +136,10 @@ impl<I: Input> Deserialize<I> for Route {
     ghost convert = { struct_only (⟦<RouteParts as StructFields<I, RouteValues>>⟧.layout (codes "path", (codes "methods", codes "upstream"))) };
 
     fn deserialize(de: &mut Deserializer<I>) -> Result<Route> {
-        let fields = (Required("path"), Optional("methods"), Required("upstream"));
-        match read_struct_only(de, fields) {
+        match read_struct_only(
+            de,
+            (Required("path"), Optional("methods"), Required("upstream")),
+        ) {
             Ok((path, methods, upstream)) => Ok(Route {
                 path,
                 methods,
@@ -139,6 +160,8 @@ pub struct Limits {
 type LimitsParts = (WithDefault<u64>, WithDefault<u32>);
 
 impl<I: Input> Deserialize<I> for Limits {
+    ghost use Rattle.json5.specs.Structs.{codes, struct_only};
+
     ghost Content = { ⟦<LimitsParts as StructFields<I, (u64, u32)>>⟧.Content };
 
     ghost content = { λ l. ⟦<LimitsParts as StructFields<I, (u64, u32)>>⟧.content (l.body, l.header) };
@@ -146,50 +169,38 @@ impl<I: Input> Deserialize<I> for Limits {
     ghost convert = { struct_only (⟦<LimitsParts as StructFields<I, (u64, u32)>>⟧.layout ((codes "body", 1048576), (codes "header", 8192))) };
 
     fn deserialize(de: &mut Deserializer<I>) -> Result<Limits> {
-        let fields = (WithDefault("body", 1048576), WithDefault("header", 8192));
-        match read_struct_only(de, fields) {
+        match read_struct_only(
+            de,
+            (WithDefault("body", 1048576), WithDefault("header", 8192)),
+        ) {
             Ok((body, header)) => Ok(Limits { body, header }),
             Err(e) => Err(e),
         }
     }
 }
 
-/// How much is logged.
-#[derive(Clone, Copy, Debug)]
-pub enum Log {
-    Error,
-    Info,
-    Debug,
+/// Seconds.
+#[derive(Drop)]
+pub struct Timeouts {
+    pub read: u16,
+    pub write: u16,
 }
 
-impl<I: Input> Deserialize<I> for Log {
-    ghost Content = { Self };
+type Seconds = (WithDefault<u16>, WithDefault<u16>);
 
-    ghost content = { λ l. l };
+impl<I: Input> Deserialize<I> for Timeouts {
+    ghost use Rattle.json5.specs.Structs.{codes, struct_only};
 
-    ghost convert = { one_named (codes "error" ∷ codes "info" ∷ codes "debug" ∷ []) (Error ∷ Info ∷ Debug ∷ []) };
+    ghost Content = { ⟦<Seconds as StructFields<I, (u16, u16)>>⟧.Content };
 
-    fn deserialize(de: &mut Deserializer<I>) -> Result<Log> {
-        let logs = [Log::Error, Log::Info, Log::Debug];
-        one_of_names(de, &["error", "info", "debug"], &logs)
-    }
-}
+    ghost content = { λ t. ⟦<Seconds as StructFields<I, (u16, u16)>>⟧.content (t.read, t.write) };
 
-/// A method of HTTP.
-#[derive(Clone, Copy, Debug)]
-pub enum Method {
-    Get,
-    Post,
-}
+    ghost convert = { struct_only (⟦<Seconds as StructFields<I, (u16, u16)>>⟧.layout ((codes "read", 30), (codes "write", 30))) };
 
-impl<I: Input> Deserialize<I> for Method {
-    ghost Content = { Self };
-
-    ghost content = { λ m. m };
-
-    ghost convert = { one_named (codes "GET" ∷ codes "POST" ∷ []) (Get ∷ Post ∷ []) };
-
-    fn deserialize(de: &mut Deserializer<I>) -> Result<Method> {
-        one_of_names(de, &["GET", "POST"], &[Method::Get, Method::Post])
+    fn deserialize(de: &mut Deserializer<I>) -> Result<Timeouts> {
+        match read_struct_only(de, (WithDefault("read", 30), WithDefault("write", 30))) {
+            Ok((read, write)) => Ok(Timeouts { read, write }),
+            Err(e) => Err(e),
+        }
     }
 }

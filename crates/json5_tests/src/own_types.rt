@@ -1,7 +1,9 @@
 //! Types of one's own: what they accept, and where they refuse.
 
 use json5::{Deserialize, Result, Serialize, Spanned, from_str, to_string};
-use json5_own_type::{AtMost, Bounds, Color, Endpoint, Id, Labels, OpenPort, Settings};
+use json5_own_type::{
+    AtMost, Bounds, Color, Endpoint, Labels, Level, OpenPort, Point, Port, PortRange, Settings,
+};
 use std::alloc::Global;
 use std::collections::BTreeMap;
 use std::test::Fail;
@@ -18,7 +20,7 @@ fn refuses<'de, T: Deserialize<&'de str>>(
     }
 }
 
-/// Whether 0 is refused where it is: alone, in a list, as the port of an endpoint, and of one in a list.
+/// Whether 0 is refused where it is: alone, in a list, and as the port of an endpoint.
 fn port_0_is_refused(alloc: Global) -> Result<bool> {
     Ok(
         refuses::<OpenPort>(
@@ -33,15 +35,20 @@ fn port_0_is_refused(alloc: Global) -> Result<bool> {
             alloc,
             "[\n  'localhost',\n  0,\n]",
             "port 0 can't be opened at line 3 column 3",
-        )? && refuses::<Vec<Endpoint>>(
-            alloc,
-            "[['a', 80],\n['b', 0]]",
-            "port 0 can't be opened at line 2 column 7",
         )?,
     )
 }
 
-/// Whether a list without labels is refused at its bracket, and a name of no color at its quote.
+/// Whether a range that ends before it begins is refused at its second number.
+fn bad_range_is_refused(alloc: Global) -> Result<bool> {
+    let printed = "the range ends before it begins at line 2 column 7";
+    Ok(
+        refuses::<PortRange>(alloc, "\n[443, 442]", printed)?
+            && refuses::<Vec<PortRange>>(alloc, "[[80, 80],\n[443, 442]]", printed)?,
+    )
+}
+
+/// Whether a list without labels is refused at its bracket, and a name of no level at its quote.
 fn others_are_refused(alloc: Global) -> Result<bool> {
     let none = "invalid length 0, expected 1 to 8 elements at line 2 column";
     Ok(
@@ -51,15 +58,15 @@ fn others_are_refused(alloc: Global) -> Result<bool> {
                 "[['a'],\n[]]",
                 format!(in alloc; "{none} 1")?.as_str(),
             )?
-            && refuses::<Color>(
+            && refuses::<Level>(
                 alloc,
-                " 'pink'",
-                "unknown variant `pink`, expected one of `red`, `green`, `blue` at line 1 column 2",
+                " 'highest'",
+                "unknown variant `highest`, expected one of `low`, `middle`, `high` at line 1 column 2",
             )?
-            && refuses::<Vec<Color>>(
+            && refuses::<Vec<Level>>(
                 alloc,
-                "['red',\n'']",
-                "unknown variant ``, expected one of `red`, `green`, `blue` at line 2 column 1",
+                "['low',\n'']",
+                "unknown variant ``, expected one of `low`, `middle`, `high` at line 2 column 1",
             )?,
     )
 }
@@ -89,6 +96,7 @@ fn faults_of_own_types_stand_where_the_value_begins(
     rt: HostRuntime,
 ) -> std::result::Result<(), Fail> {
     assert!(rt; port_0_is_refused(rt.alloc())?);
+    assert!(rt; bad_range_is_refused(rt.alloc())?);
     assert!(rt; others_are_refused(rt.alloc())?);
     assert!(rt; fourth_is_refused(rt.alloc())?);
     Ok(())
@@ -99,19 +107,19 @@ fn other_faults_stay(alloc: Global) -> Result<bool> {
     Ok(
         refuses::<OpenPort>(alloc, " /", "EOF parsing comment")?
             && refuses::<OpenPort>(alloc, "  ", "EOF parsing number")?
-            && refuses::<OpenPort>(
+            && refuses::<Port>(
                 alloc,
                 "65536",
                 "invalid value: integer `65536`, expected u16 at line 1 column 1",
             )?
-            && refuses::<Color>(alloc, " red", "expected string at line 1 column 2")?
+            && refuses::<Level>(alloc, " low", "expected string at line 1 column 2")?
             && refuses::<Labels>(alloc, "['a', 1]", "expected string at line 1 column 7")?,
     )
 }
 
-/// Whether numbers are read, alone and with a host.
-fn numbers_are_read(alloc: Global) -> Result<bool> {
-    let plain = from_str::<Id>(alloc, "/* default */ 8080")?;
+/// Whether ports are read, alone and with a host.
+fn ports_are_read(alloc: Global) -> Result<bool> {
+    let plain = from_str::<Port>(alloc, "/* default */ 8080")?;
     let port = from_str::<OpenPort>(alloc, "/* secure */ 443")?;
     let endpoint = from_str::<Endpoint>(alloc, "['localhost', 8080]")?;
     Ok(
@@ -122,11 +130,11 @@ fn numbers_are_read(alloc: Global) -> Result<bool> {
     )
 }
 
-/// Whether lists of two are read, of numbers and of borrowed texts.
+/// Whether lists of two are read, by calls of one's own and by a tuple.
 fn pairs_are_read(alloc: Global) -> Result<bool> {
     let bounds = from_str::<Bounds<i32>>(alloc, "[-1, 2,]")?;
-    let texts = from_str::<Bounds<&str>>(alloc, "['east', /* then */ 'north']")?;
-    Ok(bounds.low == -1 && bounds.high == 2 && texts.low == "east" && texts.high == "north")
+    let point = from_str::<Point<&str>>(alloc, "['east', /* then */ 'north']")?;
+    Ok(bounds.low == -1 && bounds.high == 2 && point.x == "east" && point.y == "north")
 }
 
 /// Whether another number than two is refused: too few at the bracket, one too many where it is.
@@ -139,7 +147,7 @@ fn other_counts_are_refused(alloc: Global) -> Result<bool> {
                 "[1, 2, 3]",
                 "expected closing bracket at line 1 column 8",
             )?
-            && refuses::<Endpoint>(
+            && refuses::<Point<&str>>(
                 alloc,
                 "['east']",
                 "invalid length 1, expected a tuple of size 2 at line 1 column 1",
@@ -147,16 +155,22 @@ fn other_counts_are_refused(alloc: Global) -> Result<bool> {
     )
 }
 
-/// Whether labels and colors are read.
+/// Whether ranges, labels and levels are read.
 fn lists_are_read(alloc: Global) -> Result<bool> {
-    let colors = from_str::<[Color; 3]>(alloc, "['blue', 'red', \"green\"]")?;
+    let range = from_str::<PortRange>(alloc, "[8000, 8080]")?;
+    let levels = from_str::<[Level; 3]>(alloc, "['high', 'low', \"middle\"]")?;
     let labels = from_str::<Labels>(alloc, "['new', 'red']")?;
-    Ok(labels.texts.len() == 2 && colors == [Color::Blue, Color::Red, Color::Green])
+    Ok(
+        range.first == 8000
+            && range.last == 8080
+            && labels.texts.len() == 2
+            && levels == [Level::High, Level::Low, Level::Middle],
+    )
 }
 
 #[test]
 fn own_types_read_what_they_accept(rt: HostRuntime) -> std::result::Result<(), Fail> {
-    assert!(rt; numbers_are_read(rt.alloc())?);
+    assert!(rt; ports_are_read(rt.alloc())?);
     assert!(rt; pairs_are_read(rt.alloc())?);
     assert!(rt; other_counts_are_refused(rt.alloc())?);
     assert!(rt; lists_are_read(rt.alloc())?);
@@ -196,10 +210,9 @@ fn own_structs_are_written(rt: HostRuntime) -> std::result::Result<(), Fail> {
     Ok(())
 }
 
-/// Colors are read and written, also as keys, and another name is refused where the key is.
+/// Colors are read and written as keys, and another name is refused where the key is.
 #[test]
-fn names_of_an_own_type_are_read_and_written(rt: HostRuntime) -> std::result::Result<(), Fail> {
-    assert!(rt; rewrites::<Color>(rt.alloc(), "'blue'", "\"blue\"")?);
+fn keys_of_an_own_type_are_read_and_written(rt: HostRuntime) -> std::result::Result<(), Fail> {
     let written = "{\n  red: 1,\n  blue: 2,\n}";
     assert!(rt; rewrites::<BTreeMap<Color, u8>>(rt.alloc(), "{blue: 2, 'red': 1}", written)?);
     let refused =

@@ -3,7 +3,7 @@
 use crate::writers::Slow;
 use indexmap::IndexMap;
 use json5::{ByteBuf, CowStr, Decimal, Deserialize, Serialize, Value, from_str, to_writer};
-use json5_own_type::{Color, Endpoint, Id, Moment, OpenPort, Reminder, Settings};
+use json5_own_type::{Article, Color, Endpoint, Id, Moment, OpenPort, Reminder, Settings};
 use std::alloc::Global;
 use std::collections::BTreeMap;
 use std::test::Fail;
@@ -78,12 +78,13 @@ fn of_variants(alloc: Global) -> json5::Result<bool> {
 
 /// Whether that is so of structs.
 fn of_structs(alloc: Global) -> json5::Result<bool> {
-    let moment = Moment {
-        day: String::new(alloc),
-        hour: 0,
+    let article = Article {
+        title: String::new(alloc),
+        year: 0,
+        tags: Vec::new(alloc),
     };
     Ok(
-        asks_only(alloc, &(OpenPort { number: 1 }, moment, Color::Red))
+        asks_only(alloc, &(OpenPort { number: 1 }, article))
             && asks_only_as::<(Settings, Endpoint)>(alloc, "[{host:'a',label:''},['a',80]]")?,
     )
 }

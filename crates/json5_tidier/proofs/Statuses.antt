@@ -11,8 +11,7 @@ use Rattle.json5_tidier.specs.declared.requests.Request.TheVariants as requests
 use Rattle.json5_tidier.specs.declared.trouble.Trouble.{Trouble}
 use Rattle.json5_tidier.specs.declared.trouble.Trouble.TheVariants as trouble
 use Rattle.json5_tidier.specs.declared.work.Work.{Work}
-use Rattle.json5_tidier.specs.Answers.{AnswersStream, tidies, fails, AnswersRequest, Answers, answers, says_usage, no_memory}
-use Rattle.json5_tidier.specs.Says.{SaysText, says, stops}
+use Rattle.json5_tidier.specs.Answers.{AnswersStream, tidies, fails, SaysText, says, stops, AnswersRequest, Answers, answers, says_usage, no_memory}
 use Rattle.json5_tidier.specs.CommandWords.{AsksNothing}
 use Rattle.json5_tidier.specs.Files as files
 use Rattle.json5_tidier.specs.Names as named
@@ -65,7 +64,7 @@ stream_low : {input output errors written said : Option (List ℕ)} {n : ℕ} �
 stream_low (tidies k) = omega arith
 stream_low (fails e k a) = trouble_low e
 
-pub text_low : {text : List ℕ} {output written errors said : Option (List ℕ)} {n : ℕ} → SaysText text output written errors said n → n ≤ 2
+text_low : {text : List ℕ} {output written errors said : Option (List ℕ)} {n : ℕ} → SaysText text output written errors said n → n ≤ 2
 text_low (says a) = omega arith
 text_low (stops a b) = omega arith
 

@@ -1,17 +1,17 @@
 -- What the program answers.
 use Rattle.std.specs.declared.alloc.Global.{Global}
-use Rattle.std.specs.Prelude.{◌++◌, ◌∷◌, ℕ, List, [], Option, IfSome, String}
+use Rattle.std.specs.Prelude.{ℕ, List, Option, IfSome, String}
+use Rattle.std.specs.Io.KnownBytes.{Appends}
 use lib.Chars.{codes}
-use Rattle.json5_grammar.specs.Language.Characters.{line_feed}
 use Rattle.json5_write.specs.Pieces.{AppendsFront}
-use Rattle.json5_version.specs.declared.TheConstants.{VERSION}
-use Rattle.json5_tidier.specs.declared.reports.TheConstants.{HELP}
+use Rattle.json5_formatter.specs.declared.failure.Failure.TheVariants as failure
+use Rattle.json5_formatter.specs.Reports.{report_line}
+use Rattle.json5_tidier.specs.declared.reports.TheConstants.{HELP, VERSION}
 use Rattle.json5_tidier.specs.declared.requests.Request.{Request}
 use Rattle.json5_tidier.specs.declared.requests.Request.TheVariants as requests
 use Rattle.json5_tidier.specs.declared.trouble.Trouble.{Trouble}
 use Rattle.json5_tidier.specs.CommandWords.{Asks, AsksNothing}
 use Rattle.json5_tidier.specs.Names.{WorksThroughNames}
-use Rattle.json5_tidier.specs.Says.{SaysText}
 use Rattle.json5_tidier.specs.Stores.{Known}
 use Rattle.json5_tidier.specs.Tidies.{TidyTrouble, WritesTidied}
 use Rattle.json5_tidier.specs.Troubles.{memory_line, trouble_line, trouble_status, usage_line}
@@ -24,13 +24,16 @@ pub data AnswersStream (input output written errors : Option (List ℕ)) : Optio
   fails : {said : Option (List ℕ)} (e : Trouble) → TidyTrouble (codes "stdin") input output written e
       → AppendsFront errors said (trouble_line (codes "stdin") e) → AnswersStream input output written errors said (trouble_status e)
 
-abbrev pub version_text : List ℕ
-version_text = codes "json5_tidy " ++ (VERSION.now ++ line_feed ∷ [])
+-- a text about the program was written; or a prefix of it, and that output can't be written was said
+pub data SaysText (text : List ℕ) (output written errors : Option (List ℕ)) : Option (List ℕ) → ℕ → Type 0 where
+  says : Appends output written text → SaysText text output written errors errors 0
+  stops : {said : Option (List ℕ)} → AppendsFront output written text
+      → AppendsFront errors said (report_line (codes "output") failure.Write) → SaysText text output written errors said 2
 
 -- what a request is answered with
 abbrev pub AnswersRequest : Known → Request → (input output errors : Option (List ℕ)) → (written said : Option (List ℕ)) → ℕ → Type 0
 AnswersRequest known requests.Help input output errors written said status = SaysText HELP.now output written errors said status
-AnswersRequest known requests.Version input output errors written said status = SaysText version_text output written errors said status
+AnswersRequest known requests.Version input output errors written said status = SaysText VERSION.now output written errors said status
 AnswersRequest known (requests.Stream options) input output errors written said status = AnswersStream input output written errors said status
 AnswersRequest known (requests.Files f) input output errors written said status = WorksThroughNames known f output errors written said status
 

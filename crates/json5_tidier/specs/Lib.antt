@@ -1,7 +1,6 @@
 -- Lists the definitions of what the program does.
 pub mod Refusals
 pub mod Tidies
-pub mod Says
 pub mod Answers
 pub mod CommandWords
 pub mod WordSteps

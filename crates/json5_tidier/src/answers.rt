@@ -1,16 +1,16 @@
 //! The program over its words and its three streams.
 
-ghost use Rattle.json5_tidier.specs.Answers.{Answers, AnswersRequest, AnswersStream};
+ghost use Rattle.json5_tidier.specs.Answers.{Answers, AnswersRequest, AnswersStream, SaysText};
 
 use crate::files::work_through;
 use crate::options::Fault;
-use crate::reports::{HELP, no_memory, report_trouble, usage};
+use crate::reports::{HELP, VERSION, no_memory, report_trouble, usage};
 use crate::requests::Request;
 use crate::stores::Store;
 use crate::streams::tidy_stream;
-use crate::texts::answer_with;
+use crate::texts::put_texts;
+use json5_formatter::report;
 use json5_tidy::Style;
-use json5_version::VERSION;
 use std::alloc::Global;
 use std::io::{Read, Write};
 
@@ -50,10 +50,20 @@ fn answer_request<S: Store, R: Read, W: Write, E: Write>(
         (W.contents w.new) (E.contents e.new) result }
 {
     match request {
-        Request::Help => answer_with(&[HELP], w, e),
-        Request::Version => answer_with(&["json5_tidy ", VERSION, "\n"], w, e),
+        Request::Help => say(HELP, w, e),
+        Request::Version => say(VERSION, w, e),
         Request::Stream(options) => answer_stream(alloc, options.style, r, w, e),
         Request::Files(files) => work_through(store, alloc, files, w, e),
+    }
+}
+
+/// Writes the text to `w`, or to `e` that it can't be written.
+fn say<W: Write, E: Write>(text: &str, w: &mut W, e: &mut E) -> u8
+    ensures { SaysText text.now (W.contents w.old) (W.contents w.new) (E.contents e.old) (E.contents e.new) result }
+{
+    match put_texts(w, &[text]) {
+        Ok(()) => 0,
+        Err(failure) => report("output", &failure, e),
     }
 }
 

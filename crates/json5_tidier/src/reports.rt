@@ -38,6 +38,9 @@ a file isn't tidy; 2 if a file can't be read or written, memory runs out, or the
 words are wrong.
 ";
 
+/// What `--version` writes.
+pub(crate) const VERSION: &str = "json5_tidy 1.0.0\n";
+
 /// Writes how the program is called, as one line, and returns the status 2.
 pub(crate) fn usage<E: Write>(e: &mut E) -> u8
     ensures status { result ≡ 2 }
@@ -73,7 +76,7 @@ pub(crate) fn report_trouble<E: Write>(name: &str, trouble: &Trouble, e: &mut E)
             1
         }
         Trouble::Unreported(failure, _) => report(name, failure, e),
-        Trouble::Unwritten(unwritten) => report_unwritten(name, unwritten, e),
+        Trouble::Unwritten(unwritten) => say_unwritten(e, name, unwritten),
         Trouble::NoFile => {
             say(e, &[name, ": no file to tidy is in it\n"]);
             2
@@ -81,12 +84,7 @@ pub(crate) fn report_trouble<E: Write>(name: &str, trouble: &Trouble, e: &mut E)
     }
 }
 
-/// Writes why the file wasn't replaced, as one line, and returns the status 2.
-///
-/// ```text
-/// report_unwritten("app.json5", &Unwritten::Changed, &mut rt.stderr())    // 2
-/// ```
-pub fn report_unwritten<E: Write>(name: &str, unwritten: &Unwritten, e: &mut E) -> u8
+fn say_unwritten<E: Write>(e: &mut E, name: &str, unwritten: &Unwritten) -> u8
     ensures status { result ≡ 2 }
     ensures line { AppendsFront (E.contents e.old) (E.contents e.new) (unwritten_line name.now unwritten.now) }
 {

@@ -1,9 +1,10 @@
-//! Values that are written as literals. Of the two short ones it is proved what they mean.
+//! Values that are written as literals. What they mean is proved.
 
-ghost use Rattle.std.specs.Prelude.{◌≡◌, [], ◌∷◌, pos, negsuc, codes, IfOk};
+ghost use Rattle.std.specs.Prelude.{◌≡◌, [], ◌∷◌, pos, negsuc, true, codes, IfOk, IfErr, length};
 ghost use Rattle.std.specs.Str.{chars};
 ghost use Rattle.json5_grammar.specs.Language.Numbers.{whole};
-ghost use Rattle.json5_types.specs.ValueMeanings.{value_of, number, text, array, object, item, no_item, field, no_field};
+ghost use Rattle.json5_types.specs.Errors.{LacksMemory};
+ghost use Rattle.json5_types.specs.ValueMeanings.{value_of, null, boolean, number, text, array, object, item, no_item, field, no_field};
 
 use crate::text_of;
 use json5_layouts::{Layout, to_string_in};
@@ -38,7 +39,9 @@ fn server(alloc: Global, host: &str) -> Result<Value>
 }
 
 /// Everything that a literal may hold.
-fn settings(alloc: Global) -> Result<Value> {
+fn settings(alloc: Global) -> Result<Value>
+    ensures { IfErr result LacksMemory }
+{
     let count = 3u8;
     let name = String::from_str(alloc, "key")?;
     json5!(in alloc; {

@@ -46,10 +46,7 @@ struct Reader<'r> {
 impl Read for Reader<'_> {
     fn read(&mut self, buf: &mut [u8]) -> io::Result<usize> {
         let Some((first, rest)) = self.rest.split_first() else {
-            if self.fails {
-                return Err(io::Error::from(ErrorKind::Other));
-            }
-            return Ok(0);
+            return self.end();
         };
         if buf.is_empty() {
             return Ok(0);
@@ -57,5 +54,14 @@ impl Read for Reader<'_> {
         buf[0] = *first;
         self.rest = rest;
         Ok(1)
+    }
+}
+
+impl Reader<'_> {
+    fn end(&self) -> io::Result<usize> {
+        if self.fails {
+            return Err(io::Error::from(ErrorKind::Other));
+        }
+        Ok(0)
     }
 }

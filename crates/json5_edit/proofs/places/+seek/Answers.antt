@@ -1,9 +1,9 @@
-use Rattle.std.proofs.Common.{◌≤◌, length, refl, ap, subst, ◌∙◌, ◌∷◌}
+use Rattle.std.proofs.Common.{◌≡◌, ◌≤◌, length, refl, ap, arith, subst, ◌∙◌, ◌∷◌}
 use Rattle.std.proofs.lemmas.Result.{err_from_is_err_and}
 use Rattle.json5_edit.specs.declared.paths.Step.TheVariants as step
 use Rattle.json5_edit.specs.Seeks.{Ended, WentOn}
 use Rattle.json5_edit.proofs.Seeks.{on_then, with_path, no_path, mark_seeks, skip_seeks_index, skip_seeks_key, array_seeks, object_seeks, elements_end, elements_and, elements_go_on, more_elements, elements_and_end, members_end, members_and, members_go_on, more_members, members_and_end}
-use Rattle.json5_edit.proofs.Spared.{mark_spares, skip_spares, array_spares, object_spares, too_many, elements_end_spare, element_spares, elements_on_spare, too_many_members, members_end_spare, name_spares, member_spares, members_on_spare, on_err}
+use Rattle.json5_edit.proofs.Spared.{mark_spares, skip_spares, array_spares, object_spares, skips_spare, too_many, elements_end_spare, element_spares, elements_on_spare, too_many_members, members_end_spare, name_spares, member_spares, members_on_spare, on_err}
 use Rattle.json5_edit.proofs.Refused.{err_then}
 use Rattle.json5_edit.proofs.places.+seek.Goals as goal
 
@@ -71,7 +71,10 @@ seek_element-returns-in_err-goes_on-clause-refused t c =
     rw (is, from) (elements_on_spare (elements_and _ refl c.loop-count.invariant (subst (λ b. Ended b c.loop-count.walk c.ends.new.walk) c.if-branch.false c.in_ok-ends.ensures.ended) c.in_ok-seek_or_skip.ensures.found) c.in_err-goes_on.ensures.refused)
 
 pub seek_element-returns-clause-refused : goal.seek_element-returns-clause-refused
-seek_element-returns-clause-refused t c = too_many c.loop-count.invariant (subst (λ x. length x ≤ c.loop-count.count) c.text-count-end.ensures c.loop-count-test.false)
+seek_element-returns-clause-refused t c =
+    let e : c.loop-count.count ≡ c.len.result = first_of (search rules, omega arith) in
+    let n : c.len.result ≡ length c.args.walk.now.text = c.len.ensures.value ∙ ap length c.text.ensures in
+    too_many c.loop-count.invariant (omega (arith, e, n))
 
 pub seek_member-returns-in_err-ends-clause-refused : goal.seek_member-returns-in_err-ends-clause-refused
 seek_member-returns-in_err-ends-clause-refused t c =
@@ -94,4 +97,7 @@ seek_member-returns-in_err-goes_on-clause-refused t c =
     rw (is, from) (members_on_spare (members_and _ refl (c.loop-passed.invariant c.args.key refl) (subst (λ b. Ended b c.loop-passed.walk c.ends.new.walk) c.if-branch.false c.in_ok-ends.ensures.ended) c.in_ok-same.ensures.named c.in_ok-seek_or_skip.ensures.found) c.in_err-goes_on.ensures.refused)
 
 pub seek_member-returns-clause-refused : goal.seek_member-returns-clause-refused
-seek_member-returns-clause-refused t c = too_many_members (c.loop-passed.invariant c.args.key refl) (subst (λ x. length x ≤ c.loop-passed.passed) c.text-passed-end.ensures c.loop-passed-test.false)
+seek_member-returns-clause-refused t c =
+    let e : c.loop-passed.passed ≡ c.len.result = first_of (search rules, omega arith) in
+    let n : c.len.result ≡ length c.args.walk.now.text = c.len.ensures.value ∙ ap length c.text.ensures in
+    too_many_members (c.loop-passed.invariant c.args.key refl) (omega (arith, e, n))

@@ -1,10 +1,9 @@
 use Rattle.std.proofs.Common.{refl, codes}
 use Rattle.json5.specs.ReadsBack.{KeyReadsBack}
-use Rattle.json5.proofs.NamesBack.{name_back}
-use Rattle.json5_own_type.specs.Accepted.{color_named}
-use Rattle.json5_own_type.specs.Written.{color_key}
+use Rattle.json5_own_type.specs.Colors.{color_named, color_key}
 use Rattle.json5_own_type.specs.declared.colors.Color.{Color}
 use Rattle.json5_own_type.specs.declared.colors.Color.TheVariants.{Red, Green, Blue}
+use Rattle.json5.proofs.NamesBack.{name_back}
 use Rattle.json5_own_type.proofs.colors.colors_read_back.Goals as goal
 
 reads_back : (c : Color) → KeyReadsBack color_key color_named (λ c. c) c

@@ -1,7 +1,7 @@
 use Rattle.std.proofs.Common.{rules}
 use Rattle.json5.specs.Convert.{index_of}
 use Rattle.json5.proofs.Refinement.{parts}
-use Rattle.json5_own_type.specs.Accepted.{color_names, color_at}
+use Rattle.json5_own_type.specs.Colors.{color_names, color_at}
 use Rattle.json5_own_type.proofs.colors.ColorDeserializeKey.deserialize_key.Goals as goal
 
 pub returns-in_err-place-clause-complete : goal.returns-in_err-place-clause-complete
