@@ -1,9 +1,11 @@
 -- Statuses are at most 2.
 use Rattle.std.proofs.Common.{◌≡◌, ◌≤◌, ℕ, List, refl, arith}
-use Rattle.std.specs.Prelude.{Option}
+use Rattle.std.specs.declared.alloc.Global.{Global}
+use Rattle.std.specs.Prelude.{Option, String}
 use Rattle.json5_formatter.specs.declared.failure.Failure.{Failure}
 use Rattle.json5_formatter.specs.declared.failure.Failure.TheVariants as failure
 use Rattle.json5_formatter.specs.Reports.{status_of}
+use Rattle.json5_tidier.specs.Folders.{names_of}
 use Rattle.json5_tidier.specs.Stores.{Known}
 use Rattle.json5_tidier.proofs.Statuses.{text_low}
 use Rattle.json5_edit.specs.declared.faults.EditError.{EditError}
@@ -51,14 +53,14 @@ does_small (reads text h d) = at_small d
 does_small (reads_none f h k) = failure_small f
 does_small (no_path k) = omega arith
 
-pub small : {known : Known} {words : List (List ℕ)} {input output errors written said : Option (List ℕ)} {status : ℕ} → Answers known words input output errors written said status → status ≤ 2
+pub small : {known : Known} {words : List (String Global)} {input output errors written said : Option (List ℕ)} {status : ℕ} → Answers known words input output errors written said status → status ≤ 2
 small (helps a s) = text_low s
 small (tells_version a s) = text_low s
 small (does t a d) = does_small d
 small (says_usage n) = omega arith
 
 -- words that ask for nothing
-pub usage_status : {known : Known} {words : List (List ℕ)} {input output errors written said : Option (List ℕ)} {status : ℕ} → Answers known words input output errors written said status → AsksNothing words → status ≡ 2
+pub usage_status : {known : Known} {words : List (String Global)} {input output errors written said : Option (List ℕ)} {status : ℕ} → Answers known words input output errors written said status → AsksNothing (names_of words) → status ≡ 2
 usage_status (helps a s) n = absurd (n requests.Help a)
 usage_status (tells_version a s) n = absurd (n requests.Version a)
 usage_status (does t a d) n = absurd (n (requests.Task t) a)

@@ -1,7 +1,9 @@
 -- What the program answers.
-use Rattle.std.specs.Prelude.{◌++◌, ◌∷◌, ℕ, List, [], Option}
+use Rattle.std.specs.declared.alloc.Global.{Global}
+use Rattle.std.specs.Prelude.{◌++◌, ◌∷◌, ℕ, List, [], Option, String}
 use lib.Chars.{codes}
 use Rattle.json5_grammar.specs.Language.Characters.{line_feed}
+use Rattle.json5_tidier.specs.Folders.{names_of}
 use Rattle.json5_tidier.specs.Says.{SaysText}
 use Rattle.json5_tidier.specs.Stores.{Known}
 use Rattle.json5_version.specs.declared.TheConstants.{VERSION}
@@ -15,12 +17,12 @@ abbrev pub version_text : List ℕ
 version_text = codes "json5_edit " ++ (VERSION.now ++ line_feed ∷ [])
 
 -- the words, what was read, what output and errors held before and after, and the status
-pub data Answers (known : Known) (words : List (List ℕ)) (input output errors : Option (List ℕ)) : Option (List ℕ) → Option (List ℕ) → ℕ → Type 0 where
-  helps : {written said : Option (List ℕ)} {status : ℕ} → Asks words requests.Help → SaysText HELP.now output written errors said status
+pub data Answers (known : Known) (words : List (String Global)) (input output errors : Option (List ℕ)) : Option (List ℕ) → Option (List ℕ) → ℕ → Type 0 where
+  helps : {written said : Option (List ℕ)} {status : ℕ} → Asks (names_of words) requests.Help → SaysText HELP.now output written errors said status
       → Answers known words input output errors written said status
-  tells_version : {written said : Option (List ℕ)} {status : ℕ} → Asks words requests.Version → SaysText version_text output written errors said status
+  tells_version : {written said : Option (List ℕ)} {status : ℕ} → Asks (names_of words) requests.Version → SaysText version_text output written errors said status
       → Answers known words input output errors written said status
-  does : {written said : Option (List ℕ)} {status : ℕ} (t : Task) → Asks words (requests.Task t) → Does known t input output errors written said status
+  does : {written said : Option (List ℕ)} {status : ℕ} (t : Task) → Asks (names_of words) (requests.Task t) → Does known t input output errors written said status
       → Answers known words input output errors written said status
   -- it said how it is called
-  says_usage : {said : Option (List ℕ)} → AsksNothing words → Answers known words input output errors output said 2
+  says_usage : {said : Option (List ℕ)} → AsksNothing (names_of words) → Answers known words input output errors output said 2

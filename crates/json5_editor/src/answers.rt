@@ -1,7 +1,6 @@
 //! The program over its words and its three streams.
 
 ghost use Rattle.json5_editor.specs.Answers.{Answers};
-ghost use Rattle.json5_tidier.specs.Folders.{names_of};
 
 use crate::lines::{HELP, usage};
 use crate::requests::Request;
@@ -25,7 +24,7 @@ pub fn answer<S: Store, R: Read, W: Write, E: Write>(
     w: &mut W,
     e: &mut E,
 ) -> u8
-    ensures { Answers (S.known store.now) (names_of list.now) (R.remaining r.old) (W.contents w.old) (E.contents e.old) (W.contents w.new) (E.contents e.new) result }
+    ensures { Answers (S.known store.now) list.now (R.remaining r.old) (W.contents w.old) (E.contents e.old) (W.contents w.new) (E.contents e.new) result }
 {
     match Request::of(list) {
         Some(Request::Help) => answer_with(&[HELP], w, e),
