@@ -2,9 +2,10 @@
 
 use crate::print;
 use json5::{
-    Layout, Result, Value, from_slice, from_str, read_text, to_json, to_json_in, to_string,
-    to_string_in,
+    AsF64, Decimal, DecimalExt, Layout, Result, Value, from_reader, from_slice, from_str,
+    read_text, shown, to_json, to_json_in, to_string, to_string_in, to_vec,
 };
+use json5_literal::json5;
 use std::alloc::Global;
 use std::io::{self, Write};
 
@@ -62,6 +63,39 @@ fn json_compact(alloc: Global) -> Result<String> {
     to_json_in(alloc, Layout::compact(), &value)
 }
 
+/// More digits than a word holds.
+const LONG: &str = "0.1234567890123456789012345678901";
+
+fn decimal_of_text(alloc: Global) -> Result<String> {
+    to_string(alloc, &Decimal::parse(alloc, LONG)?)
+}
+
+/// Whether the nearest float of the long decimal is this one.
+fn float_of_decimal(alloc: Global) -> Result<String> {
+    let number: Decimal = from_str(alloc, LONG)?;
+    to_string(alloc, &(number.as_f64(alloc)? == Some(0.12345678901234568)))
+}
+
+fn decimal_of_float(alloc: Global) -> Result<String> {
+    to_string(alloc, &Decimal::from_f64(alloc, 0.1)?)
+}
+
+fn of_literal(alloc: Global) -> Result<String> {
+    let value = json5!(in alloc; {a: [1, "b"], c: {}})?;
+    Ok(format!(in alloc; "{}", shown(&value))?)
+}
+
+fn value_of_reader(alloc: Global) -> Result<String> {
+    let mut bytes: &[u8] = b"{a: [1, 'b']}";
+    to_string_in(alloc, Layout::compact(), &from_reader(alloc, &mut bytes)?)
+}
+
+/// The bytes that are written, read again.
+fn in_bytes(alloc: Global) -> Result<String> {
+    let bytes = to_vec(alloc, &"a text of more than a few bytes")?;
+    from_slice(alloc, &bytes)
+}
+
 /// Prints what each call returns.
 pub(crate) fn print_all<W: Write>(alloc: Global, out: &mut W) -> io::Result<()> {
     print(out, "a string", made(alloc))?;
@@ -79,5 +113,11 @@ pub(crate) fn print_all<W: Write>(alloc: Global, out: &mut W) -> io::Result<()> 
         json(alloc, "{a: ['x', {\"b c\": 1e3}], d: {}}"),
     )?;
     print(out, "no JSON", json(alloc, "{a: [1, {b: Infinity}]}"))?;
-    print(out, "JSON on one line", json_compact(alloc))
+    print(out, "JSON on one line", json_compact(alloc))?;
+    print(out, "a decimal of a text", decimal_of_text(alloc))?;
+    print(out, "a decimal's float", float_of_decimal(alloc))?;
+    print(out, "a float's decimal", decimal_of_float(alloc))?;
+    print(out, "a literal, shown", of_literal(alloc))?;
+    print(out, "a value of a reader", value_of_reader(alloc))?;
+    print(out, "in bytes", in_bytes(alloc))
 }
