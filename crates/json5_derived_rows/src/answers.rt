@@ -2,7 +2,6 @@
 
 use crate::hand::*;
 use crate::own::{Blob, Bytes, Raw};
-use crate::settings::Config;
 use json5_format::read_document;
 use json5_serde_read::{from_reader, from_str, from_str_owned};
 use json5_serde_write::{to_string, to_writer};
@@ -96,7 +95,6 @@ pub fn answer(alloc: Global, name: &str, line: &str) -> Result<String> {
         "Bytes" => again::<Bytes>(alloc, text),
         "Blob" => read::<Blob>(alloc, text),
         "Raw" => raw(alloc, text),
-        "Config" => back::<Config>(alloc, text),
         _ => collections(alloc, name, text),
     }
 }

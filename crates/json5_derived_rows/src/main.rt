@@ -5,7 +5,6 @@
 mod answers;
 mod hand;
 mod own;
-mod settings;
 
 use std::io::{self, BufRead, BufReader, BufWriter, Write};
 

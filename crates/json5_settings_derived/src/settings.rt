@@ -1,9 +1,9 @@
 //! The settings of a web server, derived. An unknown field is refused.
 
-use serde::{Deserialize, Serialize};
+use serde::Deserialize;
 
 /// `{ server: { .. }, routes: [ .. ], limits: { .. }, log: 'info', timeouts: { .. } }`
-#[derive(Drop, Serialize, Deserialize)]
+#[derive(Drop, Deserialize)]
 #[serde(deny_unknown_fields)]
 pub struct Settings {
     pub server: Server,
@@ -15,7 +15,7 @@ pub struct Settings {
 }
 
 /// `{ host: 'shop.example', port: 8443, tls: { .. } }`; the port is 80 where it is missing.
-#[derive(Drop, Serialize, Deserialize)]
+#[derive(Drop, Deserialize)]
 #[serde(deny_unknown_fields)]
 pub struct Server {
     pub host: String,
@@ -25,7 +25,7 @@ pub struct Server {
 }
 
 /// The files of a certificate and its key.
-#[derive(Drop, Serialize, Deserialize)]
+#[derive(Drop, Deserialize)]
 #[serde(deny_unknown_fields)]
 pub struct Tls {
     pub cert: String,
@@ -33,7 +33,7 @@ pub struct Tls {
 }
 
 /// `{ path: '/', methods: ['GET'], upstream: 'http://127.0.0.1:9000' }`
-#[derive(Drop, Serialize, Deserialize)]
+#[derive(Drop, Deserialize)]
 #[serde(deny_unknown_fields)]
 pub struct Route {
     pub path: String,
@@ -42,7 +42,7 @@ pub struct Route {
 }
 
 /// The most bytes of a body and of a header.
-#[derive(Drop, Serialize, Deserialize)]
+#[derive(Drop, Deserialize)]
 #[serde(deny_unknown_fields)]
 pub struct Limits {
     #[serde(default = "mebibyte")]
@@ -52,7 +52,7 @@ pub struct Limits {
 }
 
 /// Seconds.
-#[derive(Drop, Serialize, Deserialize)]
+#[derive(Drop, Deserialize)]
 #[serde(deny_unknown_fields)]
 pub struct Timeouts {
     #[serde(default = "half_a_minute")]
@@ -62,7 +62,7 @@ pub struct Timeouts {
 }
 
 /// `'error'`, `'info'` or `'debug'`
-#[derive(Clone, Copy, Debug, Serialize, Deserialize)]
+#[derive(Clone, Copy, Debug, Deserialize)]
 #[serde(rename_all = "lowercase")]
 pub enum Log {
     Error,
@@ -71,7 +71,7 @@ pub enum Log {
 }
 
 /// `'GET'` or `'POST'`
-#[derive(Clone, Copy, Debug, Serialize, Deserialize)]
+#[derive(Clone, Copy, Debug, Deserialize)]
 #[serde(rename_all = "UPPERCASE")]
 pub enum Method {
     Get,
