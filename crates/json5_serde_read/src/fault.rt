@@ -2,6 +2,7 @@
 
 use json5_grammar::error_code::ErrorCode;
 use json5_types::error::Error;
+use std::alloc::Global;
 
 /// What a value was expected to be.
 #[derive(Clone, Copy, Debug, Drop, PartialEq, Eq)]
@@ -17,54 +18,105 @@ pub(crate) enum Wanted {
     Another,
 }
 
-/// A fault at a place.
+/// A fault at a place. Each step may return one, so it is small: what takes more room stands on the heap.
 #[derive(Drop)]
 pub(crate) enum Fault {
-    /// What the scanner said, whose place counts from this offset.
-    Scanned(Error, usize),
-    /// A code, and its offset, where it has one.
-    Code(ErrorCode, Option<usize>),
+    /// A code without a place.
+    Bare(ErrorCode),
+    /// A code, and its offset.
+    Code(ErrorCode, usize),
     /// A step was called out of its place.
     Misplaced(usize),
     /// The type left its value unread, or read on after it.
     Unread(usize),
     /// The value at the offset isn't what was wanted.
-    Misfit(usize, Wanted),
+    Misfit(Wanted, usize),
     /// Bytes are wanted at the offset, and no bytes stand in a text as they are.
     BorrowedBytes(usize),
-    /// The value at the offset names no variant. The names that were expected, as far as they are known.
-    UnknownVariant(usize, Option<String>),
-    /// The key at the offset names no field. The names that were expected, as far as they are known.
-    UnknownKey(usize, Option<String>),
-    /// The bracket at the offset, and the field's name.
-    Missing(usize, Option<String>),
-    /// The second key at its offset, and the field's name.
-    Duplicate(usize, Option<String>),
     /// The bracket at the offset.
     WrongLength(usize),
-    /// What a type said of the value at the offset.
-    Custom(usize, Option<String>),
+    /// What tells more than an offset.
+    Long(Box<Long>),
+}
+
+/// A fault that tells more than an offset.
+#[derive(Drop)]
+pub(crate) enum Long {
+    /// What the scanner said, whose place counts from this offset.
+    Scanned(Error, usize),
+    /// What is said at the offset, with the words that it takes, as far as they are known.
+    Said(Saying, usize, Option<String>),
+}
+
+/// What is said with words.
+#[derive(Clone, Copy, Debug, Drop, PartialEq, Eq)]
+pub(crate) enum Saying {
+    /// The value names no variant, and these were expected.
+    UnknownVariant,
+    /// The key names no field, and these were expected.
+    UnknownKey,
+    /// The bracket has no field of this name.
+    Missing,
+    /// The key is the second one of the field of this name.
+    Duplicate,
+    /// The words of a type.
+    Custom,
 }
 
 impl Fault {
+    /// The same fault, or that memory was refused for it.
+    #[cold]
+    #[inline(never)]
+    pub(crate) fn long(alloc: Global, long: Long) -> Fault {
+        match Box::new(alloc, long) {
+            Ok(long) => Fault::Long(long),
+            Err(_) => Fault::Bare(ErrorCode::OutOfMemory),
+        }
+    }
+
+    /// A code, and its offset, where it has one.
+    #[cold]
+    #[inline(never)]
+    pub(crate) fn coded(code: ErrorCode, at: Option<usize>) -> Fault {
+        match at {
+            Some(at) => Fault::Code(code, at),
+            None => Fault::Bare(code),
+        }
+    }
+
     /// The code and its offset, where it has one.
     pub(crate) fn code(&self) -> Option<(ErrorCode, Option<usize>)> {
         match self {
-            Fault::Scanned(error, _) => match error.code() {
-                Some(code) => Some((code, None)),
-                None => None,
+            Fault::Bare(code) => Some((*code, None)),
+            Fault::Code(code, at) => Some((*code, Some(*at))),
+            Fault::Long(long) => match long.as_ref() {
+                Long::Scanned(error, _) => Some((error.code()?, None)),
+                Long::Said(_, _, _) => None,
             },
-            Fault::Code(code, at) => Some((*code, *at)),
+            _ => None,
+        }
+    }
+
+    /// What it says with words, and the offset.
+    pub(crate) fn saying(&self) -> Option<(Saying, usize)> {
+        match self {
+            Fault::Long(long) => match long.as_ref() {
+                Long::Said(saying, at, _) => Some((*saying, *at)),
+                Long::Scanned(_, _) => None,
+            },
             _ => None,
         }
     }
 
     /// Whether it is one of names, of which a second reading may tell more.
     pub(crate) fn is_of_names(&self) -> bool {
-        matches!(
-            self,
-            Fault::UnknownVariant(_, _) | Fault::UnknownKey(_, _) | Fault::Missing(_, _)
-        )
+        match self.saying() {
+            Some((saying, _)) => matches!(
+                saying,
+                Saying::UnknownVariant | Saying::UnknownKey | Saying::Missing
+            ),
+            None => false,
+        }
     }
 
     /// The fault of the second reading, if that is one of names too.
@@ -77,9 +129,9 @@ impl Fault {
 
     /// Whether the value alone is refused, so that another type may read it.
     pub(crate) fn is_of_type(&self) -> bool {
-        !matches!(
-            self,
-            Fault::Scanned(_, _) | Fault::Code(_, _) | Fault::Misplaced(_) | Fault::Unread(_)
-        )
+        match self {
+            Fault::Misfit(_, _) | Fault::BorrowedBytes(_) | Fault::WrongLength(_) => true,
+            _ => self.saying().is_some(),
+        }
     }
 }

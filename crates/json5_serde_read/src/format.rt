@@ -1,9 +1,10 @@
 //! The steps of the format.
 
-use crate::fault::{Fault, Wanted};
-use crate::floats::{double, single};
+use crate::fault::{Fault, Saying, Wanted};
+use crate::floats::nearest;
 use crate::raw::is_raw_text;
 use crate::reader::{Json5, Saved, Step};
+use fast_float::FastFloat;
 use json5_grammar::error_code::ErrorCode;
 use json5_types::cow_str::CowStr;
 use json5_types::whole::Whole;
@@ -41,6 +42,20 @@ impl<'t> Json5<'t> {
         }
     }
 
+    fn float<F: FastFloat>(&mut self) -> Step<F> {
+        let read = if self.at_key {
+            let (number, text) = self.number_key()?;
+            nearest(&number, text.as_str().trim())
+        } else {
+            let number = self.number()?;
+            nearest(&number, self.digits())
+        };
+        match read {
+            Some(x) => Ok(x),
+            None => Err(self.misfit(Wanted::Another)),
+        }
+    }
+
     /// A text that has no short way.
     #[inline(never)]
     fn long_string(&mut self, alloc: Global) -> Step<String> {
@@ -65,7 +80,7 @@ impl<'t> Format for Json5<'t> {
             return match key.as_str() {
                 "true" => Ok(true),
                 "false" => Ok(false),
-                _ => Err(Fault::Code(ErrorCode::ExpectedBool, Some(self.last))),
+                _ => Err(Fault::Code(ErrorCode::ExpectedBool, self.last)),
             };
         }
         self.begin()?;
@@ -110,31 +125,11 @@ impl<'t> Format for Json5<'t> {
     }
 
     fn f32(&mut self, _input: &[u8]) -> Step<f32> {
-        let read = if self.at_key {
-            let (number, text) = self.number_key()?;
-            single(&number, text.as_str().trim())
-        } else {
-            let number = self.number()?;
-            single(&number, self.digits())
-        };
-        match read {
-            Some(x) => Ok(x),
-            None => Err(self.misfit(Wanted::Another)),
-        }
+        self.float()
     }
 
     fn f64(&mut self, _input: &[u8]) -> Step<f64> {
-        let read = if self.at_key {
-            let (number, text) = self.number_key()?;
-            double(&number, text.as_str().trim())
-        } else {
-            let number = self.number()?;
-            double(&number, self.digits())
-        };
-        match read {
-            Some(x) => Ok(x),
-            None => Err(self.misfit(Wanted::Another)),
-        }
+        self.float()
     }
 
     fn char(&mut self, _input: &[u8]) -> Step<char> {
@@ -186,7 +181,7 @@ impl<'t> Format for Json5<'t> {
         match hex::decode(alloc, text.as_str()) {
             Ok(bytes) => Ok(bytes),
             Err(hex::FromHexError::OutOfMemory) => Err(self.no_memory()),
-            Err(_) => Err(Fault::Code(ErrorCode::InvalidBytes, Some(self.last))),
+            Err(_) => Err(Fault::Code(ErrorCode::InvalidBytes, self.last)),
         }
     }
 
@@ -243,8 +238,7 @@ impl<'t> Format for Json5<'t> {
     }
 
     fn end_tuple(&mut self, _input: &[u8]) -> Step<()> {
-        if let Some(bracket) = self.walk.short_close() {
-            self.closed = bracket.start;
+        if self.short_end().is_some() {
             return Ok(());
         }
         self.gap()?;
@@ -358,19 +352,23 @@ impl<'t> Format for Json5<'t> {
     }
 
     fn missing(&self, name: &str) -> Fault {
-        Fault::Missing(self.closed, self.key_of(name))
+        self.said(Saying::Missing, self.closed, self.key_of(name))
     }
 
     fn duplicate(&self, name: &str) -> Fault {
-        Fault::Duplicate(self.here(), self.kept(name))
+        self.said(Saying::Duplicate, self.here(), self.kept(name))
     }
 
     fn unknown_key(&self) -> Fault {
-        Fault::UnknownKey(self.here(), self.expected())
+        self.said(Saying::UnknownKey, self.here(), self.expected())
     }
 
     fn unknown_variant(&self) -> Fault {
-        Fault::UnknownVariant(self.past_blanks(self.unknown), self.expected())
+        self.said(
+            Saying::UnknownVariant,
+            self.past_blanks(self.unknown),
+            self.expected(),
+        )
     }
 
     fn wrong_len(&self) -> Fault {
@@ -378,14 +376,14 @@ impl<'t> Format for Json5<'t> {
     }
 
     fn invalid(&self) -> Fault {
-        Fault::Misfit(self.here(), self.wanted)
+        Fault::Misfit(self.wanted, self.here())
     }
 
     fn no_memory(&self) -> Fault {
-        Fault::Code(ErrorCode::OutOfMemory, None)
+        Fault::Bare(ErrorCode::OutOfMemory)
     }
 
     fn custom(&self, message: &str) -> Fault {
-        Fault::Custom(self.here(), self.kept(message))
+        self.said(Saying::Custom, self.here(), self.kept(message))
     }
 }

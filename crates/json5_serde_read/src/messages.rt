@@ -1,6 +1,6 @@
 //! The errors that a caller gets, with their words.
 
-use crate::fault::{Fault, Wanted};
+use crate::fault::{Fault, Long, Saying, Wanted};
 use json5_grammar::position::Position;
 use json5_text::scanner::Scanner;
 use json5_types::error::{Error, Result};
@@ -10,35 +10,45 @@ use std::alloc::Global;
 /// The fault as the caller sees it.
 pub(crate) fn told(alloc: Global, text: &str, fault: Fault) -> Error {
     match fault {
-        Fault::Scanned(error, base) => match error.position() {
-            Some(place) => error.at(after(position(text, base), place)),
-            None => error,
-        },
-        Fault::Code(code, None) => Error::new(code),
-        Fault::Code(code, Some(at)) => Error::new_at(position(text, at), code),
+        Fault::Bare(code) => Error::new(code),
+        Fault::Code(code, at) => Error::new_at(position(text, at), code),
         Fault::Misplaced(at) => custom(alloc, text, at, "a step was called out of its place"),
         Fault::Unread(at) => custom(alloc, text, at, "a type did not read its value to the end"),
-        Fault::Misfit(at, expected) => misfit(alloc, text, at, expected),
+        Fault::Misfit(expected, at) => misfit(alloc, text, at, expected),
         Fault::BorrowedBytes(at) => custom(alloc, text, at, "bytes can't be borrowed from a text"),
-        Fault::UnknownVariant(at, expected) => unknown(alloc, text, at, "variant", &expected),
-        Fault::UnknownKey(at, expected) => unknown(alloc, text, at, "field", &expected),
-        Fault::Missing(at, field) => {
-            let field = words(&field);
-            custom(alloc, text, at, format_args!("missing field `{field}`"))
-        }
-        Fault::Duplicate(at, field) => match named(alloc, text, at) {
-            Ok(key) => custom(alloc, text, at, format_args!("duplicate field `{key}`")),
-            Err(_) => {
-                let field = words(&field);
-                custom(alloc, text, at, format_args!("duplicate field `{field}`"))
-            }
-        },
         Fault::WrongLength(at) => custom(alloc, text, at, "invalid length"),
-        Fault::Custom(at, message) => {
-            let message = words(&message);
-            custom(alloc, text, at, message)
-        }
+        Fault::Long(long) => match Box::into_inner(long) {
+            Long::Scanned(error, base) => scanned(text, error, base),
+            Long::Said(saying, at, known) => said(alloc, text, saying, at, &known),
+        },
     }
+}
+
+/// What the scanner said, whose place counts from the offset.
+fn scanned(text: &str, error: Error, base: usize) -> Error {
+    match error.position() {
+        Some(place) => error.at(after(position(text, base), place)),
+        None => error,
+    }
+}
+
+/// What is said with words.
+fn said(alloc: Global, text: &str, saying: Saying, at: usize, known: &Option<String>) -> Error {
+    match saying {
+        Saying::UnknownVariant => unknown(alloc, text, at, "variant", known),
+        Saying::UnknownKey => unknown(alloc, text, at, "field", known),
+        Saying::Missing => field(alloc, text, at, "missing", words(known)),
+        Saying::Duplicate => match named(alloc, text, at) {
+            Ok(key) => field(alloc, text, at, "duplicate", key.as_str()),
+            Err(_) => field(alloc, text, at, "duplicate", words(known)),
+        },
+        Saying::Custom => custom(alloc, text, at, words(known)),
+    }
+}
+
+/// A field that is missing, or repeated.
+fn field(alloc: Global, text: &str, at: usize, what: &str, name: &str) -> Error {
+    custom(alloc, text, at, format_args!("{what} field `{name}`"))
 }
 
 /// A custom fault at an offset; `OutOfMemory` where its message takes more than there is.

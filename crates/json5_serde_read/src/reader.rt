@@ -3,7 +3,7 @@
 ghost use Rattle.std.specs.Prelude.{OnOk};
 ghost use Rattle.json5_walk.specs.Walks.{IsDocumentWithin};
 
-use crate::fault::{Fault, Wanted};
+use crate::fault::{Fault, Long, Saying, Wanted};
 use json5_grammar::error_code::ErrorCode;
 use json5_text::scanner::Scanner;
 use json5_types::cow_str::CowStr;
@@ -90,8 +90,8 @@ impl<'t> Json5<'t> {
         fault: &Fault,
     ) -> Json5<'t> {
         let mut format = Json5::new(first.alloc, limit, text);
-        format.asked = match fault {
-            Fault::Missing(bracket, _) => Some(*bracket),
+        format.asked = match fault.saying() {
+            Some((Saying::Missing, bracket)) => Some(bracket),
             _ => Some(first.unknown),
         };
         format
@@ -111,14 +111,15 @@ impl<'t> Json5<'t> {
     pub(crate) fn scanned(&self, error: Error) -> Fault {
         if error.code() == Some(ErrorCode::Failed) {
             if self.is_full {
-                return Fault::Code(ErrorCode::OutOfMemory, None);
+                return Fault::Bare(ErrorCode::OutOfMemory);
             }
             return Fault::Misplaced(self.walk.offset());
         }
-        match error.position() {
-            Some(_) => Fault::Scanned(error, self.walk.base()),
-            None => Fault::Scanned(self.walk.located(error), 0),
-        }
+        let long = match error.position() {
+            Some(_) => Long::Scanned(error, self.walk.base()),
+            None => Long::Scanned(self.walk.located(error), 0),
+        };
+        Fault::long(self.alloc, long)
     }
 
     /// Why reading ended: where a mark wasn't kept since memory ran out, that is the cause of any fault that came after.
@@ -126,7 +127,7 @@ impl<'t> Json5<'t> {
     #[inline(never)]
     pub(crate) fn cause(&self, fault: Fault) -> Fault {
         if self.is_full {
-            return Fault::Code(ErrorCode::OutOfMemory, None);
+            return Fault::Bare(ErrorCode::OutOfMemory);
         }
         fault
     }
@@ -136,9 +137,9 @@ impl<'t> Json5<'t> {
     #[inline(never)]
     pub(crate) fn ends_or(&self, ends: ErrorCode, differs: ErrorCode) -> Fault {
         if self.walk.peek().is_none() {
-            Fault::Code(ends, self.bracket())
+            Fault::coded(ends, self.bracket())
         } else {
-            Fault::Code(differs, Some(self.walk.offset()))
+            Fault::Code(differs, self.walk.offset())
         }
     }
 
@@ -168,8 +169,13 @@ impl<'t> Json5<'t> {
     /// Goes to the next member by a short way, and says whether one comes; None where there is no short way.
     #[inline(always)]
     pub(crate) fn short_on(&mut self) -> Option<bool> {
-        if !self.short_past() {
-            return self.short_end();
+        if self.is_comma_due() && !self.walk.comma() {
+            if let Some(comes) = self.short_end() {
+                return Some(comes);
+            }
+            if !self.walk.short_comma() {
+                return None;
+            }
         }
         if let Some('0'..='9' | '"' | '\'' | '-' | '{' | '[' | 'a'..='z' | 'A'..='Z') = self
             .walk
@@ -186,16 +192,24 @@ impl<'t> Json5<'t> {
         }
     }
 
-    /// Takes the comma by a short way, if one is due, and says whether none is due any more.
     #[inline(always)]
-    pub(crate) fn short_past(&mut self) -> bool {
-        !matches!(self.walk.next(), Next::Comma) || self.walk.short_comma()
+    fn is_comma_due(&self) -> bool {
+        matches!(self.walk.next(), Next::Comma)
     }
 
-    /// Takes the closing bracket by a short way, and says that no member comes.
+    /// Takes the comma by a short way, if one is due, and says whether none is due any more. Most follow a value at once.
+    #[inline(always)]
+    pub(crate) fn short_past(&mut self) -> bool {
+        !self.is_comma_due() || self.walk.comma() || self.walk.short_comma()
+    }
+
+    /// Takes the closing bracket by a short way, and says that no member comes. Most have no blanks in front.
     #[inline(always)]
     pub(crate) fn short_end(&mut self) -> Option<bool> {
-        let bracket = self.walk.short_close()?;
+        let bracket = match self.walk.close() {
+            Some(bracket) => bracket,
+            None => self.walk.short_close()?,
+        };
         self.closed = bracket.start;
         Some(false)
     }
@@ -219,6 +233,13 @@ impl<'t> Json5<'t> {
         if let Some(b'!'..=b'.' | b'0'..=b'~') = self.solid() {
             let _ = self.walk.gap();
         }
+    }
+
+    /// A fault with words.
+    #[cold]
+    #[inline(never)]
+    pub(crate) fn said(&self, saying: Saying, at: usize, words: Option<String>) -> Fault {
+        Fault::long(self.alloc, Long::Said(saying, at, words))
     }
 
     /// Where the last value or key begins.
@@ -323,7 +344,7 @@ impl<'t> Json5<'t> {
     #[cold]
     #[inline(never)]
     pub(crate) fn misfit(&self, wanted: Wanted) -> Fault {
-        Fault::Misfit(self.last, wanted)
+        Fault::Misfit(wanted, self.last)
     }
 
     /// Takes a key, and gives its text.
@@ -344,7 +365,7 @@ impl<'t> Json5<'t> {
             Ok(number) => Ok((number, key)),
             Err(error) => Err(Fault::Code(
                 error.code().unwrap_or(ErrorCode::ExpectedNumber),
-                Some(self.last),
+                self.last,
             )),
         }
     }
@@ -390,16 +411,27 @@ impl<'t> Json5<'t> {
 
     #[inline(always)]
     pub(crate) fn open(&mut self, kind: BracketKind) -> Step<()> {
-        if !self.at_key && self.short_begin() && self.walk.open(kind) {
+        if self.short_open(kind) {
             return Ok(());
         }
         self.open_slowly(kind)
     }
 
+    /// Opens a bracket after ASCII blanks, and says whether it did. Most have none in front.
+    #[inline(always)]
+    fn short_open(&mut self, kind: BracketKind) -> bool {
+        if self.at_key {
+            return false;
+        }
+        self.past_colon();
+        self.stand();
+        self.walk.open(kind) || (self.short_begin() && self.walk.open(kind))
+    }
+
     #[inline(never)]
     fn open_slowly(&mut self, kind: BracketKind) -> Step<()> {
         if self.at_key {
-            return Err(Fault::Code(ErrorCode::ExpectedIdentifier, Some(self.walk.offset())));
+            return Err(Fault::Code(ErrorCode::ExpectedIdentifier, self.walk.offset()));
         }
         self.begin()?;
         if self.walk.open(kind) {
@@ -418,7 +450,7 @@ impl<'t> Json5<'t> {
             if !self.walk.next().takes_value() {
                 return Fault::Misplaced(self.walk.offset());
             }
-            return Fault::Code(ErrorCode::TooDeep, Some(self.last));
+            return Fault::Code(ErrorCode::TooDeep, self.last);
         }
         self.ends_or(brackets.ends, brackets.not_opened)
     }
@@ -451,7 +483,7 @@ impl<'t> Json5<'t> {
         }
         if self.walk.peek().is_none() {
             if let BracketKind::Object = kind {
-                return Err(Fault::Code(ErrorCode::EofParsingObject, self.bracket()));
+                return Err(Fault::coded(ErrorCode::EofParsingObject, self.bracket()));
             }
         }
         Ok(true)
@@ -573,7 +605,7 @@ impl<'t> Json5<'t> {
             return Err(Fault::Unread(self.walk.offset()));
         }
         if self.walk.peek().is_some() {
-            return Err(Fault::Code(ErrorCode::TrailingCharacters, Some(self.walk.offset())));
+            return Err(Fault::Code(ErrorCode::TrailingCharacters, self.walk.offset()));
         }
         self.walk_ends(limit, text)
     }
