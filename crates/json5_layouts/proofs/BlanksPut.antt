@@ -1,11 +1,17 @@
 -- Rows of blanks.
-use Rattle.std.proofs.Common.{◌≡◌, ◌∙◌, ℕ, zero, suc, ◌+◌, ◌-◌, ◌<◌, ◌≤◌, Bool, true, false, List, ◌∷◌, ◌++◌, length, take, drop, replicate, sym, ap, subst, arith, append_assoc}
+use Rattle.std.proofs.Common.{◌≡◌, ◌∙◌, ℕ, zero, suc, ◌+◌, ◌-◌, ◌<◌, ◌≤◌, Bool, true, false, if◌then◌else◌, List, [], ◌∷◌, ◌++◌, length, take, drop, replicate, sym, ap, subst, arith, append_assoc, append-nil}
 use Rattle.std.specs.Str.{chars, IsAscii, IsCharBoundary}
 use Rattle.std.proofs.lemmas.List.{length-replicate, replicate-append-replicate, take-replicate}
-use Rattle.std.proofs.lemmas.Str.{chars-IsAscii, IsCharBoundary-from_ascii}
+use Rattle.std.proofs.lemmas.Str.{chars-nil, chars-IsAscii, IsCharBoundary-from_ascii}
 use Rattle.std.proofs.lemmas.Str.Ascii.{IsAscii-nil, IsAscii-cons}
+use Rattle.json5_write.proofs.PiecesWritten.{chars_comma}
 use Rattle.json5_layouts.specs.Blanks.{blank_of}
+use Rattle.json5_layouts.specs.Layouts.{is_compact, line_in}
+use Rattle.json5_layouts.specs.Lines.{begun, BeginsLine}
 use Rattle.json5_layouts.specs.Styles.{comma_if}
+use Rattle.json5_layouts.specs.declared.layout.Layout.{Layout}
+use Rattle.json5_layouts.specs.declared.layout.Layout.TheVariants as layout
+use Rattle.json5_layouts.specs.declared.lines.Line.{Line}
 use Rattle.json5_layouts.specs.declared.lines.Blank.{Blank}
 use Rattle.json5_layouts.specs.declared.lines.Blank.TheVariants as blank
 
@@ -56,6 +62,32 @@ without_comma b false part rest n h e f = ap chars (f ∙ ap (drop 1) e) ∙ cha
 pub blanks_alone : (b : Blank) (part rest : List ℕ) (n : ℕ) → part ≡ after_comma b n → rest ≡ drop 2 part → chars rest ≡ replicate n (blank_of b)
 blanks_alone b part rest n e f = ap chars (f ∙ ap (drop 2) e) ∙ chars_blanks b n
 
--- a line that is deeper than the longest piece
-pub cut_line : (c : List ℕ) (n b : ℕ) → 256 < n → c ++ 10 ∷ replicate n b ≡ (c ++ 10 ∷ replicate 256 b) ++ replicate (n - 256) b
-cut_line c n b h = ap (λ l. c ++ 10 ∷ l) (cut n b h) ∙ sym (append_assoc c (10 ∷ replicate 256 b) (replicate (n - 256) b))
+-- ---- a line's pieces
+
+-- the piece without a comma or the one with it
+chosen : (due : Bool) (first next t : List ℕ) → chars first ≡ t → chars next ≡ 44 ∷ t → chars (if due then next else first) ≡ comma_if due ++ t
+chosen true first next t e f = f
+chosen false first next t e f = e
+
+rows : (b shown count : ℕ) → shown ≤ count → replicate shown b ++ replicate (count - shown) b ≡ replicate count b
+rows b shown count h = replicate-append-replicate shown (count - shown) b ∙ ap (λ k. replicate k b) (omega (arith, h))
+
+pub shown_line : (b shown count : ℕ) (due : Bool) (first next : List ℕ) → shown ≤ count → chars first ≡ 10 ∷ replicate shown b → chars next ≡ 44 ∷ 10 ∷ replicate shown b
+    → chars (if due then next else first) ++ replicate (count - shown) b ≡ comma_if due ++ 10 ∷ replicate count b
+shown_line b shown count due first next h e f =
+    ap (λ l. l ++ replicate (count - shown) b) (chosen due first next (10 ∷ replicate shown b) e f)
+    ∙ append_assoc (comma_if due) (10 ∷ replicate shown b) (replicate (count - shown) b)
+    ∙ ap (λ l. comma_if due ++ 10 ∷ l) (rows b shown count h)
+
+pub comma_alone : (due : Bool) → chars (if due then 44 ∷ [] else []) ++ [] ≡ comma_if due ++ []
+comma_alone due = ap (λ l. l ++ []) (chosen due [] (44 ∷ []) [] chars-nil chars_comma ∙ append-nil (comma_if due))
+
+-- no blank is left to put
+pub no_more : (a : List ℕ) (n b : ℕ) → n ≡ 0 → a ≡ a ++ replicate n b
+no_more a n b h = sym (ap (λ k. a ++ replicate k b) h ∙ append-nil a)
+
+-- on one line there is the comma alone
+pub line_begun : (l : Layout) (due : Bool) (line : Line) (depth : ℕ) → BeginsLine line l depth → (if is_compact l then comma_if due else begun due line) ≡ comma_if due ++ line_in l depth
+line_begun layout.Compact due line depth h = sym (append-nil (comma_if due))
+line_begun (layout.Spaces n) due line depth h = h due
+line_begun layout.Tabs due line depth h = h due

@@ -1,6 +1,7 @@
 -- Runs of bytes that JSON has as they are, are runs of such characters.
-use Rattle.std.proofs.Common.{◌≡◌, ℕ, Bool, true, false, not, cond, ◌||◌, nat_lt, List, [], ◌∷◌, ◌++◌, refl, sym, ap, ◌∙◌, arith}
+use Rattle.std.proofs.Common.{◌≡◌, ℕ, zero, suc, ◌+◌, ◌≤◌, drop, Bool, true, false, not, cond, ◌||◌, nat_lt, List, [], ◌∷◌, ◌++◌, refl, sym, ap, ◌∙◌, arith}
 use Rattle.std.specs.Prelude.{◌==◌}
+use Rattle.std.specs.List.{prefix_len}
 use Rattle.std.specs.Str.{IsUtf8, chars, encode_utf8_all}
 use Rattle.std.proofs.lemmas.Bool.Decides.{nat_tests}
 use Rattle.std.proofs.lemmas.Str.{encodes-append, encodes-chars}
@@ -25,6 +26,16 @@ unescaped_chars = of_ascii is_unescaped fails_ascii
 
 pub opposite : (x : ℕ) → is_unescaped x ≡ not (ends_unescaped x)
 opposite x = grind (arith, nat_tests)
+
+longer : (b : Bool) (n i m : ℕ) → suc i ≤ cond b (1 + n) 0 → (i ≤ n → n ≡ i + m) → cond b (1 + n) 0 ≡ suc i + m
+longer true n i m h e = let k = e (omega (arith, h)) in omega (arith, k)
+longer false n i m h e = absurd (omega (arith, h))
+
+-- what follows a front of a run goes on with it
+pub run_from : (q : ℕ → Bool) (d : List ℕ) (i : ℕ) → i ≤ prefix_len q d → prefix_len q d ≡ i + prefix_len q (drop i d)
+run_from q d zero h = omega arith
+run_from q [] (suc i) h = absurd (omega (arith, h))
+run_from q (x ∷ d) (suc i) h = longer (q x) (prefix_len q d) i (prefix_len q (drop i d)) h (run_from q d i)
 
 -- ---- a mask lane
 

@@ -12,3 +12,5 @@ pub mod TextsReturned
 pub mod DefaultLayout
 pub mod JsonRuns
 pub mod TextsBack
+pub mod WritableLists
+pub mod Refusals

@@ -16,7 +16,8 @@ use Rattle.json5_write.specs.Writes.{SerializerState}
 use Rattle.json5_write.specs.declared.refusal.Refused.{Refused}
 use Rattle.json5_write.specs.declared.refusal.Refused.TheVariants as refused
 use Rattle.json5_write.proofs.TextsWhole.{text_returned}
-use Rattle.json5_layouts.specs.WholeTexts.{LaysOut}
+use Rattle.json5_layouts.specs.JsonTexts.{is_json}
+use Rattle.json5_layouts.specs.WholeTexts.{LaysOut, WritesJson}
 
 -- the writer of a string fails only for want of memory
 no_memory : (t : List ℕ) (old new : SerializerState) (r : Refused) (e : Error) → old.failed ≡ false → Puts (piece t) old (Err r) new → SaysAt (text_kind_by r) None e → SaysAt (code codes.OutOfMemory) None e
@@ -38,3 +39,8 @@ pub numbers_returned : (P : Type 0) (items : List ℕ) (printed : Result ⊤ Ref
 numbers_returned P items (Ok y) (Ok s) h p ok = p
 numbers_returned P items (Err r) (Ok s) h p ok = absurd (let x = h.wrote in cc)
 numbers_returned P items printed (Err e) h p ok = absurd (cc)
+
+-- the text of a value that JSON has
+pub written_json : (t : List ℕ) (x : Datum) (result : Result (String Global) Error) → fits x ≡ true → is_json x ≡ true → LaysOut t x result → WritesJson t x result
+written_json t x (Ok s) f j h = (h.0, j, h.1)
+written_json t x (Err e) f j h = rw (f, j) (let k = rw f at h in record { kind = k.kind; place = k.place })

@@ -7,3 +7,5 @@ pub mod Blanks
 pub mod JsonEscapes
 pub mod LaidBack
 pub mod WholeTexts
+pub mod Writable
+pub mod Lines

@@ -1,12 +1,13 @@
 //! The beginnings of lines.
 
-ghost use Rattle.std.specs.Prelude.{◌≡◌, ◌≤◌, ◌∷◌, ◌++◌, replicate};
+ghost use Rattle.std.specs.Prelude.{◌≡◌, ◌≤◌, ◌∷◌, ◌++◌, Bool, if◌then◌else◌, replicate};
 ghost use Rattle.std.specs.Str.{chars};
-ghost use Rattle.json5_grammar.specs.Language.Characters.{colon_sign, comma_sign, line_feed};
+ghost use Rattle.json5_grammar.specs.Language.Characters.{colon_sign, comma_sign, double_quote, line_feed};
 ghost use Rattle.json5_write.specs.Out.{piece};
 ghost use Rattle.json5_write.specs.ShortWrites.{Puts};
 ghost use Rattle.json5_layouts.specs.Styles.{comma_if, closed};
-ghost use Rattle.json5_layouts.specs.Layouts.{line_in, gap_in, has_last_comma, style_of};
+ghost use Rattle.json5_layouts.specs.Layouts.{gap_in, is_compact, has_last_comma, style_of};
+ghost use Rattle.json5_layouts.specs.Lines.{begun, BeginsLine};
 ghost use Rattle.json5_layouts.specs.Blanks.{blank_of};
 
 use crate::layout::{Form, Layout, Spelling};
@@ -68,53 +69,89 @@ fn put_blanks<W: Write + Drop>(blank: Blank, count: usize, printer: &mut Printer
     printer.put_piece(blank.run(left))
 }
 
-/// Begins a line with so many of it, after a comma if one is due. It is one piece, unless the line is very deep.
-fn put_line<W: Write + Drop>(
+/// How a line begins: the piece without a comma, the one with it, and how many more blanks follow than the pieces have.
+#[derive(Clone, Copy)]
+pub(crate) struct Line {
+    first: &'static str,
+    next: &'static str,
     blank: Blank,
-    count: usize,
-    comma_due: bool,
-    printer: &mut Printer<W>,
-) -> Put
-    ensures { Puts (piece (comma_if comma_due ++ line_feed ∷ replicate count (blank_of blank))) printer.old result printer.new }
-{
-    if count <= 256 {
-        return printer.put_piece(blank.line(count, comma_due));
+    more: usize,
+}
+
+impl Line {
+    /// The line of an element, of a member or of a closing bracket within so many brackets.
+    #[inline(always)]
+    pub(crate) fn within(layout: Layout, depth: usize) -> Line
+        requires { depth ≤ 128 }
+        ensures { BeginsLine result layout depth }
+    {
+        match layout {
+            Layout::Compact => Line {
+                first: "",
+                next: ",",
+                blank: Blank::Space,
+                more: 0,
+            },
+            Layout::Spaces(spaces) => Line::indented(Blank::Space, usize::from(spaces) * depth),
+            Layout::Tabs => Line::indented(Blank::Tab, depth),
+        }
     }
-    printer.put_piece(blank.line(256, comma_due))?;
-    put_blanks(blank, count - 256, printer)
+
+    /// The line with so many blanks.
+    fn indented(blank: Blank, count: usize) -> Line
+        ensures { (due : Bool) → begun due result ≡ comma_if due ++ line_feed ∷ replicate count (blank_of blank) }
+    {
+        let shown = count.min(256);
+        Line {
+            first: blank.line(shown, false),
+            next: blank.line(shown, true),
+            blank,
+            more: count - shown,
+        }
+    }
+
+    /// The piece, with a comma if one is due.
+    #[inline(always)]
+    fn piece(self, comma_due: bool) -> &'static str
+        ensures { result.now ≡ (if comma_due then self.next.now else self.first.now) }
+    {
+        if comma_due { self.next } else { self.first }
+    }
+
+    /// Begins it, after a comma if one is due. It is one piece, unless it is very deep.
+    #[inline(always)]
+    fn put<W: Write + Drop>(self, comma_due: bool, printer: &mut Printer<W>) -> Put
+        ensures { Puts (piece (begun comma_due self)) printer.old result printer.new }
+    {
+        printer.put_piece(self.piece(comma_due))?;
+        if self.more == 0 {
+            return Ok(());
+        }
+        put_blanks(self.blank, self.more, printer)
+    }
 }
 
-/// A comma, if one is due.
+/// Begins the line, after a comma if one is due. Where all is on one line the comma is a constant, which is put faster.
+#[inline(always)]
 #[tactic(auto, using(crate::proofs::PiecesPut::signs))]
-fn comma(due: bool) -> &'static str
-    ensures { chars result.now ≡ comma_if due }
-{
-    if due { "," } else { "" }
-}
-
-/// Begins the line of an element, of a member or of a closing bracket within so many brackets, after a comma if one is due.
 pub(crate) fn start_line<W: Write + Drop>(
     layout: Layout,
-    depth: usize,
+    line: Line,
     comma_due: bool,
     printer: &mut Printer<W>,
 ) -> Put
-    requires { depth ≤ 128 }
-    ensures { Puts (piece (comma_if comma_due ++ line_in layout depth)) printer.old result printer.new }
+    ensures { Puts (piece (if is_compact layout then comma_if comma_due else begun comma_due line)) printer.old result printer.new }
 {
     match layout {
-        Layout::Compact => printer.put_piece(comma(comma_due)),
-        Layout::Spaces(spaces) => {
-            let count = usize::from(spaces) * depth;
-            put_line(Blank::Space, count, comma_due, printer)
-        }
-        Layout::Tabs => put_line(Blank::Tab, depth, comma_due, printer),
+        Layout::Compact if comma_due => printer.put_piece(","),
+        Layout::Compact => printer.put_piece(""),
+        _ => line.put(comma_due, printer),
     }
 }
 
 /// Whether a comma follows the last element or member.
-fn has_last_comma(form: Form) -> bool
-    ensures { result ≡ has_last_comma form.spelling form.layout }
+fn has_last_comma(form: &Form) -> bool
+    ensures { result ≡ has_last_comma form.now.spelling form.now.layout }
 {
     match form.spelling {
         Spelling::Json => false,
@@ -123,19 +160,21 @@ fn has_last_comma(form: Form) -> bool
 }
 
 /// Writes what stands before a closing bracket: nothing if nothing was written in the collection.
+#[inline(always)]
 pub(crate) fn end_lines<W: Write + Drop>(
-    form: Form,
+    form: &Form,
     depth: usize,
     started: bool,
     printer: &mut Printer<W>,
 ) -> Put
     requires { depth ≤ 128 }
-    ensures { Puts (piece (closed (style_of form.spelling form.layout) depth started)) printer.old result printer.new }
+    ensures { Puts (piece (closed (style_of form.now.spelling form.now.layout) depth started)) printer.old result printer.new }
 {
     if !started {
         return printer.put_piece("");
     }
-    start_line(form.layout, depth, has_last_comma(form), printer)
+    let line = Line::within(form.layout, depth);
+    start_line(form.layout, line, has_last_comma(form), printer)
 }
 
 /// A colon, and a space where lines have blanks.
@@ -147,5 +186,17 @@ pub(crate) fn colon(layout: Layout) -> &'static str
         Layout::Compact => ":",
         Layout::Spaces(_) => ": ",
         Layout::Tabs => ": ",
+    }
+}
+
+/// The quote that closes a key, a colon, and a space where lines have blanks.
+#[tactic(auto, using(crate::proofs::PiecesPut::signs))]
+pub(crate) fn quote_and_colon(layout: Layout) -> &'static str
+    ensures { chars result.now ≡ double_quote ∷ colon_sign ∷ gap_in layout }
+{
+    match layout {
+        Layout::Compact => "\":",
+        Layout::Spaces(_) => "\": ",
+        Layout::Tabs => "\": ",
     }
 }

@@ -1,16 +1,18 @@
 //! Strings and keys as JSON5 and as JSON.
 
-ghost use Rattle.std.specs.Prelude.{◌≡◌, ◌<◌, false, [], ◌∷◌, MatchOption};
+ghost use Rattle.std.specs.Prelude.{◌≡◌, ◌<◌, false, [], ◌∷◌, ◌++◌, MatchOption};
 ghost use Rattle.std.specs.Char.{digit_char};
 ghost use Rattle.std.specs.Str.{chars};
+ghost use Rattle.json5_grammar.specs.Language.Characters.{colon_sign, double_quote};
 ghost use Rattle.json5_write.specs.Out.{piece};
 ghost use Rattle.json5_write.specs.ShortWrites.{Puts};
 ghost use Rattle.json5_layouts.specs.JsonTexts.{control_code, json_escaped, json_escaped_all, json_string};
-ghost use Rattle.json5_layouts.specs.Layouts.{string_in, key_in};
+ghost use Rattle.json5_layouts.specs.Layouts.{gap_in, string_in, key_in};
 ghost use Rattle.json5_layouts.specs.JsonEscapes.{stands_in_json, StartsWithScalar, SplitsAtChar};
 
 use crate::json_runs::skip_unescaped;
-use crate::layout::Spelling;
+use crate::layout::{Form, Spelling};
+use crate::lines::{colon, quote_and_colon};
 use json5_write::Printer;
 use json5_write::refusal::Put;
 use std::io::Write;
@@ -29,30 +31,46 @@ pub(crate) fn put_string<W: Write + Drop>(
     }
 }
 
-/// Writes a key.
-pub(crate) fn put_key<W: Write + Drop>(
-    text: &str,
-    spelling: Spelling,
-    printer: &mut Printer<W>,
-) -> Put
-    ensures { Puts (piece (key_in spelling (chars text.now))) printer.old result printer.new }
+/// Writes a key and the colon after it.
+#[inline(always)]
+pub(crate) fn put_key<W: Write + Drop>(text: &str, form: &Form, printer: &mut Printer<W>) -> Put
+    ensures { Puts (piece (key_in form.now.spelling (chars text.now) ++ colon_sign ∷ gap_in form.now.layout)) printer.old result printer.new }
 {
-    match spelling {
-        Spelling::Json5 => printer.put_key(text),
-        Spelling::Json => put_json_string(text, printer),
+    match form.spelling {
+        Spelling::Json5 => {
+            printer.put_key(text)?;
+            printer.put_piece(colon(form.layout))
+        }
+        Spelling::Json => {
+            put_opened_string(text, printer)?;
+            printer.put_piece(quote_and_colon(form.layout))
+        }
     }
 }
 
 /// Writes the text between double quotes.
+#[inline(always)]
 fn put_json_string<W: Write + Drop>(text: &str, printer: &mut Printer<W>) -> Put
     ensures { Puts (piece (json_string (chars text.now))) printer.old result printer.new }
 {
-    printer.put_piece("\"")?;
-    put_json_chars(text, printer)?;
+    put_opened_string(text, printer)?;
     printer.put_piece("\"")
 }
 
+/// Writes the text after a double quote, without the one that closes.
+#[inline(always)]
+fn put_opened_string<W: Write + Drop>(text: &str, printer: &mut Printer<W>) -> Put
+    ensures { Puts (piece (double_quote ∷ json_escaped_all (chars text.now))) printer.old result printer.new }
+{
+    printer.put_piece("\"")?;
+    if skip_unescaped(text).is_empty() {
+        return printer.put_piece(text);
+    }
+    put_json_chars(text, printer)
+}
+
 /// Writes the text, and escapes what JSON has to have escaped. What is between two escapes is written in one piece.
+#[inline(never)]
 fn put_json_chars<W: Write + Drop>(text: &str, printer: &mut Printer<W>) -> Put
     ensures { Puts (piece (json_escaped_all (chars text.now))) printer.old result printer.new }
 {

@@ -6,36 +6,38 @@ ghost use Rattle.json5_grammar.specs.Language.Documents.{max_depth};
 ghost use Rattle.json5_types.specs.ValueLookups.{datum_depth, items_depth, fields_depth};
 ghost use Rattle.json5_types.specs.ValueMeanings.{array, object, value_of, items_view, fields_view};
 ghost use Rattle.json5_write.specs.Out.{piece};
-ghost use Rattle.json5_write.specs.ShortWrites.{Puts};
+ghost use Rattle.json5_write.specs.ShortWrites.{Puts, PutsTree};
+ghost use Rattle.json5_write.specs.WrittenTrees.{integer};
 ghost use Rattle.json5_layouts.specs.LaidBack.{HasNumbers, ItemsHaveNumbers, FieldsHaveNumbers};
 ghost use Rattle.json5_layouts.specs.Layouts.{laid_in, entry_in};
 
 use crate::layout::Form;
-use crate::lines::{colon, end_lines, start_line};
+use crate::lines::{Line, end_lines, start_line};
 use crate::strings::{put_key, put_string};
 use json5_types::value::Value;
+use json5_types::whole::Whole;
 use json5_write::Printer;
 use json5_write::literals::bool_name;
 use json5_write::refusal::Put;
-use json5_write::value::put_value as put_scalar;
 use std::io::Write;
 
 /// Writes a value within so many brackets.
 #[cycle(laid)]
+#[inline(always)]
 pub(crate) fn put_value<W: Write + Drop>(
     value: &Value,
-    form: Form,
+    form: &Form,
     depth: usize,
     printer: &mut Printer<W>,
 ) -> Put
     requires shallow { datum_depth (value_of value.now) + depth ≤ max_depth }
-    ensures text { Puts (piece (laid_in form depth (value_of value.now))) printer.old result printer.new }
+    ensures text { Puts (piece (laid_in form.now depth (value_of value.now))) printer.old result printer.new }
     ensures numbers { OnOk result (HasNumbers (value_of value.now)) }
 {
     match value {
         Value::Null => printer.put_piece("null"),
         Value::Bool(truth) => printer.put_piece(bool_name(*truth)),
-        Value::Whole(_) => put_scalar(value, printer),
+        Value::Whole(number) => put_whole(*number, printer),
         Value::Decimal(number) => printer.put_decimal(number),
         Value::String(text) => put_string(text.as_str(), form.spelling, printer),
         Value::Array(items) => put_items(items, form, depth, printer),
@@ -43,22 +45,35 @@ pub(crate) fn put_value<W: Write + Drop>(
     }
 }
 
+/// Writes the decimal digits of a whole number of either sign.
+#[inline(always)]
+fn put_whole<W: Write + Drop>(number: Whole, printer: &mut Printer<W>) -> Put
+    ensures { PutsTree (integer number) printer.old result printer.new }
+{
+    if let Some(positive) = number.as_u128() {
+        return printer.put_unsigned(positive);
+    }
+    let negative = number.as_i128();
+    printer.put_signed(negative.unwrap())
+}
+
 /// Writes an array of the values.
 #[cycle(laid)]
 fn put_items<W: Write + Drop>(
     items: &[Value],
-    form: Form,
+    form: &Form,
     depth: usize,
     printer: &mut Printer<W>,
 ) -> Put
     requires shallow { items_depth (items_view items.now) + depth < max_depth }
-    ensures text { Puts (piece (laid_in form depth (array (items_view items.now)))) printer.old result printer.new }
+    ensures text { Puts (piece (laid_in form.now depth (array (items_view items.now)))) printer.old result printer.new }
     ensures numbers { OnOk result (ItemsHaveNumbers (items_view items.now)) }
 {
     printer.put_piece("[")?;
+    let line = Line::within(form.layout, depth + 1);
     let mut started = false;
     for item in items {
-        start_line(form.layout, depth + 1, started, printer)?;
+        start_line(form.layout, line, started, printer)?;
         put_value(item, form, depth + 1, printer)?;
         started = true;
     }
@@ -70,18 +85,19 @@ fn put_items<W: Write + Drop>(
 #[cycle(laid)]
 fn put_fields<W: Write + Drop>(
     fields: &[(String, Value)],
-    form: Form,
+    form: &Form,
     depth: usize,
     printer: &mut Printer<W>,
 ) -> Put
     requires shallow { fields_depth (fields_view fields.now) + depth < max_depth }
-    ensures text { Puts (piece (laid_in form depth (object (fields_view fields.now)))) printer.old result printer.new }
+    ensures text { Puts (piece (laid_in form.now depth (object (fields_view fields.now)))) printer.old result printer.new }
     ensures numbers { OnOk result (FieldsHaveNumbers (fields_view fields.now)) }
 {
     printer.put_piece("{")?;
+    let line = Line::within(form.layout, depth + 1);
     let mut started = false;
     for (key, value) in fields {
-        start_line(form.layout, depth + 1, started, printer)?;
+        start_line(form.layout, line, started, printer)?;
         put_entry(key, value, form, depth + 1, printer)?;
         started = true;
     }
@@ -91,18 +107,18 @@ fn put_fields<W: Write + Drop>(
 
 /// Writes a key, a colon and a value.
 #[cycle(laid)]
+#[inline(always)]
 fn put_entry<W: Write + Drop>(
     key: &str,
     value: &Value,
-    form: Form,
+    form: &Form,
     depth: usize,
     printer: &mut Printer<W>,
 ) -> Put
     requires shallow { datum_depth (value_of value.now) + depth ≤ max_depth }
-    ensures text { Puts (piece (entry_in form depth (chars key.now) (value_of value.now))) printer.old result printer.new }
+    ensures text { Puts (piece (entry_in form.now depth (chars key.now) (value_of value.now))) printer.old result printer.new }
     ensures numbers { OnOk result (HasNumbers (value_of value.now)) }
 {
-    put_key(key, form.spelling, printer)?;
-    printer.put_piece(colon(form.layout))?;
+    put_key(key, form, printer)?;
     put_value(value, form, depth, printer)
 }

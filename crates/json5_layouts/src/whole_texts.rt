@@ -1,6 +1,6 @@
 //! Whole texts of values, in a layout.
 
-ghost use Rattle.std.specs.Prelude.{◌≡◌, true, MatchResult, None, IsOk, IfOk, string_bytes, vec_items};
+ghost use Rattle.std.specs.Prelude.{◌≡◌, true, false, MatchResult, None, IsOk, IfOk, string_bytes, vec_items};
 ghost use Rattle.std.specs.Str.{chars};
 ghost use Rattle.json5_grammar.specs.Language.Documents.{max_depth};
 ghost use Rattle.json5_types.specs.Errors.{IsCustomAt, LacksMemory};
@@ -9,10 +9,10 @@ ghost use Rattle.json5_types.specs.ValueMeanings.{value_of};
 ghost use Rattle.json5_layouts.specs.Layouts.{laid_in, laid_out, json_text};
 ghost use Rattle.json5_layouts.specs.Json.{JsonText};
 ghost use Rattle.json5_layouts.specs.LaidBack.{HasNumbers, ReadsAs};
-ghost use Rattle.json5_layouts.specs.WholeTexts.{LaysOut, LaysOutAs, WritesJson};
+ghost use Rattle.json5_layouts.specs.WholeTexts.{LaysOut, LaysOutAs, RefusesText, WritesJson};
 ghost use Rattle.json5_layouts.specs.declared.layout.Layout.TheVariants as layout;
 
-use crate::json_values::{is_json, path_in};
+use crate::json_values::{can_be_written, path_in};
 use crate::layout::{Form, Layout, Spelling};
 use crate::value::put_value;
 use json5_types::ErrorCode;
@@ -30,7 +30,7 @@ fn text_in(alloc: Global, form: Form, value: &Value) -> Result<String>
     ensures numbers { IsOk result → HasNumbers (value_of value.now) }
 {
     let mut printer = Printer::within(StringWriter::new(alloc), Limit::full());
-    let printed = put_value(value, form, 0, &mut printer);
+    let printed = put_value(value, &form, 0, &mut printer);
     text_of(printed, printer.into_inner().into_bytes())
 }
 
@@ -49,10 +49,10 @@ pub fn to_string_in(alloc: Global, layout: Layout, value: &Value) -> Result<Stri
     ensures text { LaysOut (laid_out layout (value_of value.now)) (value_of value.now) result }
     ensures reads_back { IfOk result (λ s. ReadsAs max_depth (chars (string_bytes s)) (value_of value.now)) }
 {
-    if !value.fits() {
+    let spelling = Spelling::Json5;
+    if !can_be_written(value, spelling) {
         return Err(Error::new(ErrorCode::TooDeep));
     }
-    let spelling = Spelling::Json5;
     text_in(alloc, Form { spelling, layout }, value)
 }
 
@@ -86,13 +86,10 @@ pub fn to_json_in(alloc: Global, layout: Layout, value: &Value) -> Result<String
     ensures is_json { IfOk result (λ s. JsonText (chars (string_bytes s))) }
     ensures reads_back { IfOk result (λ s. ReadsAs max_depth (chars (string_bytes s)) (value_of value.now)) }
 {
-    if !value.fits() {
-        return Err(Error::new(ErrorCode::TooDeep));
-    }
-    if !is_json(value) {
-        return Err(no_json(alloc, value)?);
-    }
     let spelling = Spelling::Json;
+    if !can_be_written(value, spelling) {
+        return Err(json_fault(alloc, value));
+    }
     text_in(alloc, Form { spelling, layout }, value)
 }
 
@@ -114,8 +111,23 @@ pub fn to_json_compact(alloc: Global, value: &Value) -> Result<String>
     to_json_in(alloc, Layout::compact(), value)
 }
 
+/// Why a value can't be written as JSON.
+#[cold]
+#[inline(never)]
+pub(crate) fn json_fault(alloc: Global, value: &Value) -> Error
+    ensures { RefusesText (fits (value_of value.now)) false result }
+{
+    if !value.fits() {
+        return Error::new(ErrorCode::TooDeep);
+    }
+    match no_json(alloc, value) {
+        Ok(fault) => fault,
+        Err(no_memory) => no_memory,
+    }
+}
+
 /// The fault of a value that JSON hasn't.
-pub(crate) fn no_json(alloc: Global, value: &Value) -> Result<Error>
+fn no_json(alloc: Global, value: &Value) -> Result<Error>
     ensures { MatchResult result (IsCustomAt None) LacksMemory }
 {
     let path = path_in(alloc, value)?;

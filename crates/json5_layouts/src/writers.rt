@@ -7,10 +7,10 @@ ghost use Rattle.json5_layouts.specs.Layouts.{laid_in, laid_out, json_text};
 ghost use Rattle.json5_layouts.specs.WholeTexts.{WritesText, WritesJsonText};
 ghost use Rattle.json5_layouts.specs.declared.layout.Layout.TheVariants as layout;
 
-use crate::json_values::is_json;
+use crate::json_values::can_be_written;
 use crate::layout::{Form, Layout, Spelling};
 use crate::value::put_value;
-use crate::whole_texts::no_json;
+use crate::whole_texts::json_fault;
 use json5_types::ErrorCode;
 use json5_types::error::{Error, Result};
 use json5_types::nesting::Limit;
@@ -26,7 +26,7 @@ fn write_in<W: Write>(w: &mut W, form: Form, value: &Value) -> Result<()>
     ensures { WritesText (laid_in form 0 (value_of value.now)) (value_of value.now) (W.contents w.old) result (W.contents w.new) }
 {
     let mut printer = Printer::within(Lent { writer: w }, Limit::full());
-    let printed = put_value(value, form, 0, &mut printer);
+    let printed = put_value(value, &form, 0, &mut printer);
     let Lent { writer } = printer.into_inner();
     let _ = &*writer;
     Ok(printed?)
@@ -46,10 +46,10 @@ fn write_in<W: Write>(w: &mut W, form: Form, value: &Value) -> Result<()>
 pub fn to_writer_in<W: Write>(w: &mut W, layout: Layout, value: &Value) -> Result<()>
     ensures { WritesText (laid_out layout (value_of value.now)) (value_of value.now) (W.contents w.old) result (W.contents w.new) }
 {
-    if !value.fits() {
+    let spelling = Spelling::Json5;
+    if !can_be_written(value, spelling) {
         return Err(Error::new(ErrorCode::TooDeep));
     }
-    let spelling = Spelling::Json5;
     write_in(w, Form { spelling, layout }, value)
 }
 
@@ -75,13 +75,10 @@ pub fn to_json_writer_in<W: Write>(
 ) -> Result<()>
     ensures { WritesJsonText (json_text layout (value_of value.now)) (value_of value.now) (W.contents w.old) result (W.contents w.new) }
 {
-    if !value.fits() {
-        return Err(Error::new(ErrorCode::TooDeep));
-    }
-    if !is_json(value) {
-        return Err(no_json(alloc, value)?);
-    }
     let spelling = Spelling::Json;
+    if !can_be_written(value, spelling) {
+        return Err(json_fault(alloc, value));
+    }
     write_in(w, Form { spelling, layout }, value)
 }
 

@@ -6,8 +6,8 @@ use Rattle.json5_layouts.proofs.JsonRuns.{below, unescaped_lane}
 use Rattle.json5_layouts.proofs.json_runs.stops.Goals as goal
 
 pub returns : goal.returns
-returns c =
+returns g c =
     let v = c.args.bytes in
     let long = c.fits-bytes.0 in
-    let two = either _ _ v (zip2_splat below v 16 32 long) (zip2_splat hit v 16 34 long) in
-    masked _ ends_unescaped v _ (omega arith) (either _ _ v two (zip2_splat hit v 16 92 long)) unescaped_lane
+    let two = either _ _ v (zip2_splat below v g.row.N 32 long) (zip2_splat hit v g.row.N 34 long) in
+    masked _ ends_unescaped v _ (omega (arith, long, c.requires)) (either _ _ v two (zip2_splat hit v g.row.N 92 long)) unescaped_lane

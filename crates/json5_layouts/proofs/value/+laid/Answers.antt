@@ -1,4 +1,4 @@
-use Rattle.std.proofs.Common.{◌≡◌, ◌+◌, ◌<◌, ◌≤◌, suc, false, [], ◌∷◌, ◌++◌, length, drop_of_length-le, refl, sym, ap, subst, rules, arith, string_bytes}
+use Rattle.std.proofs.Common.{◌≡◌, ◌+◌, ◌<◌, ◌≤◌, suc, false, [], ◌∷◌, ◌++◌, length, drop_of_length-le, refl, sym, ap, subst, rules, arith, append_assoc, string_bytes}
 use Rattle.std.specs.Str.{chars}
 use Rattle.json5_grammar.specs.Language.Numbers.{decimal, whole}
 use Rattle.json5_types.proofs.ValuesCompared.{view-Null, view-String, view-Array, view-Object}
@@ -11,6 +11,7 @@ use Rattle.json5_write.proofs.ShortWritesJoined.{Reaches-stop, Reaches-end}
 use Rattle.json5_layouts.specs.LaidBack.{ItemsHaveNumbers, FieldsHaveNumbers}
 use Rattle.json5_layouts.specs.Styles.{comma_if, closed, laid, items_laid, fields_laid}
 use Rattle.json5_layouts.specs.Layouts.{gap_in, key_in, style_of, laid_in}
+use Rattle.json5_layouts.proofs.BlanksPut.{line_begun}
 use Rattle.json5_layouts.proofs.ItemsLaid.{next_item, next_field, item_within, field_within, items_numbers, fields_numbers, view-Decimal, view-Whole}
 use Rattle.json5_layouts.proofs.PiecesPut.{stop_first, then_second, put_as, wrote_as, refused_as, reaches_as, number_put, number_had, on_ok}
 use Rattle.json5_layouts.proofs.value.+laid.Goals as goal
@@ -51,13 +52,13 @@ put_value-returns-in-Decimal-clause-numbers g t c =
 
 pub put_value-returns-in-Whole-clause-text : goal.put_value-returns-in-Whole-clause-text
 put_value-returns-in-Whole-clause-text g t c =
-    let z = c.in-Whole.field-0 in
-    rw (c.in-Whole.is, view-Whole z) (number_put (whole z) c.args.printer.now c.put_value.new.printer c.put_value.result (rw (c.in-Whole.is, view-Whole z) at c.put_value.ensures))
+    let z = c.in-Whole.number in
+    rw (c.in-Whole.is, view-Whole z) (number_put (whole z) c.args.printer.now c.put_whole.new.printer c.put_whole.result c.put_whole.ensures)
 
 pub put_value-returns-in-Whole-clause-numbers : goal.put_value-returns-in-Whole-clause-numbers
 put_value-returns-in-Whole-clause-numbers g t c =
-    let z = c.in-Whole.field-0 in
-    rw (c.in-Whole.is, view-Whole z) (number_had (whole z) c.args.printer.now c.put_value.new.printer c.put_value.result (rw (c.in-Whole.is, view-Whole z) at c.put_value.ensures))
+    let z = c.in-Whole.number in
+    rw (c.in-Whole.is, view-Whole z) (number_had (whole z) c.args.printer.now c.put_whole.new.printer c.put_whole.result c.put_whole.ensures)
 
 pub put_value-put_items-requires : goal.put_value-put_items-requires
 put_value-put_items-requires g t c =
@@ -79,41 +80,41 @@ put_items-put_value-requires g t c =
 
 pub put_items-returns-in_err-put_piece-clause-text : goal.put_items-returns-in_err-put_piece-clause-text
 put_items-returns-in_err-put_piece-clause-text g t c =
-    let s = style_of c.args.form.spelling c.args.form.layout in
+    let s = style_of c.args.form.now.spelling c.args.form.now.layout in
     stop_first (91 ∷ []) (items_laid s c.args.depth false (items_view c.args.items.now)) _ _ _ _ c.from_residual.ensures.1 (refused_as _ _ _ _ _ chars_left_bracket c.in_err-put_piece.ensures)
 
 pub put_items-loop-item-init : goal.put_items-loop-item-init
 put_items-loop-item-init g t c =
-    let s = style_of c.args.form.spelling c.args.form.layout in
+    let s = style_of c.args.form.now.spelling c.args.form.now.layout in
     record { numbers = λ h. h; reaches = Reaches-first (piece (91 ∷ [])) (piece (items_laid s c.args.depth false (items_view c.args.items.now))) _ _ (wrote_as _ _ _ _ chars_left_bracket c.in_ok-put_piece.ensures) }
 
 pub put_items-returns-in_err-start_line-clause-text : goal.put_items-returns-in_err-start_line-clause-text
 put_items-returns-in_err-start_line-clause-text g t c =
     let l = c.loop-item in
-    let s = style_of c.args.form.spelling c.args.form.layout in
+    let s = style_of c.args.form.now.spelling c.args.form.now.layout in
     let left : l.item-index < length c.args.items.now = search rules in
     let v = c.item-item.result in
     let next = reaches_as _ _ _ _ _ (next_item s c.args.depth l.started c.args.items.now l.item-index v left c.item-item.is) l.invariant.reaches in
-    Reaches-stop _ (piece (comma_if l.started ++ s.line (c.args.depth + 1))) _ _ _ _ _ _ next c.from_residual-in_err-start_line.ensures.1 c.in_err-start_line.ensures
+    Reaches-stop _ (piece (comma_if l.started ++ s.line (c.args.depth + 1))) _ _ _ _ _ _ next c.from_residual-in_err-start_line.ensures.1 (refused_as _ _ _ _ _ (line_begun c.args.form.now.layout l.started c.within-line.result (c.args.depth + 1) c.within-line.ensures) c.in_err-start_line.ensures)
 
 pub put_items-returns-in_err-put_value-clause-text : goal.put_items-returns-in_err-put_value-clause-text
 put_items-returns-in_err-put_value-clause-text g t c =
     let l = c.loop-item in
-    let s = style_of c.args.form.spelling c.args.form.layout in
+    let s = style_of c.args.form.now.spelling c.args.form.now.layout in
     let left : l.item-index < length c.args.items.now = search rules in
     let v = c.item-item.result in
     let next = reaches_as _ _ _ _ _ (next_item s c.args.depth l.started c.args.items.now l.item-index v left c.item-item.is) l.invariant.reaches in
-    let after = Reaches-next _ (piece (comma_if l.started ++ s.line (c.args.depth + 1))) _ _ _ _ next c.in_ok-start_line.ensures in
+    let after = Reaches-next _ (piece (comma_if l.started ++ s.line (c.args.depth + 1))) _ _ _ _ next (wrote_as _ _ _ _ (line_begun c.args.form.now.layout l.started c.within-line.result (c.args.depth + 1) c.within-line.ensures) c.in_ok-start_line.ensures) in
     Reaches-stop _ (piece (laid s (c.args.depth + 1) (value_of v))) _ _ _ _ _ _ after c.from_residual-in_err-put_value.ensures.1 c.in_err-put_value.ensures.text
 
 pub put_items-loop-item-preserved : goal.put_items-loop-item-preserved
 put_items-loop-item-preserved g t c =
     let l = c.loop-item in
-    let s = style_of c.args.form.spelling c.args.form.layout in
+    let s = style_of c.args.form.now.spelling c.args.form.now.layout in
     let left : l.item-index < length c.args.items.now = search rules in
     let v = c.item-item.result in
     let next = reaches_as _ _ _ _ _ (next_item s c.args.depth l.started c.args.items.now l.item-index v left c.item-item.is) l.invariant.reaches in
-    let after = Reaches-next _ (piece (comma_if l.started ++ s.line (c.args.depth + 1))) _ _ _ _ next c.in_ok-start_line.ensures in
+    let after = Reaches-next _ (piece (comma_if l.started ++ s.line (c.args.depth + 1))) _ _ _ _ next (wrote_as _ _ _ _ (line_begun c.args.form.now.layout l.started c.within-line.result (c.args.depth + 1) c.within-line.ensures) c.in_ok-start_line.ensures) in
     record {
       reaches = Reaches-next _ (piece (laid s (c.args.depth + 1) (value_of v))) _ _ _ _ after c.in_ok-put_value.ensures.text;
       numbers = λ rest. l.invariant.numbers (items_numbers c.args.items.now l.item-index v left c.item-item.is c.in_ok-put_value.ensures.numbers rest);
@@ -122,7 +123,7 @@ put_items-loop-item-preserved g t c =
 pub put_items-returns-in_err-end_lines-clause-text : goal.put_items-returns-in_err-end_lines-clause-text
 put_items-returns-in_err-end_lines-clause-text g t c =
     let l = c.loop-item in
-    let s = style_of c.args.form.spelling c.args.form.layout in
+    let s = style_of c.args.form.now.spelling c.args.form.now.layout in
     let none : length c.args.items.now ≤ l.item-index = search rules in
     let last = reaches_as _ _ _ _ _ (ap (λ x. items_laid s c.args.depth l.started (items_view x)) (drop_of_length-le c.args.items.now none)) l.invariant.reaches in
     Reaches-stop _ (piece (closed s c.args.depth l.started)) (piece (93 ∷ [])) _ _ _ _ _ last c.from_residual-in_err-end_lines.ensures.1 c.in_err-end_lines.ensures
@@ -130,7 +131,7 @@ put_items-returns-in_err-end_lines-clause-text g t c =
 pub put_items-returns-clause-text : goal.put_items-returns-clause-text
 put_items-returns-clause-text g t c =
     let l = c.loop-item in
-    let s = style_of c.args.form.spelling c.args.form.layout in
+    let s = style_of c.args.form.now.spelling c.args.form.now.layout in
     let none : length c.args.items.now ≤ l.item-index = search rules in
     let last = reaches_as _ _ _ _ _ (ap (λ x. items_laid s c.args.depth l.started (items_view x)) (drop_of_length-le c.args.items.now none)) l.invariant.reaches in
     Reaches-end _ (piece (93 ∷ [])) _ _ _ _ (Reaches-next _ (piece (closed s c.args.depth l.started)) (piece (93 ∷ [])) _ _ _ last c.in_ok-end_lines.ensures) (put_as _ _ _ _ _ chars_right_bracket c.put_piece-2.ensures)
@@ -151,41 +152,41 @@ put_fields-put_entry-requires g t c =
 
 pub put_fields-returns-in_err-put_piece-clause-text : goal.put_fields-returns-in_err-put_piece-clause-text
 put_fields-returns-in_err-put_piece-clause-text g t c =
-    let s = style_of c.args.form.spelling c.args.form.layout in
+    let s = style_of c.args.form.now.spelling c.args.form.now.layout in
     stop_first (123 ∷ []) (fields_laid s c.args.depth false (fields_view c.args.fields.now)) _ _ _ _ c.from_residual.ensures.1 (refused_as _ _ _ _ _ chars_left_brace c.in_err-put_piece.ensures)
 
 pub put_fields-loop-key-init : goal.put_fields-loop-key-init
 put_fields-loop-key-init g t c =
-    let s = style_of c.args.form.spelling c.args.form.layout in
+    let s = style_of c.args.form.now.spelling c.args.form.now.layout in
     record { numbers = λ h. h; reaches = Reaches-first (piece (123 ∷ [])) (piece (fields_laid s c.args.depth false (fields_view c.args.fields.now))) _ _ (wrote_as _ _ _ _ chars_left_brace c.in_ok-put_piece.ensures) }
 
 pub put_fields-returns-in_err-start_line-clause-text : goal.put_fields-returns-in_err-start_line-clause-text
 put_fields-returns-in_err-start_line-clause-text g t c =
     let l = c.loop-key in
-    let s = style_of c.args.form.spelling c.args.form.layout in
+    let s = style_of c.args.form.now.spelling c.args.form.now.layout in
     let left : l.key-index < length c.args.fields.now = search rules in
     let v = c.loop-key-item.result in
     let next = reaches_as _ _ _ _ _ (next_field s c.args.depth l.started c.args.fields.now l.key-index v left c.loop-key-item.is) l.invariant.reaches in
-    Reaches-stop _ (piece (comma_if l.started ++ s.line (c.args.depth + 1))) _ _ _ _ _ _ next c.from_residual-in_err-start_line.ensures.1 c.in_err-start_line.ensures
+    Reaches-stop _ (piece (comma_if l.started ++ s.line (c.args.depth + 1))) _ _ _ _ _ _ next c.from_residual-in_err-start_line.ensures.1 (refused_as _ _ _ _ _ (line_begun c.args.form.now.layout l.started c.within-line.result (c.args.depth + 1) c.within-line.ensures) c.in_err-start_line.ensures)
 
 pub put_fields-returns-in_err-put_entry-clause-text : goal.put_fields-returns-in_err-put_entry-clause-text
 put_fields-returns-in_err-put_entry-clause-text g t c =
     let l = c.loop-key in
-    let s = style_of c.args.form.spelling c.args.form.layout in
+    let s = style_of c.args.form.now.spelling c.args.form.now.layout in
     let left : l.key-index < length c.args.fields.now = search rules in
     let v = c.loop-key-item.result in
     let next = reaches_as _ _ _ _ _ (next_field s c.args.depth l.started c.args.fields.now l.key-index v left c.loop-key-item.is) l.invariant.reaches in
-    let after = Reaches-next _ (piece (comma_if l.started ++ s.line (c.args.depth + 1))) _ _ _ _ next c.in_ok-start_line.ensures in
+    let after = Reaches-next _ (piece (comma_if l.started ++ s.line (c.args.depth + 1))) _ _ _ _ next (wrote_as _ _ _ _ (line_begun c.args.form.now.layout l.started c.within-line.result (c.args.depth + 1) c.within-line.ensures) c.in_ok-start_line.ensures) in
     Reaches-stop _ (piece (s.key (chars (string_bytes v.0)) ++ 58 ∷ (s.gap ++ laid s (c.args.depth + 1) (value_of v.1)))) _ _ _ _ _ _ after c.from_residual-in_err-put_entry.ensures.1 (rw c.deref.ensures at c.in_err-put_entry.ensures.text)
 
 pub put_fields-loop-key-preserved : goal.put_fields-loop-key-preserved
 put_fields-loop-key-preserved g t c =
     let l = c.loop-key in
-    let s = style_of c.args.form.spelling c.args.form.layout in
+    let s = style_of c.args.form.now.spelling c.args.form.now.layout in
     let left : l.key-index < length c.args.fields.now = search rules in
     let v = c.loop-key-item.result in
     let next = reaches_as _ _ _ _ _ (next_field s c.args.depth l.started c.args.fields.now l.key-index v left c.loop-key-item.is) l.invariant.reaches in
-    let after = Reaches-next _ (piece (comma_if l.started ++ s.line (c.args.depth + 1))) _ _ _ _ next c.in_ok-start_line.ensures in
+    let after = Reaches-next _ (piece (comma_if l.started ++ s.line (c.args.depth + 1))) _ _ _ _ next (wrote_as _ _ _ _ (line_begun c.args.form.now.layout l.started c.within-line.result (c.args.depth + 1) c.within-line.ensures) c.in_ok-start_line.ensures) in
     record {
       reaches = Reaches-next _ (piece (s.key (chars (string_bytes v.0)) ++ 58 ∷ (s.gap ++ laid s (c.args.depth + 1) (value_of v.1)))) _ _ _ _ after (rw c.deref.ensures at c.in_ok-put_entry.ensures.text);
       numbers = λ rest. l.invariant.numbers (fields_numbers c.args.fields.now l.key-index v left c.loop-key-item.is c.in_ok-put_entry.ensures.numbers rest);
@@ -194,7 +195,7 @@ put_fields-loop-key-preserved g t c =
 pub put_fields-returns-in_err-end_lines-clause-text : goal.put_fields-returns-in_err-end_lines-clause-text
 put_fields-returns-in_err-end_lines-clause-text g t c =
     let l = c.loop-key in
-    let s = style_of c.args.form.spelling c.args.form.layout in
+    let s = style_of c.args.form.now.spelling c.args.form.now.layout in
     let none : length c.args.fields.now ≤ l.key-index = search rules in
     let last = reaches_as _ _ _ _ _ (ap (λ x. fields_laid s c.args.depth l.started (fields_view x)) (drop_of_length-le c.args.fields.now none)) l.invariant.reaches in
     Reaches-stop _ (piece (closed s c.args.depth l.started)) (piece (125 ∷ [])) _ _ _ _ _ last c.from_residual-in_err-end_lines.ensures.1 c.in_err-end_lines.ensures
@@ -202,7 +203,7 @@ put_fields-returns-in_err-end_lines-clause-text g t c =
 pub put_fields-returns-clause-text : goal.put_fields-returns-clause-text
 put_fields-returns-clause-text g t c =
     let l = c.loop-key in
-    let s = style_of c.args.form.spelling c.args.form.layout in
+    let s = style_of c.args.form.now.spelling c.args.form.now.layout in
     let none : length c.args.fields.now ≤ l.key-index = search rules in
     let last = reaches_as _ _ _ _ _ (ap (λ x. fields_laid s c.args.depth l.started (fields_view x)) (drop_of_length-le c.args.fields.now none)) l.invariant.reaches in
     Reaches-end _ (piece (125 ∷ [])) _ _ _ _ (Reaches-next _ (piece (closed s c.args.depth l.started)) (piece (125 ∷ [])) _ _ _ last c.in_ok-end_lines.ensures) (put_as _ _ _ _ _ chars_right_brace c.put_piece-2.ensures)
@@ -217,22 +218,17 @@ put_fields-returns-clause-numbers g t c =
 
 pub put_entry-returns-in_err-put_key-clause-text : goal.put_entry-returns-in_err-put_key-clause-text
 put_entry-returns-in_err-put_key-clause-text g t c =
-    let f = c.args.form in
-    stop_first (key_in f.spelling (chars c.args.key.now)) (58 ∷ (gap_in f.layout ++ laid_in f c.args.depth (value_of c.args.value.now))) _ _ _ _ c.from_residual.ensures.1 c.in_err-put_key.ensures
-
-pub put_entry-returns-in_err-put_piece-clause-text : goal.put_entry-returns-in_err-put_piece-clause-text
-put_entry-returns-in_err-put_piece-clause-text g t c =
-    let f = c.args.form in
+    let f = c.args.form.now in
+    let front = key_in f.spelling (chars c.args.key.now) ++ 58 ∷ gap_in f.layout in
     let value = laid_in f c.args.depth (value_of c.args.value.now) in
-    then_second (key_in f.spelling (chars c.args.key.now)) (58 ∷ (gap_in f.layout ++ value)) _ _ _ _ c.in_ok-put_key.ensures
-    (stop_first (58 ∷ gap_in f.layout) value _ _ _ _ c.from_residual-in_err-put_piece.ensures.1 (refused_as _ _ _ _ _ c.colon.ensures c.in_err-put_piece.ensures))
+    put_as _ _ _ _ _ (append_assoc (key_in f.spelling (chars c.args.key.now)) (58 ∷ gap_in f.layout) value) (stop_first front value _ _ _ _ c.from_residual.ensures.1 c.in_err-put_key.ensures)
 
 pub put_entry-returns-clause-text : goal.put_entry-returns-clause-text
 put_entry-returns-clause-text g t c =
-    let f = c.args.form in
+    let f = c.args.form.now in
+    let front = key_in f.spelling (chars c.args.key.now) ++ 58 ∷ gap_in f.layout in
     let value = laid_in f c.args.depth (value_of c.args.value.now) in
-    then_second (key_in f.spelling (chars c.args.key.now)) (58 ∷ (gap_in f.layout ++ value)) _ _ _ _ c.in_ok-put_key.ensures
-    (then_second (58 ∷ gap_in f.layout) value _ _ _ _ (wrote_as _ _ _ _ c.colon.ensures c.in_ok-put_piece.ensures) c.put_value.ensures.text)
+    put_as _ _ _ _ _ (append_assoc (key_in f.spelling (chars c.args.key.now)) (58 ∷ gap_in f.layout) value) (then_second front value _ _ _ _ c.in_ok-put_key.ensures c.put_value.ensures.text)
 
 pub put_entry-returns-clause-numbers : goal.put_entry-returns-clause-numbers
 put_entry-returns-clause-numbers g t c = c.put_value.ensures.numbers

@@ -1,7 +1,7 @@
 use Rattle.std.proofs.Common.{◌≡◌, ◌+◌, ◌-◌, ◌≤◌, length, drop}
 use Rattle.std.specs.List.{prefix_len}
 use Rattle.json5_layouts.specs.Json.{is_unescaped}
-use Rattle.json5_layouts.proofs.json_runs.unescaped_len.Given as goal
+use Rattle.json5_layouts.proofs.json_runs.few_len.Given as goal
 
 abbrev pub invariant-loop-i : goal.invariant-loop-i
 invariant-loop-i l =
@@ -9,10 +9,3 @@ invariant-loop-i l =
 
 abbrev pub decreases-loop-i : goal.decreases-loop-i
 decreases-loop-i l = length l.bytes - l.i
-
-abbrev pub invariant-loop-i-2 : goal.invariant-loop-i-2
-invariant-loop-i-2 l =
-    (prefix_len is_unescaped l.bytes ≡ l.i + prefix_len is_unescaped (drop l.i l.bytes)) × (l.i ≤ length l.bytes)
-
-abbrev pub decreases-loop-i-2 : goal.decreases-loop-i-2
-decreases-loop-i-2 l = length l.bytes - l.i

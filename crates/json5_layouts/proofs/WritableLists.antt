@@ -1,0 +1,67 @@
+-- What can be written, of the elements of an array and the members of an object.
+use Rattle.std.proofs.Common.{◌≡◌, ◌<◌, ℕ, suc, ◌+◌, max, Bool, true, false, ◌&&◌, List, length, drop, get_or, Option, None, Some, refl, sym, ap, ap₂, ◌∙◌, arith, String}
+use Rattle.std.specs.declared.alloc.Global.{Global}
+use Rattle.json5_types.specs.declared.value.Value.{Value}
+use Rattle.json5_types.specs.ValueMeanings.{Items, Fields, value_of, items_view, fields_view}
+use Rattle.json5_types.specs.ValueLookups.{datum_depth, items_depth, fields_depth}
+use Rattle.json5_types.proofs.DeepestInside.{max_within}
+use Rattle.json5_write.proofs.ValuesInside.{item_first}
+use Rattle.json5_layouts.specs.declared.layout.Spelling.{Spelling}
+use Rattle.json5_layouts.specs.declared.layout.Spelling.TheVariants as spelling
+use Rattle.json5_layouts.specs.JsonTexts.{is_json, items_are_json, fields_are_json}
+use Rattle.json5_layouts.specs.Writable.{is_spelled, is_within, is_writable, IsInside}
+
+abbrev pub items_writable : Spelling → Option ℕ → Items → Bool
+items_writable s left xs = is_within left (items_depth xs) && is_spelled s (items_are_json xs)
+
+abbrev pub fields_writable : Spelling → Option ℕ → Fields → Bool
+fields_writable s left fs = is_within left (fields_depth fs) && is_spelled s (fields_are_json fs)
+
+within_both : (left : Option ℕ) (a b : ℕ) → is_within left (max a b) ≡ (is_within left a && is_within left b)
+within_both None a b = refl
+within_both (Some n) a b = max_within a b n
+
+spelled_both : (s : Spelling) (p q : Bool) → is_spelled s (p && q) ≡ (is_spelled s p && is_spelled s q)
+spelled_both spelling.Json5 p q = refl
+spelled_both spelling.Json p q = refl
+
+crossed : (a b c d : Bool) → ((a && b) && (c && d)) ≡ ((a && c) && (b && d))
+crossed true true c d = refl
+crossed true false true d = refl
+crossed true false false d = refl
+crossed false b c d = refl
+
+both : (s : Spelling) (left : Option ℕ) (a b : ℕ) (p q : Bool) → (is_within left (max a b) && is_spelled s (p && q)) ≡ ((is_within left a && is_spelled s p) && (is_within left b && is_spelled s q))
+both s left a b p q = ap₂ (λ x y. x && y) (within_both left a b) (spelled_both s p q) ∙ crossed (is_within left a) (is_within left b) (is_spelled s p) (is_spelled s q)
+
+-- ---- the next one
+
+pub next_item : (s : Spelling) (left : Option ℕ) (vs : List Value) (i : ℕ) (v : Value) → i < length vs → v ≡ get_or vs i v
+    → items_writable s left (items_view (drop i vs)) ≡ (is_writable s left (value_of v) && items_writable s left (items_view (drop (i + 1) vs)))
+next_item s left vs i v h e =
+    ap (λ l. items_writable s left (items_view l)) (item_first vs i v h e)
+    ∙ both s left (datum_depth (value_of v)) (items_depth (items_view (drop (i + 1) vs))) (is_json (value_of v)) (items_are_json (items_view (drop (i + 1) vs)))
+
+pub next_field : (s : Spelling) (left : Option ℕ) (fs : List (String Global × Value)) (i : ℕ) (f : String Global × Value) → i < length fs → f ≡ get_or fs i f
+    → fields_writable s left (fields_view (drop i fs)) ≡ (is_writable s left (value_of f.1) && fields_writable s left (fields_view (drop (i + 1) fs)))
+next_field s left fs i f h e =
+    ap (λ l. fields_writable s left (fields_view l)) (item_first fs i f h e)
+    ∙ both s left (datum_depth (value_of f.1)) (fields_depth (fields_view (drop (i + 1) fs))) (is_json (value_of f.1)) (fields_are_json (fields_view (drop (i + 1) fs)))
+
+pub kept : (whole b rest : Bool) → whole ≡ (b && rest) → b ≡ true → rest ≡ whole
+kept whole true rest e h = sym e
+kept whole false rest e h = absurd (cc)
+
+pub lost : (whole b rest : Bool) → whole ≡ (b && rest) → b ≡ false → whole ≡ false
+lost whole true rest e h = absurd (cc)
+lost whole false rest e h = e
+
+pub none_left : (s : Spelling) (left : Option ℕ) → (is_within left 0 && is_spelled s true) ≡ true
+none_left spelling.Json5 None = refl
+none_left spelling.Json5 (Some n) = grind arith
+none_left spelling.Json None = refl
+none_left spelling.Json (Some n) = grind arith
+
+-- a bracket takes one of the room
+pub one_more : (room left : Option ℕ) (depth : ℕ) (b : Bool) → IsInside room left → (is_within room (suc depth) && b) ≡ (is_within left depth && b)
+one_more room left depth b h = ap (λ w. w && b) (h depth)
