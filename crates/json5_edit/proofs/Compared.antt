@@ -1,4 +1,5 @@
 -- Two collections whose entries were compared.
+use denote.Ref.{Bor}
 use Rattle.std.proofs.Common.{◌≡◌, ℕ, ◌+◌, List, [], ◌∷◌, ◌++◌, length, refl, ap, sym, ◌∙◌, append_assoc, subst, Option, Some, None, arith}
 use Rattle.std.specs.Prelude.{◌≢◌}
 use Rattle.std.specs.Str.{chars}
@@ -96,7 +97,7 @@ front_goes_on {n = n} key value p a b = record {
 pub record PassesOthers (s : Step) (v w left right : Walked) : Type 0 where
   pub passed : (x y : List ℕ) (t u : Tree) → Holds x t v → Holds y u w → (es : List (List ℕ × Tree)) × BothPass x y t u left right es × Lacks s es
 
-lacks_key_more : (key : List ℕ) (es : List (List ℕ × Tree)) (name : List ℕ) (t : Tree) → LacksKey key es → name ≢ key → LacksKey key (es ++ ((name, t) ∷ []))
+pub lacks_key_more : (key : List ℕ) (es : List (List ℕ × Tree)) (name : List ℕ) (t : Tree) → LacksKey key es → name ≢ key → LacksKey key (es ++ ((name, t) ∷ []))
 lacks_key_more key [] name t l n = (n, tt)
 lacks_key_more key (e ∷ es) name t (m, l) n = (m, lacks_key_more key es name t l n)
 
@@ -238,10 +239,10 @@ put_in {x = x} {y = y} s i key value spelled h k front one same same_text rest e
       ),
     )
 
-pub renamed : {x y : List ℕ} {l1 r1 l2 r2 l3 r3 l4 r4 : Walked} (s : Step) (found n : ℕ) (key value name other new : List ℕ) → n ≡ step_place s found → Holds x (empty_of kind.Object) l1 → Holds y (empty_of kind.Object) r1 → PassesFront n l1 r1 l2 r2 → Moved (TakesEntry key value) l2 l3 → Moved (TakesEntry name other) r2 r3 → key ≡ step_key s → name ≡ new → value ≡ other → PassesRest s l3 r3 l4 r4 → ((t : Trail) → IsAt l4 t → Ends l4 t) → ((t : Trail) → IsAt r4 t → Ends r4 t) → ChangesBy (IsRenamed s new) x y
-renamed {x = x} {y = y} s found n key value name other new is_place h k front one two same same_name same_text rest end_left end_right =
+pub renamed : {x y : List ℕ} {l1 r1 l2 r2 l3 r3 l4 r4 : Walked} (k : Bor (List ℕ)) (n : ℕ) (key value name other new : List ℕ) → Holds x (empty_of kind.Object) l1 → Holds y (empty_of kind.Object) r1 → PassesFront n l1 r1 l2 r2 → Moved (TakesEntry key value) l2 l3 → Moved (TakesEntry name other) r2 r3 → key ≡ k.now → name ≡ new → value ≡ other → PassesRest (step.Key k) l3 r3 l4 r4 → ((t : Trail) → IsAt l4 t → Ends l4 t) → ((t : Trail) → IsAt r4 t → Ends r4 t) → ChangesBy (IsRenamed k.now new) x y
+renamed {x = x} {y = y} k n key value name other new h g front one two same same_name same_text rest end_left end_right =
     let e = empty_of kind.Object in
-    let (es, both, size) = front.passed x y e e h k in
+    let (es, both, size) = front.passed x y e e h g in
     let gone = passes key value both.left_holds one in
     let came = passes name other both.right_holds two in
     let (fs, close, lacks) = rest x y gone.all came.all gone.holds came.holds in
@@ -262,7 +263,7 @@ renamed {x = x} {y = y} s found n key value name other new is_place h k front on
         value = gone.tree;
         was = from_empty kind.Object ((es ++ mid) ++ fs) left ∙ append_assoc es mid fs ∙ ap (λ z. es ++ ((z, gone.tree) ∷ fs)) same;
         now = from_empty kind.Object ((es ++ new_mid) ++ fs) right ∙ append_assoc es new_mid fs ∙ ap (λ z. es ++ ((z, came.tree) ∷ fs)) same_name ∙ ap (λ z. es ++ ((new, z) ∷ fs)) tree;
-        there = goes_to s found es fs (size ∙ is_place) lacks;
+        last = lacks;
       },
     )
 

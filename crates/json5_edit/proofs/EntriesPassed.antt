@@ -75,11 +75,11 @@ name_moves {bytes = bytes} p gap q last = then (TakesKeyOf bytes) TakesColon (Ta
 
 -- ---- an entry
 
-elements_snoc : (ts : Trees) (t : Tree) → elements (snoc ts t) ≡ elements ts ++ (([], t) ∷ [])
+pub elements_snoc : (ts : Trees) (t : Tree) → elements (snoc ts t) ≡ elements ts ++ (([], t) ∷ [])
 elements_snoc no_more t = refl
 elements_snoc (more s ts) t = ap (λ z. ([], s) ∷ z) (elements_snoc ts t)
 
-members_snoc : (ps : Members) (u : List ℕ) (b : Bool) (t : Tree) → members (snoc_member ps u b t) ≡ members ps ++ ((encode_utf8_all u, t) ∷ [])
+pub members_snoc : (ps : Members) (u : List ℕ) (b : Bool) (t : Tree) → members (snoc_member ps u b t) ≡ members ps ++ ((encode_utf8_all u, t) ∷ [])
 members_snoc no_member u b t = refl
 members_snoc (member v c s ps) u b t = ap (λ z. (encode_utf8_all v, s) ∷ z) (members_snoc ps u b t)
 
@@ -110,7 +110,7 @@ entry_taken : {key value : List ℕ} {x a b : At} → TakesKey key x a → Takes
 entry_taken {key = key} {value = value} (of_element ts o e) q = let (t, is, v) = text_taken q in subst (TakesEntry key value (at_element ts o)) (sym is) (in_element key value ts o t e v)
 entry_taken {key = key} {value = value} (of_member ps u c o e) q = let (t, is, v) = text_taken q in subst (TakesEntry key value (at_key ps o)) (sym is) (in_member key value ps u c o t e v)
 
-same_collection : {b c : At} → TakesComma b c → (is_inside c ≡ true) × (read_in c ≡ read_in b) × (around c ≡ around b)
+pub same_collection : {b c : At} → TakesComma b c → (is_inside c ≡ true) × (read_in c ≡ read_in b) × (around c ≡ around b)
 same_collection (after_element ts t o) = (refl, refl, refl)
 same_collection (after_member ps u e t o) = (refl, refl, refl)
 
@@ -138,7 +138,7 @@ ended_stays old new b e p = subst (λ z. Ended z old new) e p
 
 -- ---- the outermost collection
 
-opened_in : (k : Kind) {b : At} → Opens k (at_value []) b → (is_inside b ≡ true) × (read_in b ≡ empty_of k) × (around b ≡ [])
+pub opened_in : (k : Kind) {b : At} → Opens k (at_value []) b → (is_inside b ≡ true) × (read_in b ≡ empty_of k) × (around b ≡ [])
 opened_in kind.Array is = let e = array_opened is in (ap is_inside e, ap read_in e, ap around e)
 opened_in kind.Object is = let e = object_opened is in (ap is_inside e, ap read_in e, ap around e)
 
@@ -158,7 +158,7 @@ opens {v0 = v0} {v1 = v1} bytes limit k u l start p =
       outermost = o;
     }
 
-closed_in : {a b : At} → Closes a b → around a ≡ [] → b ≡ at_comma (read_in a) []
+pub closed_in : {a b : At} → Closes a b → around a ≡ [] → b ≡ at_comma (read_in a) []
 closed_in (closes_elements ts o) e = ap (at_comma (array ts)) e
 closed_in (closes_array ts t o) e = ap (at_comma (array (snoc ts t))) e
 closed_in (closes_members ps o) e = ap (at_comma (object ps)) e

@@ -139,7 +139,7 @@ bytes_cut bytes x y u e = sym (encodes-chars bytes u) ∙ ap encode_utf8_all e �
 pub encoded : (x : List ℕ) → all_scalars x ≡ true → IsUtf8 (encode_utf8_all x)
 encoded x s = (x, (s, refl))
 
-seam : (bytes x y : List ℕ) → IsUtf8 bytes → chars bytes ≡ x ++ y → IsCharBoundary bytes (bytes_in x)
+pub seam : (bytes x y : List ℕ) → IsUtf8 bytes → chars bytes ≡ x ++ y → IsCharBoundary bytes (bytes_in x)
 seam bytes x y u e = IsCharBoundary-at_seam bytes (encode_utf8_all x) (encode_utf8_all y) (bytes_cut bytes x y u e) (encoded y (scalars_right x y (ap all_scalars (sym e) ∙ scalars-chars bytes u)))
 
 pub starts_there : {bytes : List ℕ} {p : Place} → IsUtf8 bytes → HasPlace bytes p → IsCharBoundary bytes p.start

@@ -1,6 +1,6 @@
 -- What is known where an edit is refused.
 use denote.Ref.{Bor}
-use Rattle.std.proofs.Common.{◌≡◌, ◌⊎◌, inl, inr, ℕ, ◌+◌, ◌-◌, true, false, List, [], ◌∷◌, ◌++◌, length, refl, ap, sym, ◌∙◌, subst, Some, None, nat_eq, arith}
+use Rattle.std.proofs.Common.{◌≡◌, ◌⊎◌, inl, inr, ℕ, ◌+◌, ◌-◌, ◌≤◌, true, false, List, [], ◌∷◌, ◌++◌, length, refl, ap, sym, ◌∙◌, subst, Some, None, nat_eq, arith}
 use Rattle.std.specs.Prelude.{slice_get, IfErr, Result, Ok, Err}
 use Rattle.std.specs.Str.{chars, IsUtf8, all_scalars, encode_utf8_all}
 use Rattle.std.proofs.lemmas.Bool.{eqb-false}
@@ -8,7 +8,7 @@ use Rattle.std.proofs.lemmas.Str.{chars-encodes, scalars-chars}
 use Rattle.json5_grammar.specs.declared.error_code.ErrorCode.TheVariants as codes
 use Rattle.json5_grammar.specs.Language.Blanks.{Blanks}
 use Rattle.json5_grammar.specs.Language.Documents.{Doc, max_depth}
-use Rattle.json5_grammar.specs.Language.Trees.{Tree, null, boolean, number, text, array, object}
+use Rattle.json5_grammar.specs.Language.Trees.{Tree, null, boolean, number, text, array, object, depth}
 use Rattle.json5_grammar.specs.Language.Values.{Val}
 use Rattle.json5_grammar.specs.Model.Reading.{got}
 use Rattle.json5_grammar.specs.Model.ReadSteps.{forget}
@@ -30,12 +30,14 @@ use Rattle.json5_walk.proofs.Rests.{append_nil}
 use Rattle.json5_edit.specs.Entries.{kind_of as kind_of_tree}
 use Rattle.json5_edit.specs.Parts.{positions_of}
 use Rattle.json5_edit.specs.Places.{IsValue, IsPart, Leads, LeadsNowhere}
-use Rattle.json5_edit.specs.Refusals.{IsFaulty, Reaches, Misfits, IsNo, HasKey, RefusesText, RefusesPath, RefusesSet, RefusesRemove, RefusesPush, RefusesPutIn, RefusesInsert, RefusesRename, IsOwn, RefusesStep, RefusesKey, RefusesValue, BeginsNo}
+use Rattle.json5_edit.specs.Refusals.{IsFaulty, Reaches, Misfits, IsNo, HasKey, RefusesText, RefusesPath, RefusesSet, RefusesRemove, RefusesPush, RefusesPutIn, RefusesInsert, RefusesRename, IsOwn, RefusesStep, RefusesKey, RefusesKind, RefusesFree, RefusesValue, BeginsNo}
 use Rattle.json5_edit.specs.declared.faults.EditError.{EditError}
 use Rattle.json5_edit.specs.declared.faults.EditError.TheVariants as error
 use Rattle.json5_edit.specs.declared.paths.Step.{Step}
 use Rattle.json5_edit.specs.declared.paths.Step.TheVariants as step
 use Rattle.json5_edit.proofs.Changed.{tree_of}
+use Rattle.json5_edit.proofs.Compared.{alone}
+use Rattle.json5_edit.proofs.Depths.{fits_there}
 use Rattle.json5_edit.proofs.FurtherSteps.{led_nowhere, nowhere_on, has_key}
 use Rattle.json5_edit.proofs.Placed.{scalars_left, scalars_right, nothing_next}
 use Rattle.json5_edit.proofs.Seeks.{array_begins, object_begins}
@@ -87,7 +89,7 @@ not_alone room x old new c u g more v =
 
 -- ---- the first character of a collection
 
-begins_with : (k : Kind) (x : List ℕ) (t : Tree) → Val x t → kind_of_tree t ≡ Some k → (m : List ℕ) × (x ≡ (brackets_of k).opening ∷ m)
+pub begins_with : (k : Kind) (x : List ℕ) (t : Tree) → Val x t → kind_of_tree t ≡ Some k → (m : List ℕ) × (x ≡ (brackets_of k).opening ∷ m)
 begins_with kind.Array x (array ts) v e = array_begins v
 begins_with kind.Object x (object ps) v e = object_begins v
 begins_with kind.Array x (object ps) v e = absurd (cc)
@@ -138,27 +140,53 @@ at_path P bytes path error.NoKey t n m k = absurd k
 at_path P bytes path error.NoMemory t n m k = m
 at_path P bytes path error.Failed t n m k = absurd k
 
-at_step : (P : EditError → Type 0) (old : List ℕ) (s : Step) (e : EditError) → (LeadsNowhere old (s ∷ []) → P error.Nowhere) → P error.NoMemory → P error.Failed → RefusesStep old s e → P e
-at_step P old s (error.Text x) n m f k = absurd k
-at_step P old s error.Nowhere n m f k = n k
-at_step P old s (error.Value x) n m f k = absurd k
-at_step P old s error.Taken n m f k = absurd k
-at_step P old s error.NotObject n m f k = absurd k
-at_step P old s error.NotArray n m f k = absurd k
-at_step P old s error.NoKey n m f k = absurd k
-at_step P old s error.NoMemory n m f k = m
-at_step P old s error.Failed n m f k = f
+at_step : (P : EditError → Type 0) (old : List ℕ) (s : Step) (e : EditError) → (LeadsNowhere old (s ∷ []) → P error.Nowhere) → P error.NoMemory → RefusesStep old s e → P e
+at_step P old s (error.Text x) n m k = absurd k
+at_step P old s error.Nowhere n m k = n k
+at_step P old s (error.Value x) n m k = absurd k
+at_step P old s error.Taken n m k = absurd k
+at_step P old s error.NotObject n m k = absurd k
+at_step P old s error.NotArray n m k = absurd k
+at_step P old s error.NoKey n m k = absurd k
+at_step P old s error.NoMemory n m k = m
+at_step P old s error.Failed n m k = absurd k
 
-at_key : (P : EditError → Type 0) (old key : List ℕ) (e : EditError) → ((t : Tree) → Doc max_depth (chars old) t → HasKey key t → P error.Taken) → P error.NoMemory → P error.Failed → RefusesKey old key e → P e
-at_key P old key (error.Text x) n m f k = absurd k
-at_key P old key error.Nowhere n m f k = absurd k
-at_key P old key (error.Value x) n m f k = absurd k
-at_key P old key error.Taken n m f k = n k.0 k.1 k.2
-at_key P old key error.NotObject n m f k = absurd k
-at_key P old key error.NotArray n m f k = absurd k
-at_key P old key error.NoKey n m f k = absurd k
-at_key P old key error.NoMemory n m f k = m
-at_key P old key error.Failed n m f k = f
+at_key : (P : EditError → Type 0) (old key : List ℕ) (e : EditError) → ((t : Tree) → Doc max_depth (chars old) t → HasKey key t → P error.Taken) → P error.NoMemory → RefusesKey old key e → P e
+at_key P old key (error.Text x) n m k = absurd k
+at_key P old key error.Nowhere n m k = absurd k
+at_key P old key (error.Value x) n m k = absurd k
+at_key P old key error.Taken n m k = n k.0 k.1 k.2
+at_key P old key error.NotObject n m k = absurd k
+at_key P old key error.NotArray n m k = absurd k
+at_key P old key error.NoKey n m k = absurd k
+at_key P old key error.NoMemory n m k = m
+at_key P old key error.Failed n m k = absurd k
+
+at_array : (P : EditError → Type 0) (old : List ℕ) (e : EditError) → (BeginsNo kind.Array (chars old) → P error.NotArray) → P error.NoMemory → RefusesKind kind.Array old e → P e
+at_array P old (error.Text x) n m k = absurd k
+at_array P old error.Nowhere n m k = absurd k
+at_array P old (error.Value x) n m k = absurd k
+at_array P old error.Taken n m k = absurd k
+at_array P old error.NotObject n m k = absurd k
+at_array P old error.NotArray n m k = n k
+at_array P old error.NoKey n m k = absurd k
+at_array P old error.NoMemory n m k = m
+at_array P old error.Failed n m k = absurd k
+
+at_free : (P : EditError → Type 0) (old key : List ℕ) (e : EditError) → ((t : Tree) → Doc max_depth (chars old) t → HasKey key t → P error.Taken) → (BeginsNo kind.Object (chars old) → P error.NotObject) → P error.NoMemory → RefusesFree old key e → P e
+at_free P old key (error.Text x) t n m k = absurd k
+at_free P old key error.Nowhere t n m k = absurd k
+at_free P old key (error.Value x) t n m k = absurd k
+at_free P old key error.Taken t n m k = t k.0 k.1 k.2
+at_free P old key error.NotObject t n m k = n k
+at_free P old key error.NotArray t n m k = absurd k
+at_free P old key error.NoKey t n m k = absurd k
+at_free P old key error.NoMemory t n m k = m
+at_free P old key error.Failed t n m k = absurd k
+
+-- where only memory runs out
+pub lacking : {A : Type 0} (P : EditError → Type 0) (r : Result A EditError) → P error.NoMemory → IfErr r (λ e. e ≡ error.NoMemory) → IfErr r P
+lacking P r m k = err_then r (λ e h. subst P (sym h) m) k
 
 at_new : (P : EditError → Type 0) (room : ℕ) (new : List ℕ) (e : EditError) → ((x : Error) → (IsValue room (chars new) → ⊥) → P (error.Value x)) → P error.NoMemory → RefusesValue room new e → P e
 at_new P room new (error.Text x) n m k = absurd k
@@ -223,9 +251,12 @@ module _ (bytes : List ℕ) (path : List Step) (p : Place) (leads : Leads bytes 
   pub new_insert : (key value : List ℕ) (e : EditError) → RefusesValue (p.room - 1) value e → RefusesInsert bytes path key value e
   new_insert key value e k = at_new (RefusesInsert bytes path key value) (p.room - 1) value e (λ x n. misfits 1 (p.room - 1) value refl n) tt k
 
+shallower : {x : List ℕ} {t : Tree} {limit : ℕ} → Doc (depth t) x t → depth t ≤ limit → Doc limit x t
+shallower d l = record { before = d.before; text = d.text; after = d.after; whole = d.whole; blank = d.blank; value = d.value; last = d.last; shallow = l }
+
 -- the same with the text in the place
 module _ (bytes old : List ℕ) (path : List Step) (p : Place) (u : IsUtf8 bytes) (leads : Leads bytes path (Some p)) (is_part : (before o after : List ℕ) → IsPart bytes p before o after → old ≡ encode_utf8_all o) where
-  value_there : Val (chars old) leads.placed.tree
+  pub value_there : Val (chars old) leads.placed.tree
   value_there =
       let q = leads.placed in
       let scalars : all_scalars (q.before ++ (q.old ++ q.after)) ≡ true = ap all_scalars (sym q.cut.whole) ∙ scalars-chars bytes u in
@@ -253,19 +284,32 @@ module _ (bytes old : List ℕ) (path : List Step) (p : Place) (u : IsUtf8 bytes
       )
 
   pub step_remove : (whole : List Step) (s : Step) (e : EditError) → whole ≡ path ++ (s ∷ []) → RefusesStep old s e → RefusesRemove bytes whole e
-  step_remove whole s e is k = at_step (RefusesRemove bytes whole) old s e (λ n. inl (nowhere_in whole s is n)) tt (document bytes path p leads) k
+  step_remove whole s e is k = at_step (RefusesRemove bytes whole) old s e (λ n. inl (nowhere_in whole s is n)) tt k
 
   pub step_rename : (whole : List Step) (key : List ℕ) (s : Step) (e : EditError) → whole ≡ path ++ (s ∷ []) → RefusesStep old s e → RefusesRename bytes whole key e
-  step_rename whole key s e is k = at_step (RefusesRename bytes whole key) old s e (λ n. nowhere_in whole s is n) tt (document bytes path p leads) k
+  step_rename whole key s e is k = at_step (RefusesRename bytes whole key) old s e (λ n. nowhere_in whole s is n) tt k
 
   pub step_put_in : (value : List ℕ) (i : ℕ) (e : EditError) → RefusesStep old (step.Index i) e → RefusesPutIn bytes path i value e
-  step_put_in value i e k = at_step (RefusesPutIn bytes path i value) old (step.Index i) e (λ n. nowhere_in (path ++ (step.Index i ∷ [])) (step.Index i) refl n) tt (document bytes path p leads) k
+  step_put_in value i e k = at_step (RefusesPutIn bytes path i value) old (step.Index i) e (λ n. nowhere_in (path ++ (step.Index i ∷ [])) (step.Index i) refl n) tt k
 
   pub key_rename : (whole : List Step) (key : List ℕ) (s : Step) (e : EditError) → whole ≡ path ++ (s ∷ []) → RefusesKey old key e → RefusesRename bytes whole key e
-  key_rename whole key s e is k = at_key (RefusesRename bytes whole key) old key e (λ t d h. (path, s, is, reaches_key key t d h)) tt (document bytes path p leads) k
+  key_rename whole key s e is k = at_key (RefusesRename bytes whole key) old key e (λ t d h. (path, s, is, reaches_key key t d h)) tt k
 
-  pub key_insert : (key value : List ℕ) (e : EditError) → RefusesKey old key e → RefusesInsert bytes path key value e
-  key_insert key value e k = at_key (RefusesInsert bytes path key value) old key e (λ t d h. reaches_key key t d h) tt (document bytes path p leads) k
+  pub free_insert : (key value : List ℕ) (e : EditError) → RefusesFree old key e → RefusesInsert bytes path key value e
+  free_insert key value e k = at_free (RefusesInsert bytes path key value) old key e (λ t d h. reaches_key key t d h) (λ n. reaches_no kind.Object n) tt k
+
+  pub array_push : (value : List ℕ) (e : EditError) → RefusesKind kind.Array old e → RefusesPush bytes path value e
+  array_push value e k = at_array (RefusesPush bytes path value) old e (λ n. reaches_no kind.Array n) tt k
+
+  -- the value in the place, which fits there
+  pub value_fits : IsValue p.room (chars old)
+  value_fits = (leads.placed.tree, value_there, fits_there leads)
+
+  pub old_document : IsDocument old
+  old_document =
+      let r = leads.placed.room in
+      let d = fits_there leads in
+      (leads.placed.tree, shallower (alone (chars old) leads.placed.tree value_there) (omega (arith, r, d)))
 
 -- ---- a step to a key of the collection
 

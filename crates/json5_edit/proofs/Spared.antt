@@ -102,7 +102,7 @@ unread_short {v = v} f =
     omega (arith, a, b, c)
 
 -- x isn't empty, so that its elements are fewer
-fewer : (ts : Trees) (x r : List ℕ) → Tail ts false x r → count ts < length x
+pub fewer : (ts : Trees) (x r : List ℕ) → Tail ts false x r → count ts < length x
 fewer no_more x r a = let k = sign_shorter 93 x r a in omega (arith, k)
 fewer (more t ts) x r (y, e, tl) = let k = after ts y r tl in let h = element_shorter false x y t e in omega (arith, k, h)
   where
@@ -111,7 +111,7 @@ fewer (more t ts) x r (y, e, tl) = let k = after ts y r tl in let h = element_sh
     after no_more y r (inr (z, a, b)) = let k = sign_shorter 44 y z a in omega (arith, k)
     after (more s us) y r (z, e, tl) = let k = after us z r tl in let h = element_shorter true y z s e in omega (arith, k, h)
 
-fewer_members : (ps : Members) (x r : List ℕ) → MembersTail ps false x r → count_members ps < length x
+pub fewer_members : (ps : Members) (x r : List ℕ) → MembersTail ps false x r → count_members ps < length x
 fewer_members no_member x r a = let k = sign_shorter 125 x r a in omega (arith, k)
 fewer_members (member u e t ps) x r (y, z, k, v, tl) = let n = after ps z r tl in let h = key_shorter false x y u e k in let i = key_value_shorter y z t v in omega (arith, n, h, i)
   where

@@ -1,4 +1,5 @@
 -- A text with a collection changed.
+use denote.Ref.{Bor}
 use Rattle.std.specs.Prelude.{◌≡◌, ℕ, List, [], ◌∷◌, ◌++◌, Some}
 use Rattle.std.specs.Str.{chars}
 use Rattle.json5_grammar.specs.Language.Documents.{Doc, max_depth}
@@ -10,6 +11,7 @@ use Rattle.json5_edit.specs.Comparing.{IsWithout, IsWithLast, IsWithAt, IsRename
 use Rattle.json5_edit.specs.Parts.{part, put, positions_of}
 use Rattle.json5_edit.specs.Pieces.{Cuts, Grows, Respells}
 use Rattle.json5_edit.specs.declared.paths.Step.{Step}
+use Rattle.json5_edit.specs.declared.paths.Step.TheVariants as step
 
 -- ---- collections alone
 
@@ -66,4 +68,4 @@ IsInserted text path key value made = (c : IsChanged (Gains kind.Object key valu
 
 -- with another key for the member that the path leads to: one key is spelled anew
 abbrev pub IsRekeyed : List ℕ → List Step → List ℕ → List ℕ → Type 0
-IsRekeyed text path key made = (outer : List Step) × (s : Step) × (path ≡ outer ++ (s ∷ [])) × (c : IsChanged (IsRenamed s key) text outer made) × Respells c.old c.new
+IsRekeyed text path key made = (outer : List Step) × (k : Bor (List ℕ)) × (path ≡ outer ++ (step.Key k ∷ [])) × (c : IsChanged (IsRenamed k.now key) text outer made) × Respells c.old c.new

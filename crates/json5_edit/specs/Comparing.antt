@@ -115,13 +115,13 @@ pub record IsWithAt (i : ℕ) (value : Tree) (t u : Tree) : Type 0 where
   pub now : entries u ≡ before ++ (([], value) ∷ after)
   pub there : length before ≡ i
 
--- the object u is t with another key for the member that the step goes to
-pub record IsRenamed (s : Step) (key : List ℕ) (t u : Tree) : Type 0 where
+-- the object u is t with another key for its last member that has this one
+pub record IsRenamed (name key : List ℕ) (t u : Tree) : Type 0 where
   pub was_kind : kind_of t ≡ Some kind.Object
   pub kind : kind_of u ≡ Some kind.Object
   pub before : List (List ℕ × Tree)
   pub after : List (List ℕ × Tree)
   pub value : Tree
-  pub was : entries t ≡ before ++ ((step_key s, value) ∷ after)
+  pub was : entries t ≡ before ++ ((name, value) ∷ after)
   pub now : entries u ≡ before ++ ((key, value) ∷ after)
-  pub there : GoesTo s before after
+  pub last : LacksKey name after

@@ -1,6 +1,6 @@
 -- Two texts that differ by a part, and perhaps by a comma before it.
 use Rattle.std.specs.Prelude.{◌≡◌, ◌⊎◌, ℕ, Bool, List, [], ◌∷◌, ◌++◌}
-use Rattle.std.specs.Str.{chars}
+use Rattle.std.specs.Str.{chars, encode_utf8_all}
 use Rattle.json5_grammar.specs.Language.Characters.{comma_sign}
 use Rattle.json5_grammar.specs.Language.Values.{KeyText}
 use Rattle.json5_lexemes.specs.Lexemes.{HaveSameLexemes}
@@ -40,6 +40,10 @@ pub record Grows (x y : List ℕ) : Type 0 where
 -- a spelling of a key
 abbrev pub IsKeyText : List ℕ → Type 0
 IsKeyText x = (u : List ℕ) × (escape_free : Bool) × KeyText (chars x) u escape_free
+
+-- x spells the key whose text has these bytes
+abbrev pub SpellsKey : List ℕ → List ℕ → Type 0
+SpellsKey key x = (u : List ℕ) × (escape_free : Bool) × KeyText (chars x) u escape_free × (encode_utf8_all u ≡ key)
 
 -- x is a key and what follows it
 abbrev pub SplitsKey : List ℕ → List ℕ → List ℕ → Type 0

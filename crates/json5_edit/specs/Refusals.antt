@@ -1,5 +1,4 @@
--- Why an edit isn't made. `NoMemory` says nothing. `find` and `set` never answer `Failed`; where another edit does, the
--- text is a document, and whether the edit could be made is left open.
+-- Why an edit isn't made. `NoMemory` says nothing, and `Failed` is never answered.
 use Rattle.std.specs.Prelude.{◌≡◌, ◌≢◌, ◌⊎◌, ℕ, ◌+◌, ◌-◌, List, [], ◌∷◌, ◌++◌, length, Some, ⊤}
 use Rattle.std.specs.Str.{chars}
 use Rattle.json5_grammar.specs.Faults.Refusals.{BlamesText}
@@ -81,14 +80,12 @@ RefusesSet text path new e = RefusesPath text path e
 -- `remove`
 abbrev pub RefusesRemove : List ℕ → List Step → EditError → Type 0
 RefusesRemove text path error.Nowhere = LeadsNowhere text path ⊎ (path ≡ [])
-RefusesRemove text path error.Failed = IsDocument text
 RefusesRemove text path e = RefusesPath text path e
 
 -- `push`
 abbrev pub RefusesPush : List ℕ → List Step → List ℕ → EditError → Type 0
 RefusesPush text path value error.NotArray = Reaches (IsNo kind.Array) text path
 RefusesPush text path value (error.Value e) = Misfits 1 text path value
-RefusesPush text path value error.Failed = IsDocument text
 RefusesPush text path value e = RefusesPath text path e
 
 -- `insert_element`: there is no element with the index
@@ -96,7 +93,6 @@ abbrev pub RefusesPutIn : List ℕ → List Step → ℕ → List ℕ → EditEr
 RefusesPutIn text path i value error.Nowhere = LeadsNowhere text (path ++ (step.Index i ∷ []))
 RefusesPutIn text path i value error.NotArray = Reaches (IsNo kind.Array) text path
 RefusesPutIn text path i value (error.Value e) = Misfits 1 text path value
-RefusesPutIn text path i value error.Failed = IsDocument text
 RefusesPutIn text path i value e = RefusesPath text path e
 
 -- `insert`
@@ -104,14 +100,12 @@ abbrev pub RefusesInsert : List ℕ → List Step → List ℕ → List ℕ → 
 RefusesInsert text path key value error.NotObject = Reaches (IsNo kind.Object) text path
 RefusesInsert text path key value error.Taken = Reaches (HasKey key) text path
 RefusesInsert text path key value (error.Value e) = Misfits 1 text path value
-RefusesInsert text path key value error.Failed = IsDocument text
 RefusesInsert text path key value e = RefusesPath text path e
 
 -- `rename`: the member's object has the new key
 abbrev pub RefusesRename : List ℕ → List Step → List ℕ → EditError → Type 0
 RefusesRename text path key error.NoKey = EndsInNoKey path
 RefusesRename text path key error.Taken = (outer : List Step) × (s : Step) × (path ≡ outer ++ (s ∷ [])) × Reaches (HasKey key) text outer
-RefusesRename text path key error.Failed = IsDocument text
 RefusesRename text path key e = RefusesPath text path e
 
 -- ---- within a collection's text
@@ -122,22 +116,36 @@ IsOwn error.NoMemory = ⊤
 IsOwn error.Failed = ⊤
 IsOwn _ = ⊥
 
+-- a value that is no such collection
+abbrev pub BeginsNo : Kind → List ℕ → Type 0
+BeginsNo k x = (t : Tree) → Val x t → IsNo k t
+
 -- a step that goes to no entry
 abbrev pub RefusesStep : List ℕ → Step → EditError → Type 0
 RefusesStep old s error.Nowhere = LeadsNowhere old (s ∷ [])
-RefusesStep old s e = IsOwn e
+RefusesStep old s error.NoMemory = ⊤
+RefusesStep old s _ = ⊥
 
 -- a key that a member has
 abbrev pub RefusesKey : List ℕ → List ℕ → EditError → Type 0
 RefusesKey old key error.Taken = (t : Tree) × Doc max_depth (chars old) t × HasKey key t
-RefusesKey old key e = IsOwn e
+RefusesKey old key error.NoMemory = ⊤
+RefusesKey old key _ = ⊥
+
+-- a text of no such collection
+abbrev pub RefusesKind : Kind → List ℕ → EditError → Type 0
+RefusesKind kind.Array old error.NotArray = BeginsNo kind.Array (chars old)
+RefusesKind kind.Object old error.NotObject = BeginsNo kind.Object (chars old)
+RefusesKind k old error.NoMemory = ⊤
+RefusesKind k old _ = ⊥
+
+-- the same, or a key that a member has
+abbrev pub RefusesFree : List ℕ → List ℕ → EditError → Type 0
+RefusesFree old key error.Taken = (t : Tree) × Doc max_depth (chars old) t × HasKey key t
+RefusesFree old key e = RefusesKind kind.Object old e
 
 -- what is no value alone in which so many brackets may be open at once
 abbrev pub RefusesValue : ℕ → List ℕ → EditError → Type 0
 RefusesValue room new (error.Value e) = IsValue room (chars new) → ⊥
 RefusesValue room new error.NoMemory = ⊤
 RefusesValue room new _ = ⊥
-
--- a text of no such collection
-abbrev pub BeginsNo : Kind → List ℕ → Type 0
-BeginsNo k x = (t : Tree) → Val x t → IsNo k t

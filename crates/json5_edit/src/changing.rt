@@ -1,23 +1,29 @@
 //! Adds, removes and renames the entries of a collection.
 
-ghost use Rattle.std.specs.Prelude.{◌≡◌, ◌≤◌, ◌-◌, ℕ, List, false, IfOk, IfErr, string_bytes};
+ghost use Rattle.std.specs.Prelude.{◌≡◌, ◌≤◌, ◌-◌, ℕ, List, [], false, IfOk, IfErr, OnOk, string_bytes};
 ghost use Rattle.json5_edit.specs.Changes.{ChangesBy, Gains, GainsAt, IsRemoved, IsPushed, IsPutIn, IsInserted, IsRekeyed};
-ghost use Rattle.json5_edit.specs.Comparing.{IsWithout, IsRenamed};
-ghost use Rattle.json5_edit.specs.Pieces.{Cuts, Grows, Respells};
-ghost use Rattle.json5_edit.specs.Places.{HasPlace, IsPart};
-ghost use Rattle.json5_edit.specs.Refusals.{RefusesRemove, RefusesPush, RefusesPutIn, RefusesInsert, RefusesRename, RefusesStep, RefusesKey, RefusesValue, IsOwn, BeginsNo};
+ghost use Rattle.json5_edit.specs.Pieces.{Grows};
+ghost use Rattle.json5_edit.specs.Places.{HasPlace, IsPart, IsValue};
+ghost use Rattle.json5_edit.specs.Refusals.{RefusesRemove, RefusesPush, RefusesPutIn, RefusesInsert, RefusesRename, RefusesKind, RefusesKey, RefusesValue, IsOwn, BeginsNo};
+ghost use Rattle.json5_edit.specs.Spots.{Adds, HasEnd, HasEntry, Removes};
+ghost use Rattle.json5_edit.specs.declared.faults.EditError.TheVariants as edit_errors;
+ghost use Rattle.json5_edit.specs.declared.paths.Step.TheVariants as step;
+ghost use Rattle.json5_value.specs.declared.brackets.BracketKind.TheVariants as kind;
 ghost use Rattle.json5_grammar.specs.Language.Documents.{max_depth};
+ghost use Rattle.json5_walk.specs.Walks.{IsDocument};
 ghost use Rattle.std.specs.Str.{chars, encode_utf8_all};
 
-use crate::comparing::{check_added, check_put_in, check_removed, check_renamed};
+use crate::comparing::{check_added, check_put_in, check_removed};
 use crate::faults::{EditError, Result};
 use crate::paths::Step;
-use crate::pieces::{cut, grown, respelled};
-use crate::places::find_place;
-use crate::setting::{check_value, place_of, put_made};
-use json5_edit_layout::{
-    Added, Care, Collection, Which, cut_for, growth_before, growth_for, respelling_for,
+use crate::pieces::{cut, grown};
+use crate::places::walked_place;
+use crate::plain::{
+    End, array_end, entry_start, free_end, with_element, with_last, with_member, without_entry,
 };
+use crate::renaming::renamed;
+use crate::setting::{check_value, place_of, put_made, splice};
+use json5_edit_layout::{Added, Collection, Which, cut_for, growth_before, growth_for};
 use json5_text::scanner::Scanner;
 use json5_value::brackets::BracketKind;
 use json5_walk::place::Place;
@@ -36,7 +42,6 @@ use std::alloc::Global;
 /// - `Text` with the fault of reading, if the text is no document.
 /// - `Nowhere`, if the path leads nowhere or has no step.
 /// - `NoMemory` where there is no memory for the text, or for a key with an escape.
-/// - `Failed`, if the text that was made doesn't read as the old one without that entry.
 pub fn remove(alloc: Global, text: &str, path: &[Step<'_>]) -> Result<String>
     ensures removed { IfOk result (λ made. IsRemoved text.now path.now (string_bytes made)) }
     ensures refused { IfErr result (RefusesRemove text.now path.now) }
@@ -46,9 +51,9 @@ pub fn remove(alloc: Global, text: &str, path: &[Step<'_>]) -> Result<String>
     };
     let place = place_of(alloc, text, outer)?;
     let old = part_text(text, place);
-    check_step(alloc, old, *step)?;
-    let new = removed(alloc, old, *step)?;
-    put_made(alloc, text, place, new.as_str())
+    let start = entry_start(alloc, old, *step, place.room)?;
+    let new = removed(alloc, old, *step, start, place.room)?;
+    splice(alloc, text, place, new.as_str())
 }
 
 /// Returns the text with one more element at the end of the array that the path leads to: `value`, a JSON5 value
@@ -65,7 +70,6 @@ pub fn remove(alloc: Global, text: &str, path: &[Step<'_>]) -> Result<String>
 /// - `Nowhere`, if the path leads nowhere; `NotArray`, if it leads to another value than an array.
 /// - `Value` with the fault of reading, if `value` is no value or is nested too deep for its place.
 /// - `NoMemory` where there is no memory for the text, or for a key with an escape.
-/// - `Failed`, if the text that was made doesn't read as the old one with that element.
 pub fn push(alloc: Global, text: &str, path: &[Step<'_>], value: &str) -> Result<String>
     ensures pushed { IfOk result (λ made. IsPushed text.now path.now value.now (string_bytes made)) }
     ensures refused { IfErr result (RefusesPush text.now path.now value.now) }
@@ -77,8 +81,8 @@ pub fn push(alloc: Global, text: &str, path: &[Step<'_>], value: &str) -> Result
     }
     check_entry(alloc, value, place)?;
     let collection = collection(text, place);
-    let new = added(alloc, &collection, old, BracketKind::Array, "", value)?;
-    put_made(alloc, text, place, new.as_str())
+    let new = pushed(alloc, &collection, old, value, place.room)?;
+    splice(alloc, text, place, new.as_str())
 }
 
 /// Returns the text with one more element of the array that the path leads to, before that with this index: `value`, a
@@ -96,7 +100,6 @@ pub fn push(alloc: Global, text: &str, path: &[Step<'_>], value: &str) -> Result
 /// - `NotArray`, if the path leads to another value than an array.
 /// - `Value` with the fault of reading, if `value` is no value or is nested too deep for its place.
 /// - `NoMemory` where there is no memory for the text, or for a key with an escape.
-/// - `Failed`, if the text that was made doesn't read as the old one with that element.
 pub fn insert_element(
     alloc: Global,
     text: &str,
@@ -112,11 +115,11 @@ pub fn insert_element(
     if !begins(alloc, old, BracketKind::Array) {
         return Err(EditError::NotArray);
     }
-    check_step(alloc, old, Step::Index(index))?;
+    let start = entry_start(alloc, old, Step::Index(index), place.room)?;
     check_entry(alloc, value, place)?;
     let collection = collection(text, place);
-    let new = put_in(alloc, &collection, old, index, value)?;
-    put_made(alloc, text, place, new.as_str())
+    let new = put_in(alloc, &collection, old, index, start, value, place.room)?;
+    splice(alloc, text, place, new.as_str())
 }
 
 /// Returns the text with one more member, the last, of the object that the path leads to: this key, without quotes if
@@ -134,7 +137,6 @@ pub fn insert_element(
 /// - `Taken`, if the object has a member with the key.
 /// - `Value` with the fault of reading, if `value` is no value or is nested too deep for its place.
 /// - `NoMemory` where there is no memory for the text, or for a key with an escape.
-/// - `Failed`, if the text that was made doesn't read as the old one with that member.
 pub fn insert(
     alloc: Global,
     text: &str,
@@ -147,14 +149,11 @@ pub fn insert(
 {
     let place = place_of(alloc, text, path)?;
     let old = part_text(text, place);
-    if !begins(alloc, old, BracketKind::Object) {
-        return Err(EditError::NotObject);
-    }
-    check_key(alloc, old, key)?;
+    let end = free_end(alloc, old, key, place.room)?;
     check_entry(alloc, value, place)?;
     let collection = collection(text, place);
-    let new = added(alloc, &collection, old, BracketKind::Object, key, value)?;
-    put_made(alloc, text, place, new.as_str())
+    let new = inserted(alloc, &collection, old, end, key, value, place.room)?;
+    splice(alloc, text, place, new.as_str())
 }
 
 /// Returns the text with another key for the member that the path leads to: in the quotes of the old key, or without,
@@ -170,7 +169,6 @@ pub fn insert(
 /// - `Nowhere`, if the path leads nowhere; `NoKey`, if it has no step or its last one goes to an element.
 /// - `Taken`, if the object has a member with the new key.
 /// - `NoMemory` where there is no memory for the text, or for a key with an escape.
-/// - `Failed`, if the text that was made doesn't read as the old one with that key.
 pub fn rename(alloc: Global, text: &str, path: &[Step<'_>], key: &str) -> Result<String>
     ensures rekeyed { IfOk result (λ made. IsRekeyed text.now path.now key.now (string_bytes made)) }
     ensures refused { IfErr result (RefusesRename text.now path.now key.now) }
@@ -178,15 +176,15 @@ pub fn rename(alloc: Global, text: &str, path: &[Step<'_>], key: &str) -> Result
     let Some((step, outer)) = path.split_last() else {
         return Err(EditError::NoKey);
     };
-    if let Step::Index(_) = *step {
+    let Step::Key(name) = *step else {
         return Err(EditError::NoKey);
-    }
+    };
     let place = place_of(alloc, text, outer)?;
     let old = part_text(text, place);
-    check_step(alloc, old, *step)?;
+    let start = entry_start(alloc, old, *step, place.room)?;
     check_key(alloc, old, key)?;
-    let new = renamed(alloc, old, *step, key)?;
-    put_made(alloc, text, place, new.as_str())
+    let new = renamed(alloc, old, place.room, start, name, key)?;
+    splice(alloc, text, place, new.as_str())
 }
 
 /// The text in the place.
@@ -211,17 +209,6 @@ fn begins(alloc: Global, old: &str, kind: BracketKind) -> bool
     first == kind.brackets().opening
 }
 
-/// Refuses a step that goes to no entry of the collection.
-fn check_step(alloc: Global, old: &str, step: Step<'_>) -> Result<()>
-    ensures { IfErr result (RefusesStep old.now step.entry) }
-{
-    match find_place(alloc, old, &[step]) {
-        Ok(Some(_)) => Ok(()),
-        Ok(None) => Err(EditError::Nowhere),
-        Err(error) => Err(EditError::of_made(error)),
-    }
-}
-
 /// The entry that the step goes to, in the layout's words.
 fn which(step: Step<'_>) -> Which<'_> {
     match step {
@@ -232,96 +219,179 @@ fn which(step: Step<'_>) -> Which<'_> {
 
 /// Refuses a key that a member of the object has.
 fn check_key(alloc: Global, old: &str, key: &str) -> Result<()>
+    requires { IsDocument old.now }
     ensures { IfErr result (RefusesKey old.now key.now) }
 {
-    match find_place(alloc, old, &[Step::Key(key)]) {
+    match walked_place(alloc, old, &[Step::Key(key)]) {
         Ok(None) => Ok(()),
         Ok(Some(_)) => Err(EditError::Taken),
         Err(error) => Err(EditError::of_made(error)),
     }
 }
 
-/// The collection without the entry: with its lines and comments, or else without what stands up to the next token.
-fn removed(alloc: Global, old: &str, step: Step<'_>) -> Result<String>
-    ensures removed { IfOk result (λ new. ChangesBy (IsWithout step.entry) old.now (string_bytes new)) }
-    ensures cuts { IfOk result (λ new. Cuts old.now (string_bytes new)) }
-    ensures own { IfErr result IsOwn }
+/// The collection without the entry that begins at the offset: without its lines and comments, if that reads so, or
+/// else without it and its comma alone.
+fn removed(alloc: Global, old: &str, step: Step<'_>, start: usize, room: usize) -> Result<String>
+    requires small { room ≤ max_depth }
+    requires entry { HasEntry step room old.now start }
+    ensures removed { IfOk result (λ new. Removes step.entry room old.now (string_bytes new)) }
+    ensures full { IfErr result (λ e. e ≡ edit_errors.NoMemory) }
 {
-    for care in [Care::Lines, Care::Tokens] {
-        let gone = laid(cut_for(alloc, care, old, which(step)))?;
-        let new = cut(alloc, old, gone)?;
-        match check_removed(alloc, old, new.as_str(), step, gone.index) {
-            Ok(()) => return Ok(new),
-            Err(_) => {}
-        }
+    match removed_by_lines(alloc, old, step, room) {
+        Ok(new) => Ok(new),
+        Err(EditError::NoMemory) => Err(EditError::NoMemory),
+        Err(_) => without_entry(alloc, old, step, start, room),
     }
-    Err(EditError::Failed)
 }
 
-/// The collection with one more entry: with its lines and comments, or else right after the token before.
-fn added(
+/// The collection without the entry, its lines and its comments.
+fn removed_by_lines(alloc: Global, old: &str, step: Step<'_>, room: usize) -> Result<String>
+    requires { room ≤ max_depth }
+    ensures { IfOk result (λ new. Removes step.entry room old.now (string_bytes new)) }
+{
+    let gone = laid(cut_for(alloc, old, which(step)))?;
+    let new = cut(alloc, old, gone)?;
+    match check_removed(alloc, old, new.as_str(), step, gone.index) {
+        Ok(()) => fitting(alloc, new, room),
+        Err(error) => Err(EditError::of_made(error)),
+    }
+}
+
+/// The text, if it is a value that fits.
+pub(crate) fn fitting(alloc: Global, new: String, room: usize) -> Result<String>
+    requires { room ≤ max_depth }
+    ensures same { IfOk result (λ made. string_bytes made ≡ string_bytes new) }
+    ensures value { OnOk result (IsValue room (chars (string_bytes new))) }
+{
+    match check_value(alloc, new.as_str(), room) {
+        Ok(()) => Ok(new),
+        Err(error) => Err(EditError::of_made(error)),
+    }
+}
+
+/// The array with one more element: with its lines and comments, if that reads so, or else at its end alone.
+fn pushed(
+    alloc: Global,
+    collection: &Collection<'_>,
+    old: &str,
+    value: &str,
+    room: usize,
+) -> Result<String>
+    requires small { room ≤ max_depth }
+    requires old { IsValue room (chars old.now) }
+    requires value { IsValue (room - 1) (chars value.now) }
+    ensures pushed { IfOk result (λ new. Adds (Gains kind.Array [] value.now) room old.now (string_bytes new)) }
+    ensures refused { IfErr result (RefusesKind kind.Array old.now) }
+{
+    match added_by_lines(alloc, collection, old, BracketKind::Array, "", value, room) {
+        Ok(new) => Ok(new),
+        Err(EditError::NoMemory) => Err(EditError::NoMemory),
+        Err(_) => {
+            let end = array_end(alloc, old, room)?;
+            with_last(alloc, old, BracketKind::Array, end, value, room)
+        }
+    }
+}
+
+/// The object with one more member: with its lines and comments, if that reads so, or else at its end alone.
+fn inserted(
+    alloc: Global,
+    collection: &Collection<'_>,
+    old: &str,
+    end: End,
+    key: &str,
+    value: &str,
+    room: usize,
+) -> Result<String>
+    requires small { room ≤ max_depth }
+    requires end { HasEnd kind.Object room old.now end }
+    requires value { IsValue (room - 1) (chars value.now) }
+    ensures inserted { IfOk result (λ new. Adds (Gains kind.Object key.now value.now) room old.now (string_bytes new)) }
+    ensures full { IfErr result (λ e. e ≡ edit_errors.NoMemory) }
+{
+    match added_by_lines(
+        alloc,
+        collection,
+        old,
+        BracketKind::Object,
+        key,
+        value,
+        room,
+    ) {
+        Ok(new) => Ok(new),
+        Err(EditError::NoMemory) => Err(EditError::NoMemory),
+        Err(_) => with_member(alloc, old, end, key, value, room),
+    }
+}
+
+/// The collection with one more entry, with its lines and comments.
+fn added_by_lines(
     alloc: Global,
     collection: &Collection<'_>,
     old: &str,
     kind: BracketKind,
     key: &str,
     value: &str,
+    room: usize,
 ) -> Result<String>
-    ensures added { IfOk result (λ new. ChangesBy (Gains kind key.now value.now) old.now (string_bytes new)) }
-    ensures grows { IfOk result (λ new. Grows old.now (string_bytes new)) }
-    ensures own { IfErr result IsOwn }
+    requires { room ≤ max_depth }
+    ensures { IfOk result (λ new. Adds (Gains kind key.now value.now) room old.now (string_bytes new)) }
 {
-    for care in [Care::Lines, Care::Tokens] {
-        let added = Added { kind, key, value };
-        let growth = laid(growth_for(alloc, care, collection, added))?;
-        let new = grown(alloc, old, &growth)?;
-        match check_added(alloc, old, new.as_str(), growth.count, kind, key, value) {
-            Ok(()) => return Ok(new),
-            Err(_) => {}
-        }
+    let added = Added { kind, key, value };
+    let growth = laid(growth_for(alloc, collection, added))?;
+    let new = grown(alloc, old, &growth)?;
+    match check_added(alloc, old, new.as_str(), growth.count, kind, key, value) {
+        Ok(()) => fitting(alloc, new, room),
+        Err(error) => Err(EditError::of_made(error)),
     }
-    Err(EditError::Failed)
 }
 
-/// The array with one more element before that with this index: with its lines and comments, or else right before it.
+/// The array with one more element before that with this index, which begins at the offset: with its lines and comments,
+/// if that reads so, or else right before it.
 fn put_in(
     alloc: Global,
     collection: &Collection<'_>,
     old: &str,
     index: usize,
+    start: usize,
     value: &str,
+    room: usize,
 ) -> Result<String>
-    ensures put_in { IfOk result (λ new. ChangesBy (GainsAt index value.now) old.now (string_bytes new)) }
-    ensures grows { IfOk result (λ new. Grows old.now (string_bytes new)) }
-    ensures own { IfErr result IsOwn }
+    requires small { room ≤ max_depth }
+    requires entry { HasEntry (step.Index index) room old.now start }
+    requires value { IsValue (room - 1) (chars value.now) }
+    ensures put_in { IfOk result (λ new. Adds (GainsAt index value.now) room old.now (string_bytes new)) }
+    ensures full { IfErr result (λ e. e ≡ edit_errors.NoMemory) }
 {
-    for care in [Care::Lines, Care::Tokens] {
-        let growth = laid(growth_before(alloc, care, collection, index, value))?;
-        let new = grown(alloc, old, &growth)?;
-        match check_put_in(alloc, old, new.as_str(), index, value) {
-            Ok(()) => return Ok(new),
-            Err(_) => {}
-        }
+    match put_in_by_lines(alloc, collection, old, index, value, room) {
+        Ok(new) => Ok(new),
+        Err(EditError::NoMemory) => Err(EditError::NoMemory),
+        Err(_) => with_element(alloc, old, index, start, value, room),
     }
-    Err(EditError::Failed)
 }
 
-/// The object with another key for a member.
-fn renamed(alloc: Global, old: &str, step: Step<'_>, key: &str) -> Result<String>
-    ensures renamed { IfOk result (λ new. ChangesBy (IsRenamed step.entry key.now) old.now (string_bytes new)) }
-    ensures respells { IfOk result (λ new. Respells old.now (string_bytes new)) }
-    ensures own { IfErr result IsOwn }
+/// The array with one more element before that with this index, with its lines and comments.
+fn put_in_by_lines(
+    alloc: Global,
+    collection: &Collection<'_>,
+    old: &str,
+    index: usize,
+    value: &str,
+    room: usize,
+) -> Result<String>
+    requires { room ≤ max_depth }
+    ensures { IfOk result (λ new. Adds (GainsAt index value.now) room old.now (string_bytes new)) }
 {
-    let respelling = laid(respelling_for(alloc, old, which(step), key))?;
-    let new = respelled(alloc, old, &respelling)?;
-    match check_renamed(alloc, old, new.as_str(), step, respelling.index, key) {
-        Ok(()) => Ok(new),
+    let growth = laid(growth_before(alloc, collection, index, value))?;
+    let new = grown(alloc, old, &growth)?;
+    match check_put_in(alloc, old, new.as_str(), index, value) {
+        Ok(()) => fitting(alloc, new, room),
         Err(error) => Err(EditError::of_made(error)),
     }
 }
 
 /// What the layout says, or why it says nothing.
-fn laid<T: Drop>(said: json5_types::error::Result<T>) -> Result<T>
+pub(crate) fn laid<T: Drop>(said: json5_types::error::Result<T>) -> Result<T>
     ensures { IfErr result IsOwn }
 {
     match said {
@@ -333,7 +403,8 @@ fn laid<T: Drop>(said: json5_types::error::Result<T>) -> Result<T>
 /// Refuses what isn't a value alone that fits within the place.
 fn check_entry(alloc: Global, value: &str, place: Place) -> Result<()>
     requires { place.room ≤ max_depth }
-    ensures { IfErr result (RefusesValue (place.room - 1) value.now) }
+    ensures value { OnOk result (IsValue (place.room - 1) (chars value.now)) }
+    ensures refused { IfErr result (RefusesValue (place.room - 1) value.now) }
 {
     match check_value(alloc, value, place.room.saturating_sub(1)) {
         Ok(()) => Ok(()),

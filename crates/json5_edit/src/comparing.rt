@@ -93,34 +93,34 @@ pub(crate) fn check_put_in(
     right.finish()
 }
 
-/// Refuses a new text that isn't the old one with another key for the member that the step goes to, which has this
-/// index.
+/// Refuses a new text that isn't the old one with another key for the last member that has this one, which so many come
+/// before.
 pub(crate) fn check_renamed(
     alloc: Global,
     old: &str,
     new: &str,
-    step: Step<'_>,
-    index: usize,
     name: &str,
+    before: usize,
+    key: &str,
 ) -> Result<()>
-    ensures { OnOk result (ChangesBy (IsRenamed step.entry name.now) old.now new.now) }
+    ensures { OnOk result (ChangesBy (IsRenamed name.now key.now) old.now new.now) }
 {
     let mut left = Walk::new(alloc, old, Limit::full());
     let mut right = Walk::new(alloc, new, Limit::full());
     open_both(&mut left, &mut right, BracketKind::Object)?;
-    same_front(&mut left, &mut right, place(step, index))?;
+    same_front(&mut left, &mut right, before)?;
     let gone = some_entry(&mut left)?;
     let came = some_entry(&mut right)?;
-    if !has_key(&gone, key(step)) {
+    if !has_key(&gone, name) {
         return Err(failed());
     }
-    if !has_key(&came, name) {
+    if !has_key(&came, key) {
         return Err(failed());
     }
     if !has_value(&gone, came.value) {
         return Err(failed());
     }
-    same_rest(&mut left, &mut right, step)?;
+    same_rest(&mut left, &mut right, Step::Key(name))?;
     left.finish()?;
     right.finish()
 }

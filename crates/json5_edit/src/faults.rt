@@ -1,9 +1,11 @@
 //! Why an edit isn't made.
 
-ghost use Rattle.std.specs.Prelude.{ℕ, List};
+ghost use Rattle.std.specs.Prelude.{◌≡◌, ℕ, List};
 ghost use Rattle.std.specs.Str.{chars};
 ghost use Rattle.json5_edit.specs.Places.{IsValue};
 ghost use Rattle.json5_edit.specs.Refusals.{RefusesText, RefusesPath, RefusesValue, IsOwn};
+ghost use Rattle.json5_types.specs.Errors.{LacksMemory};
+ghost use Rattle.json5_edit.specs.declared.faults.EditError.TheVariants as errors;
 ghost use Rattle.json5_edit.specs.declared.paths.Step.{Step};
 
 use json5_types::ErrorCode;
@@ -33,7 +35,8 @@ pub enum EditError {
     NoKey,
     /// Memory ran out.
     NoMemory,
-    /// The text is a document, and what was made of it didn't read as it should.
+    /// The text is a document, and what was made of it didn't read as it should. No call answers it: another text is
+    /// made then.
     Failed,
 }
 
@@ -70,7 +73,8 @@ impl EditError {
 
     /// The error that reading what was made ended with.
     pub(crate) fn of_made(error: Error) -> EditError
-        ensures { IsOwn result }
+        ensures own { IsOwn result }
+        ensures memory { LacksMemory error → result ≡ errors.NoMemory }
     {
         match error.code() {
             Some(ErrorCode::OutOfMemory) => EditError::NoMemory,

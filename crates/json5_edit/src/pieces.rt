@@ -4,6 +4,7 @@ ghost use Rattle.std.specs.Prelude.{◌≡◌, ◌++◌, IfOk, IfErr, IsTrue, []
 ghost use Rattle.std.specs.Str.{chars};
 ghost use Rattle.json5_edit.specs.Pieces.{Cuts, Grows, Respells, IsComma, WithoutComma, SplitsKey};
 ghost use Rattle.json5_edit.specs.Refusals.{IsOwn};
+ghost use Rattle.json5_edit.specs.declared.faults.EditError.TheVariants as edit_errors;
 ghost use Rattle.json5_lexemes.specs.Lexemes.{HaveSameLexemes};
 
 use crate::faults::{EditError, Result};
@@ -40,7 +41,7 @@ pub(crate) fn grown(alloc: Global, text: &str, growth: &Growth) -> Result<String
 }
 
 /// The five texts one after another.
-fn join_five(
+pub(crate) fn join_five(
     alloc: Global,
     front: &str,
     comma: &str,
@@ -49,7 +50,7 @@ fn join_five(
     back: &str,
 ) -> Result<String>
     ensures joined { IfOk result (λ made. string_bytes made ≡ front.now ++ (comma.now ++ (middle.now ++ (came.now ++ back.now)))) }
-    ensures own { IfErr result IsOwn }
+    ensures full { IfErr result (λ e. e ≡ edit_errors.NoMemory) }
 {
     let parts = [front, comma, middle, came, back];
     match parts.as_slice().concat(alloc) {

@@ -1,7 +1,7 @@
 //! What comes into a collection's text with one more entry.
 
 use crate::collection::Collection;
-use crate::gaps::{Care, Gap, between};
+use crate::gaps::{Gap, between};
 use crate::keys::key_for;
 use crate::lines::{begins_line, indentation, line_start};
 use crate::removing::joined;
@@ -42,39 +42,24 @@ pub struct Growth {
 ///
 /// ```text
 /// let list = Collection { document: "[80]", start: 0, end: 4 };
-/// growth_for(alloc, Care::Lines, &list, Added { kind: BracketKind::Array, key: "", value: "443" })?    // , 443
+/// growth_for(alloc, &list, Added { kind: BracketKind::Array, key: "", value: "443" })?    // , 443
 /// ```
 ///
 /// # Errors
 ///
 /// As reading, if the text is no value; `OutOfMemory` where there is no memory for the text.
-pub fn growth_for(
-    alloc: Global,
-    care: Care,
-    collection: &Collection<'_>,
-    added: Added<'_>,
-) -> Result<Growth> {
+pub fn growth_for(alloc: Global, collection: &Collection<'_>, added: Added<'_>) -> Result<Growth> {
     let around = find_around(alloc, collection.text(), Which::Index(usize::MAX))?;
     let entry = entry(alloc, collection, around, added)?;
     let inner = inner_indentation(alloc, collection)?;
     let (text, end) = (collection.text(), collection.line_end());
     let (entry, inner) = (entry.as_str(), inner.as_str());
     let growth = match around.before {
-        Some(last) => after_last(alloc, care, text, around.close, last, end, inner, entry),
+        Some(last) => after_last(alloc, text, around.close, last, end, inner, entry),
         None => {
             let blank = blank_beside(added.kind);
             let outer = collection.outer();
-            into_empty(
-                alloc,
-                care,
-                text,
-                around.close,
-                end,
-                outer,
-                inner,
-                blank,
-                entry,
-            )
+            into_empty(alloc, text, around.close, end, outer, inner, blank, entry)
         }
     }?;
     Ok(growth.after(around.count))
@@ -115,7 +100,7 @@ pub fn entry_indentation(alloc: Global, collection: &Collection<'_>) -> Result<S
 ///
 /// ```text
 /// let list = Collection { document: "[80]", start: 0, end: 4 };
-/// growth_before(alloc, Care::Lines, &list, 0, "443")?    // 443, with a blank after it
+/// growth_before(alloc, &list, 0, "443")?    // 443, with a blank after it
 /// ```
 ///
 /// # Errors
@@ -124,7 +109,6 @@ pub fn entry_indentation(alloc: Global, collection: &Collection<'_>) -> Result<S
 /// - As reading, if the text is no value; `OutOfMemory` where there is no memory for the text.
 pub fn growth_before(
     alloc: Global,
-    care: Care,
     collection: &Collection<'_>,
     index: usize,
     value: &str,
@@ -138,15 +122,14 @@ pub fn growth_before(
         Some(spot) => spot.full_end(),
         None => 1,
     };
-    let gap = Gap::of(care, text, from, here.start);
+    let gap = Gap::of(text, from, here.start);
     let entry = joined(alloc, &[value])?;
     let (entry, end) = (entry.as_str(), collection.line_end());
-    let growth = match care {
-        Care::Lines if begins_line(text, here.start) => {
-            let indent = indentation(text, here.start);
-            before_at(alloc, gap.lead, indent, entry, end)
-        }
-        _ => before_at(alloc, gap.own, "", entry, blank_before(text, here)),
+    let growth = if begins_line(text, here.start) {
+        let indent = indentation(text, here.start);
+        before_at(alloc, gap.lead, indent, entry, end)
+    } else {
+        before_at(alloc, gap.own, "", entry, blank_before(text, here))
     }?;
     Ok(growth.after(index))
 }
@@ -200,7 +183,6 @@ fn colon_like(colon: &str) -> &str {
 /// Puts it after the last one: on a line of its own, or on the same.
 fn after_last<'x>(
     alloc: Global,
-    care: Care,
     text: &'x str,
     close: usize,
     last: Spot,
@@ -208,17 +190,15 @@ fn after_last<'x>(
     inner: &'x str,
     entry: &'x str,
 ) -> Result<Growth> {
-    let gap = Gap::of(care, text, last.full_end(), close);
+    let gap = Gap::of(text, last.full_end(), close);
     let comma = last.comma.is_none();
     let after = if comma { "" } else { "," };
-    let (at, before, indent) = match care {
-        Care::Lines if begins_line(text, last.start) => {
-            (last.end, end, indentation(text, last.start))
-        }
-        Care::Lines if gap.line_end.is_some() && gap.tail > last.full_end() => {
-            (last.end, end, inner)
-        }
-        _ => (gap.tail, blank_before(text, last), ""),
+    let (at, before, indent) = if begins_line(text, last.start) {
+        (last.end, end, indentation(text, last.start))
+    } else if gap.line_end.is_some() && gap.tail > last.full_end() {
+        (last.end, end, inner)
+    } else {
+        (gap.tail, blank_before(text, last), "")
     };
     Ok(Growth {
         count: 0,
@@ -255,7 +235,6 @@ fn blank_beside(kind: BracketKind) -> &'static str {
 /// Puts it between the brackets, where nothing but comments is.
 fn into_empty<'x>(
     alloc: Global,
-    care: Care,
     text: &'x str,
     close: usize,
     end: &'x str,
@@ -264,16 +243,15 @@ fn into_empty<'x>(
     blank: &'x str,
     entry: &'x str,
 ) -> Result<Growth> {
-    let gap = Gap::of(care, text, 1, close);
-    match (care, gap.mark > 1, gap.line_end) {
-        (Care::Tokens, _, _) => put_at(alloc, 1, "", "", entry),
-        (_, true, Some(_)) if line_start(text, gap.mark) > 0 => {
+    let gap = Gap::of(text, 1, close);
+    match (gap.mark > 1, gap.line_end) {
+        (true, Some(_)) if line_start(text, gap.mark) > 0 => {
             put_at(alloc, gap.mark, end, indentation(text, gap.mark), entry)
         }
-        (_, true, Some(_)) => put_at(alloc, gap.mark, end, inner, entry),
-        (_, true, None) => put_at(alloc, gap.mark, " ", "", entry),
-        (_, false, Some(_)) => alone(alloc, close, [end, inner, entry, end, outer]),
-        (_, false, None) => alone(alloc, close, [blank, "", entry, blank, ""]),
+        (true, Some(_)) => put_at(alloc, gap.mark, end, inner, entry),
+        (true, None) => put_at(alloc, gap.mark, " ", "", entry),
+        (false, Some(_)) => alone(alloc, close, [end, inner, entry, end, outer]),
+        (false, None) => alone(alloc, close, [blank, "", entry, blank, ""]),
     }
 }
 

@@ -1,14 +1,5 @@
 //! The blanks and comments between two tokens, by their lines.
 
-/// Whether lines and comments are looked at.
-#[derive(Clone, Copy, Drop)]
-pub enum Care {
-    /// Comments go with what they belong to, and lines stay lines.
-    Lines,
-    /// Tokens alone: what stands between them goes with the token before.
-    Tokens,
-}
-
 /// What is known of a gap. Offsets are in bytes of the text that it stands in.
 #[derive(Clone, Copy, Drop)]
 pub(crate) struct Gap {
@@ -59,11 +50,8 @@ struct Reader {
 
 impl Gap {
     /// Reads the gap between these offsets.
-    pub(crate) fn of(care: Care, text: &str, from: usize, until: usize) -> Gap {
+    pub(crate) fn of(text: &str, from: usize, until: usize) -> Gap {
         let mut reader = Reader::new(from, until);
-        if let Care::Tokens = care {
-            return reader.gap;
-        }
         for (offset, c) in between(text, from, until).char_indices() {
             reader.read(from.saturating_add(offset), c);
         }

@@ -13,7 +13,6 @@ mod spots;
 
 pub use adding::{Added, Growth, entry_indentation, growth_before, growth_for};
 pub use collection::Collection;
-pub use gaps::Care;
 pub use keys::{Respelling, respelling_for};
 pub use lines::indentation;
 pub use removing::{Cut, cut_for};

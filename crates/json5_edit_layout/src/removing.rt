@@ -1,6 +1,6 @@
 //! What goes from a collection's text with one of its entries.
 
-use crate::gaps::{Care, Gap, between};
+use crate::gaps::{Gap, between};
 use crate::lines::after_empty_line;
 use crate::spots::{Around, Spot, Which, find_around};
 use json5_types::ErrorCode;
@@ -25,17 +25,17 @@ pub struct Cut {
 /// its line, if it has one to itself.
 ///
 /// ```text
-/// cut_for(alloc, Care::Lines, "{ a: 1, /* b */ b: 2 }", Which::Key("b"))?    // leaves { a: 1 }
+/// cut_for(alloc, "{ a: 1, /* b */ b: 2 }", Which::Key("b"))?    // leaves { a: 1 }
 /// ```
 ///
 /// # Errors
 ///
 /// - `Failed`, if there is no such entry.
 /// - As reading, if the text is no value; `OutOfMemory` where there is no memory for a key with an escape.
-pub fn cut_for(alloc: Global, care: Care, text: &str, which: Which<'_>) -> Result<Cut> {
+pub fn cut_for(alloc: Global, text: &str, which: Which<'_>) -> Result<Cut> {
     let around = find_around(alloc, text, which)?;
     match around.here {
-        Some(here) => Ok(cut_of(care, text, around, here)),
+        Some(here) => Ok(cut_of(text, around, here)),
         None => Err(Error::new(ErrorCode::Failed)),
     }
 }
@@ -49,7 +49,7 @@ pub(crate) fn joined(alloc: Global, parts: &[&str]) -> Result<String> {
 }
 
 /// What goes with the entry.
-fn cut_of(care: Care, text: &str, around: Around, here: Spot) -> Cut {
+fn cut_of(text: &str, around: Around, here: Spot) -> Cut {
     let from = match around.before {
         Some(spot) => spot.full_end(),
         None => 1,
@@ -58,8 +58,8 @@ fn cut_of(care: Care, text: &str, around: Around, here: Spot) -> Cut {
         Some(spot) => spot.start,
         None => around.close,
     };
-    let left = Gap::of(care, text, from, here.start);
-    let right = Gap::of(care, text, here.full_end(), until);
+    let left = Gap::of(text, from, here.start);
+    let right = Gap::of(text, here.full_end(), until);
     let (start, end) = part(text, around, from, left, right);
     if around.count == 1 && !has_comment(text, 1, start) && !has_comment(text, end, around.close) {
         return Cut {

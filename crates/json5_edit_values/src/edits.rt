@@ -24,7 +24,7 @@ use std::alloc::Global;
 ///
 /// - `Value` with the error of `json5::to_string`, if the value can't be written; `TooDeep` too, if it is nested too deep
 ///   for its place. It has no position.
-/// - `Text`, `Nowhere`, `NoMemory` and `Failed` as [`set`].
+/// - `Text`, `Nowhere` and `NoMemory` as [`set`].
 pub fn set_value<T: Serialize>(
     alloc: Global,
     text: &str,
@@ -51,7 +51,7 @@ pub fn set_value<T: Serialize>(
 /// # Errors
 ///
 /// - `Value` as [`set_value`].
-/// - `Text`, `Nowhere`, `NotArray`, `NoMemory` and `Failed` as [`push`].
+/// - `Text`, `Nowhere`, `NotArray` and `NoMemory` as [`push`].
 pub fn push_value<T: Serialize>(
     alloc: Global,
     text: &str,
@@ -78,7 +78,7 @@ pub fn push_value<T: Serialize>(
 /// # Errors
 ///
 /// - `Value` as [`set_value`].
-/// - `Text`, `Nowhere`, `NotArray`, `NoMemory` and `Failed` as [`insert_element`].
+/// - `Text`, `Nowhere`, `NotArray` and `NoMemory` as [`insert_element`].
 pub fn insert_element_value<T: Serialize>(
     alloc: Global,
     text: &str,
@@ -106,7 +106,7 @@ pub fn insert_element_value<T: Serialize>(
 /// # Errors
 ///
 /// - `Value` as [`set_value`].
-/// - `Text`, `Nowhere`, `NotObject`, `Taken`, `NoMemory` and `Failed` as [`insert`].
+/// - `Text`, `Nowhere`, `NotObject`, `Taken` and `NoMemory` as [`insert`].
 pub fn insert_value<T: Serialize>(
     alloc: Global,
     text: &str,

@@ -1,51 +1,54 @@
-use Rattle.std.proofs.Common.{refl, sym, subst, string_bytes}
+use Rattle.std.proofs.Common.{string_bytes}
 use Rattle.std.proofs.lemmas.Result.{err_from_is_err_and}
-use Rattle.json5_edit.specs.Changes.{ChangesBy, Gains}
+use Rattle.json5_edit.specs.Changes.{Gains}
 use Rattle.json5_edit.specs.Pieces.{Grows}
 use Rattle.json5_edit.specs.Refusals.{RefusesInsert}
 use Rattle.json5_value.specs.declared.brackets.BracketKind.TheVariants as kind
 use Rattle.json5_edit.proofs.Placed.{ok_then}
-use Rattle.json5_edit.proofs.Changed.{has_place, is_small, changed_by}
-use Rattle.json5_edit.proofs.Refused.{own, own_then, document, path_insert, reaches_no, key_insert, new_insert}
+use Rattle.json5_edit.proofs.Changed.{has_place, is_small, changed_within}
+use Rattle.json5_edit.proofs.Refused.{lacking, path_insert, free_insert, new_insert, value_fits}
 use Rattle.json5_edit.proofs.changing.insert.Goals as goal
 
 pub part_text-old-requires : goal.part_text-old-requires
 part_text-old-requires c = has_place c.in_ok-place.ensures.found
 
-pub put_made-requires-clause-place : goal.put_made-requires-clause-place
-put_made-requires-clause-place c = has_place c.in_ok-place.ensures.found
-
-pub put_made-requires-clause-small : goal.put_made-requires-clause-small
-put_made-requires-clause-small c = is_small c.in_ok-place.ensures.found
+pub splice-requires : goal.splice-requires
+splice-requires c = has_place c.in_ok-place.ensures.found
 
 pub check_entry-requires : goal.check_entry-requires
 check_entry-requires c = is_small c.in_ok-place.ensures.found
+
+pub free_end-requires-clause-small : goal.free_end-requires-clause-small
+free_end-requires-clause-small c = is_small c.in_ok-place.ensures.found
+
+pub free_end-requires-clause-value : goal.free_end-requires-clause-value
+free_end-requires-clause-value c = value_fits c.args.text.now c.part_text-old.result.now c.args.path.now c.in_ok-place.place c.utf8.text c.in_ok-place.ensures.found c.part_text-old.ensures
+
+pub inserted-requires-clause-small : goal.inserted-requires-clause-small
+inserted-requires-clause-small c = is_small c.in_ok-place.ensures.found
 
 pub returns-in_err-place-clause-refused : goal.returns-in_err-place-clause-refused
 returns-in_err-place-clause-refused c =
     let (y, is, from) = err_from_is_err_and c.from_residual.result c.from_residual.ensures.1 in
     rw (is, from) (path_insert c.args.text.now c.args.key.now c.args.value.now c.args.path.now c.in_err-place.field-0.0 c.in_err-place.ensures.refused)
 
-pub returns-then-not-begins-clause-refused : goal.returns-then-not-begins-clause-refused
-returns-then-not-begins-clause-refused c = reaches_no c.args.text.now c.part_text-old.result.now c.args.path.now c.in_ok-place.place c.utf8.text c.in_ok-place.ensures.found c.part_text-old.ensures kind.Object (c.if-not-begins.ensures refl)
-
-pub returns-in_err-check_key-clause-refused : goal.returns-in_err-check_key-clause-refused
-returns-in_err-check_key-clause-refused c =
-    let (y, is, from) = err_from_is_err_and c.from_residual-in_err-check_key.result c.from_residual-in_err-check_key.ensures.1 in
-    rw (is, from) (key_insert c.args.text.now c.part_text-old.result.now c.args.path.now c.in_ok-place.place c.utf8.text c.in_ok-place.ensures.found c.part_text-old.ensures c.args.key.now c.args.value.now c.in_err-check_key.field-0.0 c.in_err-check_key.ensures)
+pub returns-in_err-end-clause-refused : goal.returns-in_err-end-clause-refused
+returns-in_err-end-clause-refused c =
+    let (y, is, from) = err_from_is_err_and c.from_residual-in_err-end.result c.from_residual-in_err-end.ensures.1 in
+    rw (is, from) (free_insert c.args.text.now c.part_text-old.result.now c.args.path.now c.in_ok-place.place c.utf8.text c.in_ok-place.ensures.found c.part_text-old.ensures c.args.key.now c.args.value.now c.in_err-end.field-0.0 c.in_err-end.ensures.refused)
 
 pub returns-in_err-check_entry-clause-refused : goal.returns-in_err-check_entry-clause-refused
 returns-in_err-check_entry-clause-refused c =
     let (y, is, from) = err_from_is_err_and c.from_residual-in_err-check_entry.result c.from_residual-in_err-check_entry.ensures.1 in
-    rw (is, from) (new_insert c.args.text.now c.args.path.now c.in_ok-place.place c.in_ok-place.ensures.found c.args.key.now c.args.value.now c.in_err-check_entry.field-0.0 c.in_err-check_entry.ensures)
+    rw (is, from) (new_insert c.args.text.now c.args.path.now c.in_ok-place.place c.in_ok-place.ensures.found c.args.key.now c.args.value.now c.in_err-check_entry.field-0.0 c.in_err-check_entry.ensures.refused)
 
 pub returns-in_err-new-clause-refused : goal.returns-in_err-new-clause-refused
 returns-in_err-new-clause-refused c =
     let (y, is, from) = err_from_is_err_and c.from_residual-in_err-new.result c.from_residual-in_err-new.ensures.1 in
-    rw (is, from) (own (RefusesInsert c.args.text.now c.args.path.now c.args.key.now c.args.value.now) c.in_err-new.field-0.0 tt (document c.args.text.now c.args.path.now c.in_ok-place.place c.in_ok-place.ensures.found) c.in_err-new.ensures.own)
+    rw (is, from, c.in_err-new.ensures.full) tt
 
 pub returns-clause-inserted : goal.returns-clause-inserted
-returns-clause-inserted c = ok_then c.put_made.result (λ made k. changed_by Grows (Gains kind.Object c.args.key.now c.args.value.now) c.args.text.now c.part_text-old.result.now c.as_str.result.now (string_bytes made) c.args.path.now c.in_ok-place.place c.utf8.text c.in_ok-place.ensures.found c.part_text-old.ensures (subst (ChangesBy (Gains kind.Object c.args.key.now c.args.value.now) c.part_text-old.result.now) (sym c.as_str.ensures.value) c.in_ok-new.ensures.added) (subst (Grows c.part_text-old.result.now) (sym c.as_str.ensures.value) c.in_ok-new.ensures.grows) k) c.put_made.ensures.puts
+returns-clause-inserted c = ok_then c.splice.result (λ made k. changed_within Grows (Gains kind.Object c.args.key.now c.args.value.now) c.args.text.now c.part_text-old.result.now c.as_str.result.now (string_bytes c.in_ok-new.new) (string_bytes made) c.args.path.now c.in_ok-place.place c.utf8.text c.as_str.utf8 c.as_str.ensures.value c.in_ok-place.ensures.found c.part_text-old.ensures c.in_ok-new.ensures.inserted k) c.splice.ensures.spliced
 
 pub returns-clause-refused : goal.returns-clause-refused
-returns-clause-refused c = own_then (RefusesInsert c.args.text.now c.args.path.now c.args.key.now c.args.value.now) c.put_made.result tt (document c.args.text.now c.args.path.now c.in_ok-place.place c.in_ok-place.ensures.found) c.put_made.ensures.own
+returns-clause-refused c = lacking (RefusesInsert c.args.text.now c.args.path.now c.args.key.now c.args.value.now) c.splice.result tt c.splice.ensures.full

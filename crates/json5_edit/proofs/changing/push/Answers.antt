@@ -1,25 +1,28 @@
-use Rattle.std.proofs.Common.{refl, sym, subst, string_bytes, []}
+use Rattle.std.proofs.Common.{refl, string_bytes, []}
 use Rattle.std.proofs.lemmas.Result.{err_from_is_err_and}
-use Rattle.json5_edit.specs.Changes.{ChangesBy, Gains}
+use Rattle.json5_edit.specs.Changes.{Gains}
 use Rattle.json5_edit.specs.Pieces.{Grows}
 use Rattle.json5_edit.specs.Refusals.{RefusesPush}
 use Rattle.json5_value.specs.declared.brackets.BracketKind.TheVariants as kind
 use Rattle.json5_edit.proofs.Placed.{ok_then}
-use Rattle.json5_edit.proofs.Changed.{has_place, is_small, changed_by}
-use Rattle.json5_edit.proofs.Refused.{own, own_then, document, path_push, reaches_no, new_push}
+use Rattle.json5_edit.proofs.Changed.{has_place, is_small, changed_within}
+use Rattle.json5_edit.proofs.Refused.{lacking, path_push, array_push, reaches_no, new_push, value_fits}
 use Rattle.json5_edit.proofs.changing.push.Goals as goal
 
 pub part_text-old-requires : goal.part_text-old-requires
 part_text-old-requires c = has_place c.in_ok-place.ensures.found
 
-pub put_made-requires-clause-place : goal.put_made-requires-clause-place
-put_made-requires-clause-place c = has_place c.in_ok-place.ensures.found
-
-pub put_made-requires-clause-small : goal.put_made-requires-clause-small
-put_made-requires-clause-small c = is_small c.in_ok-place.ensures.found
+pub splice-requires : goal.splice-requires
+splice-requires c = has_place c.in_ok-place.ensures.found
 
 pub check_entry-requires : goal.check_entry-requires
 check_entry-requires c = is_small c.in_ok-place.ensures.found
+
+pub pushed-requires-clause-small : goal.pushed-requires-clause-small
+pushed-requires-clause-small c = is_small c.in_ok-place.ensures.found
+
+pub pushed-requires-clause-old : goal.pushed-requires-clause-old
+pushed-requires-clause-old c = value_fits c.args.text.now c.part_text-old.result.now c.args.path.now c.in_ok-place.place c.utf8.text c.in_ok-place.ensures.found c.part_text-old.ensures
 
 pub returns-in_err-place-clause-refused : goal.returns-in_err-place-clause-refused
 returns-in_err-place-clause-refused c =
@@ -32,15 +35,15 @@ returns-then-not-begins-clause-refused c = reaches_no c.args.text.now c.part_tex
 pub returns-in_err-check_entry-clause-refused : goal.returns-in_err-check_entry-clause-refused
 returns-in_err-check_entry-clause-refused c =
     let (y, is, from) = err_from_is_err_and c.from_residual-in_err-check_entry.result c.from_residual-in_err-check_entry.ensures.1 in
-    rw (is, from) (new_push c.args.text.now c.args.path.now c.in_ok-place.place c.in_ok-place.ensures.found c.args.value.now c.in_err-check_entry.field-0.0 c.in_err-check_entry.ensures)
+    rw (is, from) (new_push c.args.text.now c.args.path.now c.in_ok-place.place c.in_ok-place.ensures.found c.args.value.now c.in_err-check_entry.field-0.0 c.in_err-check_entry.ensures.refused)
 
 pub returns-in_err-new-clause-refused : goal.returns-in_err-new-clause-refused
 returns-in_err-new-clause-refused c =
     let (y, is, from) = err_from_is_err_and c.from_residual-in_err-new.result c.from_residual-in_err-new.ensures.1 in
-    rw (is, from) (own (RefusesPush c.args.text.now c.args.path.now c.args.value.now) c.in_err-new.field-0.0 tt (document c.args.text.now c.args.path.now c.in_ok-place.place c.in_ok-place.ensures.found) c.in_err-new.ensures.own)
+    rw (is, from) (array_push c.args.text.now c.part_text-old.result.now c.args.path.now c.in_ok-place.place c.utf8.text c.in_ok-place.ensures.found c.part_text-old.ensures c.args.value.now c.in_err-new.field-0.0 c.in_err-new.ensures.refused)
 
 pub returns-clause-pushed : goal.returns-clause-pushed
-returns-clause-pushed c = ok_then c.put_made.result (λ made k. changed_by Grows (Gains kind.Array [] c.args.value.now) c.args.text.now c.part_text-old.result.now c.as_str.result.now (string_bytes made) c.args.path.now c.in_ok-place.place c.utf8.text c.in_ok-place.ensures.found c.part_text-old.ensures (subst (ChangesBy (Gains kind.Array [] c.args.value.now) c.part_text-old.result.now) (sym c.as_str.ensures.value) c.in_ok-new.ensures.added) (subst (Grows c.part_text-old.result.now) (sym c.as_str.ensures.value) c.in_ok-new.ensures.grows) k) c.put_made.ensures.puts
+returns-clause-pushed c = ok_then c.splice.result (λ made k. changed_within Grows (Gains kind.Array [] c.args.value.now) c.args.text.now c.part_text-old.result.now c.as_str.result.now (string_bytes c.in_ok-new.new) (string_bytes made) c.args.path.now c.in_ok-place.place c.utf8.text c.as_str.utf8 c.as_str.ensures.value c.in_ok-place.ensures.found c.part_text-old.ensures c.in_ok-new.ensures.pushed k) c.splice.ensures.spliced
 
 pub returns-clause-refused : goal.returns-clause-refused
-returns-clause-refused c = own_then (RefusesPush c.args.text.now c.args.path.now c.args.value.now) c.put_made.result tt (document c.args.text.now c.args.path.now c.in_ok-place.place c.in_ok-place.ensures.found) c.put_made.ensures.own
+returns-clause-refused c = lacking (RefusesPush c.args.text.now c.args.path.now c.args.value.now) c.splice.result tt c.splice.ensures.full

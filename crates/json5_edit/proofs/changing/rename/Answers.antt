@@ -1,38 +1,47 @@
-use Rattle.std.proofs.Common.{inl, inr, sym, ap, ◌∙◌, [], ◌∷◌, ◌++◌, subst, string_bytes}
+use Rattle.std.proofs.Common.{inl, refl, ap, ◌∙◌, [], ◌∷◌, ◌++◌, subst, string_bytes}
 use Rattle.std.proofs.lemmas.Result.{err_from_is_err_and}
-use Rattle.json5_edit.specs.Changes.{ChangesBy}
 use Rattle.json5_edit.specs.Comparing.{IsRenamed}
 use Rattle.json5_edit.specs.Pieces.{Respells}
 use Rattle.json5_edit.specs.Refusals.{RefusesRename}
+use Rattle.json5_edit.specs.Spots.{HasEntry}
 use Rattle.json5_edit.proofs.Placed.{ok_then}
-use Rattle.json5_edit.proofs.Changed.{has_place, is_small, changed_by}
-use Rattle.json5_edit.proofs.Refused.{no_steps, own, own_then, document, path_rename, step_rename, key_rename}
+use Rattle.json5_edit.proofs.Changed.{has_place, is_small, changed_within}
+use Rattle.json5_edit.proofs.Refused.{no_steps, lacking, path_rename, step_rename, key_rename, value_fits, old_document}
 use Rattle.json5_edit.proofs.changing.rename.Goals as goal
 
 pub part_text-old-requires : goal.part_text-old-requires
 part_text-old-requires c = has_place c.in_ok-place.ensures.found
 
-pub put_made-requires-clause-place : goal.put_made-requires-clause-place
-put_made-requires-clause-place c = has_place c.in_ok-place.ensures.found
+pub entry_start-requires-clause-small : goal.entry_start-requires-clause-small
+entry_start-requires-clause-small c = is_small c.in_ok-place.ensures.found
 
-pub put_made-requires-clause-small : goal.put_made-requires-clause-small
-put_made-requires-clause-small c = is_small c.in_ok-place.ensures.found
+pub entry_start-requires-clause-value : goal.entry_start-requires-clause-value
+entry_start-requires-clause-value c = value_fits c.args.text.now c.part_text-old.result.now c.in-Some.outer.now c.in_ok-place.place c.utf8.text c.in_ok-place.ensures.found c.part_text-old.ensures
+
+pub check_key-requires : goal.check_key-requires
+check_key-requires c = old_document c.args.text.now c.part_text-old.result.now c.in-Some.outer.now c.in_ok-place.place c.utf8.text c.in_ok-place.ensures.found c.part_text-old.ensures
+
+pub renamed-requires-clause-small : goal.renamed-requires-clause-small
+renamed-requires-clause-small c = is_small c.in_ok-place.ensures.found
+
+pub renamed-requires-clause-key : goal.renamed-requires-clause-key
+renamed-requires-clause-key c = (c.in-Key.name, refl, subst (λ s. HasEntry s c.in_ok-place.place.room c.part_text-old.result.now c.in_ok-start.start) c.in-Key.is c.in_ok-start.ensures.found)
+
+pub splice-requires : goal.splice-requires
+splice-requires c = has_place c.in_ok-place.ensures.found
 
 pub returns-in_default-clause-refused : goal.returns-in_default-clause-refused
 returns-in_default-clause-refused c = inl (no_steps c.args.path.now (rw c.in_default.is at c.split_last.ensures.cases))
-
-pub returns-in-Index-clause-refused : goal.returns-in-Index-clause-refused
-returns-in-Index-clause-refused c = inr (c.in-Some.outer.now, _, c.in-Some.ensures.cases.0 ∙ ap (λ s. c.in-Some.outer.now ++ (s ∷ [])) c.in-Index.is)
 
 pub returns-in_err-place-clause-refused : goal.returns-in_err-place-clause-refused
 returns-in_err-place-clause-refused c =
     let (y, is, from) = err_from_is_err_and c.from_residual.result c.from_residual.ensures.1 in
     rw (is, from) (path_rename c.args.text.now c.args.key.now c.args.path.now c.in-Some.outer.now c.in-Some.step.now c.in_err-place.field-0.0 c.in-Some.ensures.cases.0 c.in_err-place.ensures.refused)
 
-pub returns-in_err-check_step-clause-refused : goal.returns-in_err-check_step-clause-refused
-returns-in_err-check_step-clause-refused c =
-    let (y, is, from) = err_from_is_err_and c.from_residual-in_err-check_step.result c.from_residual-in_err-check_step.ensures.1 in
-    rw (is, from) (step_rename c.args.text.now c.part_text-old.result.now c.in-Some.outer.now c.in_ok-place.place c.utf8.text c.in_ok-place.ensures.found c.part_text-old.ensures c.args.path.now c.args.key.now c.in-Some.step.now c.in_err-check_step.field-0.0 c.in-Some.ensures.cases.0 c.in_err-check_step.ensures)
+pub returns-in_err-start-clause-refused : goal.returns-in_err-start-clause-refused
+returns-in_err-start-clause-refused c =
+    let (y, is, from) = err_from_is_err_and c.from_residual-in_err-start.result c.from_residual-in_err-start.ensures.1 in
+    rw (is, from) (step_rename c.args.text.now c.part_text-old.result.now c.in-Some.outer.now c.in_ok-place.place c.utf8.text c.in_ok-place.ensures.found c.part_text-old.ensures c.args.path.now c.args.key.now c.in-Some.step.now c.in_err-start.field-0.0 c.in-Some.ensures.cases.0 c.in_err-start.ensures.refused)
 
 pub returns-in_err-check_key-clause-refused : goal.returns-in_err-check_key-clause-refused
 returns-in_err-check_key-clause-refused c =
@@ -42,10 +51,10 @@ returns-in_err-check_key-clause-refused c =
 pub returns-in_err-new-clause-refused : goal.returns-in_err-new-clause-refused
 returns-in_err-new-clause-refused c =
     let (y, is, from) = err_from_is_err_and c.from_residual-in_err-new.result c.from_residual-in_err-new.ensures.1 in
-    rw (is, from) (own (RefusesRename c.args.text.now c.args.path.now c.args.key.now) c.in_err-new.field-0.0 tt (document c.args.text.now c.in-Some.outer.now c.in_ok-place.place c.in_ok-place.ensures.found) c.in_err-new.ensures.own)
+    rw (is, from, c.in_err-new.ensures.full) tt
 
 pub returns-clause-rekeyed : goal.returns-clause-rekeyed
-returns-clause-rekeyed c = ok_then c.put_made.result (λ made k. let q = changed_by Respells (IsRenamed c.in-Some.step.now c.args.key.now) c.args.text.now c.part_text-old.result.now c.as_str.result.now (string_bytes made) c.in-Some.outer.now c.in_ok-place.place c.utf8.text c.in_ok-place.ensures.found c.part_text-old.ensures (subst (ChangesBy (IsRenamed c.in-Some.step.now c.args.key.now) c.part_text-old.result.now) (sym c.as_str.ensures.value) c.in_ok-new.ensures.renamed) (subst (Respells c.part_text-old.result.now) (sym c.as_str.ensures.value) c.in_ok-new.ensures.respells) k in (c.in-Some.outer.now, c.in-Some.step.now, c.in-Some.ensures.cases.0, q.0, q.1)) c.put_made.ensures.puts
+returns-clause-rekeyed c = ok_then c.splice.result (λ made k. let q = changed_within Respells (IsRenamed c.in-Key.name.now c.args.key.now) c.args.text.now c.part_text-old.result.now c.as_str.result.now (string_bytes c.in_ok-new.new) (string_bytes made) c.in-Some.outer.now c.in_ok-place.place c.utf8.text c.as_str.utf8 c.as_str.ensures.value c.in_ok-place.ensures.found c.part_text-old.ensures c.in_ok-new.ensures.renamed k in (c.in-Some.outer.now, c.in-Key.name, c.in-Some.ensures.cases.0 ∙ ap (λ s. c.in-Some.outer.now ++ (s ∷ [])) c.in-Key.is, q.0, q.1)) c.splice.ensures.spliced
 
 pub returns-clause-refused : goal.returns-clause-refused
-returns-clause-refused c = own_then (RefusesRename c.args.text.now c.args.path.now c.args.key.now) c.put_made.result tt (document c.args.text.now c.in-Some.outer.now c.in_ok-place.place c.in_ok-place.ensures.found) c.put_made.ensures.own
+returns-clause-refused c = lacking (RefusesRename c.args.text.now c.args.path.now c.args.key.now) c.splice.result tt c.splice.ensures.full

@@ -1,4 +1,4 @@
-use Rattle.std.proofs.Common.{refl, ◌∙◌}
+use Rattle.std.proofs.Common.{refl}
 use Rattle.json5_value.specs.declared.brackets.BracketKind.TheVariants as kind
 use Rattle.json5_edit.proofs.EntriesPassed.{opens}
 use Rattle.json5_edit.proofs.Compared.{renamed}
@@ -6,7 +6,7 @@ use Rattle.json5_edit.proofs.Seeks.{on_then}
 use Rattle.json5_edit.proofs.comparing.check_renamed.Goals as goal
 
 pub returns : goal.returns
-returns c = on_then c.finish-2.result c.finish-2.ensures.walked (λ ends. renamed c.args.step c.args.index c.place.result _ _ _ _ c.args.name.now c.place.ensures
+returns c = on_then c.finish-2.result c.finish-2.ensures.walked (λ ends. renamed c.args.name c.args.before _ _ _ _ c.args.key.now
     (opens c.args.old.now c.full.result kind.Object c.utf8.old c.full.ensures c.new-left.ensures c.in_ok-open_both.ensures.left)
     (opens c.args.new.now c.full-2.result kind.Object c.utf8.new c.full-2.ensures c.new-right.ensures c.in_ok-open_both.ensures.right)
-    c.in_ok-same_front.ensures c.in_ok-gone.ensures c.in_ok-came.ensures (c.if-not-has_key.ensures refl ∙ c.key.ensures) (c.if-not-has_key-2.ensures refl) (c.if-not-has_value.ensures refl) c.in_ok-same_rest.ensures c.in_ok-finish.ensures.walked ends)
+    c.in_ok-same_front.ensures c.in_ok-gone.ensures c.in_ok-came.ensures (c.if-not-has_key.ensures refl) (c.if-not-has_key-2.ensures refl) (c.if-not-has_value.ensures refl) c.in_ok-same_rest.ensures c.in_ok-finish.ensures.walked ends)

@@ -1,0 +1,468 @@
+-- The entries of a collection that a survey passes.
+use Rattle.std.proofs.Common.{◌≡◌, ℕ, zero, suc, ◌+◌, ◌≤◌, ◌<◌, ◌-◌, Bool, true, false, List, [], ◌∷◌, ◌++◌, length, refl, ap, sym, ◌∙◌, append_assoc, subst, inl, inr, ◌⊎◌, Option, Some, None, nat_eq, arith}
+use Rattle.std.specs.Prelude.{◌≢◌, ◌==◌, MatchOption}
+use Rattle.std.specs.Cmp.Lexicographic.{pointwise, bytes_decides}
+use Rattle.std.specs.Str.{chars, IsUtf8, encode_utf8_all}
+use Rattle.std.proofs.lemmas.Bool.{eqb-false, eqb-true}
+use Rattle.std.proofs.lemmas.List.{length-append}
+use Rattle.std.proofs.lemmas.Str.{length-le-encodes}
+use Rattle.json5_grammar.specs.Language.Blanks.{Solid}
+use Rattle.json5_grammar.specs.Language.Characters.{NotBegun}
+use Rattle.json5_grammar.specs.Language.Trees.{Tree, null, boolean, number, text, array, object, Trees, Members, no_more, more, no_member, member, depth}
+use Rattle.json5_grammar.specs.Language.Values.{Val}
+use Rattle.json5_grammar.proofs.ArraysRead.{array_front}
+use Rattle.json5_grammar.proofs.ArraysPartlyRead.{sign_shorter}
+use Rattle.json5_grammar.proofs.ObjectsRead.{object_front}
+use Rattle.json5_grammar.proofs.OneTree.{one_tree}
+use Rattle.json5_types.specs.declared.error.Error.{Error}
+use Rattle.json5_types.specs.Errors.{LacksMemory}
+use Rattle.json5_value.specs.declared.brackets.BracketKind.{BracketKind as Kind}
+use Rattle.json5_value.specs.declared.brackets.BracketKind.TheVariants as kind
+use Rattle.json5_value.specs.Brackets.{brackets_of}
+use Rattle.json5_walk.specs.Nexts.{takes_value}
+use Rattle.json5_walk.specs.Frames.{Frame, in_object, value_end, Spells, At, at_value, at_element, at_key, at_colon, at_comma, next_of, value_frames}
+use Rattle.json5_walk.specs.Moves.{Stays, Opens, opens_array, opens_object, TakesComma, after_element, after_member, Closes}
+use Rattle.json5_walk.specs.Walks.{Walked, at_start, Trail, IsAt, Live, Moved, PassesValue, NotOpened, IsDocumentWithin, IsHopeless, AwaitsValue}
+use Rattle.json5_walk.proofs.Calls.{starts_at, utf8_len}
+use Rattle.json5_edit.specs.Comparing.{GoesTo, step_kind, step_key}
+use Rattle.json5_edit.specs.Entries.{elements, members, entries, kind_of, empty_of, is_inside, read_in, around}
+use Rattle.json5_edit.specs.Parts.{count, count_members}
+use Rattle.json5_edit.specs.Places.{IsValue}
+use Rattle.json5_edit.specs.Refusals.{BeginsNo}
+use Rattle.json5_edit.specs.Seeks.{Named, Stands, IsAfterEntry}
+use Rattle.json5_edit.specs.Spots.{Spot, awaits_comma, Inside, Names, NamesSpare, latest, Misses, IsEntry, Surveys}
+use Rattle.json5_edit.specs.declared.paths.Step.{Step}
+use Rattle.json5_edit.specs.declared.paths.Step.TheVariants as step
+use Rattle.json5_edit.specs.declared.survey.Survey.{Survey}
+use Rattle.json5_edit.proofs.Compared.{alone, lacks_key_more}
+use Rattle.json5_edit.proofs.EntriesPassed.{elements_snoc, members_snoc, same_collection, opened_in, closed_in}
+use Rattle.json5_edit.proofs.Refused.{begins_with}
+use Rattle.json5_edit.proofs.Seeks.{there, stayed, value_taken, name_gives}
+use Rattle.json5_edit.proofs.Spared.{fewer, fewer_members, awaits_element, awaits_key, awaits_value}
+use Rattle.json5_text.specs.Outcome.{bytes_in}
+use Rattle.json5_edit.proofs.Spotted.{spells_value, value_document, spot, entries_joined, joined_kind}
+
+-- ---- the first bracket
+
+opened_awaits : (k : Kind) {b : At} → Opens k (at_value []) b → awaits_comma b ≡ false
+opened_awaits kind.Array (opens_array a v) = refl
+opened_awaits kind.Object (opens_object a v) = refl
+
+pub opens_inside : {v0 v1 : Walked} (bytes : List ℕ) (limit : ℕ) (k : Kind) → IsUtf8 bytes → v0 ≡ at_start bytes limit → Moved (Opens k) v0 v1 → Inside limit bytes (empty_of k) false v1
+opens_inside {v0 = v0} {v1 = v1} bytes limit k u start p =
+    let f : IsAt v0 (record { now = at_value []; marked = None }) = subst (λ v. IsAt v (record { now = at_value []; marked = None })) (sym start) (starts_at u) in
+    let (b, is, g) = p.leads (record { now = at_value []; marked = None }) f in
+    let (i, r, o) = opened_in k is in
+    record {
+      same_text = p.text ∙ ap (λ (v : Walked). v.text) start;
+      same_limit = p.limit ∙ ap (λ (v : Walked). v.limit) start;
+      now = b;
+      marked = None;
+      is_at = g;
+      inside = i;
+      read = r;
+      outermost = o;
+      is_due = opened_awaits k is;
+    }
+
+-- ---- no bracket of the kind
+
+deep : (k : Kind) (t : Tree) → kind_of t ≡ Some k → 1 ≤ depth t
+deep k (array ts) e = omega arith
+deep k (object ps) e = omega arith
+deep k null e = absurd (cc)
+deep k (boolean b) e = absurd (cc)
+deep k (number n) e = absurd (cc)
+deep k (text u b) e = absurd (cc)
+
+no_bracket : (k : Kind) (v : Walked) (bytes : List ℕ) (limit : ℕ) → v ≡ at_start bytes limit → IsValue limit (chars bytes) → (takes_value v.next ≡ false) ⊎ ((v.limit ≤ length v.kinds) ⊎ NotBegun (λ c. c == (brackets_of k).opening) v.unread) → BeginsNo k (chars bytes)
+no_bracket k v bytes limit start value (inl e) = let h : true ≡ false = ap (λ (z : Walked). takes_value z.next) (sym start) ∙ e in absurd (cc)
+no_bracket k v bytes limit start (w, val, d) (inr (inl l)) = λ t is e.
+    let size : limit ≤ 0 = subst (λ (z : Walked). z.limit ≤ length z.kinds) start l in
+    let same : t ≡ w = one_tree (depth t) (depth w) (chars bytes) t w (alone (chars bytes) t is) (alone (chars bytes) w val) in
+    let n = deep k t e in
+    let m : depth t ≡ depth w = ap depth same in
+    omega (arith, n, m, d, size)
+no_bracket k v bytes limit start value (inr (inr n)) = λ t is e.
+    let (m, begins) = begins_with k (chars bytes) t is e in
+    let h : NotBegun (λ c. c == (brackets_of k).opening) ((brackets_of k).opening ∷ m) = subst (NotBegun (λ c. c == (brackets_of k).opening)) (ap (λ (z : Walked). z.unread) start ∙ begins) n in
+    no_other k m h
+  where
+    no_other : (k : Kind) (m : List ℕ) → NotBegun (λ c. c == (brackets_of k).opening) ((brackets_of k).opening ∷ m) → ⊥
+    no_other kind.Array m h = let same : false ≡ true = sym h in cc
+    no_other kind.Object m h = let same : false ≡ true = sym h in cc
+
+pub not_opened : {k : Kind} {v : Walked} {bytes : List ℕ} {limit : ℕ} → v ≡ at_start bytes limit → IsValue limit (chars bytes) → NotOpened k v → BeginsNo k (chars bytes)
+not_opened {k = k} {v = v} {bytes = bytes} {limit = limit} start value n = no_bracket k v bytes limit start value n
+
+-- ---- within the collection
+
+pub whole : (limit : ℕ) (bytes : List ℕ) (value : IsValue limit (chars bytes)) → Spells value_end limit (chars bytes) value.0
+whole limit bytes (t, v, d) = spells_value limit (chars bytes) t v d
+
+is_within : {limit : ℕ} {bytes : List ℕ} (v : Walked) → IsValue limit (chars bytes) → v.text ≡ bytes → v.limit ≡ limit → IsDocumentWithin v.limit v.text
+is_within {limit = limit} {bytes = bytes} v (t, val, d) same_text same_limit =
+    subst (λ l. IsDocumentWithin l v.text) (sym same_limit) (subst (λ x. IsDocumentWithin limit x) (sym same_text) (t, value_document limit (chars bytes) t val d))
+
+pub stays_inside : {limit : ℕ} {bytes : List ℕ} {t : Tree} {due : Bool} {v w : Walked} → Inside limit bytes t due v → Moved Stays v w → Inside limit bytes t due w
+stays_inside {w = w} h p =
+    let (a, is, g) = p.leads (record { now = h.now; marked = h.marked }) h.is_at in
+    record { same_text = p.text ∙ h.same_text; same_limit = p.limit ∙ h.same_limit; now = h.now; marked = h.marked; is_at = stayed is g; inside = h.inside; read = h.read; outermost = h.outermost; is_due = h.is_due }
+
+comma_taken : {a b : At} → TakesComma a b → awaits_comma b ≡ false
+comma_taken (after_element ts t o) = refl
+comma_taken (after_member ps u e t o) = refl
+
+pub comma_inside : {limit : ℕ} {bytes : List ℕ} {t : Tree} {due : Bool} {v w : Walked} → Inside limit bytes t due v → Moved TakesComma v w → Inside limit bytes t false w
+comma_inside h p =
+    let (b, is, g) = p.leads (record { now = h.now; marked = h.marked }) h.is_at in
+    let (i, r, o) = same_collection is in
+    record { same_text = p.text ∙ h.same_text; same_limit = p.limit ∙ h.same_limit; now = b; marked = h.marked; is_at = g; inside = i; read = r ∙ h.read; outermost = o ∙ h.outermost; is_due = comma_taken is }
+
+-- the collection that was closed is the whole
+pub closes_whole : {limit : ℕ} {bytes : List ℕ} {t : Tree} {due : Bool} {v w : Walked} → Inside limit bytes t due v → Moved Closes v w → (value : IsValue limit (chars bytes)) → value.0 ≡ t
+closes_whole {limit = limit} {bytes = bytes} {t = t} {w = w} h p value =
+    let (b, is, g) = p.leads (record { now = h.now; marked = h.marked }) h.is_at in
+    let f : IsAt w (record { now = at_comma t []; marked = h.marked }) = there (closed_in is h.outermost ∙ ap (λ z. at_comma z []) h.read) g in
+    let same_text : w.text ≡ bytes = p.text ∙ h.same_text in
+    let same_limit : w.limit ≡ limit = p.limit ∙ h.same_limit in
+    let s : Spells value_end w.limit (chars w.text) value.0 = subst (λ x. Spells value_end w.limit (chars x) value.0) (sym same_text) (subst (λ l. Spells value_end l (chars bytes) value.0) (sym same_limit) (whole limit bytes value)) in
+    (f.back value_end value.0 s).1
+
+-- ---- where a value is due
+
+-- a value is due that goes with this key after the entries of t
+pub record Before (limit : ℕ) (bytes : List ℕ) (t : Tree) (key : List ℕ) (v : Walked) : Type 0 where
+  pub same_text : v.text ≡ bytes
+  pub same_limit : v.limit ≡ limit
+  pub now : At
+  pub marked : Option (List Frame)
+  pub is_at : IsAt v (record { now = now; marked = marked })
+  pub inside : (w : Tree) → is_inside (at_comma w (value_frames now)) ≡ true
+  pub outermost : (w : Tree) → around (at_comma w (value_frames now)) ≡ []
+  pub same_kind : (w : Tree) → kind_of (read_in (at_comma w (value_frames now))) ≡ kind_of t
+  pub one_more : (w : Tree) → entries (read_in (at_comma w (value_frames now))) ≡ entries t ++ ((key, w) ∷ [])
+
+before_element : {limit : ℕ} {bytes : List ℕ} {t : Tree} {v : Walked} {m : Option (List Frame)} (a : At) → v.text ≡ bytes → v.limit ≡ limit → IsAt v (record { now = a; marked = m }) → is_inside a ≡ true → read_in a ≡ t → around a ≡ [] → awaits_comma a ≡ false → kind_of t ≡ Some kind.Array → Before limit bytes t [] v
+before_element {t = t} {v = v} {m = m} (at_element ts o) same_text same_limit f i r e n k = record {
+  same_text = same_text;
+  same_limit = same_limit;
+  now = at_element ts o;
+  marked = m;
+  is_at = f;
+  inside = λ w. refl;
+  outermost = λ w. e;
+  same_kind = λ w. ap kind_of r;
+  one_more = λ w. elements_snoc ts w ∙ ap (λ z. entries z ++ (([], w) ∷ [])) r;
+}
+before_element (at_key ps o) same_text same_limit f i r e n k = let h : Some kind.Object ≡ Some kind.Array = ap kind_of r ∙ k in absurd (cc)
+before_element (at_comma s o) same_text same_limit f i r e n k = absurd (cc)
+before_element (at_value o) same_text same_limit f i r e n k = absurd (cc)
+before_element (at_colon ps u b o) same_text same_limit f i r e n k = absurd (cc)
+
+element_awaits : {t : Tree} {v : Walked} {m : Option (List Frame)} (a : At) → IsAt v (record { now = a; marked = m }) → is_inside a ≡ true → read_in a ≡ t → awaits_comma a ≡ false → kind_of t ≡ Some kind.Array → Stands v → AwaitsValue v
+element_awaits (at_element ts o) f i r n k stands = awaits_element f stands
+element_awaits (at_key ps o) f i r n k stands = let h : Some kind.Object ≡ Some kind.Array = ap kind_of r ∙ k in absurd (cc)
+element_awaits (at_comma s o) f i r n k stands = absurd (cc)
+element_awaits (at_value o) f i r n k stands = absurd (cc)
+element_awaits (at_colon ps u b o) f i r n k stands = absurd (cc)
+
+pub in_array_before : {limit : ℕ} {bytes : List ℕ} {t : Tree} {v : Walked} → Inside limit bytes t false v → kind_of t ≡ Some kind.Array → Before limit bytes t [] v
+in_array_before h k = before_element h.now h.same_text h.same_limit h.is_at h.inside h.read h.outermost h.is_due k
+
+-- where a key is due
+pub record BeforeKey (t : Tree) (v : Walked) : Type 0 where
+  pub ps : Members
+  pub frames : List Frame
+  pub marked : Option (List Frame)
+  pub is_at : IsAt v (record { now = at_key ps frames; marked = marked })
+  pub read : object ps ≡ t
+  pub outermost : frames ≡ []
+
+key_due : {t : Tree} {v : Walked} {m : Option (List Frame)} (a : At) → IsAt v (record { now = a; marked = m }) → is_inside a ≡ true → read_in a ≡ t → around a ≡ [] → awaits_comma a ≡ false → kind_of t ≡ Some kind.Object → BeforeKey t v
+key_due {m = m} (at_key ps o) f i r e n k = record { ps = ps; frames = o; marked = m; is_at = f; read = r; outermost = e }
+key_due (at_element ts o) f i r e n k = let h : Some kind.Array ≡ Some kind.Object = ap kind_of r ∙ k in absurd (cc)
+key_due (at_comma s o) f i r e n k = absurd (cc)
+key_due (at_value o) f i r e n k = absurd (cc)
+key_due (at_colon ps u b o) f i r e n k = absurd (cc)
+
+in_object_due : {limit : ℕ} {bytes : List ℕ} {t : Tree} {v : Walked} → Inside limit bytes t false v → kind_of t ≡ Some kind.Object → BeforeKey t v
+in_object_due h k = key_due h.now h.is_at h.inside h.read h.outermost h.is_due k
+
+in_object_before : {limit : ℕ} {bytes : List ℕ} {t : Tree} {v w : Walked} (key : List ℕ) (same : Bool) → Inside limit bytes t false v → kind_of t ≡ Some kind.Object → Named key same v w → (name : List ℕ) × Before limit bytes t name w × (same ≡ pointwise nat_eq name key) × (Solid w.unread → AwaitsValue w)
+in_object_before {w = w} key same h k p =
+    let q = in_object_due h k in
+    let (b, is, g) = p.leads (record { now = at_key q.ps q.frames; marked = q.marked }) q.is_at in
+    let (u, e, at, eq) = name_gives is in
+    let f : IsAt w (record { now = at_value (in_object q.ps u e ∷ q.frames); marked = q.marked }) = there at g in (
+      encode_utf8_all u,
+      record {
+        same_text = p.text ∙ h.same_text;
+        same_limit = p.limit ∙ h.same_limit;
+        now = at_value (in_object q.ps u e ∷ q.frames);
+        marked = q.marked;
+        is_at = f;
+        inside = λ w. refl;
+        outermost = λ w. q.outermost;
+        same_kind = λ w. ap kind_of q.read;
+        one_more = λ w. members_snoc q.ps u e w ∙ ap (λ z. entries z ++ ((encode_utf8_all u, w) ∷ [])) q.read;
+      },
+      eq,
+      λ solid. awaits_value f solid,
+    )
+
+-- ---- an entry
+
+-- so many entries were passed
+pub record Passing (s : Step) (first now : Walked) (n : ℕ) (found : Option ℕ) : Type 0 where
+  pub tree : Tree
+  pub inside : Inside first.limit first.text tree false now
+  pub kind : kind_of tree ≡ Some (step_kind s)
+  pub size : length (entries tree) ≡ n
+  pub entry : MatchOption found (Misses s (entries tree)) (IsEntry s first.limit first.text tree)
+
+pub starts_passing : (s : Step) (v : Walked) → Inside v.limit v.text (empty_of (step_kind s)) false v → Passing s v v 0 None
+starts_passing (step.Index i) v h = record { tree = array no_more; inside = h; kind = refl; size = refl; entry = omega arith }
+starts_passing (step.Key k) v h = record { tree = object no_member; inside = h; kind = refl; size = refl; entry = tt }
+
+-- with its key, where it has one, and whether the step goes to it
+pub record Sought (s : Step) (limit : ℕ) (bytes : List ℕ) (t : Tree) (same : Bool) (v w : Walked) : Type 0 where
+  pub key : List ℕ
+  pub before : Before limit bytes t key w
+  pub awaits : Stands v → (Solid v.unread → Solid w.unread) → AwaitsValue w
+  pub is_so : same ≡ true → (key ≡ step_key s) × GoesTo s (entries t) []
+  pub is_other : same ≡ false → Misses s (entries t) → (w : Tree) → Misses s (entries t ++ ((key, w) ∷ []))
+  pub stays : same ≡ false → (es before : List (List ℕ × Tree)) (w : Tree) → GoesTo s before es → GoesTo s before (es ++ ((key, w) ∷ []))
+
+one_longer : (es : List (List ℕ × Tree)) (key : List ℕ) (w : Tree) → length (es ++ ((key, w) ∷ [])) ≡ length es + 1
+one_longer es key w = length-append es ((key, w) ∷ [])
+
+names_same : (name key : List ℕ) (same : Bool) → same ≡ pointwise nat_eq name key → same ≡ true → name ≡ key
+names_same name key same e f = (bytes_decides name key).0 (sym e ∙ f)
+
+names_differ : (name key : List ℕ) (same : Bool) → same ≡ pointwise nat_eq name key → same ≡ false → name ≢ key
+names_differ name key same e f = λ is. let h : true ≡ false = sym ((bytes_decides name key).1 is) ∙ sym e ∙ f in absurd (cc)
+
+-- one is left between
+strictly : (n i : ℕ) → n ≤ i → (n ≡ i → ⊥) → n + 1 ≤ i
+strictly zero zero l n = absurd (n refl)
+strictly zero (suc i) l n = omega arith
+strictly (suc k) zero l n = absurd (omega (arith, l))
+strictly (suc k) (suc i) l n = let h = strictly k i (omega (arith, l)) (λ e. n (ap suc e)) in omega (arith, h)
+
+pub sought : {s : Step} {limit : ℕ} {bytes : List ℕ} {t : Tree} {v w : Walked} (n : ℕ) (same : Bool) → Inside limit bytes t false v → kind_of t ≡ Some (step_kind s) → length (entries t) ≡ n → Names s n same v w → Sought s limit bytes t same v w
+sought {s = step.Index i} {limit = limit} {bytes = bytes} {t = t} n same h k size (is, eq) = record {
+  key = [];
+  before = subst (Before limit bytes t []) (sym is) (in_array_before h k);
+  awaits = λ stands solid. subst AwaitsValue (sym is) (element_awaits h.now h.is_at h.inside h.read h.is_due k stands);
+  is_so = λ e. (refl, size ∙ eqb-true n i (sym eq ∙ e));
+  is_other = λ e few w. let other = eqb-false n i (sym eq ∙ e) in let l = one_longer (entries t) [] w in at_most few other l;
+  stays = λ e es before w g. g;
+}
+  where
+    at_most : {m : ℕ} → length (entries t) ≤ i → (n ≡ i → ⊥) → m ≡ length (entries t) + 1 → m ≤ i
+    at_most few other l = let h = strictly n i (omega (arith, few, size)) other in omega (arith, h, l, size)
+sought {s = step.Key key} {t = t} n same h k size p =
+    let (name, before, eq, awaits) = in_object_before key.now same h k p in
+    record {
+      key = name;
+      before = before;
+      awaits = λ stands solid. awaits (solid stands.0);
+      is_so = λ e. (names_same name key.now same eq e, tt);
+      is_other = λ e lacks w. lacks_key_more key.now (entries t) name w lacks (names_differ name key.now same eq e);
+      stays = λ e es before w g. lacks_key_more key.now es name w g (names_differ name key.now same eq e);
+    }
+
+-- an entry was passed: where a comma is due
+pub record Entered (s : Step) (first now : Walked) (n : ℕ) (found : Option ℕ) : Type 0 where
+  pub tree : Tree
+  pub inside : Inside first.limit first.text tree true now
+  pub kind : kind_of tree ≡ Some (step_kind s)
+  pub size : length (entries tree) ≡ n + 1
+  pub entry : MatchOption found (Misses s (entries tree)) (IsEntry s first.limit first.text tree)
+
+-- the value that was passed
+pub record Valued (limit : ℕ) (bytes : List ℕ) (t : Tree) (key : List ℕ) (v : Walked) : Type 0 where
+  pub value : Tree
+  pub tree : Tree
+  pub inside : Inside limit bytes tree true v
+  pub same_kind : kind_of tree ≡ kind_of t
+  pub one_more : entries tree ≡ entries t ++ ((key, value) ∷ [])
+
+valued : {limit : ℕ} {bytes : List ℕ} {t : Tree} {key : List ℕ} {v w : Walked} → Before limit bytes t key v → Moved (PassesValue v w) v w → Valued limit bytes t key w
+valued {w = w} b p =
+    let (a, is, g) = p.leads (record { now = b.now; marked = b.marked }) b.is_at in
+    let (u, x, at, d, split, val, small) = value_taken is in
+    let f : IsAt w (record { now = at_comma u (value_frames b.now); marked = b.marked }) = there at g in
+    record {
+      value = u;
+      tree = read_in (at_comma u (value_frames b.now));
+      inside = record { same_text = p.text ∙ b.same_text; same_limit = p.limit ∙ b.same_limit; now = at_comma u (value_frames b.now); marked = b.marked; is_at = f; inside = b.inside u; read = refl; outermost = b.outermost u; is_due = refl };
+      same_kind = b.same_kind u;
+      one_more = b.one_more u;
+    }
+
+entry_stays : {s : Step} {limit : ℕ} {bytes : List ℕ} {t w : Tree} {n : ℕ} (key : List ℕ) (value : Tree) → kind_of w ≡ kind_of t → entries w ≡ entries t ++ ((key, value) ∷ []) → ((es before : List (List ℕ × Tree)) (u : Tree) → GoesTo s before es → GoesTo s before (es ++ ((key, u) ∷ []))) → IsEntry s limit bytes t n → IsEntry s limit bytes w n
+entry_stays {s = s} key value k e more_there q =
+    let one : List (List ℕ × Tree) = (key, value) ∷ [] in
+    record {
+      before = q.before;
+      gone = q.gone;
+      after = q.after ++ one;
+      same_kind = q.same_kind ∙ sym k;
+      all = e ∙ ap (λ z. z ++ one) q.all ∙ append_assoc (entries q.before) ((step_key s, q.gone) ∷ q.after) one;
+      there = more_there q.after (entries q.before) value q.there;
+      spot = q.spot;
+      solid = q.solid;
+    }
+
+latest_entry : {s : Step} {limit : ℕ} {bytes : List ℕ} {t : Tree} {same : Bool} {v w x : Walked} (b : Bool) (n : ℕ) (found : Option ℕ) → same ≡ b → MatchOption found (Misses s (entries t)) (IsEntry s limit bytes t) → (q : Sought s limit bytes t same v w) → (p : Valued limit bytes t q.key x) → (here : Spot limit bytes t false n) → Solid here.rest → MatchOption (latest b n found) (Misses s (entries p.tree)) (IsEntry s limit bytes p.tree)
+latest_entry {t = t} true n found e m q p here solid =
+    let (key, goes) = q.is_so e in
+    record {
+      before = t;
+      gone = p.value;
+      after = [];
+      same_kind = sym p.same_kind;
+      all = p.one_more ∙ ap (λ k. entries t ++ ((k, p.value) ∷ [])) key;
+      there = goes;
+      spot = here;
+      solid = solid;
+    }
+latest_entry {s = s} false n None e m q p here solid = subst (Misses s) (sym p.one_more) (q.is_other e m p.value)
+latest_entry false n (Some k) e m q p here solid = entry_stays q.key p.value p.same_kind p.one_more (q.stays e) m
+
+pub entered : {s : Step} {first now mid named new : Walked} {n start : ℕ} {found after : Option ℕ} (same : Bool) → Passing s first now n found → Moved Stays now mid → Solid mid.unread → IsValue first.limit (chars first.text) → start ≡ length mid.text - bytes_in mid.unread → Names s n same mid named → after ≡ latest same start found → Moved (PassesValue named new) named new → Entered s first new n after
+entered {s = s} {first = first} {new = new} {n = n} {start = start} {found = found} {after = after} same p gap solid value at names is skip =
+    let here = stays_inside p.inside gap in
+    let q = sought n same here p.kind p.size names in
+    let v = valued q.before skip in
+    let (place, rest_is) = spot value.0 start here (whole first.limit first.text value) at in
+    record {
+      tree = v.tree;
+      inside = v.inside;
+      kind = v.same_kind ∙ p.kind;
+      size = ap length v.one_more ∙ one_longer (entries p.tree) q.key v.value ∙ ap (λ z. z + 1) p.size;
+      entry = subst (λ z. MatchOption z (Misses s (entries v.tree)) (IsEntry s first.limit first.text v.tree)) (sym is) (latest_entry same start found refl p.entry q v place (subst Solid (sym rest_is) solid));
+    }
+
+pub goes_on_passing : {s : Step} {first now new : Walked} {n : ℕ} {found : Option ℕ} → Entered s first now n found → Moved TakesComma now new → Passing s first new (n + 1) found
+goes_on_passing p q = record { tree = p.tree; inside = comma_inside p.inside q; kind = p.kind; size = p.size; entry = p.entry }
+
+-- ---- the end
+
+surveyed : {s : Step} {limit : ℕ} {bytes : List ℕ} (t : Tree) (found : Survey) → (value : IsValue limit (chars bytes)) → value.0 ≡ t → kind_of t ≡ Some (step_kind s) → MatchOption found.entry (Misses s (entries t)) (IsEntry s limit bytes t) → Spot limit bytes t found.comma found.end → Surveys s limit bytes found
+surveyed {limit = limit} {bytes = bytes} t found (w, v, d) is k e p = record {
+  tree = t;
+  value = subst (Val (chars bytes)) is v;
+  shallow = subst (λ z. depth z ≤ limit) is d;
+  kind = k;
+  entry = e;
+  end = p;
+}
+
+pub passing_ends : {s : Step} {first now new : Walked} {n end : ℕ} {found : Option ℕ} → Passing s first now n found → (value : IsValue first.limit (chars first.text)) → end ≡ length now.text - bytes_in now.unread → Moved Closes now new → Surveys s first.limit first.text (record { entry = found; end = end; comma = false })
+passing_ends {first = first} {end = end} {found = found} p value at closes = surveyed p.tree (record { entry = found; end = end; comma = false }) value (closes_whole p.inside closes value) p.kind p.entry (spot value.0 end p.inside (whole first.limit first.text value) at).0
+
+pub entered_ends : {s : Step} {first now new : Walked} {n end : ℕ} {found : Option ℕ} → Entered s first now n found → (value : IsValue first.limit (chars first.text)) → end ≡ length now.text - bytes_in now.unread → Moved Closes now new → Surveys s first.limit first.text (record { entry = found; end = end; comma = true })
+entered_ends {first = first} {end = end} {found = found} p value at closes = surveyed p.tree (record { entry = found; end = end; comma = true }) value (closes_whole p.inside closes value) p.kind p.entry (spot value.0 end p.inside (whole first.limit first.text value) at).0
+
+-- ---- refusals
+
+live_at : (a : At) → Live (next_of a)
+live_at (at_value o) = tt
+live_at (at_element ts o) = tt
+live_at (at_key ps o) = tt
+live_at (at_colon ps u b o) = tt
+live_at (at_comma t o) = tt
+
+within : {limit : ℕ} {bytes : List ℕ} {t : Tree} {due : Bool} {v : Walked} → Inside limit bytes t due v → IsValue limit (chars bytes) → IsDocumentWithin v.limit v.text
+within {v = v} h value = is_within v value h.same_text h.same_limit
+
+pub end_spares : {limit : ℕ} {bytes : List ℕ} {t : Tree} {due : Bool} {v : Walked} {e : Error} → Inside limit bytes t due v → IsValue limit (chars bytes) → (Live v.next → IsHopeless v) → LacksMemory e
+end_spares h value k = absurd (k (subst Live h.is_at.is_next (live_at h.now)) (within h value))
+
+after_entry : (a : At) → is_inside a ≡ true → awaits_comma a ≡ true → IsAfterEntry a
+after_entry (at_comma t (f ∷ o)) i e = tt
+after_entry (at_comma t []) i e = absurd (cc)
+after_entry (at_value o) i e = absurd (cc)
+after_entry (at_element ts o) i e = absurd (cc)
+after_entry (at_key ps o) i e = absurd (cc)
+after_entry (at_colon ps u b o) i e = absurd (cc)
+
+pub comma_spares : {s : Step} {first now : Walked} {n : ℕ} {found : Option ℕ} {e : Error} → Entered s first now n found → IsValue first.limit (chars first.text) → ((t : Trail) → IsAt now t → IsAfterEntry t.now → IsHopeless now) → LacksMemory e
+comma_spares p value k =
+    let h = p.inside in
+    absurd (k (record { now = h.now; marked = h.marked }) h.is_at (after_entry h.now h.inside h.is_due) (within h value))
+
+pub sought_spares : {s : Step} {first now mid : Walked} {n : ℕ} {found : Option ℕ} {e : Error} → Passing s first now n found → Moved Stays now mid → Stands mid → IsValue first.limit (chars first.text) → NamesSpare s mid e → LacksMemory e
+sought_spares {s = step.Index i} p gap stands value k = absurd k
+sought_spares {s = step.Key key} p gap stands value k =
+    let h = stays_inside p.inside gap in
+    let q = in_object_due h p.kind in
+    k (record { now = at_key q.ps q.frames; marked = q.marked }) q.is_at (awaits_key q.is_at stands) (within h value)
+
+pub skip_spares : {s : Step} {first now mid named : Walked} {n : ℕ} {found : Option ℕ} {e : Error} (same : Bool) → Passing s first now n found → Moved Stays now mid → Stands mid → IsValue first.limit (chars first.text) → Names s n same mid named → (Solid mid.unread → Solid named.unread) → (AwaitsValue named → IsHopeless named) → LacksMemory e
+skip_spares {named = named} {n = n} same p gap stands value names solid k =
+    let q = sought n same (stays_inside p.inside gap) p.kind p.size names in
+    absurd (k (q.awaits stands solid) (is_within named value q.before.same_text q.before.same_limit))
+
+-- so many entries can't be passed
+count_elements : (ts : Trees) → length (elements ts) ≡ count ts
+count_elements no_more = refl
+count_elements (more t ts) = ap suc (count_elements ts)
+
+count_all : (ps : Members) → length (members ps) ≡ count_members ps
+count_all no_member = refl
+count_all (member u e t ps) = ap suc (count_all ps)
+
+few_entries : (k : Kind) (x : List ℕ) (t : Tree) → Val x t → kind_of t ≡ Some k → length (entries t) < length x
+few_entries k x (array ts) v e =
+    let (s, d) = spells_value (depth (array ts)) x (array ts) v (omega arith) in
+    let (y, o, tl) = array_front x [] ts s in
+    let n = fewer ts y [] tl in
+    let l = sign_shorter 91 x y o in
+    let c = count_elements ts in
+    omega (arith, n, l, c)
+few_entries k x (object ps) v e =
+    let (s, d) = spells_value (depth (object ps)) x (object ps) v (omega arith) in
+    let (y, o, tl) = object_front x [] ps s in
+    let n = fewer_members ps y [] tl in
+    let l = sign_shorter 123 x y o in
+    let c = count_all ps in
+    omega (arith, n, l, c)
+few_entries k x null v e = absurd (cc)
+few_entries k x (boolean b) v e = absurd (cc)
+few_entries k x (number q) v e = absurd (cc)
+few_entries k x (text u b) v e = absurd (cc)
+
+pub too_many_entries : {s : Step} {first now : Walked} {n : ℕ} {found : Option ℕ} {e : Error} → Passing s first now n found → IsUtf8 first.text → (value : IsValue first.limit (chars first.text)) → length first.text ≤ n → LacksMemory e
+too_many_entries {s = s} {first = first} {now = now} {n = n} p utf8 value l =
+    let (place, rest_is) = spot value.0 (length now.text - bytes_in now.unread) p.inside (whole first.limit first.text value) refl in
+    let (u, k, g, d, is) = place.back value.0 (whole first.limit first.text value) in
+    let whole_kind = joined_kind (step_kind s) p.tree u p.kind (k ∙ p.kind) in
+    let all : entries value.0 ≡ entries p.tree ++ entries u = ap entries is ∙ entries_joined (step_kind s) p.tree u p.kind (k ∙ p.kind) in
+    let few = few_entries (step_kind s) (chars first.text) value.0 value.1 (ap kind_of is ∙ whole_kind) in
+    let sum : length (entries value.0) ≡ length (entries p.tree) + length (entries u) = ap length all ∙ length-append (entries p.tree) (entries u) in
+    let a = utf8_len first.text utf8 in
+    let b = length-le-encodes (chars first.text) in
+    let size = p.size in
+    absurd (omega (arith, few, sum, a, b, size, l))
+
+-- ---- in the walk's own words
+
+pub itself : {limit : ℕ} {bytes : List ℕ} {t : Tree} {due : Bool} {v : Walked} → Inside limit bytes t due v → Inside v.limit v.text t due v
+itself {limit = limit} {t = t} {due = due} {v = v} h = subst (λ l. Inside l v.text t due v) (sym h.same_limit) (subst (λ x. Inside limit x t due v) (sym h.same_text) h)
+
+pub value_itself : {limit : ℕ} {bytes : List ℕ} {t : Tree} {due : Bool} {v : Walked} → Inside limit bytes t due v → IsValue limit (chars bytes) → IsValue v.limit (chars v.text)
+value_itself {limit = limit} {v = v} h value = subst (λ l. IsValue l (chars v.text)) (sym h.same_limit) (subst (λ x. IsValue limit (chars x)) (sym h.same_text) value)
+
+pub surveys_so : {s : Step} {limit : ℕ} {bytes : List ℕ} {t : Tree} {due : Bool} {v : Walked} {found : Survey} → Inside limit bytes t due v → Surveys s v.limit v.text found → Surveys s limit bytes found
+surveys_so {s = s} {bytes = bytes} {v = v} {found = found} h p = subst (λ l. Surveys s l bytes found) h.same_limit (subst (λ x. Surveys s v.limit x found) h.same_text p)
+
+-- where the bracket of the step's kind was taken
+pub opened_step : {v0 v1 : Walked} {bytes : List ℕ} {limit : ℕ} {k : Kind} (s : Step) (room : ℕ) → k ≡ step_kind s → limit ≡ room → IsUtf8 bytes → v0 ≡ at_start bytes limit → Moved (Opens k) v0 v1 → Inside room bytes (empty_of (step_kind s)) false v1
+opened_step {v1 = v1} {bytes = bytes} {limit = limit} {k = k} s room is size u start p = subst (λ z. Inside room bytes (empty_of z) false v1) is (subst (λ n. Inside n bytes (empty_of k) false v1) size (opens_inside bytes limit k u start p))
+
+pub not_opened_step : {v : Walked} {bytes : List ℕ} {limit : ℕ} {k : Kind} (s : Step) (room : ℕ) → k ≡ step_kind s → limit ≡ room → v ≡ at_start bytes limit → IsValue room (chars bytes) → NotOpened k v → BeginsNo (step_kind s) (chars bytes)
+not_opened_step {bytes = bytes} s room is size start value n = subst (λ z. BeginsNo z (chars bytes)) is (not_opened start (subst (λ n. IsValue n (chars bytes)) (sym size) value) n)

@@ -1,0 +1,172 @@
+-- Where an entry stands in the text of a collection, and where one more may stand.
+use Rattle.std.specs.Prelude.{◌≡◌, ℕ, ◌≤◌, Bool, true, false, nat_eq, List, [], ◌∷◌, ◌++◌, length, Option, Some, MatchOption}
+use Rattle.std.specs.Str.{chars, encode_utf8_all}
+use Rattle.json5_grammar.specs.Language.Blanks.{Solid}
+use Rattle.json5_grammar.specs.Language.Characters.{comma_sign, colon_sign}
+use Rattle.json5_grammar.specs.Language.Trees.{Tree, null, boolean, number, text, array, object, Trees, Members, more, member, depth}
+use Rattle.json5_grammar.specs.Language.Values.{Val, KeyText, Reads}
+use Rattle.json5_grammar.specs.Model.Collections.{IsKeyValue, Tail, MembersTail, joined_trees, joined_members}
+use Rattle.json5_text.specs.Cursor.{Cursor, Took}
+use Rattle.json5_text.specs.Outcome.{bytes_in}
+use Rattle.json5_types.specs.declared.error.Error.{Error}
+use Rattle.json5_value.specs.declared.brackets.BracketKind.{BracketKind as Kind}
+use Rattle.json5_value.specs.declared.brackets.BracketKind.TheVariants as kind
+use Rattle.json5_walk.specs.Frames.{Frame, value_end, Spells, At, at_value, at_element, at_key, at_colon, at_comma}
+use Rattle.json5_walk.specs.Walks.{Walked, Trail, IsAt, AwaitsKey}
+use Rattle.json5_edit.specs.Changes.{ChangesBy}
+use Rattle.json5_edit.specs.Comparing.{LacksKey, GoesTo, IsWithout, step_kind, step_key}
+use Rattle.json5_edit.specs.Entries.{entries, kind_of, is_inside, read_in, around}
+use Rattle.json5_edit.specs.Pieces.{Cuts, Grows}
+use Rattle.json5_edit.specs.Places.{IsValue}
+use Rattle.json5_edit.specs.Seeks.{Named, NeedsMemory}
+use Rattle.json5_edit.specs.declared.paths.Step.{Step}
+use Rattle.json5_edit.specs.declared.paths.Step.TheVariants as step
+use Rattle.json5_edit.specs.declared.plain.End.{End}
+use Rattle.json5_edit.specs.declared.survey.Survey.{Survey}
+
+-- x goes on with the entries of this collection and its closing bracket, and ends there; before them a comma is due or
+-- not
+abbrev pub Goes : Bool → Tree → List ℕ → Type 0
+Goes due (array us) x = Tail us due x []
+Goes due (object qs) x = MembersTail qs due x []
+Goes due null x = ⊥
+Goes due (boolean b) x = ⊥
+Goes due (number n) x = ⊥
+Goes due (text u escape_free) x = ⊥
+
+-- the collection with the entries of both
+abbrev pub joined : Tree → Tree → Tree
+joined (array ts) (array us) = array (joined_trees ts us)
+joined (object ps) (object qs) = object (joined_members ps qs)
+joined t u = t
+
+-- at the offset n of a text, which is one value, the entries of t have come, and a comma is due before the next or not:
+-- whatever may go on there makes what comes before the offset a value
+pub record Spot (limit : ℕ) (bytes : List ℕ) (t : Tree) (due : Bool) (n : ℕ) : Type 0 where
+  pub front : List ℕ
+  pub rest : List ℕ
+  pub split : chars bytes ≡ front ++ rest
+  pub starts : n ≡ bytes_in front
+  pub goes : (u : Tree) (z : List ℕ) → kind_of u ≡ kind_of t → Goes due u z → depth u ≤ limit → Spells value_end limit (front ++ z) (joined t u)
+  pub back : (w : Tree) → Spells value_end limit (chars bytes) w → (u : Tree) × (kind_of u ≡ kind_of t) × Goes due u rest × (depth u ≤ limit) × (w ≡ joined t u)
+
+-- ---- what a walk finds
+
+-- a comma is due before an entry
+abbrev pub awaits_comma : At → Bool
+awaits_comma (at_value o) = false
+awaits_comma (at_element ts o) = false
+awaits_comma (at_key ps o) = false
+awaits_comma (at_colon ps u escape_free o) = false
+awaits_comma (at_comma t o) = true
+
+-- the walk over the text is within the outermost collection, which would be t, closed here
+pub record Inside (limit : ℕ) (bytes : List ℕ) (t : Tree) (due : Bool) (v : Walked) : Type 0 where
+  pub same_text : v.text ≡ bytes
+  pub same_limit : v.limit ≡ limit
+  pub now : At
+  pub marked : Option (List Frame)
+  pub is_at : IsAt v (record { now = now; marked = marked })
+  pub inside : is_inside now ≡ true
+  pub read : read_in now ≡ t
+  pub outermost : around now ≡ []
+  pub is_due : awaits_comma now ≡ due
+
+-- a key was taken in an object, and whether the step goes to this entry
+abbrev pub Names : Step → ℕ → Bool → Walked → Walked → Type 0
+Names (step.Index i) n same old new = (new ≡ old) × (same ≡ nat_eq n i)
+Names (step.Key k) n same old new = Named k.now same old new
+
+-- where a key must come, in a document, this is answered only where memory was refused
+abbrev pub NamesSpare : Step → Walked → Error → Type 0
+NamesSpare (step.Index i) v e = ⊥
+NamesSpare (step.Key k) v e = (s : Trail) → IsAt v s → AwaitsKey v → NeedsMemory v e
+
+abbrev pub latest : Bool → ℕ → Option ℕ → Option ℕ
+latest true n before = Some n
+latest false n before = before
+
+-- the step goes to none of these entries
+abbrev pub Misses : Step → List (List ℕ × Tree) → Type 0
+Misses (step.Index i) es = length es ≤ i
+Misses (step.Key k) es = LacksKey k.now es
+
+-- the entry of t that the step goes to begins at the offset n
+pub record IsEntry (s : Step) (limit : ℕ) (bytes : List ℕ) (t : Tree) (n : ℕ) : Type 0 where
+  pub before : Tree
+  pub gone : Tree
+  pub after : List (List ℕ × Tree)
+  pub same_kind : kind_of before ≡ kind_of t
+  pub all : entries t ≡ entries before ++ ((step_key s, gone) ∷ after)
+  pub there : GoesTo s (entries before) after
+  pub spot : Spot limit bytes before false n
+  pub solid : Solid spot.rest
+
+-- the text is a collection of the step's kind; what was found is where the entry begins that the step goes to, and where
+-- one more may stand at the end
+pub record Surveys (s : Step) (limit : ℕ) (bytes : List ℕ) (found : Survey) : Type 0 where
+  pub tree : Tree
+  pub value : Val (chars bytes) tree
+  pub shallow : depth tree ≤ limit
+  pub kind : kind_of tree ≡ Some (step_kind s)
+  pub entry : MatchOption found.entry (Misses s (entries tree)) (IsEntry s limit bytes tree)
+  pub end : Spot limit bytes tree found.comma found.end
+
+-- ---- what an edit makes of a collection's text
+
+-- the text is a collection of the step's kind that fits, and the entry that the step goes to begins at the offset n
+pub record HasEntry (s : Step) (limit : ℕ) (bytes : List ℕ) (n : ℕ) : Type 0 where
+  pub tree : Tree
+  pub value : Val (chars bytes) tree
+  pub shallow : depth tree ≤ limit
+  pub kind : kind_of tree ≡ Some (step_kind s)
+  pub entry : IsEntry s limit bytes tree n
+
+-- the text is a collection of this kind that fits, and one more entry may stand there at its end
+pub record HasEnd (k : Kind) (limit : ℕ) (bytes : List ℕ) (e : End) : Type 0 where
+  pub tree : Tree
+  pub value : Val (chars bytes) tree
+  pub shallow : depth tree ≤ limit
+  pub kind : kind_of tree ≡ Some k
+  pub end : Spot limit bytes tree e.comma e.at
+
+-- without the entry that the step goes to
+abbrev pub Removes : Step → ℕ → List ℕ → List ℕ → Type 0
+Removes s limit old new = ChangesBy (IsWithout s) old new × Cuts old new × IsValue limit (chars new)
+
+-- so changed, by one part more
+abbrev pub Adds : (Tree → Tree → Type 0) → ℕ → List ℕ → List ℕ → Type 0
+Adds Change limit old new = ChangesBy Change old new × Grows old new × IsValue limit (chars new)
+
+-- these characters are an entry with this key and value
+pub data SpellsEntry : Kind → List ℕ → Tree → List ℕ → Type 0 where
+  spells_element : (v : Tree) (x : List ℕ) → Val x v → SpellsEntry kind.Array [] v x
+  spells_member : (k x u : List ℕ) (escape_free : Bool) (v : Tree) → KeyText k u escape_free → Val x v → SpellsEntry kind.Object (encode_utf8_all u) v (k ++ colon_sign ∷ x)
+
+abbrev pub comma_for : Bool → List ℕ
+comma_for true = comma_sign ∷ []
+comma_for false = []
+
+-- ---- an entry in front of a text
+
+-- the collection u begins with an entry of the value t, and those of r come after it
+pub data Parts : Kind → Tree → Tree → Tree → Type 0 where
+  first_element : (t : Tree) (us : Trees) → Parts kind.Array (array (more t us)) t (array us)
+  first_member : (u : List ℕ) (escape_free : Bool) (t : Tree) (qs : Members) → Parts kind.Object (object (member u escape_free t qs)) t (object qs)
+
+-- x goes on with a value of the tree t, a comma and the entries of r
+abbrev pub ReadsThen : Tree → Tree → List ℕ → Type 0
+ReadsThen t r x = (z : List ℕ) × Reads x t z × Goes true r z
+
+-- the same after a colon
+abbrev pub ReadsColon : Tree → Tree → List ℕ → Type 0
+ReadsColon t r x = (z : List ℕ) × IsKeyValue x t z × Goes true r z
+
+-- the text was passed so far
+abbrev pub Passed : Cursor → Cursor → Type 0
+Passed old new = (taken : List ℕ) × Took old taken new
+
+-- the first n bytes of the text are an entry and the comma after it, if there is one: where the entries of u go on, those
+-- of r go on after them
+abbrev pub Measures : Kind → ℕ → List ℕ → ℕ → Type 0
+Measures k limit bytes n = (u t r : Tree) → Parts k u t r → Goes false u (chars bytes) → depth t ≤ limit → (part z : List ℕ) × (chars bytes ≡ part ++ z) × (n ≡ bytes_in part) × Goes false r z

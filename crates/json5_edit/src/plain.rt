@@ -1,0 +1,239 @@
+//! The smallest edits of a collection: one entry with its comma goes or comes, and all else stays.
+
+ghost use Rattle.std.specs.Prelude.{◌≡◌, ◌++◌, ◌≤◌, ◌-◌, ◌+◌, ℕ, List, false, IfOk, IfErr, OnOk, string_bytes};
+ghost use Rattle.std.specs.Str.{chars};
+ghost use Rattle.json5_grammar.specs.Language.Blanks.{Solid};
+ghost use Rattle.json5_grammar.specs.Language.Documents.{max_depth};
+ghost use Rattle.json5_grammar.specs.Language.Trees.{Tree, depth};
+ghost use Rattle.json5_types.specs.Errors.{LacksMemory};
+ghost use Rattle.json5_value.specs.declared.brackets.BracketKind.TheVariants as kind;
+ghost use Rattle.json5_edit.specs.Changes.{Gains, GainsAt};
+ghost use Rattle.json5_edit.specs.Comparing.{IsWithLast};
+ghost use Rattle.json5_edit.specs.Places.{IsValue};
+ghost use Rattle.json5_edit.specs.Refusals.{RefusesFree, RefusesKind, RefusesStep};
+ghost use Rattle.json5_edit.specs.Spots.{Adds, Goes, HasEnd, HasEntry, Measures, Parts, Passed, ReadsColon, ReadsThen, Removes, SpellsEntry, comma_for};
+ghost use Rattle.json5_edit.specs.declared.faults.EditError.TheVariants as edit_errors;
+ghost use Rattle.json5_edit.specs.declared.paths.Step.TheVariants as step;
+
+use crate::comparing::kind;
+use crate::entries::failed;
+use crate::faults::{EditError, Result};
+use crate::paths::Step;
+use crate::setting::join;
+use crate::spelled::spelled_key;
+use crate::survey::find_entry;
+use json5_text::scanner::Scanner;
+use json5_types::error;
+use json5_value::brackets::BracketKind;
+use json5_value::skip::skip_value;
+use std::alloc::Global;
+
+/// Where the entry begins that the step goes to.
+pub(crate) fn entry_start(alloc: Global, old: &str, step: Step<'_>, room: usize) -> Result<usize>
+    requires small { room ≤ max_depth }
+    requires value { IsValue room (chars old.now) }
+    ensures found { IfOk result (HasEntry step.entry room old.now) }
+    ensures refused { IfErr result (RefusesStep old.now step.entry) }
+{
+    match find_entry(alloc, old, step, room) {
+        Ok(Some(found)) => match found.entry {
+            Some(start) => Ok(start),
+            None => Err(EditError::Nowhere),
+        },
+        Ok(None) => Err(EditError::Nowhere),
+        Err(error) => Err(EditError::of_made(error)),
+    }
+}
+
+/// Where one more element may stand at the end of an array.
+pub(crate) fn array_end(alloc: Global, old: &str, room: usize) -> Result<End>
+    requires small { room ≤ max_depth }
+    requires value { IsValue room (chars old.now) }
+    ensures found { IfOk result (HasEnd kind.Array room old.now) }
+    ensures refused { IfErr result (RefusesKind kind.Array old.now) }
+{
+    // Any index will do: the end alone is asked for.
+    match find_entry(alloc, old, Step::Index(0), room) {
+        Ok(Some(found)) => Ok(End {
+            at: found.end,
+            comma: found.comma,
+        }),
+        Ok(None) => Err(EditError::NotArray),
+        Err(error) => Err(EditError::of_made(error)),
+    }
+}
+
+/// Where one more member may stand at the end of an object that has none with the key.
+pub(crate) fn free_end(alloc: Global, old: &str, key: &str, room: usize) -> Result<End>
+    requires small { room ≤ max_depth }
+    requires value { IsValue room (chars old.now) }
+    ensures found { IfOk result (HasEnd kind.Object room old.now) }
+    ensures refused { IfErr result (RefusesFree old.now key.now) }
+{
+    match find_entry(alloc, old, Step::Key(key), room) {
+        Ok(Some(found)) => match found.entry {
+            Some(_) => Err(EditError::Taken),
+            None => Ok(End {
+                at: found.end,
+                comma: found.comma,
+            }),
+        },
+        Ok(None) => Err(EditError::NotObject),
+        Err(error) => Err(EditError::of_made(error)),
+    }
+}
+
+/// The text without the entry that begins at the offset, and without the comma after it.
+pub(crate) fn without_entry(
+    alloc: Global,
+    old: &str,
+    step: Step<'_>,
+    start: usize,
+    room: usize,
+) -> Result<String>
+    requires small { room ≤ max_depth }
+    requires entry { HasEntry step room old.now start }
+    ensures removed { IfOk result (λ new. Removes step.entry room old.now (string_bytes new)) }
+    ensures full { IfErr result (λ e. e ≡ edit_errors.NoMemory) }
+{
+    let (front, rest) = old.split_at(start);
+    match entry_len(alloc, rest, kind(step), room) {
+        Ok(len) => {
+            let (_gone, back) = rest.split_at(len);
+            join(alloc, front, back, "")
+        }
+        Err(error) => Err(EditError::of_made(error)),
+    }
+}
+
+/// The array with the value before the element that begins at the offset.
+pub(crate) fn with_element(
+    alloc: Global,
+    old: &str,
+    index: usize,
+    start: usize,
+    value: &str,
+    room: usize,
+) -> Result<String>
+    requires small { room ≤ max_depth }
+    requires entry { HasEntry (step.Index index) room old.now start }
+    requires value { IsValue (room - 1) (chars value.now) }
+    ensures added { IfOk result (λ new. Adds (GainsAt index value.now) room old.now (string_bytes new)) }
+    ensures full { IfErr result (λ e. e ≡ edit_errors.NoMemory) }
+{
+    let (front, back) = old.split_at(start);
+    join_four(alloc, front, value, ",", back)
+}
+
+/// Where one more entry may stand at the end of a collection.
+#[derive(Clone, Copy, Drop)]
+pub(crate) struct End {
+    pub(crate) at: usize,
+    /// Whether a comma comes before it.
+    pub(crate) comma: bool,
+}
+
+/// The collection with the entry at its end, which is spelled so.
+pub(crate) fn with_last(
+    alloc: Global,
+    old: &str,
+    kind: BracketKind,
+    end: End,
+    entry: &str,
+    room: usize,
+) -> Result<String>
+    requires small { room ≤ max_depth }
+    requires end { HasEnd kind room old.now end }
+    ensures added { IfOk result (λ new. (key : List ℕ) (v : Tree) → SpellsEntry kind key v (chars entry.now) → depth v + 1 ≤ room → Adds (IsWithLast kind key v) room old.now (string_bytes new)) }
+    ensures full { IfErr result (λ e. e ≡ edit_errors.NoMemory) }
+{
+    let (front, back) = old.split_at(end.at);
+    join_four(alloc, front, comma_for(end.comma), entry, back)
+}
+
+/// The object with the member at its end.
+pub(crate) fn with_member(
+    alloc: Global,
+    old: &str,
+    end: End,
+    key: &str,
+    value: &str,
+    room: usize,
+) -> Result<String>
+    requires small { room ≤ max_depth }
+    requires end { HasEnd kind.Object room old.now end }
+    requires value { IsValue (room - 1) (chars value.now) }
+    ensures added { IfOk result (λ new. Adds (Gains kind.Object key.now value.now) room old.now (string_bytes new)) }
+    ensures full { IfErr result (λ e. e ≡ edit_errors.NoMemory) }
+{
+    let name = spelled_key(alloc, key)?;
+    let member = join(alloc, name.as_str(), ":", value)?;
+    with_last(alloc, old, BracketKind::Object, end, member.as_str(), room)
+}
+
+/// The four texts one after another.
+fn join_four(alloc: Global, front: &str, came: &str, more: &str, back: &str) -> Result<String>
+    ensures joined { IfOk result (λ made. string_bytes made ≡ front.now ++ (came.now ++ (more.now ++ back.now))) }
+    ensures full { IfErr result (λ e. e ≡ edit_errors.NoMemory) }
+{
+    let parts = [front, came, more, back];
+    match parts.as_slice().concat(alloc) {
+        Ok(made) => Ok(made),
+        Err(_) => Err(EditError::NoMemory),
+    }
+}
+
+/// A comma, if one is due.
+fn comma_for(due: bool) -> &'static str
+    ensures { result.now ≡ comma_for due }
+{
+    if due { "," } else { "" }
+}
+
+/// How long the entry is in front of the text, with the comma after it, if there is one.
+fn entry_len(alloc: Global, rest: &str, kind: BracketKind, room: usize) -> error::Result<usize>
+    requires { room ≤ max_depth }
+    ensures measured { IfOk result (Measures kind room rest.now) }
+    ensures refused { IfErr result (λ e. (u t r : Tree) → Parts kind u t r → Goes false u (chars rest.now) → depth t ≤ room → LacksMemory e) }
+{
+    let mut scanner = Scanner::new(alloc, rest);
+    scanner.skip_blank()?;
+    pass_name(&mut scanner, kind)?;
+    skip_value(&mut scanner, room)?;
+    let end = scanner.offset();
+    scanner.skip_blank()?;
+    if scanner.eat(',') {
+        return Ok(scanner.offset());
+    }
+    Ok(end)
+}
+
+/// Passes over the key of a member and the colon with the blanks around it, or over nothing in an array.
+fn pass_name(scanner: &mut Scanner<&str>, kind: BracketKind) -> error::Result<()>
+    ensures passed { OnOk result (Passed scanner.old scanner.new) }
+    ensures named { OnOk result ((u t r : Tree) → Parts kind u t r → Goes false u scanner.old.unread → ReadsThen t r scanner.new.unread) }
+    ensures solid { OnOk result (Solid scanner.old.unread → Solid scanner.new.unread) }
+    ensures refused { IfErr result (λ e. (u t r : Tree) → Parts kind u t r → Solid scanner.old.unread → Goes false u scanner.old.unread → LacksMemory e) }
+{
+    match kind {
+        BracketKind::Array => Ok(()),
+        BracketKind::Object => {
+            scanner.key()?;
+            pass_colon(scanner)
+        }
+    }
+}
+
+/// Passes over a colon with the blanks around it.
+fn pass_colon(scanner: &mut Scanner<&str>) -> error::Result<()>
+    ensures passed { OnOk result (Passed scanner.old scanner.new) }
+    ensures parted { OnOk result ((t r : Tree) → ReadsColon t r scanner.old.unread → ReadsThen t r scanner.new.unread) }
+    ensures solid { OnOk result (Solid scanner.new.unread) }
+    ensures refused { IfErr result (λ e. (t r : Tree) → ReadsColon t r scanner.old.unread → LacksMemory e) }
+{
+    scanner.skip_blank()?;
+    if !scanner.eat(':') {
+        return Err(failed());
+    }
+    scanner.skip_blank()
+}

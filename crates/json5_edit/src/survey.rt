@@ -1,0 +1,114 @@
+//! Where an entry stands in a collection, and where one more may stand.
+
+ghost use Rattle.std.specs.Prelude.{◌≡◌, ◌≤◌, false, IfOk, IfErr, OnOk, MatchOption};
+ghost use Rattle.std.specs.Str.{chars};
+ghost use Rattle.json5_grammar.specs.Language.Blanks.{Solid};
+ghost use Rattle.json5_grammar.specs.Language.Documents.{max_depth};
+ghost use Rattle.json5_types.specs.Errors.{LacksMemory};
+ghost use Rattle.json5_edit.specs.Comparing.{step_kind};
+ghost use Rattle.json5_edit.specs.Entries.{empty_of};
+ghost use Rattle.json5_edit.specs.Places.{IsValue};
+ghost use Rattle.json5_edit.specs.Refusals.{BeginsNo};
+ghost use Rattle.json5_edit.specs.Spots.{Inside, Surveys, Names, NamesSpare, latest};
+
+use crate::comparing::kind;
+use crate::entries::failed;
+use crate::paths::Step;
+use crate::places::{ends, goes_on, is_named};
+use json5_types::error::Result;
+use json5_types::nesting::Limit;
+use json5_walk::walk::Walk;
+use std::alloc::Global;
+
+/// Where the entry begins that a step goes to, if there is one, and where one more entry may stand at the end, with a
+/// comma before it or without.
+#[derive(Clone, Copy, Drop)]
+pub(crate) struct Survey {
+    pub(crate) entry: Option<usize>,
+    pub(crate) end: usize,
+    pub(crate) comma: bool,
+}
+
+/// Looks for the entry of a collection that the step goes to. Returns None where the text begins no collection of that
+/// kind.
+pub(crate) fn find_entry(
+    alloc: Global,
+    old: &str,
+    step: Step<'_>,
+    room: usize,
+) -> Result<Option<Survey>>
+    requires small { room ≤ max_depth }
+    requires value { IsValue room (chars old.now) }
+    ensures surveyed { IfOk result (λ found. MatchOption found (BeginsNo (step_kind step.entry) (chars old.now)) (Surveys step.entry room old.now)) }
+    ensures refused { IfErr result LacksMemory }
+{
+    let mut walk = Walk::new(alloc, old, limit_of(room));
+    if !walk.open(kind(step)) {
+        return Ok(None);
+    }
+    let found = survey_entries(&mut walk, step)?;
+    Ok(Some(found))
+}
+
+/// Passes over the rest of the collection, which was just opened.
+fn survey_entries(walk: &mut Walk<'_>, step: Step<'_>) -> Result<Survey>
+    requires inside { Inside walk.old.limit walk.old.text (empty_of (step_kind step)) false walk.old }
+    requires value { IsValue walk.old.limit (chars walk.old.text) }
+    ensures surveyed { IfOk result (Surveys step.entry walk.old.limit walk.old.text) }
+    ensures refused { IfErr result LacksMemory }
+{
+    let mut entry = None;
+    for count in 0..walk.text().len() {
+        let end = walk.offset();
+        if ends(walk)? {
+            return Ok(Survey {
+                entry,
+                end,
+                comma: false,
+            });
+        }
+        let start = walk.offset();
+        let same = is_sought(walk, step, count)?;
+        entry = latest(same, start, entry);
+        walk.skip()?;
+        let end = walk.offset();
+        if !goes_on(walk)? {
+            return Ok(Survey {
+                entry,
+                end,
+                comma: true,
+            });
+        }
+    }
+    Err(failed())
+}
+
+/// Takes the key of a member, and says whether the step goes to this entry, the one that so many come before.
+fn is_sought(walk: &mut Walk<'_>, step: Step<'_>, count: usize) -> Result<bool>
+    ensures named { IfOk result (λ same. Names step.entry count same walk.old walk.new) }
+    ensures solid { OnOk result (Solid walk.old.unread → Solid walk.new.unread) }
+    ensures refused { IfErr result (NamesSpare step.entry walk.old) }
+{
+    match step {
+        Step::Index(index) => Ok(count == index),
+        Step::Key(key) => is_named(walk, key),
+    }
+}
+
+/// The entry that begins at the offset, if it is the one that was sought, or the one found before.
+fn latest(same: bool, start: usize, before: Option<usize>) -> Option<usize>
+    ensures { result ≡ latest same start before }
+{
+    if same { Some(start) } else { before }
+}
+
+/// The limit with so much room.
+fn limit_of(room: usize) -> Limit
+    requires { room ≤ max_depth }
+    ensures { result ≡ room }
+{
+    match Limit::new(room as u8) {
+        Some(limit) => limit,
+        None => unreachable!(),
+    }
+}
