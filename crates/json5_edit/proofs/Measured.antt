@@ -1,6 +1,6 @@
 -- How far an entry goes in a text that goes on with it.
 use Rattle.std.proofs.Common.{◌≡◌, ℕ, ◌+◌, ◌≤◌, Bool, true, false, List, [], ◌∷◌, ◌++◌, refl, ap, sym, ◌∙◌, append_assoc, subst, inl, inr, arith}
-use Rattle.std.specs.Prelude.{◌==◌}
+use Rattle.std.specs.Prelude.{◌==◌, ◌⊎◌}
 use Rattle.std.specs.Str.{chars}
 use Rattle.json5_grammar.specs.Language.Blanks.{Blanks, Gap, is_solid, Solid}
 use Rattle.json5_grammar.specs.Language.Characters.{NotBegun}
@@ -15,12 +15,12 @@ use Rattle.json5_grammar.specs.Model.ReadValues.{read}
 use Rattle.json5_grammar.proofs.ArraysRead.{comma_solid, bracket_solid}
 use Rattle.json5_grammar.proofs.ArraysPartlyRead.{same_sign}
 use Rattle.json5_grammar.proofs.BlanksRead.{begins_solid, skip_blanks, skip_rest}
-use Rattle.json5_grammar.proofs.BlanksSound.{blank_refused, one_gap}
+use Rattle.json5_grammar.proofs.BlanksSound.{blank_refused, gap_blanks, one_gap}
 use Rattle.json5_grammar.proofs.EntriesAfterGaps.{no_sign}
 use Rattle.json5_grammar.proofs.ObjectsRead.{colon_solid, brace_solid, value_left}
 use Rattle.json5_grammar.proofs.OneTree.{phrase_complete, one_phrase}
 use Rattle.json5_grammar.proofs.Refusals.{not_both}
-use Rattle.json5_grammar.proofs.ValueHeads.{val_head, key_head, key_solid, skip_value, skip_key}
+use Rattle.json5_grammar.proofs.ValueHeads.{val_head, key_head, key_solid, skip_value, skip_key, key_spelling}
 use Rattle.json5_text.specs.Cursor.{Cursor, Took, Refused, offset_of}
 use Rattle.json5_text.specs.Outcome.{bytes_in}
 use Rattle.json5_text.specs.TokenFaults.{FaultyBlanks}
@@ -32,7 +32,8 @@ use Rattle.json5_value.specs.ModelSteps.{RefusesRead, Gave, value_at}
 use Rattle.json5_walk.proofs.Rests.{token_reads}
 use Rattle.json5_walk.proofs.Calls.{passed, bytes_joined}
 use Rattle.json5_walk.proofs.Determined.{here, sign_left, value_left_over, tail_left, pairs_left, tail_after_comma, pairs_after_comma}
-use Rattle.json5_edit.specs.Spots.{Goes, Parts, first_element, first_member, Passed, ReadsThen, ReadsColon, Measures}
+use Rattle.json5_edit.specs.Pieces.{IsName, IsEnd}
+use Rattle.json5_edit.specs.Spots.{Goes, Parts, first_element, first_member, Passed, ReadsThen, ReadsColon, Measures, IsColonBefore, IsNameBefore, PassedBefore, BeginsWithEntry}
 
 -- ---- blanks
 
@@ -215,3 +216,64 @@ without_comma {s0 = s0} {s3 = s3} {s4 = s4} k room bytes n is blanks name named 
 
 pub starts_goes : {s : Cursor} (bytes : List ℕ) (u : Tree) → s ≡ record { input = chars bytes; unread = chars bytes } → Goes false u (chars bytes) → Goes false u s.unread
 starts_goes bytes u is h = subst (Goes false u) (sym (ap (λ (s : Cursor). s.unread) is)) h
+
+-- ---- how the entry is spelled
+
+pub name_passed : {old new : Cursor} → PassedBefore IsNameBefore old new → Passed old new
+name_passed (taken, took, is) = (taken, took)
+
+pub no_name : (s : Cursor) → PassedBefore IsNameBefore s s
+no_name s = ([], record { split = refl; same = refl }, inl refl)
+
+pub colon_before : {a b c d : Cursor} → TookBlanks a b → Took b (58 ∷ []) c → TookBlanks c d → PassedBefore IsColonBefore a d
+unfolding passed_on
+colon_before {b = b} {c = c} {d = d} (v, before, gap, solid) colon (w, after, later, last) =
+    let (taken, took) = passed_on (v, before) (passed_on (58 ∷ [], colon) (w, after)) in
+    (taken, took, (v, w, refl, gap_blanks 58 c.unread (subst (Gap v) colon.split gap), later))
+
+pub name_before : {a b c : Cursor} (k u : List ℕ) (e : Bool) → Took a k b → Key k b.unread u e → PassedBefore IsColonBefore b c → PassedBefore IsNameBefore a c
+unfolding passed_on
+name_before k u e took key (x, colon, is) = let (taken, all) = passed_on (k, took) (x, colon) in (taken, all, inr (k, x, u, e, refl, key_spelling key, is))
+
+-- before a value
+name_there : (x r : List ℕ) (c : ℕ) → IsNameBefore (c ∷ r) x → (x ≡ []) ⊎ IsName x
+name_there x r c (inl e) = inl e
+name_there x r c (inr (k, y, u, e, is, key, (b, w, split, first, gap))) =
+    inr (subst IsName (sym (is ∙ ap (λ z. k ++ z) split)) (IsName.name key first (gap_blanks c r gap)))
+
+pub entry_spelled : {s0 s1 s2 s3 : Cursor} (room : ℕ) (bytes end : List ℕ) (n : ℕ) (now : Cursor) → s0 ≡ record { input = chars bytes; unread = chars bytes } → TookBlanks s0 s1 → PassedBefore IsNameBefore s1 s2 → Gave (value_at room s2) tt s2 s3 → Took s3 end now → IsEnd end → n ≡ offset_of now → Solid (chars bytes) → BeginsWithEntry (chars bytes) n
+entry_spelled {s0 = s0} {s1 = s1} {s2 = s2} {s3 = s3} room bytes end n now is (w, took, gap, solid) (name, named, is_name) g ended is_end at whole =
+    let q = passed g in
+    let h = val_head q.value in
+    let start : w ++ s1.unread ≡ chars bytes = sym took.split ∙ ap (λ (s : Cursor). s.unread) is in
+    let none = one_gap w s1.unread [] (chars bytes) gap solid (Gap.blanks Blanks.empty) whole start in
+    let value : s2.unread ≡ h.char ∷ (h.more ++ s3.unread) = q.split ∙ ap (λ z. z ++ s3.unread) h.is in
+    let left : s3.unread ≡ end ++ now.unread = ended.split in
+    let split : chars bytes ≡ (name ++ (q.taken ++ end)) ++ now.unread =
+    none.1 ∙ named.split ∙ ap (λ z. name ++ z) (q.split ∙ ap (λ z. q.taken ++ z) left ∙ sym (append_assoc q.taken end now.unread)) ∙ sym (append_assoc name (q.taken ++ end) now.unread) in
+    let input : now.input ≡ chars bytes = ended.same ∙ g.took.same ∙ named.same ∙ took.same ∙ ap (λ (s : Cursor). s.input) is in (
+      name ++ (q.taken ++ end),
+      now.unread,
+      split,
+      measured_at bytes (name ++ (q.taken ++ end)) now.unread n now refl input split at,
+      record {
+        name = name;
+        value = q.taken;
+        end = end;
+        tree = q.tree;
+        split = refl;
+        is_name = name_there name (h.more ++ s3.unread) h.char (subst (λ z. IsNameBefore z name) value is_name);
+        is_value = q.value;
+        is_end = is_end;
+      },
+    )
+
+pub spelled_with_comma : {s0 s1 s2 s3 s4 s5 : Cursor} (room : ℕ) (bytes : List ℕ) (n : ℕ) → s0 ≡ record { input = chars bytes; unread = chars bytes } → TookBlanks s0 s1 → PassedBefore IsNameBefore s1 s2 → Gave (value_at room s2) tt s2 s3 → TookBlanks s3 s4 → Took s4 (44 ∷ []) s5 → n ≡ offset_of s5 → Solid (chars bytes) → BeginsWithEntry (chars bytes) n
+unfolding passed_on
+spelled_with_comma {s5 = s5} room bytes n is blanks name value (v, took, gap, solid) comma at =
+    let (end, ended) = passed_on (v, took) (44 ∷ [], comma) in
+    entry_spelled room bytes end n s5 is blanks name value ended (inr (v, gap_blanks 44 s5.unread (subst (Gap v) comma.split gap), refl)) at
+
+pub spelled_without_comma : {s0 s1 s2 s3 : Cursor} (room : ℕ) (bytes : List ℕ) (n : ℕ) → s0 ≡ record { input = chars bytes; unread = chars bytes } → TookBlanks s0 s1 → PassedBefore IsNameBefore s1 s2 → Gave (value_at room s2) tt s2 s3 → n ≡ offset_of s3 → Solid (chars bytes) → BeginsWithEntry (chars bytes) n
+unfolding nothing_passed
+spelled_without_comma {s3 = s3} room bytes n is blanks name value at = entry_spelled room bytes [] n s3 is blanks name value (nothing_passed s3).1 (inl refl) at

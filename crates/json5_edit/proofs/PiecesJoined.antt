@@ -11,7 +11,7 @@ use Rattle.json5_text.specs.Outcome.{bytes_in}
 use Rattle.json5_walk.proofs.Calls.{bytes_joined}
 use Rattle.json5_lexemes.specs.Lexemes.{HaveSameLexemes}
 use Rattle.json5_walk.proofs.Rests.{append_nil}
-use Rattle.json5_edit.specs.Pieces.{IsComma, WithoutComma, Cuts, Grows, IsKeyText, SplitsKey, Respells}
+use Rattle.json5_edit.specs.Pieces.{IsComma, WithoutComma, Cuts, Grows, IsKeyText, SplitsKey, Respells, IsWithComments}
 use Rattle.json5_edit.proofs.Placed.{scalars_left, bytes_cut}
 
 pub ok_both : {A B : Type 0} {P Q R : A → Type 0} (r : Result A B) → ((a : A) → P a → Q a → R a) → IfOk r P → IfOk r Q → IfOk r R
@@ -21,8 +21,8 @@ ok_both (Err e) k p q = tt
 pub no_comma : (x : List ℕ) → WithoutComma x x []
 no_comma x = ([], inl refl, sym (append_nil x))
 
-pub cuts : (x y head before gone back front middle : List ℕ) → x ≡ head ++ back → head ≡ before ++ gone → WithoutComma before front middle → y ≡ front ++ (middle ++ back) → Cuts x y
-cuts x y head before gone back front middle e f (comma, k, g) h = record {
+pub cuts : (x y head before gone back front middle : List ℕ) → x ≡ head ++ back → head ≡ before ++ gone → WithoutComma before front middle → IsWithComments before gone back → y ≡ front ++ (middle ++ back) → Cuts x y
+cuts x y head before gone back front middle e f (comma, k, g) b h = record {
   front = front;
   comma = comma;
   middle = middle;
@@ -33,6 +33,7 @@ cuts x y head before gone back front middle e f (comma, k, g) h = record {
       ∙ append_assoc front (comma ++ middle) (gone ++ back) ∙ ap (λ z. front ++ z) (append_assoc comma middle (gone ++ back));
   now = h;
   is_comma = k;
+  belongs = subst (λ z. IsWithComments z gone back) g b;
 }
 
 pub grows : (x y head before gone back front middle comma came : List ℕ) → x ≡ head ++ back → head ≡ before ++ gone → before ≡ front ++ middle → IsComma comma → HaveSameLexemes (chars gone) [] → y ≡ front ++ (comma ++ (middle ++ (came ++ back))) → Grows x y

@@ -25,12 +25,13 @@ use Rattle.json5_lexemes.specs.Lexemes.{HaveSameLexemes, no_lexeme}
 use Rattle.json5_edit.specs.Changes.{Gains, GainsAt}
 use Rattle.json5_edit.specs.Comparing.{IsWithLast, step_kind, step_key}
 use Rattle.json5_edit.specs.Entries.{elements, members, entries, kind_of}
-use Rattle.json5_edit.specs.Pieces.{IsComma, Grows, SpellsKey}
+use Rattle.json5_edit.specs.Pieces.{IsComma, Grows, SpellsKey, IsEntryText}
 use Rattle.json5_edit.specs.Places.{IsValue}
 use Rattle.json5_edit.specs.Spots.{Goes, joined, Spot, HasEntry, HasEnd, Removes, Adds, Parts, first_element, first_member, Measures, SpellsEntry, spells_element, spells_member, comma_for}
 use Rattle.json5_edit.specs.declared.paths.Step.{Step}
 use Rattle.json5_edit.specs.declared.paths.Step.TheVariants as step
 use Rattle.json5_edit.specs.declared.plain.End.{End}
+use Rattle.json5_edit.proofs.TakenApart.{alone}
 use Rattle.json5_edit.proofs.PiecesJoined.{no_characters}
 use Rattle.json5_edit.proofs.Placed.{scalars_left, scalars_right, bytes_cut, encoded, seam}
 use Rattle.json5_edit.proofs.Refused.{begins_with}
@@ -147,8 +148,8 @@ cut_there {bytes = bytes} u p =
 chars_joined : (x y : List ℕ) → all_scalars x ≡ true → all_scalars y ≡ true → chars (encode_utf8_all x ++ encode_utf8_all y) ≡ x ++ y
 chars_joined x y a b = chars-append (encode_utf8_all x) (encode_utf8_all y) (encoded x a) ∙ ap (λ z. z ++ chars (encode_utf8_all y)) (chars-encodes x a) ∙ ap (λ z. x ++ z) (chars-encodes y b)
 
-pub removed : (s : Step) (limit n : ℕ) (kd : Kind) (bytes new front back gone rest : List ℕ) (size : ℕ) → kd ≡ step_kind s → limit ≤ max_depth → IsUtf8 bytes → (h : HasEntry s limit bytes n) → front ≡ encode_utf8_all h.entry.spot.front → rest ≡ encode_utf8_all h.entry.spot.rest → rest ≡ gone ++ back → Measures kd limit rest size → ((part z : List ℕ) → chars rest ≡ part ++ z → size ≡ bytes_in part → back ≡ encode_utf8_all z) → new ≡ front ++ back → Removes s limit bytes new
-removed s limit n kd bytes new front back gone rest size is_kind small utf8 h front_is rest_is split measures back_is now =
+pub removed : (s : Step) (limit n : ℕ) (kd : Kind) (bytes new front back gone rest : List ℕ) (size : ℕ) → kd ≡ step_kind s → limit ≤ max_depth → IsUtf8 bytes → (h : HasEntry s limit bytes n) → front ≡ encode_utf8_all h.entry.spot.front → rest ≡ encode_utf8_all h.entry.spot.rest → rest ≡ gone ++ back → Measures kd limit rest size → ((part z : List ℕ) → chars rest ≡ part ++ z → size ≡ bytes_in part → back ≡ encode_utf8_all z) → IsEntryText (chars gone) → new ≡ front ++ back → Removes s limit bytes new
+removed s limit n kd bytes new front back gone rest size is_kind small utf8 h front_is rest_is split measures back_is entry now =
     let e = h.entry in
     let p = e.spot in
     let k : Kind = step_kind s in
@@ -195,6 +196,7 @@ removed s limit n kd bytes new front back gone rest size is_kind small utf8 h fr
         was = whole ∙ ap (λ x. x ++ encode_utf8_all p.rest) (sym front_is) ∙ ap (λ x. front ++ x) (sym rest_is ∙ split);
         now = now;
         is_comma = inl refl;
+        belongs = alone (front ++ []) gone back entry;
       },
       (w, value, shallow),
     )
@@ -429,6 +431,12 @@ rest_utf8 rest u p is = subst IsUtf8 (sym (is ∙ rest_there u p)) (encoded p.re
 -- what is left of the rest after the entry
 pub back_there : (rest back : List ℕ) (size : ℕ) → IsUtf8 rest → back ≡ drop size rest → (part z : List ℕ) → chars rest ≡ part ++ z → size ≡ bytes_in part → back ≡ encode_utf8_all z
 back_there rest back size u is part z split at = is ∙ ap (λ m. drop m rest) at ∙ ap (drop (bytes_in part)) (bytes_cut rest part z u split) ∙ drop-append_seam (encode_utf8_all part) (encode_utf8_all z)
+
+-- the entry there begins with its first token
+pub solid_ahead : {s : Step} {limit n : ℕ} {bytes : List ℕ} (rest : List ℕ) → IsUtf8 bytes → (h : HasEntry s limit bytes n) → rest ≡ drop n bytes → Solid (chars rest)
+solid_ahead rest u h is =
+    let p = h.entry.spot in
+    subst Solid (sym (ap chars (is ∙ rest_there u p) ∙ chars-encodes p.rest (cut_there u p).2)) h.entry.solid
 
 -- the entry ahead of the spot
 pub record Ahead (k : Kind) (limit : ℕ) (rest : List ℕ) : Type 0 where

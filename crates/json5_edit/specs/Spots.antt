@@ -1,7 +1,7 @@
 -- Where an entry stands in the text of a collection, and where one more may stand.
-use Rattle.std.specs.Prelude.{◌≡◌, ℕ, ◌≤◌, Bool, true, false, nat_eq, List, [], ◌∷◌, ◌++◌, length, Option, Some, MatchOption}
+use Rattle.std.specs.Prelude.{◌≡◌, ◌⊎◌, ℕ, ◌≤◌, Bool, true, false, nat_eq, List, [], ◌∷◌, ◌++◌, length, Option, Some, MatchOption}
 use Rattle.std.specs.Str.{chars, encode_utf8_all}
-use Rattle.json5_grammar.specs.Language.Blanks.{Solid}
+use Rattle.json5_grammar.specs.Language.Blanks.{Blanks, Gap, Solid}
 use Rattle.json5_grammar.specs.Language.Characters.{comma_sign, colon_sign}
 use Rattle.json5_grammar.specs.Language.Trees.{Tree, null, boolean, number, text, array, object, Trees, Members, more, member, depth}
 use Rattle.json5_grammar.specs.Language.Values.{Val, KeyText, Reads}
@@ -16,7 +16,7 @@ use Rattle.json5_walk.specs.Walks.{Walked, Trail, IsAt, AwaitsKey}
 use Rattle.json5_edit.specs.Changes.{ChangesBy}
 use Rattle.json5_edit.specs.Comparing.{LacksKey, GoesTo, IsWithout, step_kind, step_key}
 use Rattle.json5_edit.specs.Entries.{entries, kind_of, is_inside, read_in, around}
-use Rattle.json5_edit.specs.Pieces.{Cuts, Grows}
+use Rattle.json5_edit.specs.Pieces.{Cuts, Grows, IsEntryText}
 use Rattle.json5_edit.specs.Places.{IsValue}
 use Rattle.json5_edit.specs.Seeks.{Named, NeedsMemory}
 use Rattle.json5_edit.specs.declared.paths.Step.{Step}
@@ -165,6 +165,22 @@ ReadsColon t r x = (z : List ℕ) × IsKeyValue x t z × Goes true r z
 -- the text was passed so far
 abbrev pub Passed : Cursor → Cursor → Type 0
 Passed old new = (taken : List ℕ) × Took old taken new
+
+-- x is a colon and the blanks around it, before the rest
+abbrev pub IsColonBefore : List ℕ → List ℕ → Type 0
+IsColonBefore rest x = (b w : List ℕ) × (x ≡ b ++ colon_sign ∷ w) × Blanks b × Gap w rest
+
+-- x is nothing, or a key and such a colon
+abbrev pub IsNameBefore : List ℕ → List ℕ → Type 0
+IsNameBefore rest x = (x ≡ []) ⊎ ((k c u : List ℕ) × (escape_free : Bool) × (x ≡ k ++ c) × KeyText k u escape_free × IsColonBefore rest c)
+
+-- such a text was passed, before what is left
+abbrev pub PassedBefore : (List ℕ → List ℕ → Type 0) → Cursor → Cursor → Type 0
+PassedBefore Is old new = (taken : List ℕ) × Took old taken new × Is new.unread taken
+
+-- the first n bytes of the text are those of an entry and the comma after it, if there is one
+abbrev pub BeginsWithEntry : List ℕ → ℕ → Type 0
+BeginsWithEntry x n = (part z : List ℕ) × (x ≡ part ++ z) × (n ≡ bytes_in part) × IsEntryText part
 
 -- the first n bytes of the text are an entry and the comma after it, if there is one: where the entries of u go on, those
 -- of r go on after them

@@ -13,7 +13,7 @@ ghost use Rattle.json5_grammar.specs.Language.Documents.{max_depth};
 ghost use Rattle.json5_walk.specs.Walks.{IsDocument};
 ghost use Rattle.std.specs.Str.{chars, encode_utf8_all};
 
-use crate::comparing::{check_added, check_put_in, check_removed};
+use crate::comparing::{check_added, check_put_in, check_removed, kind};
 use crate::faults::{EditError, Result};
 use crate::paths::Step;
 use crate::pieces::{cut, grown};
@@ -250,7 +250,7 @@ fn removed_by_lines(alloc: Global, old: &str, step: Step<'_>, room: usize) -> Re
     ensures { IfOk result (λ new. Removes step.entry room old.now (string_bytes new)) }
 {
     let gone = laid(cut_for(alloc, old, which(step)))?;
-    let new = cut(alloc, old, gone)?;
+    let new = cut(alloc, old, gone, kind(step), room)?;
     match check_removed(alloc, old, new.as_str(), step, gone.index) {
         Ok(()) => fitting(alloc, new, room),
         Err(error) => Err(EditError::of_made(error)),

@@ -1,26 +1,37 @@
 //! A text with a part taken out of it or put into it.
 
-ghost use Rattle.std.specs.Prelude.{◌≡◌, ◌++◌, IfOk, IfErr, IsTrue, [], string_bytes, take};
+ghost use Rattle.std.specs.Prelude.{◌≡◌, ◌≤◌, ◌++◌, IfOk, IfErr, IsTrue, [], string_bytes, take};
 ghost use Rattle.std.specs.Str.{chars};
 ghost use Rattle.json5_edit.specs.Pieces.{Cuts, Grows, Respells, IsComma, WithoutComma, SplitsKey};
 ghost use Rattle.json5_edit.specs.Refusals.{IsOwn};
 ghost use Rattle.json5_edit.specs.declared.faults.EditError.TheVariants as edit_errors;
+ghost use Rattle.json5_grammar.specs.Language.Documents.{max_depth};
 ghost use Rattle.json5_lexemes.specs.Lexemes.{HaveSameLexemes};
 
+use crate::belongings::check_gone;
 use crate::faults::{EditError, Result};
 use crate::setting::join;
 use json5_edit_layout::{Cut, Growth, Respelling};
 use json5_lexemes::same_lexemes;
 use json5_text::scanner::Scanner;
+use json5_value::brackets::BracketKind;
 use std::alloc::Global;
 
-/// The text without what goes.
-pub(crate) fn cut(alloc: Global, text: &str, cut: Cut) -> Result<String>
+/// The text without what goes, where that is an entry of such a collection with the comments that belong to it.
+pub(crate) fn cut(
+    alloc: Global,
+    text: &str,
+    cut: Cut,
+    kind: BracketKind,
+    room: usize,
+) -> Result<String>
+    requires { room ≤ max_depth }
     ensures cuts { IfOk result (λ new. Cuts text.now (string_bytes new)) }
     ensures own { IfErr result IsOwn }
 {
     let (head, back) = split(text, cut.end)?;
-    let (head, _gone) = split(head, cut.start)?;
+    let (head, gone) = split(head, cut.start)?;
+    check_gone(alloc, head, gone, back, kind, room)?;
     let (front, middle) = around_comma(head, cut.comma)?;
     join(alloc, front, middle, back)
 }
@@ -88,7 +99,7 @@ fn split_key(alloc: Global, text: &str) -> Result<(&str, &str)>
 }
 
 /// The text before the offset, and that after it.
-fn split(text: &str, at: usize) -> Result<(&str, &str)>
+pub(crate) fn split(text: &str, at: usize) -> Result<(&str, &str)>
     ensures split { IfOk result (λ parts. text.now ≡ parts.0.now ++ parts.1.now) }
     ensures front { IfOk result (λ parts. parts.0.now ≡ take at text.now) }
     ensures own { IfErr result IsOwn }

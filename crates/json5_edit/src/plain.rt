@@ -11,7 +11,7 @@ ghost use Rattle.json5_edit.specs.Changes.{Gains, GainsAt};
 ghost use Rattle.json5_edit.specs.Comparing.{IsWithLast};
 ghost use Rattle.json5_edit.specs.Places.{IsValue};
 ghost use Rattle.json5_edit.specs.Refusals.{RefusesFree, RefusesKind, RefusesStep};
-ghost use Rattle.json5_edit.specs.Spots.{Adds, Goes, HasEnd, HasEntry, Measures, Parts, Passed, ReadsColon, ReadsThen, Removes, SpellsEntry, comma_for};
+ghost use Rattle.json5_edit.specs.Spots.{Adds, BeginsWithEntry, Goes, HasEnd, HasEntry, IsColonBefore, IsNameBefore, Measures, Parts, PassedBefore, ReadsColon, ReadsThen, Removes, SpellsEntry, comma_for};
 ghost use Rattle.json5_edit.specs.declared.faults.EditError.TheVariants as edit_errors;
 ghost use Rattle.json5_edit.specs.declared.paths.Step.TheVariants as step;
 
@@ -191,9 +191,15 @@ fn comma_for(due: bool) -> &'static str
 }
 
 /// How long the entry is in front of the text, with the comma after it, if there is one.
-fn entry_len(alloc: Global, rest: &str, kind: BracketKind, room: usize) -> error::Result<usize>
+pub(crate) fn entry_len(
+    alloc: Global,
+    rest: &str,
+    kind: BracketKind,
+    room: usize,
+) -> error::Result<usize>
     requires { room ≤ max_depth }
     ensures measured { IfOk result (Measures kind room rest.now) }
+    ensures spelled { IfOk result (λ n. Solid (chars rest.now) → BeginsWithEntry (chars rest.now) n) }
     ensures refused { IfErr result (λ e. (u t r : Tree) → Parts kind u t r → Goes false u (chars rest.now) → depth t ≤ room → LacksMemory e) }
 {
     let mut scanner = Scanner::new(alloc, rest);
@@ -210,7 +216,7 @@ fn entry_len(alloc: Global, rest: &str, kind: BracketKind, room: usize) -> error
 
 /// Passes over the key of a member and the colon with the blanks around it, or over nothing in an array.
 fn pass_name(scanner: &mut Scanner<&str>, kind: BracketKind) -> error::Result<()>
-    ensures passed { OnOk result (Passed scanner.old scanner.new) }
+    ensures passed { OnOk result (PassedBefore IsNameBefore scanner.old scanner.new) }
     ensures named { OnOk result ((u t r : Tree) → Parts kind u t r → Goes false u scanner.old.unread → ReadsThen t r scanner.new.unread) }
     ensures solid { OnOk result (Solid scanner.old.unread → Solid scanner.new.unread) }
     ensures refused { IfErr result (λ e. (u t r : Tree) → Parts kind u t r → Solid scanner.old.unread → Goes false u scanner.old.unread → LacksMemory e) }
@@ -226,7 +232,7 @@ fn pass_name(scanner: &mut Scanner<&str>, kind: BracketKind) -> error::Result<()
 
 /// Passes over a colon with the blanks around it.
 fn pass_colon(scanner: &mut Scanner<&str>) -> error::Result<()>
-    ensures passed { OnOk result (Passed scanner.old scanner.new) }
+    ensures passed { OnOk result (PassedBefore IsColonBefore scanner.old scanner.new) }
     ensures parted { OnOk result ((t r : Tree) → ReadsColon t r scanner.old.unread → ReadsThen t r scanner.new.unread) }
     ensures solid { OnOk result (Solid scanner.new.unread) }
     ensures refused { IfErr result (λ e. (t r : Tree) → ReadsColon t r scanner.old.unread → LacksMemory e) }

@@ -69,19 +69,11 @@ fn cut_of(text: &str, around: Around, here: Spot) -> Cut {
             end: around.close,
         };
     }
-    match comma_before(around, here) {
-        Some(comma) if start == from => Cut {
-            index: around.index,
-            comma: None,
-            start: comma,
-            end,
-        },
-        comma => Cut {
-            index: around.index,
-            comma,
-            start,
-            end,
-        },
+    Cut {
+        index: around.index,
+        comma: comma_before(around, here),
+        start,
+        end,
     }
 }
 

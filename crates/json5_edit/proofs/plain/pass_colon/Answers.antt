@@ -1,12 +1,12 @@
-use Rattle.std.proofs.Common.{refl, [], ◌∷◌}
+use Rattle.std.proofs.Common.{refl}
 use Rattle.std.proofs.lemmas.Result.{err_from_is_err_and}
-use Rattle.json5_edit.proofs.Measured.{passed_on, blanks_passed, colon_past_blanks, value_past_blanks, colon_left, colon_spares, no_colon, value_spares}
+use Rattle.json5_edit.proofs.Measured.{colon_before, colon_past_blanks, value_past_blanks, colon_left, colon_spares, no_colon, value_spares}
 use Rattle.json5_edit.proofs.Refused.{err_then}
 use Rattle.json5_edit.proofs.Seeks.{on_then}
 use Rattle.json5_edit.proofs.plain.pass_colon.Goals as goal
 
 pub returns-clause-passed : goal.returns-clause-passed
-returns-clause-passed c = on_then c.skip_blank-2.result c.skip_blank-2.ensures.passed (λ k. passed_on (blanks_passed c.in_ok-skip_blank.ensures.passed) (passed_on (58 ∷ [], c.if-not-eat.ensures.taken refl) (blanks_passed k)))
+returns-clause-passed c = on_then c.skip_blank-2.result c.skip_blank-2.ensures.passed (λ k. colon_before c.in_ok-skip_blank.ensures.passed (c.if-not-eat.ensures.taken refl) k)
 
 pub returns-clause-parted : goal.returns-clause-parted
 returns-clause-parted c = on_then c.skip_blank-2.result c.skip_blank-2.ensures.passed (λ k t r h. value_past_blanks t r k (colon_left _ _ t r (c.if-not-eat.ensures.taken refl).split (colon_past_blanks t r c.in_ok-skip_blank.ensures.passed h)))

@@ -1,17 +1,17 @@
 use Rattle.std.proofs.lemmas.Result.{err_from_is_err_and}
-use Rattle.json5_edit.proofs.Measured.{nothing_passed, passed_on, element_first, key_first, key_left}
+use Rattle.json5_edit.proofs.Measured.{no_name, name_before, element_first, key_first, key_left}
 use Rattle.json5_edit.proofs.Refused.{err_then}
 use Rattle.json5_edit.proofs.Seeks.{on_then}
 use Rattle.json5_edit.proofs.plain.pass_name.Goals as goal
 
 pub returns-in-Array-clause-passed : goal.returns-in-Array-clause-passed
-returns-in-Array-clause-passed c = nothing_passed _
+returns-in-Array-clause-passed c = no_name _
 
 pub returns-in-Array-clause-named : goal.returns-in-Array-clause-named
 returns-in-Array-clause-named c = λ u t r parts h. element_first (rw c.in-Array.is at parts) h
 
 pub returns-in_ok-key-in-Object-clause-passed : goal.returns-in_ok-key-in-Object-clause-passed
-returns-in_ok-key-in-Object-clause-passed c = let (s, v, e, took, key, is) = c.in_ok-key-in-Object.ensures.taken in on_then c.pass_colon.result c.pass_colon.ensures.passed (λ k. passed_on (s, took) k)
+returns-in_ok-key-in-Object-clause-passed c = let (s, v, e, took, key, is) = c.in_ok-key-in-Object.ensures.taken in on_then c.pass_colon.result c.pass_colon.ensures.passed (λ k. name_before s v e took key k)
 
 pub returns-in_ok-key-in-Object-clause-named : goal.returns-in_ok-key-in-Object-clause-named
 returns-in_ok-key-in-Object-clause-named c = let (s, v, e, took, key, is) = c.in_ok-key-in-Object.ensures.taken in on_then c.pass_colon.result c.pass_colon.ensures.parted (λ k u t r parts h. k t r (key_left _ _ s v e (rw c.in-Object.is at parts) took.split key h))

@@ -1,0 +1,2 @@
+-- Lists the lemmas about comments.
+pub mod CommentsPassed

@@ -1,0 +1,3 @@
+-- Lists the definitions of what goes with an entry.
+pub mod Comments
+pub mod Passing

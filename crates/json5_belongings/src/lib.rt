@@ -1,0 +1,4 @@
+//! Which comments belong to an entry.
+#![tactic(auto)]
+
+pub mod comments;

@@ -1,0 +1,66 @@
+//! What goes with an entry: the comments that belong to it, and no others.
+
+ghost use Rattle.std.specs.Prelude.{◌≡◌, ◌≤◌, ◌++◌, IfOk, IfErr, OnOk};
+ghost use Rattle.std.specs.Str.{chars};
+ghost use Rattle.json5_edit.specs.Pieces.{IsEntryText, IsWithComments};
+ghost use Rattle.json5_edit.specs.Refusals.{IsOwn};
+ghost use Rattle.json5_grammar.specs.Language.Blanks.{Solid};
+ghost use Rattle.json5_grammar.specs.Language.Documents.{max_depth};
+
+use crate::faults::{EditError, Result};
+use crate::pieces::split;
+use crate::plain::entry_len;
+use json5_belongings::comments::{is_lead, is_trail};
+use json5_text::scanner::Scanner;
+use json5_value::brackets::BracketKind;
+use std::alloc::Global;
+
+/// Refuses what isn't an entry with comments that belong to it, between the other texts.
+pub(crate) fn check_gone(
+    alloc: Global,
+    before: &str,
+    gone: &str,
+    after: &str,
+    kind: BracketKind,
+    room: usize,
+) -> Result<()>
+    requires { room ≤ max_depth }
+    ensures belongs { OnOk result (IsWithComments before.now gone.now after.now) }
+    ensures own { IfErr result IsOwn }
+{
+    let (lead, rest) = split_blanks(alloc, gone)?;
+    let (_entry, trail) = split_entry(alloc, rest, kind, room)?;
+    if !is_lead(alloc, before, lead) {
+        return Err(EditError::Failed);
+    }
+    if !is_trail(alloc, trail, after) {
+        return Err(EditError::Failed);
+    }
+    Ok(())
+}
+
+/// The blanks and comments in front of the text, and what follows them.
+fn split_blanks(alloc: Global, text: &str) -> Result<(&str, &str)>
+    ensures split { IfOk result (λ parts. text.now ≡ parts.0.now ++ parts.1.now) }
+    ensures solid { IfOk result (λ parts. Solid (chars parts.1.now)) }
+    ensures own { IfErr result IsOwn }
+{
+    let mut scanner = Scanner::new(alloc, text);
+    match scanner.skip_blank() {
+        Ok(()) => split(text, scanner.offset()),
+        Err(error) => Err(EditError::of_made(error)),
+    }
+}
+
+/// The entry in front of the text, with the comma after it, if there is one, and what follows it.
+fn split_entry(alloc: Global, text: &str, kind: BracketKind, room: usize) -> Result<(&str, &str)>
+    requires { room ≤ max_depth }
+    ensures split { IfOk result (λ parts. text.now ≡ parts.0.now ++ parts.1.now) }
+    ensures entry { IfOk result (λ parts. Solid (chars text.now) → IsEntryText (chars parts.0.now)) }
+    ensures own { IfErr result IsOwn }
+{
+    match entry_len(alloc, text, kind, room) {
+        Ok(len) => split(text, len),
+        Err(error) => Err(EditError::of_made(error)),
+    }
+}
