@@ -3,10 +3,12 @@
 ghost use Rattle.std.specs.Prelude.{◌≡◌, Some, string_bytes};
 ghost use Rattle.std.specs.Str.{chars};
 ghost use Rattle.json5_text.specs.ShortTexts.{IsTextAt};
-ghost use Rattle.json5_de.specs.FieldNames.{StandsIn};
+ghost use Rattle.json5_text.specs.TextTokens.{IsTextOf};
+ghost use Rattle.json5_de.specs.FieldNames.{IsSpelledIn, StandsIn};
 
 use json5_text::input::Input;
 use json5_text::short_texts::Span;
+use json5_text::text_token::TextToken;
 use std::alloc::Global;
 use std::marker::Model;
 
@@ -54,11 +56,22 @@ impl<I: Input> FieldName<I> {
     }
 
     /// Takes this name.
-    pub(crate) fn put_owned(&mut self, name: String)
+    fn put_owned(&mut self, name: String)
         ensures { self.new ≡ string_bytes name }
     {
         self.span = None;
         self.owned = name;
+    }
+
+    /// Takes the text of the token as the name.
+    pub(crate) fn put_token(&mut self, input: I, token: TextToken)
+        requires { IsSpelledIn (I.text input) token }
+        ensures { IsTextOf (chars (I.text input)) token self.new }
+    {
+        match token {
+            TextToken::EscapeFree(span) => self.put(input, span),
+            TextToken::Escaped(text) => self.put_owned(text),
+        }
     }
 
     /// The name.

@@ -1,15 +1,19 @@
 //! Fields of a struct, which are read as the members of an object come.
 
-ghost use Rattle.std.specs.Prelude.{◌≡◌, true, false, Some, IfOk, OnOk, string_bytes};
+ghost use Rattle.std.specs.Prelude.{◌≡◌, true, false, Some, None, IfOk, OnOk, string_bytes};
 ghost use Rattle.json5_grammar.specs.declared.error_code.ErrorCode.TheVariants as codes;
 ghost use Rattle.json5_types.specs.Errors.{code};
 ghost use Rattle.json5_de.specs.Convert.{every_text};
+ghost use Rattle.json5_de.specs.AnyTree.{every_value};
 ghost use Rattle.json5_de.specs.KeyKinds.{RefusedAsKey, string_key};
+ghost use Rattle.json5_de.specs.Keys.{CompletesEscapeFreeKey, ReadsKeyOf};
 ghost use Rattle.json5_de.specs.ObjectFaults.{ReadsKeyAtEntry, ReadsKeyOfMember};
 ghost use Rattle.json5_de.specs.DeserializeLaw.{IsUnprompted};
 ghost use Rattle.json5_de.specs.FieldNames.{name_text};
 ghost use Rattle.json5_de.specs.Fields.{FieldRead, FieldRequired, IsOwnAtBracket, RefusesHere};
-ghost use Rattle.json5_de.specs.Plans.{PassesMember, ReadsMembers};
+ghost use Rattle.json5_de.specs.Objects.{CompletesEscapeFreeMember, ReadsKeyFree, ReadsValueFree, bare_map};
+ghost use Rattle.json5_de.specs.Plans.{PassesMember, ReadsFree, ReadsMembers};
+ghost use Rattle.json5_de.specs.TokenKinds.{every_tree};
 ghost use Rattle.json5_de.specs.ShortWays.{filled_if_given};
 ghost use Rattle.json5_de.specs.KeyPlaces.{BeginsIfGiven};
 ghost use Rattle.json5_grammar.specs.Language.Blanks.{Solid};
@@ -41,8 +45,9 @@ use std::fmt;
 /// }
 /// ```
 pub trait Fields<I: Input>: Sized + Drop {
-    ghost use Rattle.std.specs.Prelude.{⊤};
-    ghost use Rattle.json5_de.specs.Plans.{Step, TakesMember};
+    ghost use Rattle.std.specs.Prelude.{Bool, false, ⊤};
+    ghost use Rattle.json5_grammar.specs.Language.Trees.{Tree};
+    ghost use Rattle.json5_de.specs.Plans.{Step, TakesMember, TakesFree};
     ghost use Rattle.json5_de.specs.StructFaults.{ValueFaults, RefusesMember};
     ghost use Rattle.json5_de.specs.Lending.{map_state_of, KeepsMap, KeyPending, NoKeyPending, TakesPendingKey, KeyIsNamed};
 
@@ -53,6 +58,9 @@ pub trait Fields<I: Input>: Sized + Drop {
 
     // What a member changes, by its name and its value.
     ghost step: { Step Content };
+
+    // Which values are read without memory, whatever their names are.
+    ghost allocation_free: { Tree → Bool } = { λ _. false };
 
     // What is known of the refusal of a value, by its name.
     ghost refuses: { ValueFaults } = { λ _ _ _ _. ⊤ };
@@ -69,12 +77,13 @@ pub trait Fields<I: Input>: Sized + Drop {
         ensures access { KeepsMap map.old map.new }
         ensures pending { OnOk result (NoKeyPending map.new) }
         ensures takes { TakesMember step (content self.old) (content self.new) name.now (map_state_of map.old) (map_state_of map.new) result }
+        ensures no_memory { TakesFree allocation_free step (content self.old) name.now (map_state_of map.old) result }
         ensures refused { RefusesMember refuses step (content self.old) name.now (map_state_of map.old) result };
 }
 
 impl<I: Input> Deserializer<I> {
     /// Reads the next key of an object as `member_key::<String>` does, and takes it as a name. Says whether there was one, and
-    /// puts into `start` how many bytes come before it. A key of the short way takes no memory.
+    /// puts into `start` how many bytes come before it. A key without an escape takes no memory.
     #[inline(always)]
     fn member_name(
         &mut self,
@@ -83,6 +92,7 @@ impl<I: Input> Deserializer<I> {
         start: &mut usize,
     ) -> Result<bool>
         ensures key { ReadsKeyOfMember name_text every_text (RefusedAsKey string_key) comma_due self.old self.new (filled_if_given name.new result) }
+        ensures no_memory { CompletesEscapeFreeMember (bare_map self.old comma_due false) result }
         ensures begins { BeginsIfGiven name.new start.new self.new.input self.new.unread result }
     {
         match self.short_step(BracketKind::Object, comma_due) {
@@ -107,6 +117,7 @@ impl<I: Input> Deserializer<I> {
         start: &mut usize,
     ) -> Result<bool>
         ensures key { ReadsKeyOfMember name_text every_text (RefusedAsKey string_key) comma_due self.old self.new (filled_if_given name.new result) }
+        ensures no_memory { CompletesEscapeFreeMember (bare_map self.old comma_due false) result }
         ensures begins { BeginsIfGiven name.new start.new self.new.input self.new.unread result }
     {
         match self.advance_to_entry(BracketKind::Object, comma_due) {
@@ -116,19 +127,38 @@ impl<I: Input> Deserializer<I> {
         }
     }
 
+    /// Takes a key as a name. One without an escape takes no memory.
+    fn key_name(&mut self, name: &mut FieldName<I>) -> Result<()>
+        ensures reads { ReadsKeyOf (λ _. name.new) every_text (RefusedAsKey string_key) self.old self.new result }
+        ensures no_memory { CompletesEscapeFreeKey self.old result }
+    {
+        match self.found_key() {
+            Ok(key) => {
+                name.put_token(self.input(), key.token);
+                Ok(())
+            }
+            Err(e) => Err(e),
+        }
+    }
+
     /// Takes the name of the member that begins here, if a key begins it.
     #[inline(never)]
     fn entry_name(&mut self, name: &mut FieldName<I>, start: &mut usize) -> Result<bool>
         ensures key { ReadsKeyAtEntry name_text every_text (RefusedAsKey string_key) self.old self.new (filled_if_given name.new result) }
+        ensures no_memory { Solid self.old.unread → CompletesEscapeFreeKey self.old result }
         ensures begins { Solid self.old.unread → BeginsIfGiven name.new start.new self.new.input self.new.unread result }
     {
-        *start = self.offset();
-        match self.entry_key::<String>() {
-            Ok(Some(key)) => {
-                name.put_owned(key);
-                Ok(true)
-            }
-            Ok(None) => Ok(false),
+        let offset = self.offset();
+        *start = offset;
+        if !self.at_key() {
+            return Err(self.fail_unexpected(
+                ErrorCode::EofParsingObject,
+                ErrorCode::ExpectedIdentifier,
+            ));
+        }
+        let read = self.key_name(name);
+        match self.positioned_key(read, offset) {
+            Ok(key) => Ok(key.is_some()),
             Err(e) => Err(e),
         }
     }
@@ -206,6 +236,7 @@ impl<'a, I: Input> MapAccess<'a, I> {
         ensures access { KeepsMap self.old self.new }
         ensures pending { TakesPendingKey self.old self.new result }
         ensures reads { FieldRead V.content V.convert V.refuses (map_state_of self.old) (map_state_of self.new) field.old field.new result }
+        ensures no_memory { field.old ≡ None → ReadsValueFree V.convert V.allocation_free (map_state_of self.old) result }
     {
         if field.is_some() {
             return Err(self.duplicate(name));
@@ -236,6 +267,7 @@ impl<'a, I: Input> MapAccess<'a, I> {
         ensures access { KeepsMap self.old self.new }
         ensures pending { TakesPendingKey self.old self.new result }
         ensures passes { PassesMember (map_state_of self.old) (map_state_of self.new) result }
+        ensures no_memory { ReadsValueFree every_value every_tree (map_state_of self.old) result }
         ensures cause { RefusesHere ⟦<IgnoredAny as Deserialize<I>>⟧.refuses (map_state_of self.old) result }
     {
         self.next_value::<IgnoredAny>()?;
@@ -279,6 +311,7 @@ impl<'a, I: Input> MapAccess<'a, I> {
     fn take_name(&mut self, name: &mut FieldName<I>, start: &mut usize) -> Result<bool>
         requires no_key { NoKeyPending self.old }
         ensures key { ReadsNextKey name_text every_text (RefusedAsKey string_key) self.old self.new (filled_if_given name.new result) }
+        ensures no_memory { ReadsKeyFree (map_state_of self.old) result }
         ensures begins { BeginsIfGiven name.new start.new self.new.de.now.input self.new.de.now.unread result }
     {
         self.de.set_failed(self.failed);
@@ -297,6 +330,7 @@ impl<'a, I: Input> MapAccess<'a, I> {
     fn next_name(&mut self, name: &mut FieldName<I>) -> Result<bool>
         requires no_key { NoKeyPending self.old }
         ensures key { ReadsNextKey name_text every_text (RefusedAsKey string_key) self.old self.new (filled_if_given name.new result) }
+        ensures no_memory { ReadsKeyFree (map_state_of self.old) result }
         ensures named { NamesItsKey name.new self.new result }
     {
         let mut start = self.key_start;
@@ -328,6 +362,7 @@ impl<'a, I: Input> MapAccess<'a, I> {
         ensures access { KeepsMap self.old self.new }
         ensures pending { OnOk result (NoKeyPending self.new) }
         ensures reads { ReadsMembers F.step (F.content fields.old) (F.content fields.new) (map_state_of self.old) (map_state_of self.new) result }
+        ensures no_memory { ReadsFree F.allocation_free F.step (F.content fields.old) (map_state_of self.old) result }
         ensures refused { RefusesMembers F.step F.refuses (F.content fields.old) (map_state_of self.old) result }
     {
         let mut name = FieldName::new(self.de.allocator(), self.de.input());
