@@ -433,7 +433,7 @@ placed_free IsBefore old (Err own) result free is u r live reads = absurd (false
 pub no_key_free : (old : State) (result : Result Bool Error) → NotBegun begins_key old.unread → Solid old.unread → CompletesEscapeFreeKey old result
 no_key_free old result none solid u r live reads = absurd (no_key_begun old.unread r u true solid none reads)
 
-module _ {V : Type 0} (comma_due : Bool) (s mid : State) (result : Result V Error) where
+module _ (comma_due : Bool) (s mid : State) (result : Result Bool Error) where
   -- it is read where the member begins
   pub entry_free : AtEntry curly comma_due s mid → (Solid mid.unread → CompletesEscapeFreeKey mid result) → CompletesEscapeFreeMember (bare_map s comma_due false) result
   entry_free at free u r live key = free (begun_solid comma_due s.unread mid.unread at.begun) u r (failed_of at.rest ∙ live) (pair_key_found comma_due s.unread mid.unread r u true at.begun key)

@@ -323,10 +323,21 @@ module _ {S : Type 0} {step : Step S} {start : S} {old : MapAccessState} where
         by no_member r left = absurd left
         by (member u escape_free t ps) r left = left (encode_utf8_all u) refl
 
+    -- a value was refused
+    pub pair_refuses : {name : List ℕ} {x : S} → IsErrAnd result (λ y. y ≡ e) → ReadingStruct step start old s (Some name) at → TakesMember step s x name at new (Err e) → ReadsMembers step start n old new result
+    pair_refuses {name = name} is_err m one = refuses_as is_err m one.failed one.unprompted by
+      where
+        by : (ps : Members) (r : List ℕ) (z : S) → run step s ps ≡ Some z → BeginsAt (Some name) ps → MembersLeft ps r at → IsOutOfMemory e
+        by no_member r z are named left = absurd named
+        by (member u escape_free t ps) r z are named left =
+            let (y, is, rest) = parts (λ y. run step y ps) (step s (encode_utf8_all u) t) z are in
+            one.left u escape_free t ps r y (sym (ap (λ w. step s w t) named) ∙ is) left
+
+  module _ {s : S} {at : MapAccessState} (e : Error) (result : Result (Unit {0}) Error) where
     -- if a key is refused, or a value, then not all that is left is read without memory
-    pub key_not_free : (test : Tree → Bool) {X : Type 0} (content : X → List ℕ) → IsErrAnd result (λ y. y ≡ e) → ReadingStruct step start old s None at → ReadsKeyFree {V = X} at (Err e)
+    pub key_not_free : (test : Tree → Bool) {X : Type 0} {new : MapAccessState} (content : X → List ℕ) → IsErrAnd result (λ y. y ≡ e) → ReadingStruct step start old s None at → ReadsKeyFree {V = X} at (Err e)
         → ((ps : Members) (r : List ℕ) → MembersLeft ps r at → LeavesAValue content every_text ps r new (Err e)) → ReadsFree test step start old result
-    key_not_free test content is_err m free fewer = handed_on (λ r. ReadsFree test step start old r) e result is_err (λ ps r z are left spare. let w = m.left ps r z are left in by w.pairs r (w.free test spare) w.left (fewer w.pairs r w.left))
+    key_not_free test {new = new} content is_err m free fewer = handed_on (λ r. ReadsFree test step start old r) e result is_err (λ ps r z are left spare. let w = m.left ps r z are left in by w.pairs r (w.free test spare) w.left (fewer w.pairs r w.left))
       where
         by : (ps : Members) (r : List ℕ) → all_free test ps ≡ true → MembersLeft ps r at → LeavesAValue content every_text ps r new (Err e) → IsOk {T = Unit {0}} {E = Error} (Err e)
         by no_member r spare left none = absurd none
@@ -340,16 +351,6 @@ module _ {S : Type 0} {step : Step S} {start : S} {old : MapAccessState} where
         by (member u escape_free t ps) r z spare are named left =
             let (y, is, rest) = parts (λ y. run step y ps) (step s (encode_utf8_all u) t) z are in
             free u escape_free t ps r y (sym (ap (λ w. step s w t) named) ∙ is) left (free_value test u escape_free t ps spare)
-
-    -- a value was refused
-    pub pair_refuses : {name : List ℕ} {x : S} → IsErrAnd result (λ y. y ≡ e) → ReadingStruct step start old s (Some name) at → TakesMember step s x name at new (Err e) → ReadsMembers step start n old new result
-    pair_refuses {name = name} is_err m one = refuses_as is_err m one.failed one.unprompted by
-      where
-        by : (ps : Members) (r : List ℕ) (z : S) → run step s ps ≡ Some z → BeginsAt (Some name) ps → MembersLeft ps r at → IsOutOfMemory e
-        by no_member r z are named left = absurd named
-        by (member u escape_free t ps) r z are named left =
-            let (y, is, rest) = parts (λ y. run step y ps) (step s (encode_utf8_all u) t) z are in
-            one.left u escape_free t ps r y (sym (ap (λ w. step s w t) named) ∙ is) left
 
 -- a field that is there leaves what was read
 pub still : {S : Type 0} {step : Step S} {s n : S} {old now new : MapAccessState} {result : Result (Unit {0}) Error} → new ≡ now → ReadsMembers step s n old now result → ReadsMembers step s n old new result

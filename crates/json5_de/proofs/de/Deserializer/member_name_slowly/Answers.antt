@@ -1,3 +1,4 @@
+use Rattle.std.proofs.Common.{Err}
 use Rattle.json5_de.specs.FieldNames.{name_text}
 use Rattle.json5_de.specs.Convert.{every_text}
 use Rattle.json5_de.specs.KeyKinds.{RefusedAsKey, string_key}
@@ -8,7 +9,7 @@ pub returns-in-Err-clause-key : goal.returns-in-Err-clause-key
 returns-in-Err-clause-key g c = no_entry name_text every_text (RefusedAsKey string_key) c.args.comma_due c.args.self.now c.advance_to_entry.new.self c.in-Err.e c.in-Err.ensures
 
 pub returns-in-Err-clause-no_memory : goal.returns-in-Err-clause-no_memory
-returns-in-Err-clause-no_memory g c = no_entry_free c.args.comma_due c.args.self.now c.advance_to_entry.new.self _ c.in-Err.e c.in-Err.ensures
+returns-in-Err-clause-no_memory g c = no_entry_free c.args.comma_due c.args.self.now c.advance_to_entry.new.self (Err c.in-Err.e) c.in-Err.e c.in-Err.ensures
 
 pub returns-in-Ok-true-clause-no_memory : goal.returns-in-Ok-true-clause-no_memory
-returns-in-Ok-true-clause-no_memory g c = entry_free c.args.comma_due c.args.self.now c.advance_to_entry.new.self _ c.in-Ok-true.ensures c.entry_name.ensures.no_memory
+returns-in-Ok-true-clause-no_memory g c = entry_free c.args.comma_due c.args.self.now c.advance_to_entry.new.self c.entry_name.result (rw c.in-Ok-true.field-0-test at c.in-Ok-true.ensures.sound) c.entry_name.ensures.no_memory

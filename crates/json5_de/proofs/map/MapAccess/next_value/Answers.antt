@@ -1,5 +1,4 @@
 use Rattle.std.proofs.Common.{Err, refl}
-use Rattle.std.proofs.lemmas.Bool.{false≢true}
 use Rattle.json5_de.specs.Lending.{blocking_map, map_state_of}
 use Rattle.json5_de.proofs.ObjectCalls.{lent, value_given, value_refused}
 use Rattle.json5_de.proofs.ObjectMembers.{value_free}
@@ -12,8 +11,8 @@ returns-in-Ok-clause-reads g c =
     rw c.set_failed-in-Ok.ensures (value_given g.V.Deserialize.content g.V.Deserialize.convert g.V.Deserialize.refuses c.args.self.now c.requires.key c.member_value.new.self new c.in-Ok.value refl k.steady.same_text k.sound)
 
 pub returns-in-Err-clause-no_memory : goal.returns-in-Err-clause-no_memory
-returns-in-Err-clause-no_memory g c = value_free g.V.Deserialize.convert g.V.Deserialize.allocation_free (map_state_of c.args.self.now) (Err c.refused.result) c.requires.key
-    (λ t r v live value shallow converts spare. absurd (false≢true ((rw c.set_failed.ensures at c.in-Err.ensures.no_memory) t r v live value shallow converts spare)))
+returns-in-Err-clause-no_memory g c = value_free {V = Unit {0}} g.V.Deserialize.convert g.V.Deserialize.allocation_free (map_state_of c.args.self.now) (Err c.refused.result) c.requires.key
+    (rw c.set_failed.ensures at c.in-Err.ensures.no_memory)
 
 pub returns-in-Err-clause-reads : goal.returns-in-Err-clause-reads
 returns-in-Err-clause-reads g c =

@@ -3,7 +3,6 @@ use Rattle.json5_de.specs.FieldNames.{name_text}
 use Rattle.std.specs.Prelude.{is_some}
 use Rattle.json5_de.specs.Convert.{every_text}
 use Rattle.json5_de.specs.KeyKinds.{RefusedAsKey, string_key}
-use Rattle.std.proofs.lemmas.Bool.{false≢true}
 use Rattle.json5_de.specs.Lending.{blocking_map, map_state_of}
 use Rattle.json5_de.specs.ShortWays.{if_given}
 use Rattle.json5_de.proofs.ObjectCalls.{lent, key_given, key_refused}
@@ -26,5 +25,5 @@ returns-in-Err-clause-key g c =
     key_refused name_text every_text (RefusedAsKey string_key) c.args.self.now c.requires.no_key c.member_name.new.self c.refused.new.self c.in-Err.e c.refused.result c.refused.ensures.blocks c.refused.ensures.placed k.cause k.steady k.complete k.closing
 
 pub returns-in-Err-clause-no_memory : goal.returns-in-Err-clause-no_memory
-returns-in-Err-clause-no_memory g c = key_free (map_state_of c.args.self.now) (Err c.refused.result) c.requires.no_key
-    (λ u r live key. absurd (false≢true ((rw (c.set_failed.ensures, c.is_comma_due.ensures) at c.in-Err.ensures.no_memory) u r live key)))
+returns-in-Err-clause-no_memory g c = key_free {V = Unit {0}} (map_state_of c.args.self.now) (Err c.refused.result) c.requires.no_key
+    (rw (c.set_failed.ensures, c.is_comma_due.ensures) at c.in-Err.ensures.no_memory)
