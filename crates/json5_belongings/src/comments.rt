@@ -1,10 +1,10 @@
 //! Which comments belong to an entry.
 
-ghost use Rattle.std.specs.Prelude.{◌≡◌, ◌||◌, ◌&&◌, true, IsTrue};
+ghost use Rattle.std.specs.Prelude.{◌≡◌, ◌||◌, ◌&&◌, ℕ, List, true, IsTrue};
 ghost use Rattle.std.specs.Str.{chars};
 ghost use Rattle.json5_grammar.specs.Language.Characters.{Each, NotBegun, is_blank, is_terminator};
 ghost use Rattle.json5_lexemes.specs.SameLexemes.{is_line_part};
-ghost use Rattle.json5_belongings.specs.Comments.{CommentsAfter, EndsLine, IsLead, IsTrail, is_closing};
+ghost use Rattle.json5_belongings.specs.Comments.{BeginsLine, CommentsAfter, EndsLine, IsLead, IsTrail, is_closing};
 ghost use Rattle.json5_belongings.specs.Passing.{BeginsAfter, BeginsOn, EndsBlock, HasAfter, PassesBlock, PassesLine, PassesLines, PassesPiece, MayFollow, StaysOne};
 
 use json5_text::char::{is_json5_line_terminator, is_json5_whitespace};
@@ -27,7 +27,14 @@ pub(crate) enum Piece {
 pub fn is_lead(alloc: Global, before: &str, lead: &str) -> bool
     ensures { IsTrue result → IsLead (chars before.now) (chars lead.now) }
 {
-    let begins = begins_line(alloc, before);
+    // The text before is read only where lines of comments need it.
+    leads(alloc, lead, false) || leads(alloc, lead, begins_line(alloc, before))
+}
+
+/// Whether this belongs to the entry after it, where a line begins before it or not.
+fn leads(alloc: Global, lead: &str, begins: bool) -> bool
+    ensures { IsTrue result → (before : List ℕ) → (begins ≡ true → BeginsLine before) → IsLead before (chars lead.now) }
+{
     let mut scanner = Scanner::new(alloc, lead);
     let begins = pass_blanks(&mut scanner, begins);
     match comment_lines(&mut scanner) {
