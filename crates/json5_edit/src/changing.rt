@@ -31,7 +31,7 @@ use std::alloc::Global;
 
 /// Returns the text without the element or the member that the path leads to: without its comma, the comments that
 /// belong to it, and its line, if it has one to itself. A comment belongs to it that stands after it on its line, or
-/// on the lines right before it.
+/// on the lines right before it. No other comment goes but those within the entry.
 ///
 /// ```text
 /// remove(alloc, "{ host: 'a', /* web */ port: 80 }", &[Step::Key("port")])?    // { host: 'a' }
