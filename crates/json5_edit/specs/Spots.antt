@@ -1,5 +1,5 @@
 -- Where an entry stands in the text of a collection, and where one more may stand.
-use Rattle.std.specs.Prelude.{◌≡◌, ◌⊎◌, ℕ, ◌≤◌, Bool, true, false, nat_eq, List, [], ◌∷◌, ◌++◌, length, Option, Some, MatchOption}
+use Rattle.std.specs.Prelude.{◌≡◌, ◌⊎◌, ℕ, ◌+◌, ◌≤◌, Bool, true, false, nat_eq, List, [], ◌∷◌, ◌++◌, length, Option, Some, MatchOption}
 use Rattle.std.specs.Str.{chars, encode_utf8_all}
 use Rattle.json5_grammar.specs.Language.Blanks.{Blanks, Gap, Solid}
 use Rattle.json5_grammar.specs.Language.Characters.{comma_sign, colon_sign}
@@ -14,7 +14,7 @@ use Rattle.json5_value.specs.declared.brackets.BracketKind.TheVariants as kind
 use Rattle.json5_walk.specs.Frames.{Frame, value_end, Spells, At, at_value, at_element, at_key, at_colon, at_comma}
 use Rattle.json5_walk.specs.Walks.{Walked, Trail, IsAt, AwaitsKey}
 use Rattle.json5_edit.specs.Changes.{ChangesBy}
-use Rattle.json5_edit.specs.Comparing.{LacksKey, GoesTo, IsWithout, step_kind, step_key}
+use Rattle.json5_edit.specs.Comparing.{LacksKey, GoesTo, IsWithout, IsWithLast, step_kind, step_key}
 use Rattle.json5_edit.specs.Entries.{entries, kind_of, is_inside, read_in, around}
 use Rattle.json5_edit.specs.Pieces.{Cuts, Grows, IsEntryText}
 use Rattle.json5_edit.specs.Places.{IsValue}
@@ -142,6 +142,10 @@ Adds Change limit old new = ChangesBy Change old new × Grows old new × IsValue
 pub data SpellsEntry : Kind → List ℕ → Tree → List ℕ → Type 0 where
   spells_element : (v : Tree) (x : List ℕ) → Val x v → SpellsEntry kind.Array [] v x
   spells_member : (k x u : List ℕ) (escape_free : Bool) (v : Tree) → KeyText k u escape_free → Val x v → SpellsEntry kind.Object (encode_utf8_all u) v (k ++ colon_sign ∷ x)
+
+-- with these characters as one more entry at the end, of whatever key and value they are an entry that fits
+abbrev pub AddsEntry : Kind → List ℕ → ℕ → List ℕ → List ℕ → Type 0
+AddsEntry k x limit old new = (key : List ℕ) (v : Tree) → SpellsEntry k key v x → depth v + 1 ≤ limit → Adds (IsWithLast k key v) limit old new
 
 abbrev pub comma_for : Bool → List ℕ
 comma_for true = comma_sign ∷ []

@@ -1,6 +1,6 @@
 //! The smallest edits of a collection: one entry with its comma goes or comes, and all else stays.
 
-ghost use Rattle.std.specs.Prelude.{◌≡◌, ◌++◌, ◌≤◌, ◌-◌, ◌+◌, ℕ, List, false, IfOk, IfErr, OnOk, string_bytes};
+ghost use Rattle.std.specs.Prelude.{◌≡◌, ◌++◌, ◌≤◌, ◌-◌, false, IfOk, IfErr, OnOk, string_bytes};
 ghost use Rattle.std.specs.Str.{chars};
 ghost use Rattle.json5_grammar.specs.Language.Blanks.{Solid};
 ghost use Rattle.json5_grammar.specs.Language.Documents.{max_depth};
@@ -8,10 +8,9 @@ ghost use Rattle.json5_grammar.specs.Language.Trees.{Tree, depth};
 ghost use Rattle.json5_types.specs.Errors.{LacksMemory};
 ghost use Rattle.json5_value.specs.declared.brackets.BracketKind.TheVariants as kind;
 ghost use Rattle.json5_edit.specs.Changes.{Gains, GainsAt};
-ghost use Rattle.json5_edit.specs.Comparing.{IsWithLast};
 ghost use Rattle.json5_edit.specs.Places.{IsValue};
 ghost use Rattle.json5_edit.specs.Refusals.{RefusesFree, RefusesKind, RefusesStep};
-ghost use Rattle.json5_edit.specs.Spots.{Adds, BeginsWithEntry, Goes, HasEnd, HasEntry, IsColonBefore, IsNameBefore, Measures, Parts, PassedBefore, ReadsColon, ReadsThen, Removes, SpellsEntry, comma_for};
+ghost use Rattle.json5_edit.specs.Spots.{Adds, AddsEntry, BeginsWithEntry, Goes, HasEnd, HasEntry, IsColonBefore, IsNameBefore, Measures, Parts, PassedBefore, ReadsColon, ReadsThen, Removes, comma_for};
 ghost use Rattle.json5_edit.specs.declared.faults.EditError.TheVariants as edit_errors;
 ghost use Rattle.json5_edit.specs.declared.paths.Step.TheVariants as step;
 
@@ -144,7 +143,7 @@ pub(crate) fn with_last(
 ) -> Result<String>
     requires small { room ≤ max_depth }
     requires end { HasEnd kind room old.now end }
-    ensures added { IfOk result (λ new. (key : List ℕ) (v : Tree) → SpellsEntry kind key v (chars entry.now) → depth v + 1 ≤ room → Adds (IsWithLast kind key v) room old.now (string_bytes new)) }
+    ensures added { IfOk result (λ new. AddsEntry kind (chars entry.now) room old.now (string_bytes new)) }
     ensures full { IfErr result (λ e. e ≡ edit_errors.NoMemory) }
 {
     let (front, back) = old.split_at(end.at);
