@@ -29,7 +29,7 @@ use Rattle.json5_de.specs.DeserializeLaw.{StaysFailed, IsUnprompted}
 use Rattle.json5_de.specs.Convert.{index_of}
 use Rattle.json5_de.specs.ConvertLists.{if_some}
 use Rattle.json5_de.specs.Faults.{AfterBlanks, in_blanks, after_gap, RefusedBy, RefusedByOrMemory}
-use Rattle.json5_de.specs.Keys.{TookKey, KeyConversion, GivesKey, CompletesKey, OneKeyAnswer, ReadsOneKey, every_key}
+use Rattle.json5_de.specs.Keys.{TookKey, KeyConversion, GivesKey, CompletesAnyKey, CompletesEscapeFreeKey, OneKeyAnswer, ReadsKeyOf, ReadsOneKey}
 use Rattle.json5_de.specs.KeyKinds.{KeyFault, KeyKind, NotKey, no_key, other_key, ReadsKeyAs, not_converted, coded_text_key, text_key, document_key, document_of, NotDocument, some_of, variant_key}
 use Rattle.json5_de.specs.FoundTexts.{TookKeyAt, JudgesText, OfFound}
 use Rattle.json5_de.specs.KeySteps.{IsTextFault, no_memory, at_key, is_out_of_memory}
@@ -100,12 +100,20 @@ key_other : (old : State) (e : Error) → RefusedByOrMemory FaultyKey old e → 
 key_other old e (inl m) live = memory_other e m.kind
 key_other old e (inr k) live = refused_other key_lacks old e k live
 
+-- a key without an escape isn't refused
+pub found_free : (old : State) (e : Error) → CompletesAnyKey {V = FoundText} old (Err e) → CompletesEscapeFreeKey {V = Unit {0}} old (Err e)
+found_free old e complete u r live reads = absurd (false≢true (sym (complete u true r live reads).1))
+
+-- what holds of a key holds of the key of a type
+pub as_type : {V C : Type 0} {content : V → C} {convert : KeyConversion C} {refuses : State → Error → State → Type 0} {old new : State} {result : Result V Error} → ReadsOneKey content convert refuses old new result → ReadsKeyOf content convert refuses old new result
+as_type k = record { sound = k.sound; complete = k.complete; refused = k.refused; unprompted = k.unprompted; same_text = k.same_text }
+
 -- no key was found
-pub not_found : {V C : Type 0} (kind : KeyKind C) (content : V → C) (old new : State) (e : Error) → RefusedByOrMemory FaultyKey old e → CompletesKey {V = FoundText} every_key old (Err e) → GivesUp old new → StaysFailed {V = FoundText} old new (Err e)
+pub not_found : {V C : Type 0} (kind : KeyKind C) (content : V → C) (old new : State) (e : Error) → RefusedByOrMemory FaultyKey old e → CompletesAnyKey {V = FoundText} old (Err e) → GivesUp old new → StaysFailed {V = FoundText} old new (Err e)
     → ReadsKeyAs kind content old new (Err e)
 not_found kind content old new e k complete failed before = record {
   sound = tt;
-  complete = λ u escape_free r c live reads is. complete u escape_free r tt live reads refl;
+  complete = λ u escape_free r c live reads is. (complete u escape_free r live reads).0;
   refused = no_key_there old e k;
   unprompted = key_other old e k;
   same_text = failed.same_text;

@@ -1,6 +1,7 @@
 -- Where a key that was taken begins.
-use Rattle.std.proofs.Common.{◌≡◌, ℕ, Bool, List, sym, ap, ◌∙◌, subst, Option, Ok, Err}
-use Rattle.std.specs.Prelude.{Result, IfOk, IfSome}
+use Rattle.std.proofs.Common.{◌≡◌, ℕ, Bool, List, sym, ap, ◌∙◌, subst, Option, Some, None, Ok, Err}
+use Rattle.std.proofs.lemmas.Option.{same_Some}
+use Rattle.std.specs.Prelude.{Result, IfOk, IfSome, is_some}
 use Rattle.std.specs.Str.{encode_utf8_all}
 use Rattle.std.proofs.lemmas.Result.{err_from_is_err_and}
 use Rattle.json5_grammar.specs.Language.Blanks.{Solid}
@@ -9,7 +10,8 @@ use Rattle.json5_de.specs.State.{State}
 use Rattle.json5_de.specs.ReaderSteps.{IsCount}
 use Rattle.json5_de.specs.Keys.{KeyConversion, TookKey, GivesKey}
 use Rattle.json5_de.specs.ObjectFaults.{PositionsKey}
-use Rattle.json5_de.specs.KeyPlaces.{KeyBegins}
+use Rattle.json5_de.specs.Convert.{every_text}
+use Rattle.json5_de.specs.KeyPlaces.{KeyBegins, BeginsIfGiven}
 use Rattle.json5_de.specs.Lending.{KeepsMap, ReadsNextKey}
 use Rattle.json5_de.specs.declared.map.MapAccess.{MapAccess}
 
@@ -34,6 +36,15 @@ pub given_here : {K C : Type 0} (content : K → C) (convert : KeyConversion C) 
     → IfOk result (λ o. IfSome o (GivesKey content convert old new))
 given_here content convert old new IsBefore (Ok k) result gives is = subst (λ r. IfOk r (λ o. IfSome o (GivesKey content convert old new))) (sym is) gives
 given_here content convert old new IsBefore (Err own) result gives is = let (e, same, placed) = err_from_is_err_and result is in subst (λ r. IfOk r (λ o. IfSome o (GivesKey content convert old new))) (sym same) tt
+
+-- a key whose text was kept begins there
+pub begins_if_given : (old new : State) {start : ℕ} (IsBefore : List ℕ → Type 0) (name : List ℕ) (read : Result (Unit {0}) Error) (key : Option (Unit {0})) (given : Bool) → given ≡ is_some key → IsCount old start → Solid old.unread
+    → IfOk read (GivesKey (λ k. name) every_text old new) → PositionsKey IsBefore read (Ok key) → BeginsIfGiven name start new.input new.unread (Ok given)
+begins_if_given old new {start} IsBefore name read key given same count solid gives is = by key (given_here (λ k. name) every_text old new IsBefore read (Ok key) gives is) same
+  where
+    by : (key : Option (Unit {0})) → IfSome key (GivesKey (λ k. name) every_text old new) → given ≡ is_some key → BeginsIfGiven name start new.input new.unread (Ok given)
+    by None gives same = subst (λ g. BeginsIfGiven name start new.input new.unread (Ok g)) (sym same) tt
+    by (Some k) (u, escape_free, took, is) same = subst (λ g. BeginsIfGiven name start new.input new.unread (Ok g)) (sym same) (begins_there count solid took (same_Some (encode_utf8_all u) name is))
 
 -- an access that keeps where its key begins is the same otherwise
 module _ {I : Type 0} (old new : MapAccess I) (start : ℕ) where

@@ -1,8 +1,8 @@
 -- How a key and its value begin, and how they are refused.
 use Rattle.std.proofs.Common.{◌≡◌, ◌≢◌, ℕ, Bool, true, false, List, [], ◌∷◌, ◌++◌, length, refl, ap, sym, ◌∙◌, subst, arith, Option, Some, None, Ok, Err}
-use Rattle.std.specs.Prelude.{◌==◌, is_some, Result}
+use Rattle.std.specs.Prelude.{◌==◌, is_some, Result, IsOk}
 use Rattle.std.specs.Str.{encode_utf8_all}
-use Rattle.std.proofs.lemmas.Bool.{or_parts}
+use Rattle.std.proofs.lemmas.Bool.{false≢true, or_parts}
 use Rattle.std.proofs.lemmas.Result.{err_from_is_err_and}
 use Rattle.json5_grammar.specs.declared.error_code.ErrorCode.{ErrorCode}
 use Rattle.json5_grammar.specs.declared.error_code.ErrorCode.TheVariants as codes
@@ -31,14 +31,16 @@ use Rattle.json5_de.specs.KeyKinds.{RefusedAsKey, string_key}
 use Rattle.json5_de.specs.State.{State, OnlyRead, SameText, cursor_of}
 use Rattle.json5_de.specs.DeserializeLaw.{TookValue}
 use Rattle.json5_de.specs.ReaderSteps.{PassedGap, TookText, IsCount}
-use Rattle.json5_de.specs.Keys.{KeyConversion, TookKey, GivesKey, CompletesKey, ReadsKeyOf}
+use Rattle.json5_de.specs.Keys.{KeyConversion, TookKey, GivesKey, CompletesKey, CompletesEscapeFreeKey, ReadsKeyOf}
+use Rattle.json5_de.specs.FieldKeys.{field_key_text}
+use Rattle.json5_de.specs.ShortWays.{filled_if_given}
 use Rattle.json5_value.specs.Brackets.{curly}
 use Rattle.json5_de.specs.Faults.{AfterBlanks, in_blanks, after_gap, RefusedBy, AtEnd, AtOther, IsPositionless, IsAfter}
 use Rattle.json5_de.specs.Arrays.{AtClose, PositionedAtBracket}
 use Rattle.json5_value.specs.ModelSteps.{Unexpected, at_end, at_char}
 use Rattle.json5_value.specs.Offsets.{StartsAfter}
 use Rattle.json5_de.specs.AccessCalls.{IsAfterGap, IsEntryStart, IsUnexpected, Advances, AtEntry, NothingNext, NoNext, no_comma, comma_missing, in_blanks_after}
-use Rattle.json5_de.specs.Objects.{MapAccessState, bare_map, TookMemberKey, AfterColon, TookMemberValue, GivesMemberKey, GivesMemberValue, CompletesMemberKey}
+use Rattle.json5_de.specs.Objects.{MapAccessState, bare_map, CompletesEscapeFreeMember, TookMemberKey, AfterColon, TookMemberValue, GivesMemberKey, GivesMemberValue, CompletesMemberKey}
 use Rattle.json5_value.proofs.NoFailedCode.{other_says}
 use Rattle.json5_de.proofs.ShortReads.{kept_key}
 use Rattle.json5_de.proofs.Offsets.{placed_where}
@@ -401,6 +403,44 @@ refused_alike content other convert refuses comma_due old new e r = record {
   cause = r.cause;
   steady = record { same_text = r.steady.same_text; unprompted = r.steady.unprompted; before = r.steady.before };
 }
+
+-- a key whose text was kept is given as that text
+pub named_alike : (n : List ℕ) (refuses : State → Error → State → Type 0) (comma_due : Bool) (old new : State) (key : Option (Unit {0})) (given : Bool) → given ≡ is_some key → ReadsKeyOfMember {K = Unit {0}} (λ k. n) every_text refuses comma_due old new (Ok key)
+    → ReadsKeyOfMember field_key_text every_text refuses comma_due old new (filled_if_given n (Ok given))
+named_alike n refuses comma_due old new (Some k) given same r = subst (λ g. ReadsKeyOfMember field_key_text every_text refuses comma_due old new (filled_if_given n (Ok g))) (sym same) (record {
+  sound = r.sound;
+  complete = λ u escape_free r c live key is. tt;
+  closing = λ r live close. refl;
+  cause = tt;
+  steady = record { same_text = r.steady.same_text; unprompted = tt; before = r.steady.before };
+})
+named_alike n refuses comma_due old new None given same r = subst (λ g. ReadsKeyOfMember field_key_text every_text refuses comma_due old new (filled_if_given n (Ok g))) (sym same) (record {
+  sound = r.sound;
+  complete = λ u escape_free r c live key is. tt;
+  closing = λ r live close. refl;
+  cause = tt;
+  steady = record { same_text = r.steady.same_text; unprompted = tt; before = r.steady.before };
+})
+
+-- ---- a key without an escape is read without memory
+
+-- a call for a key reads it so, and its answer is placed
+pub placed_free : {K : Type 0} (IsBefore : List ℕ → Type 0) (old : State) (read : Result K Error) (result : Result (Option K) Error) → CompletesEscapeFreeKey old read → PositionsKey IsBefore read result → CompletesEscapeFreeKey old result
+placed_free IsBefore old (Ok k) result free is u r live reads = subst (λ o. IsOk o) (sym is) refl
+placed_free IsBefore old (Err own) result free is u r live reads = absurd (false≢true (free u r live reads))
+
+-- no key begins there
+pub no_key_free : (old : State) (result : Result Bool Error) → NotBegun begins_key old.unread → Solid old.unread → CompletesEscapeFreeKey old result
+no_key_free old result none solid u r live reads = absurd (no_key_begun old.unread r u true solid none reads)
+
+module _ (comma_due : Bool) (s mid : State) (result : Result Bool Error) where
+  -- it is read where the member begins
+  pub entry_free : AtEntry curly comma_due s mid → (Solid mid.unread → CompletesEscapeFreeKey mid result) → CompletesEscapeFreeMember (bare_map s comma_due false) result
+  entry_free at free u r live key = free (begun_solid comma_due s.unread mid.unread at.begun) u r (failed_of at.rest ∙ live) (pair_key_found comma_due s.unread mid.unread r u true at.begun key)
+
+  -- no member is next
+  pub no_entry_free : (e : Error) → Advances curly comma_due s mid (Err e) → CompletesEscapeFreeMember (bare_map s comma_due false) result
+  no_entry_free e a u r live key = absurd ((no_pair_next comma_due s.unread (a.nowhere live)).no_key u true r key)
 
 -- ---- a colon and a value
 

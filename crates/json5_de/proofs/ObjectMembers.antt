@@ -16,7 +16,7 @@ use Rattle.json5_de.specs.BracketSigns.{AreSigns}
 use Rattle.json5_value.specs.Brackets.{curly, brackets_of}
 use Rattle.json5_de.proofs.BracketSteps.{square_signs}
 use Rattle.json5_de.specs.Arrays.{AccessState, Opened, Closed, AtClose, OpensAs, ClosesAs, CompletesClose}
-use Rattle.json5_de.specs.Objects.{MapAccessState, TookMemberKey, TookMemberValue, GivesMemberKey, GivesMemberValue, CompletesMemberKey, CompletesMemberValue, ReadsMemberKey, ReadsMemberValue, MembersRead, MembersLeft, LeftAfter, ReadsAKey, ReadsAMember, LeavesAValue, LeavesObjectMembers, OpensMap, ClosesMap}
+use Rattle.json5_de.specs.Objects.{MapAccessState, TookMemberKey, TookMemberValue, GivesMemberKey, GivesMemberValue, CompletesMemberKey, CompletesEscapeFreeMember, CompletesMemberValue, CompletesFreeMemberValue, ReadsKeyFree, ReadsValueFree, ReadsMemberKey, ReadsMemberValue, MembersRead, MembersLeft, LeftAfter, ReadsAKey, ReadsAMember, LeavesAValue, LeavesObjectMembers, OpensMap, ClosesMap}
 use Rattle.json5_de.proofs.ReadSteps.{input_of}
 use Rattle.json5_de.proofs.OpenClose.{opens_same, opens_too, closes}
 use Rattle.json5_de.proofs.ArrayElements.{still_live, same_level, only_after, more_and_less}
@@ -151,6 +151,17 @@ opened_left old first ps r none no_key o reads shallow =
       tail = subst (λ p. LeftAfter p ps first.at.comma_due first.at.reader.unread r) (sym no_key)
           (subst (λ b. MembersTail ps b first.at.reader.unread r) (sym none) (subst (λ k. MembersTail ps false k r) (one_opening_brace old.unread y first.at.reader.unread bracket o.bracket) tail));
     }
+
+-- a key without an escape that is next is that of the first of the members that are left
+pub key_free : {V : Type 0} (old : MapAccessState) (result : Result V Error) → old.pending ≡ false → CompletesEscapeFreeMember old result → ReadsKeyFree old result
+key_free old result none free u t ps r e = let (y, z, key, value, tail) = subst (λ p. LeftAfter p (member u true t ps) old.at.comma_due old.at.reader.unread r) none e.tail in free u y e.live key
+
+-- and so is the value of a key that was read
+pub value_free : {V C : Type 0} (convert : Tree → Option C) (allocation_free : Tree → Bool) (old : MapAccessState) (result : Result V Error) → old.pending ≡ true → CompletesFreeMemberValue convert allocation_free old result → ReadsValueFree convert allocation_free old result
+value_free convert allocation_free old result key free u escape_free t ps r c e is spare =
+    let (z, value, tail) = subst (λ p. LeftAfter p (member u escape_free t ps) old.at.comma_due old.at.reader.unread r) key e.tail in
+    let deep = e.shallow in
+    free t z c e.live value (omega (arith, deep)) is spare
 
 -- what a call for a key leaves
 pub leaves_a_value : {K C : Type 0} (content : K → C) (convert : KeyConversion C) (old new : MapAccessState) (result : Result (Option K) Error) → old.pending ≡ false → IfOk result (GivesMemberKey content convert old new) → CompletesMemberKey convert old result

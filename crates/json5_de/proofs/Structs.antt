@@ -1,6 +1,6 @@
 -- Structs: which field each name's value goes to, what a member changes, and how a struct is read.
 use Rattle.std.proofs.Common.{◌≡◌, ◌≢◌, ℕ, ◌+◌, ◌≤◌, Bool, true, false, List, ◌∷◌, refl, sym, ap, ◌∙◌, subst, unwrap_or, Option, Some, None, Ok, Err}
-use Rattle.std.proofs.lemmas.Bool.{false≢true, false_from_ne_true}
+use Rattle.std.proofs.lemmas.Bool.{and_parts, false≢true, false_from_ne_true}
 use Rattle.std.proofs.lemmas.Slice.Eq.{bytes_eq-Decides}
 use Rattle.std.specs.Prelude.{Result, OnOk, IsOk, IsErrAnd}
 use Rattle.std.specs.Str.{bytes_eq, encode_utf8_all}
@@ -14,15 +14,15 @@ use Rattle.json5_types.specs.declared.error.Error.{Error}
 use Rattle.json5_text.specs.Cursor.{IsOutOfMemory}
 use Rattle.json5_de.specs.State.{State}
 use Rattle.json5_de.specs.ConvertLists.{if_some}
-use Rattle.json5_de.specs.DeserializeLaw.{TookValue, Completes, IsUnprompted, Unprompted}
+use Rattle.json5_de.specs.DeserializeLaw.{TookValue, Completes, CompletesFree, IsUnprompted, Unprompted}
 use Rattle.json5_de.specs.Refinement.{if_more}
 use Rattle.json5_de.specs.Keys.{KeyConversion}
-use Rattle.json5_de.specs.Objects.{MapAccessState, GivesMemberKey, MembersRead, MembersLeft, ReadsAKey, LeavesAValue, OpensMap}
+use Rattle.json5_de.specs.Objects.{MapAccessState, GivesMemberKey, MembersRead, MembersLeft, ReadsAKey, ReadsKeyFree, LeavesAValue, OpensMap}
 use Rattle.json5_de.specs.Fields.{or_value, FieldRead, FillsField, LeavesFilled}
 use Rattle.json5_de.specs.Convert.{every_text}
 use Rattle.json5_de.specs.Lending.{map_state_of}
 use Rattle.json5_de.specs.declared.map.MapAccess.{MapAccess}
-use Rattle.json5_de.specs.Plans.{LeavesTaken, PassesMember, Plan, Step, run, at_name, both_steps, TakesMember, ReadsMembers}
+use Rattle.json5_de.specs.Plans.{LeavesTaken, PassesMember, Plan, Step, run, at_name, both_steps, all_free, object_free, TakesMember, TakesFree, ReadsMembers, ReadsFree}
 use Rattle.json5_de.proofs.ElementLoops.{handed_on}
 use Rattle.json5_de.proofs.Refinement.{parts}
 
@@ -178,8 +178,9 @@ StandsFor (Some k) None = ⊥
 StandsFor (Some k) (Some (u, escape_free)) = encode_utf8_all u ≡ k
 
 -- of the members that make m of what was read, these are left
-pub record StillLeft {S : Type 0} (step : Step S) (s m : S) (key : Option (List ℕ)) (r : List ℕ) (now : MapAccessState) : Type 0 where
+pub record StillLeft {S : Type 0} (step : Step S) (s m : S) (key : Option (List ℕ)) (all : Members) (r : List ℕ) (now : MapAccessState) : Type 0 where
   pub pairs : Members
+  pub free : (test : Tree → Bool) → all_free test all ≡ true → all_free test pairs ≡ true
   pub are : run step s pairs ≡ Some m
   pub begins : BeginsAt key pairs
   pub left : MembersLeft pairs r now
@@ -193,7 +194,7 @@ pub record ReadingStruct {S : Type 0} (step : Step S) (start : S) (old : MapAcce
   pub waits : Option (List ℕ × Bool)
   pub named : StandsFor key waits
   pub read : (from : State) → MembersRead from no_member None old → MembersRead from pairs waits now
-  pub left : (ps : Members) (r : List ℕ) (m : S) → run step start ps ≡ Some m → MembersLeft ps r old → StillLeft step s m key r now
+  pub left : (ps : Members) (r : List ℕ) (m : S) → run step start ps ≡ Some m → MembersLeft ps r old → StillLeft step s m key ps r now
 
 abbrev or_text : List ℕ → Option (List ℕ) → List ℕ
 or_text other None = other
@@ -223,9 +224,22 @@ live_at_brace content keys old new (at, comma_due, none) = ap (λ (s : State). s
 pub brace_next : {X C : Type 0} (content : X → C) (keys : KeyConversion C) (old new : MapAccessState) → GivesMemberKey content keys old new None → (x : List ℕ) × (new.at.reader.unread ≡ right_brace ∷ x)
 brace_next content keys old new (at, comma_due, none) = let (r, close, next) = at.close in (r, next)
 
+-- the parts of a test of all members
+free_key : (test : Tree → Bool) (u : List ℕ) (escape_free : Bool) (t : Tree) (ps : Members) → all_free test (member u escape_free t ps) ≡ true → escape_free ≡ true
+free_key test u true t ps spare = refl
+free_key test u false t ps spare = absurd (false≢true spare)
+
+free_value : (test : Tree → Bool) (u : List ℕ) (escape_free : Bool) (t : Tree) (ps : Members) → all_free test (member u escape_free t ps) ≡ true → test t ≡ true
+free_value test u true t ps spare = (and_parts (test t) (all_free test ps) spare).0
+free_value test u false t ps spare = absurd (false≢true spare)
+
+free_others : (test : Tree → Bool) (u : List ℕ) (escape_free : Bool) (t : Tree) (ps : Members) → all_free test (member u escape_free t ps) ≡ true → all_free test ps ≡ true
+free_others test u true t ps spare = (and_parts (test t) (all_free test ps) spare).1
+free_others test u false t ps spare = absurd (false≢true spare)
+
 -- no member is read yet
 pub no_pairs : {S : Type 0} (step : Step S) (s : S) (old : MapAccessState) → ReadingStruct step s old s None old
-no_pairs step s old = record { live = λ l. l; pairs = no_member; are = refl; waits = None; named = tt; read = λ from p. p; left = λ ps r m is left. record { pairs = ps; are = is; begins = tt; left = left } }
+no_pairs step s old = record { live = λ l. l; pairs = no_member; are = refl; waits = None; named = tt; read = λ from p. p; left = λ ps r m is left. record { pairs = ps; free = λ test all. all; are = is; begins = tt; left = left } }
 
 module _ {S : Type 0} {step : Step S} {start : S} {old : MapAccessState} where
   at_rest : {s : S} {now : MapAccessState} (m : ReadingStruct step start old s None now) (from : State) → MembersRead from no_member None old → MembersRead from m.pairs None now
@@ -245,23 +259,23 @@ module _ {S : Type 0} {step : Step S} {start : S} {old : MapAccessState} where
     waits = Some (u, escape_free);
     named = ap (or_text (content k)) is;
     read = λ from begun. on from m.pairs (at_rest m from begun);
-    left = λ ps r z are left. let w = m.left ps r z are left in by z w.pairs r w.are (fewer w.pairs r w.left);
+    left = λ ps r z are left. let w = m.left ps r z are left in by z ps w.pairs r w.free w.are (fewer w.pairs r w.left);
   }
     where
-      by : (z : S) (ps : Members) (r : List ℕ) → run step s ps ≡ Some z → LeavesAValue content every_text ps r new (Ok (Some k)) → StillLeft step s z (Some (content k)) r new
-      by z no_member r are left = absurd left
-      by z (member u escape_free t ps) r are (is, left) = record { pairs = member u escape_free t ps; are = are; begins = ap (or_text (content k)) is; left = left }
+      by : (z : S) (all ps : Members) (r : List ℕ) → ((test : Tree → Bool) → all_free test all ≡ true → all_free test ps ≡ true) → run step s ps ≡ Some z → LeavesAValue content every_text ps r new (Ok (Some k)) → StillLeft step s z (Some (content k)) all r new
+      by z all no_member r free are left = absurd left
+      by z all (member u escape_free t ps) r free are (is, left) = record { pairs = member u escape_free t ps; free = free; are = are; begins = ap (or_text (content k)) is; left = left }
 
   -- and its value
   pub takes_pair : {name : List ℕ} {s n : S} {at new : MapAccessState} → ReadingStruct step start old s (Some name) at → TakesMember step s n name at new (Ok tt) → ReadingStruct step start old n None new
   takes_pair {name = name} {s = s} {n = n} {at = at} {new = new} m one = let (t, takes, on) = one.read in of t takes on m.waits m.named m.read
     where
-      by : (z : S) (ps : Members) (r : List ℕ) → run step s ps ≡ Some z → BeginsAt (Some name) ps → MembersLeft ps r at → StillLeft step n z None r new
-      by z no_member r are named left = absurd named
-      by z (member u escape_free t ps) r are named left =
+      by : (z : S) (all ps : Members) (r : List ℕ) → ((test : Tree → Bool) → all_free test all ≡ true → all_free test ps ≡ true) → run step s ps ≡ Some z → BeginsAt (Some name) ps → MembersLeft ps r at → StillLeft step n z None all r new
+      by z all no_member r free are named left = absurd named
+      by z all (member u escape_free t ps) r free are named left =
           let (x, is, rest) = parts (λ x. run step x ps) (step s (encode_utf8_all u) t) z are in
           let (same, others) = one.left u escape_free t ps r x (sym (ap (λ w. step s w t) named) ∙ is) left in
-          record { pairs = ps; are = ap (λ y. run step y ps) (sym same) ∙ rest; begins = tt; left = others }
+          record { pairs = ps; free = λ test spare. free_others test u escape_free t ps (free test spare); are = ap (λ y. run step y ps) (sym same) ∙ rest; begins = tt; left = others }
 
       of : (t : Tree) → step s name t ≡ Some n → ((from : State) (ps : Members) (u : List ℕ) (escape_free : Bool) → MembersRead from ps (Some (u, escape_free)) at → MembersRead from (snoc_member ps u escape_free t) None new)
           → (waits : Option (List ℕ × Bool)) → StandsFor (Some name) waits → ((from : State) → MembersRead from no_member None old → MembersRead from m.pairs waits at) → ReadingStruct step start old n None new
@@ -273,7 +287,7 @@ module _ {S : Type 0} {step : Step S} {start : S} {old : MapAccessState} where
         waits = None;
         named = tt;
         read = λ from begun. on from m.pairs u escape_free (read from begun);
-        left = λ ps r z are left. let w = m.left ps r z are left in by z w.pairs r w.are w.begins w.left;
+        left = λ ps r z are left. let w = m.left ps r z are left in by z ps w.pairs r w.free w.are w.begins w.left;
       }
 
   -- no key was returned: all members were read
@@ -318,6 +332,25 @@ module _ {S : Type 0} {step : Step S} {start : S} {old : MapAccessState} where
         by (member u escape_free t ps) r z are named left =
             let (y, is, rest) = parts (λ y. run step y ps) (step s (encode_utf8_all u) t) z are in
             one.left u escape_free t ps r y (sym (ap (λ w. step s w t) named) ∙ is) left
+
+  module _ {s : S} {at : MapAccessState} (e : Error) (result : Result (Unit {0}) Error) where
+    -- if a key is refused, or a value, then not all that is left is read without memory
+    pub key_not_free : (test : Tree → Bool) {X : Type 0} {new : MapAccessState} (content : X → List ℕ) → IsErrAnd result (λ y. y ≡ e) → ReadingStruct step start old s None at → ReadsKeyFree {V = X} at (Err e)
+        → ((ps : Members) (r : List ℕ) → MembersLeft ps r at → LeavesAValue content every_text ps r new (Err e)) → ReadsFree test step start old result
+    key_not_free test {new = new} content is_err m free fewer = handed_on (λ r. ReadsFree test step start old r) e result is_err (λ ps r z are left spare. let w = m.left ps r z are left in by w.pairs r (w.free test spare) w.left (fewer w.pairs r w.left))
+      where
+        by : (ps : Members) (r : List ℕ) → all_free test ps ≡ true → MembersLeft ps r at → LeavesAValue content every_text ps r new (Err e) → IsOk {T = Unit {0}} {E = Error} (Err e)
+        by no_member r spare left none = absurd none
+        by (member u escape_free t ps) r spare left none = free u t ps r (subst (λ p. MembersLeft (member u p t ps) r at) (free_key test u escape_free t ps spare) left)
+
+    pub pair_not_free : (test : Tree → Bool) {name : List ℕ} → IsErrAnd result (λ y. y ≡ e) → ReadingStruct step start old s (Some name) at → TakesFree {V = Unit {0}} test step s name at (Err e) → ReadsFree test step start old result
+    pair_not_free test {name = name} is_err m free = handed_on (λ r. ReadsFree test step start old r) e result is_err (λ ps r z are left spare. let w = m.left ps r z are left in by w.pairs r z (w.free test spare) w.are w.begins w.left)
+      where
+        by : (ps : Members) (r : List ℕ) (z : S) → all_free test ps ≡ true → run step s ps ≡ Some z → BeginsAt (Some name) ps → MembersLeft ps r at → IsOk {T = Unit {0}} {E = Error} (Err e)
+        by no_member r z spare are named left = absurd named
+        by (member u escape_free t ps) r z spare are named left =
+            let (y, is, rest) = parts (λ y. run step y ps) (step s (encode_utf8_all u) t) z are in
+            free u escape_free t ps r y (sym (ap (λ w. step s w t) named) ∙ is) left (free_value test u escape_free t ps spare)
 
 -- a field that is there leaves what was read
 pub still : {S : Type 0} {step : Step S} {s n : S} {old now new : MapAccessState} {result : Result (Unit {0}) Error} → new ≡ now → ReadsMembers step s n old now result → ReadsMembers step s n old new result
@@ -366,3 +399,27 @@ module _ {S D : Type 0} (plan : Plan S D) {I : Type 0} {Held : MapAccess I → T
     -- its brace was refused
     pub end_completes : {n : S} {now : MapAccessState} → IsErrAnd result (λ y. y ≡ e) → ReadsMembers plan.step plan.start n (map_state_of map) now (Ok tt) → ((r : List ℕ) → MembersLeft no_member r now → IsOk {T = Unit {0}} {E = Error} (Err e)) → Completes (object_of plan.convert) old result
     end_completes is_err reads ends = completes_as is_err (λ ps r m d are built left. let (same, rest) = reads.left ps r m are left in absurd (false≢true (ends r rest)))
+
+    -- ---- the same where all that is read takes no memory
+
+    free_as : (test : Tree → Bool) → IsErrAnd result (λ y. y ≡ e) → ((ps : Members) (r : List ℕ) (m : S) (d : D) → run plan.step plan.start ps ≡ Some m → plan.build m ≡ Some d → MembersLeft ps r (map_state_of map) → all_free test ps ≡ true → ⊥)
+        → CompletesFree (object_free test) (object_of plan.convert) old result
+    free_as test is_err k = handed_on (λ r. CompletesFree (object_free test) (object_of plan.convert) old r) e result is_err (λ t r d live reads shallow is spare.
+        let (ps, same, converts) = object_only plan.convert t d is in
+        let (m, are, built) = parts plan.build (run plan.step plan.start ps) d (sym (plan.says ps) ∙ converts) in
+        absurd (k ps r m d are built (opens.left ps r live (subst (λ u. Reads old.unread u r) same reads) (subst (λ u. old.level + depth u ≤ max_depth) same shallow)) (subst (λ u. object_free test u ≡ true) same spare)))
+
+    -- its members were refused
+    pub fields_free : (test : Tree → Bool) → IsErrAnd result (λ y. y ≡ e) → ReadsFree {V = Unit {0}} test plan.step plan.start (map_state_of map) (Err e) → CompletesFree (object_free test) (object_of plan.convert) old result
+    fields_free test is_err free = free_as test is_err (λ ps r m d are built left spare. false≢true (free ps r m are left spare))
+
+    -- all its members were read, and they make no struct
+    pub missing_free : (test : Tree → Bool) {n : S} {now : MapAccessState} → IsErrAnd result (λ y. y ≡ e) → ReadsMembers plan.step plan.start n (map_state_of map) now (Ok tt) → plan.build n ≡ None → CompletesFree (object_free test) (object_of plan.convert) old result
+    missing_free test is_err reads none = free_as test is_err (λ ps r m d are built left spare.
+        let (same, rest) = reads.left ps r m are left in
+        let both : Some d ≡ None = sym built ∙ ap plan.build same ∙ none in
+        absurd (cc both))
+
+    -- its brace was refused
+    pub end_free : (test : Tree → Bool) {n : S} {now : MapAccessState} → IsErrAnd result (λ y. y ≡ e) → ReadsMembers plan.step plan.start n (map_state_of map) now (Ok tt) → ((r : List ℕ) → MembersLeft no_member r now → IsOk {T = Unit {0}} {E = Error} (Err e)) → CompletesFree (object_free test) (object_of plan.convert) old result
+    end_free test is_err reads ends = free_as test is_err (λ ps r m d are built left spare. let (same, rest) = reads.left ps r m are left in false≢true (ends r rest))

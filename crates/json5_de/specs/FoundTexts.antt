@@ -18,7 +18,7 @@ use Rattle.json5_de.specs.Faults.{FaultRelation, RefusedByOrMemory}
 use Rattle.json5_de.specs.DeserializeLaw.{CompletesFree, StaysFailed}
 use Rattle.json5_de.specs.TokenKinds.{escape_free_text}
 use Rattle.json5_de.specs.ReaderSteps.{PassedGap, TookText, IsMismatchOf}
-use Rattle.json5_de.specs.Keys.{KeyConversion, every_key, CompletesKey}
+use Rattle.json5_de.specs.Keys.{KeyConversion, CompletesAnyKey}
 
 -- how a text is spelled: the spelling, what follows it, the text, and whether it is escape-free
 abbrev pub Spelling : Type 1
@@ -67,9 +67,9 @@ pub record Finds (Is : Spelling) (IsFault : FaultRelation) (Completes : State �
   pub failed : OnErr result (GivesUp old new)
   pub before : StaysFailed old new result
 
--- a key is
+-- a key is; an escape-free one takes no memory
 abbrev pub FindsKey : State → State → Result FoundText Error → Type 0
-FindsKey old new result = Finds Key FaultyKey (CompletesKey every_key) old new result
+FindsKey old new result = Finds Key FaultyKey CompletesAnyKey old new result
 
 -- a string is; an escape-free one takes no memory
 abbrev pub FindsString : State → State → Result FoundText Error → Type 0

@@ -1,8 +1,9 @@
 -- Keys, and the law of a type that is read from one.
 -- JSON5 section 3 (a key is a string or an identifier).
-use Rattle.std.specs.Prelude.{◌≡◌, ℕ, Bool, false, List, Option, Some, Result, IfOk, IfErr}
+use Rattle.std.specs.Prelude.{◌≡◌, ℕ, Bool, true, false, List, Option, Some, Result, IfOk, IfErr, IsOk}
 use Rattle.json5_grammar.specs.Model.Collections.{ReadsKey}
 use Rattle.json5_types.specs.declared.error.Error.{Error}
+use Rattle.json5_text.specs.Cursor.{IsOutOfMemory}
 use Rattle.json5_de.specs.State.{State, OnlyRead, SameText, FailsIfErr}
 use Rattle.json5_de.specs.DeserializeLaw.{IsOkOrMemory, StaysFailed, Unprompted}
 
@@ -32,6 +33,14 @@ OneKeyAnswer {V = V} content convert = (old new last : State) (v w : V) → Give
 abbrev pub CompletesKey : {V C : Type 0} → KeyConversion C → State → Result V Error → Type 0
 CompletesKey {C = C} convert old result =
     (u : List ℕ) (escape_free : Bool) (r : List ℕ) (c : C) → old.failed ≡ false → ReadsKey old.unread u escape_free r → convert u escape_free ≡ Some c → IsOkOrMemory result
+
+-- a key without an escape is read without memory
+abbrev pub CompletesEscapeFreeKey : {V : Type 0} → State → Result V Error → Type 0
+CompletesEscapeFreeKey old result = (u r : List ℕ) → old.failed ≡ false → ReadsKey old.unread u true r → IsOk result
+
+-- any other is refused only if memory runs out
+abbrev pub CompletesAnyKey : {V : Type 0} → State → Result V Error → Type 0
+CompletesAnyKey old result = (u : List ℕ) (escape_free : Bool) (r : List ℕ) → old.failed ≡ false → ReadsKey old.unread u escape_free r → IfErr result (λ e. IsOutOfMemory e × (escape_free ≡ false))
 
 -- one key is read from the front: the law of a key type
 pub record ReadsKeyOf {V C : Type 0} (content : V → C) (convert : KeyConversion C) (refuses : State → Error → State → Type 0) (old new : State) (result : Result V Error) : Type 0 where

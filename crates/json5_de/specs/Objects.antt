@@ -59,11 +59,20 @@ abbrev pub CompletesMemberKey : {V C : Type 0} → KeyConversion C → MapAccess
 CompletesMemberKey {C = C} convert old result =
     (u : List ℕ) (escape_free : Bool) (r : List ℕ) (c : C) → old.at.reader.failed ≡ false → IsKey old.at.comma_due old.at.reader.unread u escape_free r → convert u escape_free ≡ Some c → IsOkOrMemory result
 
+-- a key without an escape that is next is read without memory
+abbrev pub CompletesEscapeFreeMember : {V : Type 0} → MapAccessState → Result V Error → Type 0
+CompletesEscapeFreeMember old result = (u r : List ℕ) → old.at.reader.failed ≡ false → IsKey old.at.comma_due old.at.reader.unread u true r → IsOk result
+
 -- if a key that converts to c is next, the call returns Ok of a key whose content is c, unless memory runs out
 abbrev pub ReadsMemberKey : {V C : Type 0} → (V → C) → KeyConversion C → MapAccessState → Result (Option V) Error → Type 0
 ReadsMemberKey {C = C} content convert old result =
     (u : List ℕ) (escape_free : Bool) (r : List ℕ) (c : C) → old.at.reader.failed ≡ false → IsKey old.at.comma_due old.at.reader.unread u escape_free r → convert u escape_free ≡ Some c
     → MatchResult result (λ o. if_some content o ≡ Some c) IsOutOfMemory
+
+-- a value that converts and is allocation-free is read without memory
+abbrev pub CompletesFreeMemberValue : {V C : Type 0} → (Tree → Option C) → (Tree → Bool) → MapAccessState → Result V Error → Type 0
+CompletesFreeMemberValue {C = C} convert allocation_free old result =
+    (t : Tree) (r : List ℕ) (c : C) → old.at.reader.failed ≡ false → IsKeyValue old.at.reader.unread t r → old.at.reader.level + depth t ≤ max_depth → convert t ≡ Some c → allocation_free t ≡ true → IsOk result
 
 -- a value that converts is read, unless memory runs out
 abbrev pub CompletesMemberValue : {V C : Type 0} → (Tree → Option C) → MapAccessState → Result V Error → Type 0
@@ -136,6 +145,15 @@ LeavesObjectMembers {C = C} content convert t ps r new (Err e) = (c : C) → con
 -- the same of any members that are left
 abbrev pub LeavesOthers : {V C : Type 0} → (V → C) → (Tree → Option C) → MapAccessState → MapAccessState → Result V Error → Type 0
 LeavesOthers content convert old new result = (u : List ℕ) (escape_free : Bool) (t : Tree) (ps : Members) (r : List ℕ) → MembersLeft (member u escape_free t ps) r old → LeavesObjectMembers content convert t ps r new result
+
+-- the first of the members that are left has a key without an escape, which is read without memory
+abbrev pub ReadsKeyFree : {V : Type 0} → MapAccessState → Result V Error → Type 0
+ReadsKeyFree old result = (u : List ℕ) (t : Tree) (ps : Members) (r : List ℕ) → MembersLeft (member u true t ps) r old → IsOk result
+
+-- the value of the key that was read converts and is allocation-free, and is read without memory
+abbrev pub ReadsValueFree : {V C : Type 0} → (Tree → Option C) → (Tree → Bool) → MapAccessState → Result V Error → Type 0
+ReadsValueFree {C = C} convert allocation_free old result =
+    (u : List ℕ) (escape_free : Bool) (t : Tree) (ps : Members) (r : List ℕ) (c : C) → MembersLeft (member u escape_free t ps) r old → convert t ≡ Some c → allocation_free t ≡ true → IsOk result
 
 -- ---- what the calls mean
 

@@ -1,9 +1,9 @@
 -- A struct by its fields, one plan: what it takes of an object, and what each member changes of what was read of it.
 use Rattle.std.proofs.Common.{◌≡◌, ℕ, Bool, true, false, List, [], ◌∷◌, refl, sym, ap, ◌∙◌, Option, Some, None}
-use Rattle.std.specs.Prelude.{if◌then◌else◌, ◌<◌, length, Result, Ok, Err, OnOk}
+use Rattle.std.specs.Prelude.{if◌then◌else◌, ◌&&◌, ◌<◌, length, Result, Ok, Err, OnOk, IsOk}
 use Rattle.std.specs.Str.{bytes_eq, encode_utf8_all}
 use Rattle.json5_grammar.specs.Language.Characters.{right_brace}
-use Rattle.json5_grammar.specs.Language.Trees.{Tree, Trees, Members, no_more, more, no_member, member}
+use Rattle.json5_grammar.specs.Language.Trees.{Tree, Trees, Members, no_more, more, no_member, member, object}
 use Rattle.json5_grammar.specs.Model.Collections.{joint, snoc_member}
 use Rattle.json5_types.specs.declared.error.Error.{Error}
 use Rattle.json5_text.specs.Cursor.{IsOutOfMemory}
@@ -158,3 +158,24 @@ pub record ReadsMembers {S : Type 0} (step : Step S) (s n : S) (old new : MapAcc
   pub failed : FailsIfErr new.at.reader result
   pub unprompted : Unprompted old.at.reader result
   pub at_brace : OnOk result ((r : List ℕ) × (new.at.reader.unread ≡ right_brace ∷ r))
+
+-- ---- which structs are read without memory
+
+-- no key has an escape, and each value passes this test
+abbrev pub all_free : (Tree → Bool) → Members → Bool
+all_free free no_member = true
+all_free free (member u escape_free t ps) = escape_free && (free t && all_free free ps)
+
+-- the value of the key that was read passes this test and may stand there, and is read without memory
+abbrev pub TakesFree : {S V : Type 0} → (Tree → Bool) → Step S → S → List ℕ → MapAccessState → Result V Error → Type 0
+TakesFree {S} free step s name old result =
+    (u : List ℕ) (escape_free : Bool) (t : Tree) (ps : Members) (r : List ℕ) (m : S) → step s name t ≡ Some m → MembersLeft (member u escape_free t ps) r old → free t ≡ true → IsOk result
+
+-- members that are left pass it and make a struct, and are read without memory
+abbrev pub ReadsFree : {S V : Type 0} → (Tree → Bool) → Step S → S → MapAccessState → Result V Error → Type 0
+ReadsFree {S} free step s old result = (ps : Members) (r : List ℕ) (m : S) → run step s ps ≡ Some m → MembersLeft ps r old → all_free free ps ≡ true → IsOk result
+
+-- an object of such members
+abbrev pub object_free : (Tree → Bool) → Tree → Bool
+object_free free (object ps) = all_free free ps
+object_free free _ = false

@@ -75,6 +75,10 @@ string_token = record { Took = TookCow; IsFault = FaultyString; Completes = Comp
 abbrev pub text_token : Token TextToken
 text_token = record { Took = TookToken IsString; IsFault = FaultyString; Completes = CompletesEscapeFree }
 
+-- a key is refused only if it has an escape and memory runs out
+abbrev pub CompletesAKey : {V : Type 0} → List ℕ → Result V Error → Type 0
+CompletesAKey x result = (s u r : List ℕ) (escape_free : Bool) → x ≡ s ++ r → Key s r u escape_free → IfErr result (λ e. LacksMemory e × (escape_free ≡ false))
+
 -- a key
 abbrev pub key_token : Token TextToken
-key_token = record { Took = TookToken Key; IsFault = FaultyKey; Completes = λ x result. (s u r : List ℕ) (escape_free : Bool) → x ≡ s ++ r → Key s r u escape_free → IfErr result LacksMemory }
+key_token = record { Took = TookToken Key; IsFault = FaultyKey; Completes = CompletesAKey }

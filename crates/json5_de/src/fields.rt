@@ -1,22 +1,27 @@
 //! Fields of a struct, which are read as the members of an object come.
 
-ghost use Rattle.std.specs.Prelude.{◌≡◌, true, false, Some, IfOk, OnOk, string_bytes};
+ghost use Rattle.std.specs.Prelude.{◌≡◌, true, false, Some, None, IfOk, OnOk, string_bytes};
 ghost use Rattle.std.specs.Str.{chars};
 ghost use Rattle.json5_grammar.specs.declared.error_code.ErrorCode.TheVariants as codes;
 ghost use Rattle.json5_types.specs.Errors.{code};
 ghost use Rattle.json5_de.specs.Convert.{every_text};
+ghost use Rattle.json5_de.specs.AnyTree.{every_value};
 ghost use Rattle.json5_de.specs.KeyKinds.{RefusedAsKey, string_key};
+ghost use Rattle.json5_de.specs.Keys.{CompletesEscapeFreeKey, ReadsKeyOf};
 ghost use Rattle.json5_de.specs.ObjectFaults.{ReadsKeyAtEntry, ReadsKeyOfMember};
 ghost use Rattle.json5_de.specs.DeserializeLaw.{IsUnprompted};
-ghost use Rattle.json5_de.specs.FieldKeys.{field_key_text, StandsIn};
+ghost use Rattle.json5_de.specs.FieldKeys.{field_key_text, IsSpelledIn, StandsIn};
 ghost use Rattle.json5_de.specs.Fields.{FieldRead, FieldRequired, IsOwnAtBracket, RefusesHere};
-ghost use Rattle.json5_de.specs.Plans.{PassesMember, ReadsMembers};
+ghost use Rattle.json5_de.specs.Objects.{CompletesEscapeFreeMember, ReadsKeyFree, ReadsValueFree, bare_map};
+ghost use Rattle.json5_de.specs.Plans.{PassesMember, ReadsFree, ReadsMembers};
+ghost use Rattle.json5_de.specs.TokenKinds.{every_tree};
 ghost use Rattle.json5_de.specs.ShortWays.{filled_if_given};
 ghost use Rattle.json5_de.specs.KeyPlaces.{BeginsIfGiven};
 ghost use Rattle.json5_grammar.specs.Language.Blanks.{Solid};
 ghost use Rattle.json5_de.specs.StructFaults.{RefusesMembers};
 ghost use Rattle.json5_de.specs.Lending.{map_state_of, at_its_key, beginning_at, RefusesWithOwn, KeepsMap, KeyPending, NoKeyPending, TakesPendingKey, ReadsNextKey, IsItsKey};
 ghost use Rattle.json5_text.specs.ShortTexts.{IsTextAt};
+ghost use Rattle.json5_text.specs.TextTokens.{IsTextOf};
 
 use crate::de::any::IgnoredAny;
 use crate::de::{Deserialize, Deserializer};
@@ -24,6 +29,7 @@ use crate::map::MapAccess;
 use json5_text::input::Input;
 use json5_text::short_texts::Span;
 use json5_text::short_ways::ShortStep;
+use json5_text::text_token::TextToken;
 use json5_types::ErrorCode;
 use json5_types::error::{Error, Result};
 use json5_value::brackets::BracketKind;
@@ -45,8 +51,9 @@ use std::marker::Model;
 /// }
 /// ```
 pub trait Fields<I: Input>: Sized + Drop {
-    ghost use Rattle.std.specs.Prelude.{⊤};
-    ghost use Rattle.json5_de.specs.Plans.{Step, TakesMember};
+    ghost use Rattle.std.specs.Prelude.{Bool, false, ⊤};
+    ghost use Rattle.json5_grammar.specs.Language.Trees.{Tree};
+    ghost use Rattle.json5_de.specs.Plans.{Step, TakesMember, TakesFree};
     ghost use Rattle.json5_de.specs.StructFaults.{ValueFaults, RefusesMember};
     ghost use Rattle.json5_de.specs.Lending.{map_state_of, KeepsMap, KeyPending, NoKeyPending, TakesPendingKey, KeyIsNamed};
 
@@ -57,6 +64,9 @@ pub trait Fields<I: Input>: Sized + Drop {
 
     // What a member changes, by its name and its value.
     ghost step: { Step Content };
+
+    // Which values are read without memory, whatever their names are.
+    ghost allocation_free: { Tree → Bool } = { λ _. false };
 
     // What is known of the refusal of a value, by its name.
     ghost refuses: { ValueFaults } = { λ _ _ _ _. ⊤ };
@@ -73,12 +83,13 @@ pub trait Fields<I: Input>: Sized + Drop {
         ensures access { KeepsMap map.old map.new }
         ensures pending { OnOk result (NoKeyPending map.new) }
         ensures takes { TakesMember step (content self.old) (content self.new) name.now (map_state_of map.old) (map_state_of map.new) result }
+        ensures no_memory { TakesFree allocation_free step (content self.old) name.now (map_state_of map.old) result }
         ensures refused { RefusesMember refuses step (content self.old) name.now (map_state_of map.old) result };
 }
 
 impl<I: Input> Deserializer<I> {
     /// Reads the next key of an object as `read_member_key::<String>` does, and keeps its text. Says whether there was one, and
-    /// puts into `start` how many bytes come before it. A key of the short way takes no memory.
+    /// puts into `start` how many bytes come before it. A key without an escape takes no memory.
     #[inline(always)]
     fn read_field_key(
         &mut self,
@@ -87,6 +98,7 @@ impl<I: Input> Deserializer<I> {
         start: &mut usize,
     ) -> Result<bool>
         ensures key { ReadsKeyOfMember field_key_text every_text (RefusedAsKey string_key) comma_due self.old self.new (filled_if_given field_key.new result) }
+        ensures no_memory { CompletesEscapeFreeMember (bare_map self.old comma_due false) result }
         ensures begins { BeginsIfGiven field_key.new start.new self.new.input self.new.unread result }
     {
         match self.short_step(BracketKind::Object, comma_due) {
@@ -111,11 +123,26 @@ impl<I: Input> Deserializer<I> {
         start: &mut usize,
     ) -> Result<bool>
         ensures key { ReadsKeyOfMember field_key_text every_text (RefusedAsKey string_key) comma_due self.old self.new (filled_if_given field_key.new result) }
+        ensures no_memory { CompletesEscapeFreeMember (bare_map self.old comma_due false) result }
         ensures begins { BeginsIfGiven field_key.new start.new self.new.input self.new.unread result }
     {
         match self.advance_to_entry(BracketKind::Object, comma_due) {
             Ok(true) => self.read_entry_field_key(field_key, start),
             Ok(false) => Ok(false),
+            Err(e) => Err(e),
+        }
+    }
+
+    /// Reads a key and keeps its text. One without an escape takes no memory.
+    fn find_field_key(&mut self, field_key: &mut FieldKey<I>) -> Result<()>
+        ensures reads { ReadsKeyOf (λ _. field_key.new) every_text (RefusedAsKey string_key) self.old self.new result }
+        ensures no_memory { CompletesEscapeFreeKey self.old result }
+    {
+        match self.find_key() {
+            Ok(key) => {
+                field_key.put_token(self.input(), key.token);
+                Ok(())
+            }
             Err(e) => Err(e),
         }
     }
@@ -128,15 +155,20 @@ impl<I: Input> Deserializer<I> {
         start: &mut usize,
     ) -> Result<bool>
         ensures key { ReadsKeyAtEntry field_key_text every_text (RefusedAsKey string_key) self.old self.new (filled_if_given field_key.new result) }
+        ensures no_memory { Solid self.old.unread → CompletesEscapeFreeKey self.old result }
         ensures begins { Solid self.old.unread → BeginsIfGiven field_key.new start.new self.new.input self.new.unread result }
     {
-        *start = self.offset();
-        match self.read_entry_key::<String>() {
-            Ok(Some(key)) => {
-                field_key.put_owned(key);
-                Ok(true)
-            }
-            Ok(None) => Ok(false),
+        let offset = self.offset();
+        *start = offset;
+        if !self.at_key() {
+            return Err(self.fail_unexpected(
+                ErrorCode::EofParsingObject,
+                ErrorCode::ExpectedIdentifier,
+            ));
+        }
+        let read = self.find_field_key(field_key);
+        match self.positioned_key(read, offset) {
+            Ok(key) => Ok(key.is_some()),
             Err(e) => Err(e),
         }
     }
@@ -214,6 +246,7 @@ impl<'a, I: Input> MapAccess<'a, I> {
         ensures access { KeepsMap self.old self.new }
         ensures pending { TakesPendingKey self.old self.new result }
         ensures reads { FieldRead V.content V.convert V.refuses (map_state_of self.old) (map_state_of self.new) field.old field.new result }
+        ensures no_memory { field.old ≡ None → ReadsValueFree V.convert V.allocation_free (map_state_of self.old) result }
     {
         if field.is_some() {
             return Err(self.duplicate(name));
@@ -244,6 +277,7 @@ impl<'a, I: Input> MapAccess<'a, I> {
         ensures access { KeepsMap self.old self.new }
         ensures pending { TakesPendingKey self.old self.new result }
         ensures passes { PassesMember (map_state_of self.old) (map_state_of self.new) result }
+        ensures no_memory { ReadsValueFree every_value every_tree (map_state_of self.old) result }
         ensures cause { RefusesHere ⟦<IgnoredAny as Deserialize<I>>⟧.refuses (map_state_of self.old) result }
     {
         self.next_value::<IgnoredAny>()?;
@@ -291,6 +325,7 @@ impl<'a, I: Input> MapAccess<'a, I> {
     ) -> Result<bool>
         requires no_key { NoKeyPending self.old }
         ensures key { ReadsNextKey field_key_text every_text (RefusedAsKey string_key) self.old self.new (filled_if_given field_key.new result) }
+        ensures no_memory { ReadsKeyFree (map_state_of self.old) result }
         ensures begins { BeginsIfGiven field_key.new start.new self.new.de.now.input self.new.de.now.unread result }
     {
         self.de.set_failed(self.failed);
@@ -312,6 +347,7 @@ impl<'a, I: Input> MapAccess<'a, I> {
     fn next_field_key(&mut self, field_key: &mut FieldKey<I>) -> Result<bool>
         requires no_key { NoKeyPending self.old }
         ensures key { ReadsNextKey field_key_text every_text (RefusedAsKey string_key) self.old self.new (filled_if_given field_key.new result) }
+        ensures no_memory { ReadsKeyFree (map_state_of self.old) result }
         ensures named { IsItsKey field_key.new self.new result }
     {
         let mut start = self.key_start;
@@ -343,6 +379,7 @@ impl<'a, I: Input> MapAccess<'a, I> {
         ensures access { KeepsMap self.old self.new }
         ensures pending { OnOk result (NoKeyPending self.new) }
         ensures reads { ReadsMembers F.step (F.content fields.old) (F.content fields.new) (map_state_of self.old) (map_state_of self.new) result }
+        ensures no_memory { ReadsFree F.allocation_free F.step (F.content fields.old) (map_state_of self.old) result }
         ensures refused { RefusesMembers F.step F.refuses (F.content fields.old) (map_state_of self.old) result }
     {
         let mut field_key = FieldKey::new(self.de.allocator(), self.de.input());
@@ -353,8 +390,8 @@ impl<'a, I: Input> MapAccess<'a, I> {
     }
 }
 
-/// The key of the member that was read last. If the short way took it, its text is compared where it stands in the input;
-/// otherwise it is owned.
+/// The key of the member that was read last. One without an escape is compared where it stands in the input; another one is
+/// owned.
 #[derive(Drop)]
 pub(crate) struct FieldKey<I: Input> {
     input: I,
@@ -397,11 +434,22 @@ impl<I: Input> FieldKey<I> {
     }
 
     /// Takes this key.
-    pub(crate) fn put_owned(&mut self, key: String)
+    fn put_owned(&mut self, key: String)
         ensures { self.new ≡ string_bytes key }
     {
         self.span = None;
         self.owned = key;
+    }
+
+    /// Takes the text of the token as the key.
+    fn put_token(&mut self, input: I, token: TextToken)
+        requires { IsSpelledIn (I.text input) token }
+        ensures { IsTextOf (chars (I.text input)) token self.new }
+    {
+        match token {
+            TextToken::EscapeFree(span) => self.put(input, span),
+            TextToken::Escaped(text) => self.put_owned(text),
+        }
     }
 
     /// Its text.

@@ -1,12 +1,13 @@
 //! Reading of objects, one member after another (JSON5 section 3).
 
-ghost use Rattle.std.specs.Prelude.{◌≡◌};
+ghost use Rattle.std.specs.Prelude.{◌≡◌, false, true};
 ghost use Rattle.std.specs.Borrow.{sem};
 ghost use Rattle.json5_text.specs.Cursor.{Locates};
 ghost use Rattle.json5_de.specs.Arrays.{PositionedAtBracket};
 ghost use Rattle.json5_de.specs.DeserializeLaw.{answered};
 ghost use Rattle.json5_de.specs.Enums.{EndsObject};
 ghost use Rattle.json5_de.specs.ObjectFaults.{ReadsValueOfMember};
+ghost use Rattle.json5_de.specs.Objects.{CompletesFreeMemberValue, ReadsValueFree, bare_map};
 
 use crate::de::{Deserialize, Deserializer};
 use crate::key::DeserializeKey;
@@ -132,7 +133,8 @@ impl<I: Input> Deserializer<I> {
     /// A colon and the value after a key.
     #[inline(always)]
     fn read_member_value<V: Deserialize<I>>(&mut self) -> Result<V>
-        ensures { ReadsValueOfMember V.content V.convert V.refuses self.old self.new result }
+        ensures reads { ReadsValueOfMember V.content V.convert V.refuses self.old self.new result }
+        ensures no_memory { CompletesFreeMemberValue V.convert V.allocation_free (bare_map self.old false true) result }
     {
         self.pass_colon()?;
         V::deserialize(self)
@@ -229,7 +231,8 @@ impl<'a, I: Input> MapAccess<'a, I> {
     /// - The codes of every call: see [`MapAccess`].
     pub fn next_value<V: Deserialize<I>>(&mut self) -> Result<V>
         requires key { KeyPending self.old }
-        ensures { ReadsNextValue V.content V.convert V.refuses self.old self.new result }
+        ensures reads { ReadsNextValue V.content V.convert V.refuses self.old self.new result }
+        ensures no_memory { ReadsValueFree V.convert V.allocation_free (map_state_of self.old) result }
     {
         self.de.set_failed(self.failed);
         match self.de.read_member_value::<V>() {

@@ -16,7 +16,7 @@ returns-in_err-skip_blank g c =
     rw (is, from) (record {
       taken = tt;
       refused = inr (refused_blanks c.args.self.now e c.in_err-skip_blank.ensures.refused);
-      complete = λ u escape_free r t live reads every. absurd (no_fault_before c.args.self.now e u escape_free r reads (c.in_err-skip_blank.ensures.refused live));
+      complete = λ u escape_free r live reads. absurd (no_fault_before c.args.self.now e u escape_free r reads (c.in_err-skip_blank.ensures.refused live));
       failed = c.in_err-skip_blank.ensures.failed;
       before = c.in_err-skip_blank.ensures.before;
     })
@@ -28,7 +28,7 @@ returns-in_err-token g c =
     rw (is, from) (record {
       taken = tt;
       refused = refused_or_memory c.args.self.now c.skip_blank.new.self c.in_err-token.field-0.0 (λ x reason place f. f) passed c.in_err-token.ensures.refused;
-      complete = λ u escape_free r t live reads every. let lacks = c.in_err-token.ensures.complete reads.spelling u r escape_free (key_after c.args.self.now c.skip_blank.new.self u escape_free r passed reads) reads.key in lacks.kind;
+      complete = λ u escape_free r live reads. let (lacks, escaped) = c.in_err-token.ensures.complete reads.spelling u r escape_free (key_after c.args.self.now c.skip_blank.new.self u escape_free r passed reads) reads.key in (lacks.kind, escaped);
       failed = given_up c.args.self.now c.skip_blank.new.self c.key.new.self passed c.in_err-token.ensures.failed;
       before = λ h. absurd (true_false h passed.live);
     })
@@ -51,7 +51,7 @@ returns g c =
         scalars = key_scalars c.skip_blank.new.self.unread c.key.new.self.unread took.split c.offset-start.ensures.scalars is_key;
       };
       refused = tt;
-      complete = λ u escape_free r t live reads every. tt;
+      complete = λ u escape_free r live reads. tt;
       failed = tt;
       before = λ h. absurd (true_false h c.in_ok-skip_blank.ensures.passed.live);
     }

@@ -1,7 +1,7 @@
 use Rattle.std.proofs.Common.{refl, sym}
 use Rattle.json5_de.specs.FieldKeys.{field_key_text}
 use Rattle.json5_de.proofs.KeyPlaces.{begins_there}
-use Rattle.json5_de.proofs.MemberRefusals.{name_given, begun_solid}
+use Rattle.json5_de.proofs.MemberRefusals.{begun_solid, entry_free, name_given}
 use Rattle.json5_de.proofs.de.Deserializer.read_field_key.Goals as goal
 
 pub put-requires : goal.put-requires
@@ -15,3 +15,6 @@ pub returns-clause-begins : goal.returns-clause-begins
 returns-clause-begins g c =
     let (u, took, stands) = c.in-Some.ensures in
     begins_there c.offset.ensures (begun_solid c.args.comma_due c.args.self.now.unread c.short_step.new.self.unread c.in-Entry.ensures.begun) took (sym ((rw c.input.ensures at c.put.ensures) u stands))
+
+pub returns-in_default-clause-no_memory : goal.returns-in_default-clause-no_memory
+returns-in_default-clause-no_memory g c = entry_free c.args.comma_due c.args.self.now c.short_step.new.self c.read_entry_field_key.result c.in-Entry.ensures (rw c.in_default.ensures at c.read_entry_field_key.ensures.no_memory)

@@ -8,8 +8,8 @@ use Rattle.json5_de.proofs.ReadSteps.{input_of}
 use Rattle.json5_grammar.proofs.CommonLemmas.{true_false}
 use Rattle.json5_de.proofs.de.Deserializer.read_member_value.Goals as goal
 
-pub returns-in_err-pass_colon : goal.returns-in_err-pass_colon
-returns-in_err-pass_colon g c =
+pub returns-in_err-pass_colon-clause-reads : goal.returns-in_err-pass_colon-clause-reads
+returns-in_err-pass_colon-clause-reads g c =
     let (y, is, from) = err_from_is_err_and c.from_residual.result c.from_residual.ensures.1 in
     let k = c.in_err-pass_colon.ensures in
     rw (is, from) (record {
@@ -19,8 +19,17 @@ returns-in_err-pass_colon g c =
       steady = record { same_text = k.steady.same_text; unprompted = k.steady.unprompted; before = k.steady.before };
     })
 
-pub returns : goal.returns
-returns g c =
+pub returns-in_err-pass_colon-clause-no_memory : goal.returns-in_err-pass_colon-clause-no_memory
+returns-in_err-pass_colon-clause-no_memory g c = λ t r v live value shallow converts spare. absurd (false≢true (c.in_err-pass_colon.ensures.complete t r live value))
+
+pub returns-clause-no_memory : goal.returns-clause-no_memory
+returns-clause-no_memory g c = λ t r v live value shallow converts spare.
+    let at = c.in_ok-pass_colon.ensures.passed in
+    let level = level_of at.rest in
+    c.deserialize.ensures.no_memory t r v (failed_of at.rest ∙ at.live) (value_found c.args.self.now c.pass_colon.new.self t r at value) (omega (arith, level, shallow)) converts spare
+
+pub returns-clause-reads : goal.returns-clause-reads
+returns-clause-reads g c =
     let at = c.in_ok-pass_colon.ensures.passed in
     let read = c.deserialize.ensures in
     record {

@@ -3,7 +3,7 @@ use Rattle.json5_de.specs.FieldKeys.{field_key_text}
 use Rattle.json5_de.specs.Convert.{every_text}
 use Rattle.json5_de.specs.Lending.{map_state_of}
 use Rattle.json5_de.specs.ShortWays.{if_given}
-use Rattle.json5_de.proofs.Structs.{no_pairs, reads_name, takes_pair, all_read, key_refuses, pair_refuses, live_after_key, live_at_brace, brace_next}
+use Rattle.json5_de.proofs.Structs.{no_pairs, reads_name, takes_pair, all_read, key_not_free, key_refuses, pair_not_free, pair_refuses, live_after_key, live_at_brace, brace_next}
 use Rattle.json5_de.proofs.StructFaults.{live_before, key_cause, value_cause}
 use Rattle.json5_de.proofs.map.MapAccess.read_fields.Goals as goal
 
@@ -28,6 +28,15 @@ loop-field_key-preserved g c =
 pub returns-in_err-next_field_key-clause-reads : goal.returns-in_err-next_field_key-clause-reads
 returns-in_err-next_field_key-clause-reads g c =
     key_refuses _ _ field_key_text c.from_residual.ensures.1 c.loop-field_key.invariant.reading c.in_err-next_field_key.ensures.key.refused.failed c.in_err-next_field_key.ensures.key.refused.unprompted c.in_err-next_field_key.ensures.key.left
+
+pub returns-in_err-next_field_key-clause-no_memory : goal.returns-in_err-next_field_key-clause-no_memory
+returns-in_err-next_field_key-clause-no_memory g c = key_not_free _ _ g.F.Fields.allocation_free field_key_text c.from_residual.ensures.1 c.loop-field_key.invariant.reading c.in_err-next_field_key.ensures.no_memory c.in_err-next_field_key.ensures.key.left
+
+pub returns-in_err-read-clause-no_memory : goal.returns-in_err-read-clause-no_memory
+returns-in_err-read-clause-no_memory g c =
+    let key = c.in_ok-next_field_key.ensures.key in
+    let named = reads_name field_key_text c.next_field_key.new.field_key c.loop-field_key.invariant.reading (live_after_key field_key_text every_text (map_state_of c.loop-field_key.self) (map_state_of c.next_field_key.new.self) c.next_field_key.new.field_key (rw c.if-branch.true at key.sound)) (rw c.if-branch.true at key.read) (rw c.if-branch.true at key.left) in
+    pair_not_free _ _ g.F.Fields.allocation_free c.from_residual-in_err-read.ensures.1 named (rw c.as_str.ensures at c.in_err-read.ensures.no_memory)
 
 pub returns-in_err-read-clause-reads : goal.returns-in_err-read-clause-reads
 returns-in_err-read-clause-reads g c =

@@ -1,11 +1,12 @@
-use Rattle.std.proofs.Common.{◌≡◌, Bool, true, false, refl}
+use Rattle.std.proofs.Common.{◌≡◌, Bool, Err, true, false, refl}
 use Rattle.json5_de.specs.FieldKeys.{field_key_text}
 use Rattle.std.specs.Prelude.{is_some}
 use Rattle.json5_de.specs.Convert.{every_text}
 use Rattle.json5_de.specs.KeyKinds.{RefusedAsKey, string_key}
-use Rattle.json5_de.specs.Lending.{blocking_map}
+use Rattle.json5_de.specs.Lending.{blocking_map, map_state_of}
 use Rattle.json5_de.specs.ShortWays.{if_given}
 use Rattle.json5_de.proofs.ObjectCalls.{lent, key_given, key_refused}
+use Rattle.json5_de.proofs.ObjectMembers.{key_free}
 use Rattle.json5_de.proofs.map.MapAccess.read_next_field_key.Goals as goal
 
 given_is_some : {A : Type 0} (value : A) (given : Bool) → given ≡ is_some (if_given value given)
@@ -22,3 +23,7 @@ pub returns-in-Err-clause-key : goal.returns-in-Err-clause-key
 returns-in-Err-clause-key g c =
     let k = rw (c.set_failed.ensures, c.is_comma_due.ensures) at c.in-Err.ensures.key in
     key_refused field_key_text every_text (RefusedAsKey string_key) c.args.self.now c.requires.no_key c.read_field_key.new.self c.refused.new.self c.in-Err.e c.refused.result c.refused.ensures.blocks c.refused.ensures.placed k.cause k.steady k.complete k.closing
+
+pub returns-in-Err-clause-no_memory : goal.returns-in-Err-clause-no_memory
+returns-in-Err-clause-no_memory g c = key_free {V = Unit {0}} (map_state_of c.args.self.now) (Err c.refused.result) c.requires.no_key
+    (rw (c.set_failed.ensures, c.is_comma_due.ensures) at c.in-Err.ensures.no_memory)
