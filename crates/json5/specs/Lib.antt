@@ -55,6 +55,7 @@ pub use Rattle.json5_fields.specs.Layouts
 pub use Rattle.json5_fields.specs.Described
 pub use Rattle.json5_fields.specs.FieldCalls
 pub use Rattle.json5_fields.specs.Only
+pub use Rattle.json5_fields.specs.Spares
 pub use Rattle.json5_fields.specs.Named
 pub use Rattle.json5_fields.specs.WrittenFields
 pub use Rattle.json5_fields.specs.VariantContents

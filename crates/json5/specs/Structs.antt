@@ -5,6 +5,7 @@ use Rattle.json5_fields.specs.Layouts.{Layout}
 pub use Rattle.std.specs.Prelude.{codes}
 pub use Rattle.json5_grammar.specs.Model.Collections.{object_of}
 pub use Rattle.json5_fields.specs.Only.{only_these}
+pub use Rattle.json5_fields.specs.Spares.{struct_free}
 pub use Rattle.json5_fields.specs.Described.{RefusesDescribed, RefusesOnly}
 
 -- an object of these fields; another one is passed over

@@ -1,21 +1,23 @@
 -- What is read of one field, or of some, is read of all.
 use Rattle.std.proofs.Common.{◌≡◌, ◌⊎◌, ℕ, Bool, true, false, List, [], ◌∷◌, refl, sym, ap, ◌∙◌, subst, inl, inr, Option, Some, None, Ok, Err}
 use Rattle.std.proofs.Math.Path.{fun_ext}
+use Rattle.std.proofs.lemmas.Bool.{and_parts, false≢true}
+use Rattle.std.proofs.lemmas.Option.{same_Some}
 use Rattle.std.proofs.lemmas.Slice.Eq.{bytes_eq-Decides}
 use Rattle.std.specs.Prelude.{Result, IfOk, IfErr, IsErrAnd, OnOk, is_some, not}
 use Rattle.std.specs.Str.{bytes_eq}
-use Rattle.json5_grammar.specs.Language.Trees.{Tree, Members}
+use Rattle.json5_grammar.specs.Language.Trees.{Tree, Members, member}
 use Rattle.json5_grammar.specs.Model.Collections.{joint, snoc_member}
 use Rattle.json5_types.specs.declared.error.Error.{Error}
 use Rattle.json5_text.specs.Cursor.{IsOutOfMemory}
 use Rattle.json5_de.specs.State.{State}
-use Rattle.json5_de.specs.AnyTree.{RefusesTree}
+use Rattle.json5_de.specs.AnyTree.{RefusesTree, every_value}
+use Rattle.json5_de.specs.TokenKinds.{every_tree}
 use Rattle.json5_de.specs.ConvertLists.{if_some}
 use Rattle.json5_de.specs.Refinement.{if_more}
-use Rattle.json5_de.specs.Objects.{MapAccessState, MembersRead}
+use Rattle.json5_de.specs.Objects.{MapAccessState, MembersRead, MembersLeft, ReadsValueFree}
 use Rattle.json5_de.specs.Fields.{IsOwnAtBracket, FieldFault, in_field, twice, FieldRead, FieldRequired, RefusesHere}
-use Rattle.json5_de.specs.KeyPlaces.{IsOwnAtKey}
-use Rattle.json5_de.specs.Plans.{Step, at_name, run, TakesMember, LeavesTaken, PassesMember}
+use Rattle.json5_de.specs.Plans.{Step, at_name, run, TakesMember, TakesFree, LeavesTaken, PassesMember}
 use Rattle.json5_de.specs.StructFaults.{ValueFaults, or_of, of_any, may_stand, RefusesMember}
 use Rattle.json5_de.specs.Lending.{map_state_of, at_its_key, KeepsMap, KeyIsNamed, NoKeyPending, TakesPendingKey}
 use Rattle.json5_de.specs.declared.map.MapAccess.{MapAccess}
@@ -24,7 +26,16 @@ use Rattle.json5_de.proofs.Structs.{here, takes_field}
 use Rattle.json5_fields.specs.Layouts.{Layout, has_name, first_or, and_layout, one_field, required_field, to_first, to_others, named_first, named_second, named_neither, hold, held_step, held_takes, held_passes}
 use Rattle.json5_fields.specs.Only.{only_step, only_takes, only_none, of_unknown}
 use Rattle.json5_de.specs.DeserializeLaw.{IsUnprompted}
+use Rattle.json5_fields.specs.Spares.{Spares, spared, free_if_read, spares_both, FinishesFree}
 use Rattle.json5_fields.specs.FieldCalls.{of_type, first_value, second_value, TakesNamed, TakesHere, Tries, Finished, Missed, Finishes}
+
+-- the refusal of a member that passes the test, which can't be
+abbrev NotFree : {S : Type 0} → (Tree → Bool) → Step S → S → List ℕ → MapAccessState → Type 0
+NotFree {S} free step s name old = (u : List ℕ) (escape_free : Bool) (t : Tree) (ps : Members) (r : List ℕ) (m : S) → step s name t ≡ Some m → MembersLeft (member u escape_free t ps) r old → free t ≡ true → false ≡ true
+
+-- and that of what was read, where no default takes memory
+abbrev NotMade : {S D : Type 0} → Bool → Layout S D → S → MapAccessState → Type 0
+NotMade {D = D} defaults l s old = (d : D) → defaults ≡ true → old.at.reader.failed ≡ false → l.build s ≡ Some d → false ≡ true
 
 -- ---- a step that another one makes
 
@@ -67,6 +78,10 @@ module _ {S U : Type 0} (a : Step S) (b : Step U) (g : S → U) (s : S) (there n
       by (Ok done) is = tt
       by (Err e) is = λ live. one (may_stand b (g s) name) e (subst (λ may. fa there may old e) (sym same_may) (is live))
 
+  -- what one reads without memory, so does the other
+  free_through : (test other : Tree → Bool) (old : MapAccessState) → ((t : Tree) → other t ≡ true → test t ≡ true) → NotFree test a s there old → NotFree other b (g s) name old
+  free_through test other old only free u escape_free t ps r m takes left spare = let (c, is, made) = made_of g m (a s there t) (sym (same t) ∙ takes) in free u escape_free t ps r c is left (only t spare)
+
 -- ---- a field, and others
 
 module _ {I S T A B : Type 0} (a : Layout S A) (b : Layout T B) (fa fb : ValueFaults) {name : List ℕ} {old new : MapAccess I} where
@@ -87,6 +102,20 @@ module _ {I S T A B : Type 0} (a : Layout S A) (b : Layout T B) (fa fb : ValueFa
     access = is.access;
     pending = is.pending;
   }
+
+module _ {S T A B : Type 0} (a : Layout S A) (b : Layout T B) (sa sb : Spares) (s : S) (t : T) (name : List ℕ) (old : MapAccessState) where
+  pub first_free : has_name a.names name ≡ true → NotFree sa.values a.step s name old → NotFree (spares_both sa sb).values (and_layout a b).step (s, t) name old
+  first_free named free = free_through a.step (first_or a.names a.step b.step) (λ x. (x, t)) s name name (λ v. to_first a b (s, t) name v named) sa.values (spares_both sa sb).values old (λ v spare. (and_parts (sa.values v) (sb.values v) spare).0) free
+
+  others_free : has_name a.names name ≡ false → NotFree sb.values b.step t name old → NotFree (spares_both sa sb).values (and_layout a b).step (s, t) name old
+  others_free other free = free_through b.step (first_or a.names a.step b.step) (λ x. (s, x)) t name name (λ v. to_others a b (s, t) name v other) sb.values (spares_both sa sb).values old (λ v spare. (and_parts (sa.values v) (sb.values v) spare).1) free
+
+-- the others were tried after the first
+pub others_try_free : {I S T A B : Type 0} (a : Layout S A) (b : Layout T B) (fa : ValueFaults) (sa sb : Spares) {s n : S} (t : T) {name : List ℕ} {old mid : MapAccess I} (result : Result Bool Error) → Tries a fa s n name old mid (Ok false)
+    → TakesFree sb.values b.step t name (map_state_of mid) result → TakesFree (spares_both sa sb).values (and_layout a b).step (s, t) name (map_state_of old) result
+others_try_free a b fa sa sb t (Ok v) passes free = λ u escape_free w ps r m takes left spare. refl
+others_try_free {I = I} a b fa sa sb {s = s} t {name = name} {old = old} (Err e) passes free =
+    others_free a b sa sb s t name (map_state_of old) passes.other (subst (λ (m : MapAccess I). NotFree sb.values b.step t name (map_state_of m)) passes.access free)
 
 others_from : {I S T A B : Type 0} (a : Layout S A) (b : Layout T B) (fa fb : ValueFaults) (name : List ℕ) (old new : MapAccess I) (s : S) (t m : T) → has_name a.names name ≡ false → (result : Result Bool Error) → Tries b fb t m name old new result → Tries (and_layout a b) (or_of fa fb) (s, t) (s, m) name old new result
 others_from a b fa fb name old new s t m not (Ok true) is = others_here a b fa fb not is
@@ -202,6 +231,23 @@ module _ {I V C : Type 0} {content : V → C} {f : Tree → Option C} {refuses :
     pending = tt;
   }
 
+-- the first value takes no memory that its type doesn't take
+pub named_free : {V C : Type 0} (content : V → C) (f : Tree → Option C) (allocation_free : Tree → Bool) (name : List ℕ) (old : MapAccessState) {o : Option V} (result : Result (Unit {0}) Error) → o ≡ None → (o ≡ None → ReadsValueFree f allocation_free old result)
+    → TakesFree (spared f allocation_free) (at_name f name) (if_some content o) name old result
+named_free content f allocation_free name old {o = Some v} result none free = absurd (cc none)
+named_free content f allocation_free name old {o = None} result none free = λ u escape_free t ps r m takes left spare.
+    let (c, is, made) = made_of Some m (f t) (sym (may_first f name t) ∙ takes) in
+    free none u escape_free t ps r c left is (subst (λ x. free_if_read x (allocation_free t) ≡ true) is spare)
+
+-- no second value may stand there
+pub second_free : {V C : Type 0} (content : V → C) (f : Tree → Option C) (test : Tree → Bool) (name : List ℕ) (old : MapAccessState) (o : Option V) → is_some o ≡ true → NotFree test (at_name f name) (if_some content o) name old
+second_free content f test name old None some = absurd (false≢true some)
+second_free content f test name old (Some v) some = λ u escape_free t ps r m takes left spare. let none = may_not f name (content v) t in absurd (cc (none, takes))
+
+-- the same of the field that has the name
+pub it_free : {C : Type 0} (f : Tree → Option C) (s : Option C) {test : Tree → Bool} {field name : List ℕ} {old : MapAccessState} → name ≡ field → NotFree test (at_name f name) s name old → NotFree test (at_name f field) s name old
+it_free f s {test = test} {name = name} {old = old} same free = subst (λ w. NotFree test (at_name f w) s name old) same free
+
 -- the value of a field was read, or refused
 pub takes_it : {I V C D : Type 0} {content : V → C} {f : Tree → Option C} {refuses : State → Error → State → Type 0} {field name : List ℕ} {o n : Option V} {old new : MapAccess I} {build : Option C → Option D} {convert : Members → Option D} {says : (ps : Members) → convert ps ≡ if_more build (run (at_name f field) None ps)}
     {result : Result (Unit {0}) Error} → name ≡ field → TakesNamed content f refuses name old new o n result → TakesHere (one_field field f build convert says) (of_type f refuses) (if_some content o) (if_some content n) name old new result
@@ -226,6 +272,9 @@ required_finishes content f field (Err e) keeps found is = record {
 
 -- ---- all fields, and what no field is
 
+pub all_free_here : {S D : Type 0} (l : Layout S D) (spares : Spares) (s : S) (name : List ℕ) (old : MapAccessState) → NotFree spares.values l.step s name old → NotFree spares.values held_step (l, s) name old
+all_free_here l spares s name old free = free_through l.step held_step (hold l) s name name (λ t. held_takes l s name t) spares.values spares.values old (λ t spare. spare) free
+
 module _ {I S D : Type 0} (l : Layout S D) (faults : ValueFaults) {s n : S} {name : List ℕ} {old : MapAccess I} where
   pub all_take : {new : MapAccess I} {result : Result (Unit {0}) Error} → TakesHere l faults s n name old new result → TakesMember held_step (l, s) (l, n) name (map_state_of old) (map_state_of new) result
   all_take is = takes_through l.step held_step (hold l) s name name (λ t. held_takes l s name t) is.takes
@@ -247,7 +296,13 @@ module _ {I S D : Type 0} (l : Layout S D) (faults : ValueFaults) {s n : S} {nam
       by (Ok done) is = tt
       by (Err e) is = λ live. inr (record { every = λ t. ap is_some (held_passes l s name t passes.other); fault = is live })
 
+  pub passed_free : (test : Tree → Bool) {mid : MapAccess I} (result : Result (Unit {0}) Error) → Tries l faults s n name old mid (Ok false) → ReadsValueFree every_value every_tree (map_state_of mid) result → TakesFree test held_step (l, s) name (map_state_of old) result
+  passed_free test result passes free u escape_free t ps r m takes left spare = free u escape_free t ps r tt (subst (λ (k : MapAccess I). MembersLeft (member u escape_free t ps) r (map_state_of k)) (sym passes.access) left) refl refl
+
 -- ---- no other fields
+
+pub only_free_here : {S D : Type 0} (l : Layout S D) (spares : Spares) (s : S) (name : List ℕ) (old : MapAccessState) → has_name l.names name ≡ true → NotFree spares.values l.step s name old → NotFree spares.values only_step (l, s) name old
+only_free_here l spares s name old named free = free_through l.step only_step (hold l) s name name (λ t. only_takes l s name t named) spares.values spares.values old (λ t spare. spare) free
 
 module _ {I S D : Type 0} (l : Layout S D) (faults : ValueFaults) {s n : S} {name : List ℕ} {old : MapAccess I} where
   pub only_take : {new : MapAccess I} {result : Result (Unit {0}) Error} → TakesHere l faults s n name old new result → TakesMember only_step (l, s) (l, n) name (map_state_of old) (map_state_of new) result
@@ -273,3 +328,25 @@ module _ {I S D : Type 0} (l : Layout S D) (faults : ValueFaults) (s n : S) (nam
     none = λ t. ap is_some (only_none l s name t passes.other);
     fault = record { start = old.key_start; begins = named; fault = subst (λ (m : MapAccess I). (map_state_of m).at.reader.failed ≡ false → IsOwnAtBracket (at_its_key m) e) passes.access own live };
   })
+
+  pub unknown_free : (test : Tree → Bool) → TakesFree {V = Unit {0}} test only_step (l, s) name (map_state_of old) (Err e)
+  unknown_free test u escape_free t ps r k is left spare = let none = only_none l s name t passes.other in absurd (cc (none, is))
+
+-- ---- what was read is made into the values
+
+both_built : {A B : Type 0} (x : Option A) (y : Option B) (d : A × B) → joint x y ≡ Some d → (x ≡ Some d.0) × (y ≡ Some d.1)
+both_built None y d is = absurd (cc)
+both_built (Some p) None d is = absurd (cc)
+both_built (Some p) (Some q) d is = let same = same_Some (p, q) d is in (ap (λ z. Some z.0) same, ap (λ z. Some z.1) same)
+
+module _ {S T A B : Type 0} (a : Layout S A) (b : Layout T B) (sa sb : Spares) (s : S) (t : T) (old : MapAccessState) where
+  pub first_unmade : NotMade sa.defaults a s old → NotMade (spares_both sa sb).defaults (and_layout a b) (s, t) old
+  first_unmade free d spare live built = free d.0 (and_parts sa.defaults sb.defaults spare).0 live (both_built (a.build s) (b.build t) d built).0
+
+  pub others_unmade : (mid : MapAccessState) → mid ≡ old → NotMade sb.defaults b t mid → NotMade (spares_both sa sb).defaults (and_layout a b) (s, t) old
+  others_unmade mid same free d spare live built = free d.1 (and_parts sa.defaults sb.defaults spare).1 (ap (λ (m : MapAccessState). m.at.reader.failed) same ∙ live) (both_built (a.build s) (b.build t) d built).1
+
+pub required_made : {V C : Type 0} (content : V → C) (f : Tree → Option C) (field : List ℕ) (old new : MapAccessState) {o : Option V} (result : Result V Error) → FieldRequired old new o result → FinishesFree true (required_field field f) (if_some content o) old result
+required_made content f field old new (Ok v) is = λ d spare live built. refl
+required_made content f field old new {o = None} (Err e) is = λ d spare live built. absurd (cc built)
+required_made content f field old new {o = Some v} (Err e) is = λ d spare live built. absurd (cc (is.missing live).0)

@@ -1,25 +1,32 @@
 -- Why reading by a description is refused after all members were read.
-use Rattle.std.proofs.Common.{◌≡◌, ◌⊎◌, ◌∙◌, refl, ap, ℕ, false, inl, inr, Option, Some, None, Result, Ok, Err}
-use Rattle.std.specs.Prelude.{IsErrAnd, IfErr}
+use Rattle.std.proofs.Common.{◌≡◌, ◌⊎◌, ◌∙◌, ◌+◌, ◌≤◌, refl, sym, ap, subst, ℕ, List, true, false, inl, inr, Some, None, Result, Ok, Err}
+use Rattle.std.proofs.lemmas.Bool.{and_parts}
+use Rattle.std.specs.Prelude.{IsErrAnd, IfErr, IsOk}
+use Rattle.json5_grammar.specs.Language.Documents.{max_depth}
+use Rattle.json5_grammar.specs.Language.Trees.{no_member, depth}
+use Rattle.json5_grammar.specs.Language.Values.{Reads}
+use Rattle.json5_grammar.proofs.MembersConverted.{object_only}
 use Rattle.json5_grammar.specs.Model.Collections.{object_of}
 use Rattle.json5_types.specs.declared.error.Error.{Error}
 use Rattle.json5_types.specs.Errors.{LacksMemory, or_position}
 use Rattle.json5_text.specs.Cursor.{IsOutOfMemory}
 use Rattle.json5_de.specs.State.{State}
-use Rattle.json5_de.specs.DeserializeLaw.{Completes}
+use Rattle.json5_de.specs.DeserializeLaw.{Completes, CompletesFree}
 use Rattle.json5_de.specs.Fields.{IsOwnAtBracket}
 use Rattle.json5_de.specs.Arrays.{PositionedAtBracket}
-use Rattle.json5_de.specs.Plans.{Plan, ReadsMembers}
+use Rattle.json5_de.specs.Plans.{Plan, run, object_free, ReadsFree, ReadsMembers}
 use Rattle.json5_de.specs.StructFaults.{ValueFaults, StructFault}
-use Rattle.json5_de.specs.Objects.{MapAccessState, OpensMap}
+use Rattle.json5_de.specs.Objects.{MapAccessState, MembersLeft, OpensMap}
 use Rattle.json5_de.specs.Lending.{map_state_of, KeepsMap}
 use Rattle.json5_de.specs.declared.map.MapAccess.{MapAccess}
 use Rattle.json5_value.proofs.NoFailedCode.{memory_other}
 use Rattle.json5_de.proofs.ElementLoops.{handed_on}
-use Rattle.json5_de.proofs.Structs.{missing_completes}
+use Rattle.json5_de.proofs.Refinement.{parts}
+use Rattle.json5_de.proofs.Structs.{end_free, fields_free, missing_completes}
 use Rattle.json5_de.proofs.StructFaults.{missing_refused}
 use Rattle.json5_fields.specs.Layouts.{Layout}
 use Rattle.json5_fields.specs.FieldCalls.{Missed}
+use Rattle.json5_fields.specs.Spares.{Spares, struct_free}
 use Rattle.json5_fields.specs.Described.{DescribedFault, in_fields, no_default}
 
 -- it is refused as its fields are
@@ -42,6 +49,31 @@ module _ {S D U I : Type 0} {Held : MapAccess I → Type 0} {old : State} where
       let (r, at) = reads.at_brace in
       no_default (map_state_of map) (map_state_of now) n r (record { opened = opens.bracket.opened.0; start = opens.bracket.start; read = opens.read })
       (record { live = reads.live; same_text = keeps.same_text; same_brace = keeps.start; pairs = ps; are = are; read = on }) at memory own.there)
+
+only_values : {S D U : Type 0} (plan : Plan S D) (spares : Spares) (old : State) (result : Result U Error) → CompletesFree (object_free spares.values) (object_of plan.convert) old result → CompletesFree (struct_free spares) (object_of plan.convert) old result
+only_values plan spares old result free t r d live reads shallow is spare = free t r d live reads shallow is (and_parts spares.defaults (object_free spares.values t) spare).1
+
+-- a struct that takes no memory isn't refused
+module _ {S D U I : Type 0} {Held : MapAccess I → Type 0} {old : State} (plan : Plan S D) (spares : Spares) (e : Error) (result : Result U Error) (is_err : IsErrAnd result (λ y. y ≡ e)) where
+  -- where an object can be read, it is opened
+  pub opened_free : OpensMap {A = MapAccess I} Held map_state_of old (Err e) → CompletesFree (struct_free spares) (object_of plan.convert) old result
+  opened_free opens t r d live reads shallow is spare =
+      let (ps, same, converts) = object_only plan.convert t d is in
+      absurd (opens.left ps r live (subst (λ u. Reads old.unread u r) same reads) (subst (λ u. old.level + depth u ≤ max_depth) same shallow))
+
+  module _ (map : MapAccess I) (opens : OpensMap Held map_state_of old (Ok map)) where
+    pub read_free : ReadsFree {V = Unit {0}} spares.values plan.step plan.start (map_state_of map) (Err e) → CompletesFree (struct_free spares) (object_of plan.convert) old result
+    read_free free = only_values plan spares old result (fields_free plan map opens e result spares.values is_err free)
+
+    pub closed_free : {n : S} {now : MapAccessState} → ReadsMembers plan.step plan.start n (map_state_of map) now (Ok tt) → ((r : List ℕ) → MembersLeft no_member r now → IsOk {T = Unit {0}} {E = Error} (Err e)) → CompletesFree (struct_free spares) (object_of plan.convert) old result
+    closed_free reads ends = only_values plan spares old result (end_free plan map opens e result spares.values is_err reads ends)
+
+    pub finished_free : {n : S} {now : MapAccessState} → ReadsMembers plan.step plan.start n (map_state_of map) now (Ok tt) → ((d : D) → spares.defaults ≡ true → plan.build n ≡ Some d → IsOk {T = U} {E = Error} (Err e)) → CompletesFree (struct_free spares) (object_of plan.convert) old result
+    finished_free reads free = handed_on (λ r. CompletesFree (struct_free spares) (object_of plan.convert) old r) e result is_err (λ t r d live taken shallow is spare.
+        let (ps, same, converts) = object_only plan.convert t d is in
+        let (m, are, built) = parts plan.build (run plan.step plan.start ps) d (sym (plan.says ps) ∙ converts) in
+        let (one, rest) = reads.left ps r m are (opens.left ps r live (subst (λ u. Reads old.unread u r) same taken) (subst (λ u. old.level + depth u ≤ max_depth) same shallow)) in
+        free d (and_parts spares.defaults (object_free spares.values t) spare).0 (sym (ap plan.build one) ∙ built))
 
 -- memory ran out for a default
 pub unmade : {I S D : Type 0} (l : Layout S D) (s : S) (old : MapAccess I) (own e : Error) → LacksMemory own → PositionedAtBracket (map_state_of old).at own e → Missed l s old old e

@@ -1,9 +1,8 @@
 -- A variant's content that is read as another one's.
-use Rattle.std.proofs.Common.{◌≡◌, ◌≢◌, ◌==◌, ◌-◌, ℕ, Bool, true, false, refl, sym, ap, ◌∙◌, inl, inr, arith, Option, Some, None, Result, Ok, Err}
+use Rattle.std.proofs.Common.{◌≡◌, ◌≢◌, ◌==◌, ◌-◌, ℕ, Bool, true, false, refl, ap, ◌∙◌, inl, inr, Option, Some, Result, Ok, Err}
 use Rattle.std.specs.Prelude.{if◌then◌else◌, List, IsErrAnd, IfErr}
 use Rattle.json5_grammar.specs.Language.Trees.{Tree}
 use Rattle.json5_types.specs.declared.error.Error.{Error}
-use Rattle.json5_text.specs.Cursor.{IsOutOfMemory}
 use Rattle.json5_de.specs.State.{State}
 use Rattle.json5_de.specs.ConvertLists.{if_some}
 use Rattle.json5_de.specs.Enums.{EnumAccessState, NamesVariant, ReadsVariant, RefusesContent}

@@ -11,6 +11,7 @@ use Rattle.json5_de.specs.Plans.{Plan}
 use Rattle.json5_de.specs.Refinement.{ReadsExactly}
 use Rattle.json5_de.specs.StructFaults.{ValueFaults, StructFault, OpenedObject, ReadSince, or_of, of_any}
 use Rattle.json5_fields.specs.Layouts.{Layout, held_plan}
+use Rattle.json5_fields.specs.Spares.{Spares, struct_free}
 use Rattle.json5_fields.specs.Only.{only_these, only_plan, of_unknown}
 
 -- as a struct of these fields, or memory ran out for a default after all members were read
@@ -23,12 +24,12 @@ abbrev pub RefusesDescribed : {S D : Type 0} → Layout S D → ValueFaults → 
 RefusesDescribed l faults old e new = old.failed ≡ false → DescribedFault (held_plan l) (or_of faults of_any) old e
 
 -- an object of these fields is read from the front
-abbrev pub ReadsDescribed : {S D V : Type 0} → (V → D) → Layout S D → ValueFaults → State → State → Result V Error → Type 0
-ReadsDescribed content l faults = ReadsExactly content (object_of l.convert) (λ t. false) (RefusesDescribed l faults)
+abbrev pub ReadsDescribed : {S D V : Type 0} → (V → D) → Layout S D → Spares → ValueFaults → State → State → Result V Error → Type 0
+ReadsDescribed content l spares faults = ReadsExactly content (object_of l.convert) (struct_free spares) (RefusesDescribed l faults)
 
 -- the same, if it may have no other field
 abbrev pub RefusesOnly : {S D : Type 0} → Layout S D → ValueFaults → State → Error → State → Type 0
 RefusesOnly l faults old e new = old.failed ≡ false → DescribedFault (only_plan l) (or_of faults of_unknown) old e
 
-abbrev pub ReadsOnly : {S D V : Type 0} → (V → D) → Layout S D → ValueFaults → State → State → Result V Error → Type 0
-ReadsOnly content l faults = ReadsExactly content (object_of (only_these l)) (λ t. false) (RefusesOnly l faults)
+abbrev pub ReadsOnly : {S D V : Type 0} → (V → D) → Layout S D → Spares → ValueFaults → State → State → Result V Error → Type 0
+ReadsOnly content l spares faults = ReadsExactly content (object_of (only_these l)) (struct_free spares) (RefusesOnly l faults)

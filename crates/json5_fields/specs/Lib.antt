@@ -1,6 +1,7 @@
 -- Lists the definitions that contracts of reading and writing by a description cite.
 pub mod Layouts
 pub mod FieldCalls
+pub mod Spares
 pub mod Only
 pub mod Described
 pub mod Named

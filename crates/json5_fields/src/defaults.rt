@@ -26,6 +26,7 @@ impl<I: Input> StructFields<I, String> for WithDefaultText {
     ghost use Rattle.json5_de.specs.ConvertLists.{if_some};
     ghost use Rattle.json5_de.specs.Convert.{text_of};
     ghost use Rattle.json5_fields.specs.Layouts.{field_or};
+    ghost use Rattle.json5_fields.specs.Spares.{spares_made};
     ghost use Rattle.json5_fields.specs.FieldCalls.{of_type};
 
     type Reading = DefaultedText;
@@ -45,6 +46,8 @@ impl<I: Input> StructFields<I, String> for WithDefaultText {
     ghost content = { string_bytes };
 
     ghost layout = { λ s. field_or s.1 s.0 text_of };
+
+    ghost allocation_free = { spares_made text_of ⟦<String as Deserialize<I>>⟧.allocation_free };
 
     ghost faults = { of_type text_of ⟦<String as Deserialize<I>>⟧.refuses };
 

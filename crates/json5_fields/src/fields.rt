@@ -1,8 +1,11 @@
 //! One field of a struct, and what a description of fields has to say.
 
 ghost use Rattle.std.specs.Prelude.{◌≡◌};
-ghost use Rattle.json5_de.specs.Lending.{KeyPending, KeyIsNamed};
+ghost use Rattle.json5_de.specs.ConvertLists.{if_some};
+ghost use Rattle.json5_de.specs.Lending.{map_state_of, KeyPending, KeyIsNamed};
+ghost use Rattle.json5_de.specs.Plans.{TakesFree, at_name};
 ghost use Rattle.json5_fields.specs.FieldCalls.{TakesNamed};
+ghost use Rattle.json5_fields.specs.Spares.{spared};
 
 use crate::field_names::FieldNames;
 use json5_de::{Deserialize, MapAccess};
@@ -16,8 +19,10 @@ use json5_types::error::Result;
 /// ```
 pub trait StructFields<I: Input, V: Drop>: Sized + Drop {
     ghost use Rattle.json5_de.specs.StructFaults.{ValueFaults};
-    ghost use Rattle.json5_de.specs.Lending.{KeyPending, KeyIsNamed};
+    ghost use Rattle.json5_de.specs.Lending.{map_state_of, KeyPending, KeyIsNamed};
+    ghost use Rattle.json5_de.specs.Plans.{TakesFree};
     ghost use Rattle.json5_fields.specs.Layouts.{Layout};
+    ghost use Rattle.json5_fields.specs.Spares.{Spares, FinishesFree};
     ghost use Rattle.json5_fields.specs.FieldCalls.{Tries, Finishes};
 
     /// The fields while they are read: what the description says, and the values that were read so far.
@@ -44,6 +49,9 @@ pub trait StructFields<I: Input, V: Drop>: Sized + Drop {
     // The names, and what the fields take of an object.
     ghost layout: { Shape → Layout State Content };
 
+    // Which values are read without memory, and whether the defaults take none.
+    ghost allocation_free: { Spares };
+
     // How values are refused.
     ghost faults: { ValueFaults };
 
@@ -61,7 +69,8 @@ pub trait StructFields<I: Input, V: Drop>: Sized + Drop {
         requires key { KeyPending map.old }
         requires named { KeyIsNamed name.now map.old }
         ensures same { kept fields.new ≡ kept fields.old }
-        ensures tries { Tries (layout (kept fields.old)) faults (state fields.old) (state fields.new) name.now map.old map.new result };
+        ensures tries { Tries (layout (kept fields.old)) faults (state fields.old) (state fields.new) name.now map.old map.new result }
+        ensures no_memory { TakesFree allocation_free.values (layout (kept fields.old)).step (state fields.old) name.now (map_state_of map.old) result };
 
     /// The values, once all members are read.
     ///
@@ -70,7 +79,8 @@ pub trait StructFields<I: Input, V: Drop>: Sized + Drop {
     /// - Those of [`MapAccess::required_field`].
     /// - `OutOfMemory` at the opening brace, for a default that is made.
     fn finish(fields: Self::Reading, map: &mut MapAccess<'_, I>) -> Result<V>
-        ensures { Finishes (layout (kept fields)) content (state fields) map.old map.new result };
+        ensures finishes { Finishes (layout (kept fields)) content (state fields) map.old map.new result }
+        ensures no_memory { FinishesFree allocation_free.defaults (layout (kept fields)) (state fields) (map_state_of map.old) result };
 }
 
 /// Reads the value of the key that was read last into its field. A second value is refused at its key.
@@ -81,7 +91,8 @@ pub(crate) fn take_field<I: Input, T: Deserialize<I>>(
 ) -> Result<()>
     requires key { KeyPending map.old }
     requires named { KeyIsNamed name.now map.old }
-    ensures { TakesNamed T.content T.convert T.refuses name.now map.old map.new found.old found.new result }
+    ensures taken { TakesNamed T.content T.convert T.refuses name.now map.old map.new found.old found.new result }
+    ensures no_memory { TakesFree (spared T.convert T.allocation_free) (at_name T.convert name.now) (if_some T.content found.old) name.now (map_state_of map.old) result }
 {
     if found.is_some() {
         return Err(map.refuse_key(format_args!("duplicate field `{name}`")));
@@ -108,6 +119,7 @@ impl<I: Input, T: Deserialize<I>> StructFields<I, T> for Required {
     ghost use Rattle.std.specs.Prelude.{ℕ, List, Option};
     ghost use Rattle.json5_de.specs.ConvertLists.{if_some};
     ghost use Rattle.json5_fields.specs.Layouts.{required_field};
+    ghost use Rattle.json5_fields.specs.Spares.{spares_field};
     ghost use Rattle.json5_fields.specs.FieldCalls.{of_type};
 
     type Reading = Awaited<T>;
@@ -127,6 +139,8 @@ impl<I: Input, T: Deserialize<I>> StructFields<I, T> for Required {
     ghost content = { T.content };
 
     ghost layout = { λ name. required_field name T.convert };
+
+    ghost allocation_free = { spares_field T.convert T.allocation_free };
 
     ghost faults = { of_type T.convert T.refuses };
 
@@ -167,6 +181,7 @@ impl<I: Input, T: Deserialize<I>> StructFields<I, Option<T>> for Optional {
     ghost use Rattle.std.specs.Prelude.{ℕ, List, Option};
     ghost use Rattle.json5_de.specs.ConvertLists.{if_some};
     ghost use Rattle.json5_fields.specs.Layouts.{optional_field};
+    ghost use Rattle.json5_fields.specs.Spares.{spares_field};
     ghost use Rattle.json5_fields.specs.FieldCalls.{of_type};
 
     type Reading = Awaited<T>;
@@ -186,6 +201,8 @@ impl<I: Input, T: Deserialize<I>> StructFields<I, Option<T>> for Optional {
     ghost content = { if_some T.content };
 
     ghost layout = { λ name. optional_field name T.convert };
+
+    ghost allocation_free = { spares_field T.convert T.allocation_free };
 
     ghost faults = { of_type T.convert T.refuses };
 
@@ -234,6 +251,7 @@ impl<I: Input, T: Deserialize<I>> StructFields<I, T> for WithDefault<T> {
     ghost use Rattle.std.specs.Prelude.{ℕ, List, Option};
     ghost use Rattle.json5_de.specs.ConvertLists.{if_some};
     ghost use Rattle.json5_fields.specs.Layouts.{field_or};
+    ghost use Rattle.json5_fields.specs.Spares.{spares_field};
     ghost use Rattle.json5_fields.specs.FieldCalls.{of_type};
 
     type Reading = Defaulted<T>;
@@ -253,6 +271,8 @@ impl<I: Input, T: Deserialize<I>> StructFields<I, T> for WithDefault<T> {
     ghost content = { T.content };
 
     ghost layout = { λ s. field_or s.1 s.0 T.convert };
+
+    ghost allocation_free = { spares_field T.convert T.allocation_free };
 
     ghost faults = { of_type T.convert T.refuses };
 

@@ -3,8 +3,9 @@
 ghost use Rattle.std.specs.Prelude.{◌≡◌, true, IfOk, IfErr};
 ghost use Rattle.json5_grammar.specs.Model.Collections.{object_of};
 ghost use Rattle.json5_de.specs.State.{SameText};
-ghost use Rattle.json5_de.specs.DeserializeLaw.{Gives, Completes, Unprompted};
+ghost use Rattle.json5_de.specs.DeserializeLaw.{Gives, Completes, CompletesFree, Unprompted};
 ghost use Rattle.json5_fields.specs.Layouts.{all_differ};
+ghost use Rattle.json5_fields.specs.Spares.{struct_free};
 ghost use Rattle.json5_fields.specs.Described.{RefusesDescribed, ReadsDescribed};
 
 use crate::fields::StructFields;
@@ -30,6 +31,8 @@ impl<I: Input, V: Drop, F: StructFields<I, V>> Fields<I> for Members<F, F::Readi
 
     ghost step = { held_step };
 
+    ghost allocation_free = { F.allocation_free.values };
+
     ghost refuses = { or_of F.faults of_any };
 
     #[inline(always)]
@@ -51,6 +54,7 @@ fn read_object<I: Input, V: Drop, F: StructFields<I, V>>(
     requires { all_differ (F.layout (F.shape fields)).names ≡ true }
     ensures sound { IfOk result (λ v. Gives F.content (object_of (F.layout (F.shape fields)).convert) de.old de.new v) }
     ensures complete { Completes (object_of (F.layout (F.shape fields)).convert) de.old result }
+    ensures no_memory { CompletesFree (struct_free F.allocation_free) (object_of (F.layout (F.shape fields)).convert) de.old result }
     ensures refused { IfErr result (λ e. RefusesDescribed (F.layout (F.shape fields)) F.faults de.old e de.new) }
     ensures unprompted { Unprompted de.old result }
     ensures same_text { SameText de.old de.new }
@@ -87,7 +91,7 @@ pub fn read_struct<I: Input, V: Drop, F: StructFields<I, V>>(
     fields: F,
 ) -> Result<V>
     requires { all_differ (F.layout (F.shape fields)).names ≡ true }
-    ensures { ReadsDescribed F.content (F.layout (F.shape fields)) F.faults de.old de.new result }
+    ensures { ReadsDescribed F.content (F.layout (F.shape fields)) F.allocation_free F.faults de.old de.new result }
 {
     read_object(de, fields)
 }

@@ -3,9 +3,10 @@
 ghost use Rattle.std.specs.Prelude.{◌≡◌, true, IfOk, IfErr};
 ghost use Rattle.json5_grammar.specs.Model.Collections.{object_of};
 ghost use Rattle.json5_de.specs.State.{SameText};
-ghost use Rattle.json5_de.specs.DeserializeLaw.{Gives, Completes, Unprompted};
+ghost use Rattle.json5_de.specs.DeserializeLaw.{Gives, Completes, CompletesFree, Unprompted};
 ghost use Rattle.json5_fields.specs.Layouts.{all_differ};
 ghost use Rattle.json5_fields.specs.Only.{only_these};
+ghost use Rattle.json5_fields.specs.Spares.{struct_free};
 ghost use Rattle.json5_fields.specs.Described.{RefusesOnly, ReadsOnly};
 
 use crate::field_names::UnknownField;
@@ -33,6 +34,8 @@ impl<I: Input, V: Drop, F: StructFields<I, V>> Fields<I> for OnlyMembers<F, F::R
 
     ghost step = { only_step };
 
+    ghost allocation_free = { F.allocation_free.values };
+
     ghost refuses = { or_of F.faults of_unknown };
 
     #[inline(always)]
@@ -57,6 +60,7 @@ fn read_only<I: Input, V: Drop, F: StructFields<I, V>>(
     requires { all_differ (F.layout (F.shape fields)).names ≡ true }
     ensures sound { IfOk result (λ v. Gives F.content (object_of (only_these (F.layout (F.shape fields)))) de.old de.new v) }
     ensures complete { Completes (object_of (only_these (F.layout (F.shape fields)))) de.old result }
+    ensures no_memory { CompletesFree (struct_free F.allocation_free) (object_of (only_these (F.layout (F.shape fields)))) de.old result }
     ensures refused { IfErr result (λ e. RefusesOnly (F.layout (F.shape fields)) F.faults de.old e de.new) }
     ensures unprompted { Unprompted de.old result }
     ensures same_text { SameText de.old de.new }
@@ -92,7 +96,7 @@ pub fn read_struct_only<I: Input, V: Drop, F: StructFields<I, V>>(
     fields: F,
 ) -> Result<V>
     requires { all_differ (F.layout (F.shape fields)).names ≡ true }
-    ensures { ReadsOnly F.content (F.layout (F.shape fields)) F.faults de.old de.new result }
+    ensures { ReadsOnly F.content (F.layout (F.shape fields)) F.allocation_free F.faults de.old de.new result }
 {
     read_only(de, fields)
 }

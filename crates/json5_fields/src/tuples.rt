@@ -12,6 +12,7 @@ impl<I: Input, S: Drop, T: Drop, A: StructFields<I, S>, B: StructFields<I, T>> S
 > for (A, B) {
     ghost use Rattle.json5_de.specs.StructFaults.{or_of};
     ghost use Rattle.json5_fields.specs.Layouts.{and_layout};
+    ghost use Rattle.json5_fields.specs.Spares.{spares_both};
 
     type Reading = (A::Reading, B::Reading);
 
@@ -30,6 +31,8 @@ impl<I: Input, S: Drop, T: Drop, A: StructFields<I, S>, B: StructFields<I, T>> S
     ghost content = { λ v. (A.content v.0, B.content v.1) };
 
     ghost layout = { λ s. and_layout (A.layout s.0) (B.layout s.1) };
+
+    ghost allocation_free = { spares_both A.allocation_free B.allocation_free };
 
     ghost faults = { or_of A.faults B.faults };
 
@@ -70,6 +73,7 @@ impl<
 > StructFields<I, (S, T, U)> for (A, B, C) {
     ghost use Rattle.json5_de.specs.StructFaults.{or_of};
     ghost use Rattle.json5_fields.specs.Layouts.{and_layout};
+    ghost use Rattle.json5_fields.specs.Spares.{spares_both};
 
     type Reading = (A::Reading, (B::Reading, C::Reading));
 
@@ -88,6 +92,8 @@ impl<
     ghost content = { λ v. (A.content v.0, (B.content v.1, C.content v.2)) };
 
     ghost layout = { λ s. and_layout (A.layout s.0) (and_layout (B.layout s.1.0) (C.layout s.1.1)) };
+
+    ghost allocation_free = { spares_both A.allocation_free (spares_both B.allocation_free (C.allocation_free)) };
 
     ghost faults = { or_of A.faults (or_of B.faults (C.faults)) };
 
@@ -128,6 +134,7 @@ impl<
 > StructFields<I, (S, T, U, V)> for (A, B, C, D) {
     ghost use Rattle.json5_de.specs.StructFaults.{or_of};
     ghost use Rattle.json5_fields.specs.Layouts.{and_layout};
+    ghost use Rattle.json5_fields.specs.Spares.{spares_both};
 
     type Reading = (A::Reading, (B::Reading, (C::Reading, D::Reading)));
 
@@ -146,6 +153,8 @@ impl<
     ghost content = { λ v. (A.content v.0, (B.content v.1, (C.content v.2, D.content v.3))) };
 
     ghost layout = { λ s. and_layout (A.layout s.0) (and_layout (B.layout s.1.0) (and_layout (C.layout s.1.1.0) (D.layout s.1.1.1))) };
+
+    ghost allocation_free = { spares_both A.allocation_free (spares_both B.allocation_free (spares_both C.allocation_free (D.allocation_free))) };
 
     ghost faults = { or_of A.faults (or_of B.faults (or_of C.faults (D.faults))) };
 
@@ -188,6 +197,7 @@ impl<
 > StructFields<I, (S, T, U, V, W)> for (A, B, C, D, E) {
     ghost use Rattle.json5_de.specs.StructFaults.{or_of};
     ghost use Rattle.json5_fields.specs.Layouts.{and_layout};
+    ghost use Rattle.json5_fields.specs.Spares.{spares_both};
 
     type Reading = (
         A::Reading,
@@ -209,6 +219,8 @@ impl<
     ghost content = { λ v. (A.content v.0, (B.content v.1, (C.content v.2, (D.content v.3, E.content v.4)))) };
 
     ghost layout = { λ s. and_layout (A.layout s.0) (and_layout (B.layout s.1.0) (and_layout (C.layout s.1.1.0) (and_layout (D.layout s.1.1.1.0) (E.layout s.1.1.1.1)))) };
+
+    ghost allocation_free = { spares_both A.allocation_free (spares_both B.allocation_free (spares_both C.allocation_free (spares_both D.allocation_free (E.allocation_free)))) };
 
     ghost faults = { or_of A.faults (or_of B.faults (or_of C.faults (or_of D.faults (E.faults)))) };
 
@@ -258,6 +270,7 @@ impl<
 > StructFields<I, (S, T, U, V, W, X)> for (A, B, C, D, E, F) {
     ghost use Rattle.json5_de.specs.StructFaults.{or_of};
     ghost use Rattle.json5_fields.specs.Layouts.{and_layout};
+    ghost use Rattle.json5_fields.specs.Spares.{spares_both};
 
     type Reading = (
         A::Reading,
@@ -282,6 +295,8 @@ impl<
     ghost content = { λ v. (A.content v.0, (B.content v.1, (C.content v.2, (D.content v.3, (E.content v.4, F.content v.5))))) };
 
     ghost layout = { λ s. and_layout (A.layout s.0) (and_layout (B.layout s.1.0) (and_layout (C.layout s.1.1.0) (and_layout (D.layout s.1.1.1.0) (and_layout (E.layout s.1.1.1.1.0) (F.layout s.1.1.1.1.1))))) };
+
+    ghost allocation_free = { spares_both A.allocation_free (spares_both B.allocation_free (spares_both C.allocation_free (spares_both D.allocation_free (spares_both E.allocation_free (F.allocation_free))))) };
 
     ghost faults = { or_of A.faults (or_of B.faults (or_of C.faults (or_of D.faults (or_of E.faults (F.faults))))) };
 
@@ -335,6 +350,7 @@ impl<
 > StructFields<I, (S, T, U, V, W, X, Y)> for (A, B, C, D, E, F, G) {
     ghost use Rattle.json5_de.specs.StructFaults.{or_of};
     ghost use Rattle.json5_fields.specs.Layouts.{and_layout};
+    ghost use Rattle.json5_fields.specs.Spares.{spares_both};
 
     type Reading = (
         A::Reading,
@@ -362,6 +378,8 @@ impl<
     ghost content = { λ v. (A.content v.0, (B.content v.1, (C.content v.2, (D.content v.3, (E.content v.4, (F.content v.5, G.content v.6)))))) };
 
     ghost layout = { λ s. and_layout (A.layout s.0) (and_layout (B.layout s.1.0) (and_layout (C.layout s.1.1.0) (and_layout (D.layout s.1.1.1.0) (and_layout (E.layout s.1.1.1.1.0) (and_layout (F.layout s.1.1.1.1.1.0) (G.layout s.1.1.1.1.1.1)))))) };
+
+    ghost allocation_free = { spares_both A.allocation_free (spares_both B.allocation_free (spares_both C.allocation_free (spares_both D.allocation_free (spares_both E.allocation_free (spares_both F.allocation_free (G.allocation_free)))))) };
 
     ghost faults = { or_of A.faults (or_of B.faults (or_of C.faults (or_of D.faults (or_of E.faults (or_of F.faults (G.faults)))))) };
 
@@ -419,6 +437,7 @@ impl<
 > StructFields<I, (S, T, U, V, W, X, Y, Z)> for (A, B, C, D, E, F, G, H) {
     ghost use Rattle.json5_de.specs.StructFaults.{or_of};
     ghost use Rattle.json5_fields.specs.Layouts.{and_layout};
+    ghost use Rattle.json5_fields.specs.Spares.{spares_both};
 
     type Reading = (
         A::Reading,
@@ -449,6 +468,8 @@ impl<
     ghost content = { λ v. (A.content v.0, (B.content v.1, (C.content v.2, (D.content v.3, (E.content v.4, (F.content v.5, (G.content v.6, H.content v.7))))))) };
 
     ghost layout = { λ s. and_layout (A.layout s.0) (and_layout (B.layout s.1.0) (and_layout (C.layout s.1.1.0) (and_layout (D.layout s.1.1.1.0) (and_layout (E.layout s.1.1.1.1.0) (and_layout (F.layout s.1.1.1.1.1.0) (and_layout (G.layout s.1.1.1.1.1.1.0) (H.layout s.1.1.1.1.1.1.1))))))) };
+
+    ghost allocation_free = { spares_both A.allocation_free (spares_both B.allocation_free (spares_both C.allocation_free (spares_both D.allocation_free (spares_both E.allocation_free (spares_both F.allocation_free (spares_both G.allocation_free (H.allocation_free))))))) };
 
     ghost faults = { or_of A.faults (or_of B.faults (or_of C.faults (or_of D.faults (or_of E.faults (or_of F.faults (or_of G.faults (H.faults))))))) };
 

@@ -4,7 +4,7 @@ use Rattle.json5_de.specs.StructFaults.{or_of, of_any}
 use Rattle.json5_de.proofs.Structs.{struct_read, fields_complete, fields_unprompted, end_completes, still}
 use Rattle.json5_de.proofs.StructFaults.{unopened, pairs_refused, closes_there}
 use Rattle.json5_fields.specs.Layouts.{whole_plan, held_plan}
-use Rattle.json5_fields.proofs.DescribedFaults.{in_its_fields, unfinished_completes, unfinished_refused}
+use Rattle.json5_fields.proofs.DescribedFaults.{closed_free, finished_free, in_its_fields, opened_free, read_free, unfinished_completes, unfinished_refused}
 use Rattle.json5_fields.proofs.objects.read_object.Goals as goal
 
 pub returns-in_err-read_fields-clause-complete : goal.returns-in_err-read_fields-clause-complete
@@ -15,19 +15,19 @@ returns-in_err-read_fields-clause-complete g c =
 pub returns-in_err-output-clause-complete : goal.returns-in_err-output-clause-complete
 returns-in_err-output-clause-complete g c =
     let reads = rw (c.start-reading.ensures.same, c.start-reading.ensures.none) at c.in_ok-read_fields.ensures.reads in
-    unfinished_completes (whole_plan (g.F.StructFields.layout (g.F.StructFields.shape c.args.fields)) c.requires) c.in_ok-map.map c.in_ok-map.ensures.opens _ _ c.from_residual-in_err-output.ensures.1 reads (c.in_err-output.ensures.missing c.in_ok-read_fields.ensures.reads.live).0
+    unfinished_completes (whole_plan (g.F.StructFields.layout (g.F.StructFields.shape c.args.fields)) c.requires) c.in_ok-map.map c.in_ok-map.ensures.opens _ _ c.from_residual-in_err-output.ensures.1 reads (c.in_err-output.ensures.finishes.missing c.in_ok-read_fields.ensures.reads.live).0
 
 pub returns-in_err-end-clause-complete : goal.returns-in_err-end-clause-complete
 returns-in_err-end-clause-complete g c =
     let reads = rw (c.start-reading.ensures.same, c.start-reading.ensures.none) at c.in_ok-read_fields.ensures.reads in
-    let same = c.in_ok-output.ensures.same in
+    let same = c.in_ok-output.ensures.finishes.same in
     end_completes (whole_plan (g.F.StructFields.layout (g.F.StructFields.shape c.args.fields)) c.requires) c.in_ok-map.map c.in_ok-map.ensures.opens _ _ c.from_residual-in_err-end.ensures.1 (still same reads)
     (λ r left. (c.in_err-end.ensures.alone (search rules)).left r (ap (λ (m : MapAccessState). m.pending) same ∙ c.in_ok-read_fields.ensures.pending) left)
 
 pub returns-clause-sound : goal.returns-clause-sound
 returns-clause-sound g c =
     let reads = rw (c.start-reading.ensures.same, c.start-reading.ensures.none) at c.in_ok-read_fields.ensures.reads in
-    struct_read (whole_plan (g.F.StructFields.layout (g.F.StructFields.shape c.args.fields)) c.requires) c.in_ok-map.map c.in_ok-map.ensures.opens (still c.in_ok-output.ensures.same reads) (search rules) (c.in_ok-end.ensures.alone (search rules)).read c.in_ok-output.ensures.built
+    struct_read (whole_plan (g.F.StructFields.layout (g.F.StructFields.shape c.args.fields)) c.requires) c.in_ok-map.map c.in_ok-map.ensures.opens (still c.in_ok-output.ensures.finishes.same reads) (search rules) (c.in_ok-end.ensures.alone (search rules)).read c.in_ok-output.ensures.finishes.built
 
 pub returns-in_err-map-clause-refused : goal.returns-in_err-map-clause-refused
 returns-in_err-map-clause-refused g c = in_its_fields (held_plan (g.F.StructFields.layout (g.F.StructFields.shape c.args.fields))) (or_of g.F.StructFields.faults of_any) c.args.de.now c.from_residual.result (unopened (held_plan (g.F.StructFields.layout (g.F.StructFields.shape c.args.fields))) (or_of g.F.StructFields.faults of_any) _ _ c.from_residual.ensures.1 c.in_err-map.ensures.opens.bracket.refused)
@@ -40,13 +40,34 @@ returns-in_err-read_fields-clause-refused g c =
 pub returns-in_err-output-clause-refused : goal.returns-in_err-output-clause-refused
 returns-in_err-output-clause-refused g c =
     let reads = rw (c.start-reading.ensures.same, c.start-reading.ensures.none) at c.in_ok-read_fields.ensures.reads in
-    let missing = c.in_err-output.ensures.missing c.in_ok-read_fields.ensures.reads.live in
+    let missing = c.in_err-output.ensures.finishes.missing c.in_ok-read_fields.ensures.reads.live in
     unfinished_refused (held_plan (g.F.StructFields.layout (g.F.StructFields.shape c.args.fields))) (or_of g.F.StructFields.faults of_any) _ _ c.from_residual-in_err-output.ensures.1 c.in_ok-map.map c.in_ok-map.ensures.opens c.in_ok-read_fields.ensures.access reads missing.0 missing.1
 
 pub returns-in_err-end-clause-refused : goal.returns-in_err-end-clause-refused
-returns-in_err-end-clause-refused g c = closes_there (still c.in_ok-output.ensures.same c.in_ok-read_fields.ensures.reads) (c.in_err-end.ensures.alone (search rules))
+returns-in_err-end-clause-refused g c = closes_there (still c.in_ok-output.ensures.finishes.same c.in_ok-read_fields.ensures.reads) (c.in_err-end.ensures.alone (search rules))
 
 pub returns-in_err-read_fields-clause-unprompted : goal.returns-in_err-read_fields-clause-unprompted
 returns-in_err-read_fields-clause-unprompted g c =
     let reads = rw (c.start-reading.ensures.same, c.start-reading.ensures.none) at c.in_err-read_fields.ensures.reads in
     fields_unprompted (whole_plan (g.F.StructFields.layout (g.F.StructFields.shape c.args.fields)) c.requires) c.in_ok-map.map c.in_ok-map.ensures.opens _ _ c.from_residual-in_err-read_fields.ensures.1 reads
+
+pub returns-in_err-map-clause-no_memory : goal.returns-in_err-map-clause-no_memory
+returns-in_err-map-clause-no_memory g c = opened_free (whole_plan (g.F.StructFields.layout (g.F.StructFields.shape c.args.fields)) c.requires) g.F.StructFields.allocation_free _ _ c.from_residual.ensures.1 c.in_err-map.ensures.opens
+
+pub returns-in_err-read_fields-clause-no_memory : goal.returns-in_err-read_fields-clause-no_memory
+returns-in_err-read_fields-clause-no_memory g c =
+    let free = rw (c.start-reading.ensures.same, c.start-reading.ensures.none) at c.in_err-read_fields.ensures.no_memory in
+    read_free (whole_plan (g.F.StructFields.layout (g.F.StructFields.shape c.args.fields)) c.requires) g.F.StructFields.allocation_free _ _ c.from_residual-in_err-read_fields.ensures.1 c.in_ok-map.map c.in_ok-map.ensures.opens free
+
+pub returns-in_err-output-clause-no_memory : goal.returns-in_err-output-clause-no_memory
+returns-in_err-output-clause-no_memory g c =
+    let reads = rw (c.start-reading.ensures.same, c.start-reading.ensures.none) at c.in_ok-read_fields.ensures.reads in
+    finished_free (whole_plan (g.F.StructFields.layout (g.F.StructFields.shape c.args.fields)) c.requires) g.F.StructFields.allocation_free _ _ c.from_residual-in_err-output.ensures.1 c.in_ok-map.map c.in_ok-map.ensures.opens reads
+    (λ d spare built. c.in_err-output.ensures.no_memory d spare c.in_ok-read_fields.ensures.reads.live built)
+
+pub returns-in_err-end-clause-no_memory : goal.returns-in_err-end-clause-no_memory
+returns-in_err-end-clause-no_memory g c =
+    let reads = rw (c.start-reading.ensures.same, c.start-reading.ensures.none) at c.in_ok-read_fields.ensures.reads in
+    let same = c.in_ok-output.ensures.finishes.same in
+    closed_free (whole_plan (g.F.StructFields.layout (g.F.StructFields.shape c.args.fields)) c.requires) g.F.StructFields.allocation_free _ _ c.from_residual-in_err-end.ensures.1 c.in_ok-map.map c.in_ok-map.ensures.opens (still same reads)
+    (λ r left. (c.in_err-end.ensures.alone (search rules)).left r (ap (λ (m : MapAccessState). m.pending) same ∙ c.in_ok-read_fields.ensures.pending) left)

@@ -6,7 +6,7 @@ pub returns : goal.returns
 returns g c = record {
   sound = c.read_object.ensures.sound;
   complete = reads_content g.F.StructFields.content (object_of (g.F.StructFields.layout (g.F.StructFields.shape c.args.fields)).convert) c.args.de.now c.read_object.new.de c.read_object.result c.read_object.ensures.sound c.read_object.ensures.complete;
-  no_memory = λ t r v live reads shallow converts free. absurd (cc);
+  no_memory = c.read_object.ensures.no_memory;
   refused = c.read_object.ensures.refused;
   unprompted = c.read_object.ensures.unprompted;
   same_text = c.read_object.ensures.same_text;

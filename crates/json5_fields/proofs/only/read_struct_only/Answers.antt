@@ -7,7 +7,7 @@ pub returns : goal.returns
 returns g c = record {
   sound = c.read_only.ensures.sound;
   complete = reads_content g.F.StructFields.content (object_of (only_these (g.F.StructFields.layout (g.F.StructFields.shape c.args.fields)))) c.args.de.now c.read_only.new.de c.read_only.result c.read_only.ensures.sound c.read_only.ensures.complete;
-  no_memory = λ t r v live reads shallow converts free. absurd (cc);
+  no_memory = c.read_only.ensures.no_memory;
   refused = c.read_only.ensures.refused;
   unprompted = c.read_only.ensures.unprompted;
   same_text = c.read_only.ensures.same_text;

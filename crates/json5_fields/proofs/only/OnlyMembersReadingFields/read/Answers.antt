@@ -1,4 +1,5 @@
-use Rattle.json5_fields.proofs.Described.{only_take, only_refuse, unknown_taken, unknown_refused}
+use Rattle.json5_de.specs.Lending.{map_state_of}
+use Rattle.json5_fields.proofs.Described.{only_free_here, only_refuse, only_take, unknown_free, unknown_refused, unknown_taken}
 use Rattle.json5_fields.proofs.only.OnlyMembersReadingFields.read.Goals as goal
 
 pub returns-in-Ok-true-clause-takes : goal.returns-in-Ok-true-clause-takes
@@ -17,3 +18,9 @@ returns-in-Err-clause-takes g c = rw c.in-Err.ensures.same (only_take (g.F.Struc
 
 pub returns-in-Err-clause-refused : goal.returns-in-Err-clause-refused
 returns-in-Err-clause-refused g c = only_refuse (g.F.StructFields.layout (g.F.StructFields.kept c.args.self.now.reading)) g.F.StructFields.faults c.in-Err.ensures.tries
+
+pub returns-in-Ok-false-clause-no_memory : goal.returns-in-Ok-false-clause-no_memory
+returns-in-Ok-false-clause-no_memory g c = unknown_free (g.F.StructFields.layout (g.F.StructFields.kept c.args.self.now.reading)) g.F.StructFields.faults _ _ _ _ _ (rw c.in-Ok-false.field-0-test at c.in-Ok-false.ensures.tries) c.refuse_key.result g.F.StructFields.allocation_free.values
+
+pub returns-in-Err-clause-no_memory : goal.returns-in-Err-clause-no_memory
+returns-in-Err-clause-no_memory g c = only_free_here (g.F.StructFields.layout (g.F.StructFields.kept c.args.self.now.reading)) g.F.StructFields.allocation_free (g.F.StructFields.state c.args.self.now.reading) c.args.name.now (map_state_of c.args.map.now) c.in-Err.ensures.tries.named c.in-Err.ensures.no_memory
