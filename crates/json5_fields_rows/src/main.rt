@@ -7,7 +7,7 @@ mod types;
 
 use else_types::Defaults;
 use json5::{Deserialize, Result, Serialize};
-use json5_own_type::{Labels, Reminder};
+use json5_own_type::{Labels, Reminder, Size};
 use std::alloc::Global;
 use std::io::{self, BufRead, BufReader, BufWriter, Write};
 use types::{Long, Only, Prefixes};
@@ -35,6 +35,7 @@ fn answer(alloc: Global, name: &str, text: &str) -> Result<String> {
         "defaults" => again::<Defaults>(alloc, text),
         "labels" => labels_again(alloc, text),
         "reminder" => again::<Reminder>(alloc, text),
+        "size" => again::<Size>(alloc, text),
         _ => again::<Long>(alloc, text),
     }
 }

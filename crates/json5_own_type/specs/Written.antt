@@ -17,6 +17,9 @@ settings_tree s = object
     (field_named (codes "port") (natural s.port.number)
     (field_given (λ l. text (chars (string_bytes l))) (codes "label") s.label no_field)))
 
+abbrev pub size_tree : ℕ → ℕ → Written
+size_tree width height = object (field_named (codes "width") (natural width) (field_named (codes "height") (natural height) no_field))
+
 abbrev pub name_of : Color → List ℕ
 name_of Red = codes "red"
 name_of Green = codes "green"

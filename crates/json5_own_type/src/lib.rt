@@ -8,6 +8,7 @@ mod lists;
 mod ports;
 mod reminders;
 mod settings;
+mod sizes;
 
 ghost use Rattle.std.specs.Prelude.{◌≡◌, true};
 
@@ -19,6 +20,7 @@ pub use lists::{AtMost, Bounds};
 pub use ports::{Endpoint, OpenPort};
 pub use reminders::{Moment, Reminder};
 pub use settings::{Settings, settings_again};
+pub use sizes::{Size, size_of_text};
 
 /// Drops the access after one element: from then on the reader returns `Failed`.
 pub fn gives_up<I: Input>(de: &mut Deserializer<I>) -> Result<()>
