@@ -124,9 +124,10 @@ pub handed_on : {T E : Type 0} (P : Result T E → Type 0) (e : E) (r : Result T
 handed_on P e (Ok v) is p = absurd is
 handed_on P e (Err y) is p = subst (λ z. P (Err z)) (sym is) p
 
-completes_as : {V C : Type 0} (convert : Tree → Option C) (old : State) (e : Error) (result : Result V Error) → IsErrAnd result (λ y. y ≡ e)
+-- what can be read was refused only for want of memory, and the refusal was forwarded
+pub completes_as : {V C : Type 0} (convert : Tree → Option C) (old : State) (e : Error) (result : Result V Error) → IsErrAnd result (λ y. y ≡ e)
     → ((t : Tree) (r : List ℕ) (c : C) → old.failed ≡ false → Reads old.unread t r → old.level + depth t ≤ max_depth → convert t ≡ Some c → IsOutOfMemory e) → Completes convert old result
-completes_as convert old e result is k = handed_on (λ r. Completes convert old r) e result is k
+completes_as convert old e result is k = handed_on (λ r. Completes convert old r) e result is (record { memory = k })
 
 module _ {U V W C D : Type 0} {content : V → C} (given : W → C) {f : Tree → Option C} (g : Trees → Option D) {vs : List V} {old : State} {now new : AccessState} (e : Error) (result : Result U Error) where
   -- an element was refused
@@ -157,12 +158,12 @@ module _ {U V W C D : Type 0} {content : V → C} (given : W → C) {f : Tree �
 
 -- one more was read than there may be, and is refused
 pub past_completes : {V C D : Type 0} {content : V → C} {f : Tree → Option C} (g : Trees → Option D) {vs : List V} {old : State} {now : AccessState} (e : Error) (n : ℕ) → HasAtMost f g n → n < length vs → Reading content f old vs now → Completes {V = Unit {0}} (array_of g) old (Err e)
-past_completes g {old = old} e n parts past m t r d live reads shallow converts =
+past_completes g {old = old} e n parts past m = record { memory = λ t r d live reads shallow converts.
     let (ts, is, list, deep) = is_array g old t r d reads shallow converts in
     let (cs, are, few) = parts ts d is in
     let w = m.left ts r cs are live list deep in
     let counted = w.counted in
-    absurd (omega (arith, past, few, counted))
+    absurd (omega (arith, past, few, counted)) }
 
 module _ {U V C D : Type 0} {content : V → C} {f : Tree → Option C} (g : Trees → Option D) {vs : List V} {old : State} {now : AccessState} (e : Error) (result : Result U Error) where
   -- the bracket was refused where all elements were read

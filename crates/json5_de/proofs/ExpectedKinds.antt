@@ -125,6 +125,6 @@ differs_or_memory Lacks a content old new (Err e) g (inr k) w o = inr (other_fau
 
 pub completes_or_memory : {V C : Type 0} {F : List ℕ → Option ErrorCode → Option (List ℕ) → Type 0} {convert : Tree → Option C} {begins : ℕ → Bool} {ends differs : ErrorCode} → Expected F convert begins ends differs
     → (old : State) (result : Result V Error) → IfErr result (RefusedByOrMemory F old) → Completes convert old result
-completes_or_memory a old (Ok v) k t r c live reads shallow is = tt
-completes_or_memory a old (Err e) (inl m) t r c live reads shallow is = m.kind
-completes_or_memory a old (Err e) (inr k) t r c live reads shallow is = absurd (wrongly_refused a old e t r c live reads is k)
+completes_or_memory a old (Ok v) k = tt
+completes_or_memory a old (Err e) (inl m) = record { memory = λ t r c live reads shallow is. m.kind }
+completes_or_memory a old (Err e) (inr k) = record { memory = λ t r c live reads shallow is. absurd (wrongly_refused a old e t r c live reads is k) }

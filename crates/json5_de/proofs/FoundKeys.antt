@@ -80,7 +80,7 @@ the_key old new key u escape_free r k h = let one = one_reads_key old.unread new
 pub key_ok : {V C : Type 0} (content : V → C) (convert : KeyConversion C) (refuses : State → Error → State → Type 0) (old new : State) (v : V) → GivesKey content convert old new v → ReadsOneKey content convert refuses old new (Ok v)
 key_ok content convert refuses old new v (u, escape_free, took, is) = record {
   sound = (u, escape_free, took, is);
-  complete = λ u escape_free r c live reads is. tt;
+  complete = tt;
   refused = tt;
   unprompted = tt;
   same_text = input_of took.rest;
@@ -113,7 +113,7 @@ pub not_found : {V C : Type 0} (kind : KeyKind C) (content : V → C) (old new :
     → ReadsKeyAs kind content old new (Err e)
 not_found kind content old new e k complete failed before = record {
   sound = tt;
-  complete = λ u escape_free r c live reads is. (complete u escape_free r live reads).0;
+  complete = record { memory = λ u escape_free r c live reads is. (complete u escape_free r live reads).0 };
   refused = no_key_there old e k;
   unprompted = key_other old e k;
   same_text = failed.same_text;
@@ -126,7 +126,7 @@ refuses_found : {V C : Type 0} (kind : KeyKind C) (content : V → C) (old new l
     → ReadsKeyAs kind content old last (Err e)
 refuses_found {C = C} kind content old new last key e k not refused other gives_up = let failed = given_up_after old k.between new last k.spelling k.passed k.took gives_up in record {
   sound = tt;
-  complete = completes not;
+  complete = record { memory = completes not };
   refused = refused;
   unprompted = λ live. other;
   same_text = failed.same_text;
@@ -212,7 +212,7 @@ pub key_no_document : {V C : Type 0} (kind : Kind C) (content : V → C) (old ne
     → RefusesReading kind.convert (RefusedAs kind) max_depth x own → IsUnprompted own → IsTextFault new.input key.start own e → GivesUp new last → ReadsKeyAs (document_key kind) content old last (Err e)
 key_no_document {C = C} kind content old new last key x own e k same complete refuses other fault failed = let gives_up = given_up_after old k.between new last k.spelling k.passed k.took failed in record {
   sound = tt;
-  complete = λ u escape_free r c live reads is. lacks fault (completes u escape_free r c reads is);
+  complete = record { memory = λ u escape_free r c live reads is. lacks fault (completes u escape_free r c reads is) };
   refused = refused fault (refused_text kind k.text k.escape_free own (subst (λ z. RefusesReading kind.convert (RefusedAs kind) max_depth z own) same refuses));
   unprompted = λ live. not_failed fault;
   same_text = gives_up.same_text;
@@ -270,7 +270,7 @@ pub no_some_key : {V C : Type 0} (content : V → C) (convert : KeyConversion C)
     → ReadsOneKey {V = Option V} (if_some content) (some_of convert) refuses old new (Err e)
 no_some_key content convert refuses old new e k = record {
   sound = tt;
-  complete = λ u escape_free r c live reads is. let (d, there) = some_there (convert u escape_free) c is in k.complete u escape_free r d live reads there;
+  complete = record { memory = λ u escape_free r c live reads is. let (d, there) = some_there (convert u escape_free) c is in k.complete.memory u escape_free r d live reads there };
   refused = k.refused;
   unprompted = k.unprompted;
   same_text = k.same_text;

@@ -25,7 +25,8 @@ module _ {C D A : Type 0} (keys : KeyConversion C) (values : Tree → Option D) 
 
   -- if the object converts, its members do
   pub completes_map : {V : Type 0} (result : Result V Error) → Completes (pairs_of keys values) old result → Completes (map_of keys values gathered) old result
-  completes_map result complete t r c live reads shallow is = let (cs, are, made) = some_from gathered (pairs_of keys values t) c is in complete t r cs live reads shallow are
+  completes_map (Ok m) complete = tt
+  completes_map (Err e) complete = record { memory = λ t r c live reads shallow is. let (cs, are, made) = some_from gathered (pairs_of keys values t) c is in complete.memory t r cs live reads shallow are }
 
 module _ {K V C D : Type 0} (key : K → C) (value : V → D) where
   pub ordered_content : (cmp : K → K → Ordering) (es ps : List (K × V)) → es ≡ in_key_order cmp ps

@@ -310,7 +310,7 @@ module _ {K C : Type 0} (content : K → C) (convert : KeyConversion C) (refuses
 
   key_completes : (own e : Error) → kind_of e ≡ kind_of own → CompletesKey {V = K} convert mid (Err own) → CompletesMemberKey {V = Option K} convert (bare_map s comma_due false) (Err e)
   key_completes own e same complete u p r c live key is =
-      same ∙ complete u p r c (failed_of at.entry.rest ∙ live) (pair_key_found comma_due s.unread mid.unread r u p at.entry.begun key) is
+      same ∙ complete.memory u p r c (failed_of at.entry.rest ∙ live) (pair_key_found comma_due s.unread mid.unread r u p at.entry.begun key) is
 
   -- a key was read
   read_key_given : (k : K) → GivesKey content convert mid end k → SameText mid end → ReadsKeyOfMember content convert refuses comma_due s end (Ok (Some k))

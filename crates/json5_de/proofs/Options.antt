@@ -189,7 +189,7 @@ module _ {V C : Type 0} (content : V → C) (convert : Tree → Option C) (alloc
   pub reads_option : (old new : State) (o : Option V) → Gives (if_some content) (option_of convert) old new o → ReadsOption old new (Ok o)
   reads_option old new o (t, took, is) = record {
     sound = (t, took, is);
-    complete = λ t r c live reads shallow converts. tt;
+    complete = tt;
     no_memory = λ t r c live reads shallow converts f. refl;
     refused = tt;
     unprompted = tt;
@@ -203,7 +203,7 @@ module _ {V C : Type 0} (content : V → C) (convert : Tree → Option C) (alloc
       → ((t : Tree) (r : List ℕ) → old.failed ≡ false → Reads old.unread t r → ⊥) → ReadsOption old new (Err e)
   refuses_option old new e f failed before nothing = record {
     sound = tt;
-    complete = λ t r c live reads shallow converts. absurd (nothing t r live reads);
+    complete = record { memory = λ t r c live reads shallow converts. absurd (nothing t r live reads) };
     no_memory = λ t r c live reads shallow converts allocation_free. absurd (nothing t r live reads);
     refused = λ live. inl (f live);
     unprompted = refused_other option_lacks old e f;
@@ -218,7 +218,7 @@ module _ {V C : Type 0} (content : V → C) (convert : Tree → Option C) (alloc
       → PositionedAt (λ before. start.input ≡ before ++ start.unread) own e → ReadsOption old new (Err e)
   refuses_some old start after new own e c m p next no_null cause complete no_memory other same left placed = record {
     sound = tt;
-    complete = λ t r v live reads shallow converts. let (k, is) = option_parts convert t v (is_no_null t r reads) converts in placed.kind ∙ complete t r k (at_start live) (there t r reads) (deep t shallow) is;
+    complete = record { memory = λ t r v live reads shallow converts. let (k, is) = option_parts convert t v (is_no_null t r reads) converts in placed.kind ∙ complete.memory t r k (at_start live) (there t r reads) (deep t shallow) is };
     no_memory = λ t r v live reads shallow converts is_free.
         let (k, is) = option_parts convert t v (is_no_null t r reads) converts in
         absurd (false≢true (no_memory t r k (at_start live) (there t r reads) (deep t shallow) is (option_is_free allocation_free t (is_no_null t r reads) is_free)));

@@ -19,7 +19,7 @@ use Rattle.json5_de.specs.Plans.{Plan, run, ReadsMembers}
 use Rattle.json5_de.specs.Enums.{EnumAccessState, NameRead, NamesVariant, ReadsVariant, GivesContent, AfterName, ContentLeft, OpensTuple, OpensStruct, ClosesTuple, ClosesStruct, enum_of, named_variant, content_of}
 use Rattle.json5_de.specs.Variants.{Variant, from_index, FinishesVariant}
 use Rattle.json5_de.proofs.ElementLoops.{handed_on}
-use Rattle.json5_de.proofs.Refinement.{parts}
+use Rattle.json5_de.proofs.Refinement.{parts, completes_by}
 
 some_parts : {A B : Type 0} (g : A → B) (o : Option A) (b : B) → if_some g o ≡ Some b → (a : A) × (o ≡ Some a) × (g a ≡ b)
 some_parts g None b e = absurd (cc)
@@ -54,9 +54,9 @@ finishes_same {V} {C} {content = content} {f = f} {h = h} {old = old} {new = new
 
 -- no variant was named
 pub enum_refused : {A U C : Type 0} (names : List (List ℕ)) (f : ℕ → Option Tree → Option C) (state_of : A → EnumAccessState) {old : State} (e : Error) (result : Result U Error) → IsErrAnd result (λ y. y ≡ e) → NamesVariant names state_of old (Err e) → Completes (enum_of names f) old result
-enum_refused names f state_of {old = old} e result is_err named = handed_on (λ r. Completes (enum_of names f) old r) e result is_err (λ t r c live reads shallow is.
+enum_refused names f state_of {old = old} e result is_err named = handed_on (λ r. Completes (enum_of names f) old r) e result is_err (record { memory = λ t r c live reads shallow is.
     let ((k, d), one, rest) = parts (λ (k, d). f k d) (named_variant names t) c is in
-    named.left t r k d live reads shallow one)
+    named.left t r k d live reads shallow one })
 
 module _ {A V C : Type 0} (names : List (List ℕ)) (f : ℕ → Option Tree → Option C) (state_of : A → EnumAccessState) {content : V → C} {old new : State} {a : A} (result : Result V Error) (named : NamesVariant names state_of old (Ok a)) (k : ℕ) (at : (state_of a).variant ≡ k) (done : FinishesVariant content (f k) (state_of a) new result) where
   -- the variant at index k was named, and its content was read
@@ -69,10 +69,10 @@ module _ {A V C : Type 0} (names : List (List ℕ)) (f : ℕ → Option Tree →
 
   -- where a tree converts its variant is named, and its content converts
   pub enum_completes : Completes (enum_of names f) old result
-  enum_completes t r c live reads shallow is =
+  enum_completes = completes_by (enum_of names f) old result (λ t r c live reads shallow is.
       let ((i, d), one, rest) = parts (λ (i, d). f i d) (named_variant names t) c is in
       let (same, left) = named.left t r i d live reads shallow one in
-      done.left d r c left (ap (λ i. f i d) (sym at ∙ same) ∙ rest)
+      done.left d r c left (ap (λ i. f i d) (sym at ∙ same) ∙ rest))
 
 -- ---- a content that one call reads
 

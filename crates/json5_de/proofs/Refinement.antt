@@ -1,10 +1,12 @@
 -- What a user's own type takes of a tree.
-use Rattle.std.proofs.Common.{◌≡◌, ◌∙◌, ℕ, [], ◌++◌, Option, Some, None, Result, Ok, Err, refl, sym, ap, subst}
+use Rattle.std.proofs.Common.{◌≡◌, ◌∙◌, ℕ, ◌+◌, ◌≤◌, false, List, [], ◌++◌, Option, Some, None, Result, Ok, Err, refl, sym, ap, subst}
 use Rattle.std.specs.Prelude.{IfOk}
 use Rattle.std.proofs.lemmas.List.{append-nil}
 use Rattle.json5_grammar.specs.declared.position.Position.{Position}
 use Rattle.json5_grammar.specs.Faults.Positions.{position_after}
-use Rattle.json5_grammar.specs.Language.Trees.{Tree}
+use Rattle.json5_grammar.specs.Language.Trees.{Tree, depth}
+use Rattle.json5_grammar.specs.Language.Values.{Reads}
+use Rattle.json5_grammar.specs.Language.Documents.{max_depth}
 use Rattle.json5_grammar.proofs.ArraysRead.{phrase_found}
 use Rattle.json5_grammar.proofs.OneTree.{one_phrase}
 use Rattle.json5_types.specs.declared.error.Error.{Error}
@@ -12,7 +14,7 @@ use Rattle.json5_text.specs.Cursor.{IsPositionOf}
 use Rattle.json5_types.specs.Errors.{IsCustomAt}
 use Rattle.json5_de.specs.State.{State}
 use Rattle.json5_de.specs.Faults.{RefusedBy}
-use Rattle.json5_de.specs.DeserializeLaw.{Gives, Completes, TookValue}
+use Rattle.json5_de.specs.DeserializeLaw.{Gives, IsOkOrMemory, Completes, TookValue}
 use Rattle.json5_de.specs.Refinement.{ReadsContent, if_more, refined, NotAccepted, not_accepted}
 use Rattle.json5_de.specs.Spans.{SpansValue}
 use Rattle.json5_de.proofs.ReadSteps.{refused_token, input_of}
@@ -26,16 +28,26 @@ parts g (Some a) v e = (a, refl, e)
 pub no_content : {A B : Type 0} (f : Tree → Option A) (g : A → Option B) (t : Tree) (a : A) (v : B) → ((x : A) → f t ≡ Some x → a ≡ x) → g a ≡ None → refined f g t ≡ Some v → ⊥
 no_content f g t a v same none e = let (x, is, accepted) = parts g (f t) v e in let here = same x is in absurd (cc (here, none, accepted))
 
+-- `complete` of the law, at a tree that can be read and converts
+pub completed : {V C : Type 0} (convert : Tree → Option C) (old : State) (result : Result V Error) → Completes convert old result → (t : Tree) (r : List ℕ) (c : C) → old.failed ≡ false → Reads old.unread t r → old.level + depth t ≤ max_depth → convert t ≡ Some c → IsOkOrMemory result
+completed convert old (Ok v) complete t r c live reads shallow converts = tt
+completed convert old (Err e) complete t r c live reads shallow converts = complete.memory t r c live reads shallow converts
+
+-- and from all such trees
+pub completes_by : {V C : Type 0} (convert : Tree → Option C) (old : State) (result : Result V Error) → ((t : Tree) (r : List ℕ) (c : C) → old.failed ≡ false → Reads old.unread t r → old.level + depth t ≤ max_depth → convert t ≡ Some c → IsOkOrMemory result) → Completes convert old result
+completes_by convert old (Ok v) k = tt
+completes_by convert old (Err e) k = record { memory = k }
+
 -- only one tree can be read in front, so what is returned is its content
 pub reads_content : {V C : Type 0} (content : V → C) (convert : Tree → Option C) (old new : State) (result : Result V Error) → IfOk result (λ v. Gives content convert old new v) → Completes convert old result → ReadsContent content convert old result
 reads_content content convert old new (Ok v) (u, took, is) complete t r c live reads shallow converts =
     let (same, rest) = one_phrase old.unread r new.unread t u reads took.reads in
     cc (same, is, converts)
-reads_content content convert old new (Err e) sound complete t r c live reads shallow converts = complete t r c live reads shallow converts
+reads_content content convert old new (Err e) sound complete = complete
 
 pub completes : {V C : Type 0} (content : V → C) (convert : Tree → Option C) (old : State) (result : Result V Error) → ReadsContent content convert old result → Completes convert old result
-completes content convert old (Ok v) reads t r c live k shallow is = tt
-completes content convert old (Err e) reads t r c live k shallow is = reads t r c live k shallow is
+completes content convert old (Ok v) reads = tt
+completes content convert old (Err e) reads = reads
 
 module _ {A B : Type 0} (f : Tree → Option A) (g : A → Option B) (old new : State) (a : A) (start end : ℕ) (p : Position) (e : Error) where
   -- what was read and isn't accepted is refused at its first character

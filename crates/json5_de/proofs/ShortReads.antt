@@ -195,7 +195,7 @@ own_value old mid new (Ok t) (u, took, stands) (same, bytes) =
     subst (λ s. ReadsAs string_kind string_bytes old s (Ok t)) (sym same) (reads_ok string_kind string_bytes old mid t (text u true, took, ap Some (sym (bytes u stands))))
 own_value old mid new (Err e) (u, took, stands) (lacks, gives_up) = record {
   sound = tt;
-  complete = λ t r c live reads shallow is. lacks.kind;
+  complete = record { memory = λ t r c live reads shallow is. lacks.kind };
   no_memory = λ t r c live reads shallow is allocation_free. absurd (cc);
   refused = inl lacks;
   unprompted = λ live. memory_other e lacks.kind;
@@ -213,7 +213,7 @@ pub own_key : {A : Type 0} {span : Span} (old mid new : State) (r : Result (Stri
 own_key old mid new (Ok t) key owns = kept_key string_bytes old mid new t key owns
 own_key old mid new (Err e) (u, took, stands) (lacks, gives_up) = record {
   sound = tt;
-  complete = λ u escape_free r c live reads is. lacks.kind;
+  complete = record { memory = λ u escape_free r c live reads is. lacks.kind };
   refused = inl lacks;
   unprompted = λ live. memory_other e lacks.kind;
   same_text = gives_up.same_text ∙ input_of took.rest;

@@ -73,7 +73,7 @@ gives_up old new e = record { failed = ap (λ (s : State). s.failed) e; same_tex
 pub reads_ok : {V C : Type 0} (kind : Kind C) (content : V → C) (old new : State) (v : V) → Gives content kind.convert old new v → ReadsAs kind content old new (Ok v)
 reads_ok kind content old new v (t, took, is) = record {
   sound = (t, took, is);
-  complete = λ t r c live reads shallow is. tt;
+  complete = tt;
   no_memory = λ t r c live reads shallow is allocation_free. refl;
   refused = tt;
   unprompted = tt;

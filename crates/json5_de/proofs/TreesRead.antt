@@ -60,7 +60,7 @@ pub tree_read : {V C : Type 0} (content : V → C) (convert : Tree → Option C)
     → ReadsTree content convert allocation_free old new (Ok v)
 tree_read content convert allocation_free old mid new t v p e rest is = record {
   sound = (t, took_tree old mid new t p e rest, is);
-  complete = λ t r c live reads shallow is. tt;
+  complete = tt;
   no_memory = λ t r c live reads shallow is allocation_free. refl;
   refused = tt;
   unprompted = tt;
@@ -113,7 +113,7 @@ blamed old mid e p b = by_cause b.says
 pub tree_refused : {V C : Type 0} (content : V → C) (convert : Tree → Option C) (allocation_free : Tree → Bool) (old mid new : State) (e : Error) → PassedGap old mid → RefusesRead mid.input (whole_at mid) e → GivesUp mid new → ReadsTree content convert allocation_free old new (Err e)
 tree_refused content convert allocation_free old mid new e p b g = record {
   sound = tt;
-  complete = λ t r c live reads shallow is. absurd (readable old mid e t r p reads shallow b);
+  complete = record { memory = λ t r c live reads shallow is. absurd (readable old mid e t r p reads shallow b) };
   no_memory = λ t r c live reads shallow is allocation_free. absurd (readable old mid e t r p reads shallow b);
   refused = as_fault old e (blamed old mid e p b);
   unprompted = λ live. b.unprompted;
@@ -127,7 +127,7 @@ pub tree_not_begun : {V C : Type 0} (content : V → C) (convert : Tree → Opti
     → StaysFailed {V = Unit {0}} old new (Err e) → Unprompted {V = Unit {0}} old (Err e) → ReadsTree content convert allocation_free old new (Err e)
 tree_not_begun content convert allocation_free old new e k g before unprompted = record {
   sound = tt;
-  complete = λ t r c live reads shallow is. absurd (blanks_no_value old e t r (k live) reads);
+  complete = record { memory = λ t r c live reads shallow is. absurd (blanks_no_value old e t r (k live) reads) };
   no_memory = λ t r c live reads shallow is allocation_free. absurd (blanks_no_value old e t r (k live) reads);
   refused = as_fault old e (inr (refused_blanks old e k));
   unprompted = unprompted;
@@ -141,7 +141,7 @@ tree_not_begun content convert allocation_free old new e k g before unprompted =
 pub read_as : {V W C : Type 0} (content : V → C) (other : W → C) (convert : Tree → Option C) (allocation_free : Tree → Bool) (old new : State) (v : V) (w : W) → content v ≡ other w → ReadsTree content convert allocation_free old new (Ok v) → ReadsTree other convert allocation_free old new (Ok w)
 read_as content other convert allocation_free old new v w same k = record {
   sound = let (t, took, is) = k.sound in (t, took, is ∙ ap Some same);
-  complete = λ t r c live reads shallow is. tt;
+  complete = tt;
   no_memory = λ t r c live reads shallow is allocation_free. refl;
   refused = tt;
   unprompted = tt;
@@ -179,7 +179,7 @@ tree_bad (bad d q) c p e = let a : d ≡ c = cc in let b : q ≡ p = cc in ap (�
 lacks_memory : (old mid new : State) (e : Error) → PassedGap old mid → IsOutOfMemory e → GivesUp mid new → ReadsTree value_of every_datum no_tree old new (Err e)
 lacks_memory old mid new e p memory g = record {
   sound = tt;
-  complete = λ t r c live reads shallow is. memory;
+  complete = record { memory = λ t r c live reads shallow is. memory };
   no_memory = λ t r c live reads shallow is allocation_free. absurd (false≢true allocation_free);
   refused = inl memory;
   unprompted = λ live. memory_other e memory;

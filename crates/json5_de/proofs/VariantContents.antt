@@ -46,7 +46,7 @@ module _ {V C : Type 0} (content : V → C) (convert : Tree → Option C) (alloc
       → new ≡ record after { failed = true } → PositionedAt (StartsAfter old.input start) own e → ReadsInBrace content convert allocation_free refuses start old new (Err e)
   content_refused start old after new own e cause complete no_memory other same left placed = record {
     sound = tt;
-    complete = λ u z r c live reads close deep converts. placed.kind ∙ complete u z c live reads deep converts;
+    complete = λ u z r c live reads close deep converts. placed.kind ∙ complete.memory u z c live reads deep converts;
     no_memory = λ u z r c live reads close deep converts f. no_memory u z c live reads deep converts f;
     refused = λ k. in_content own after refl cause placed;
     unprompted = λ live k. other live (sym placed.kind ∙ k);

@@ -333,7 +333,7 @@ module _ (names : List (List ℕ)) (old mid : State) where
   pub key_refused : (new : State) (e : Error) → PassedGap old mid → BeginsKey mid.unread → ReadsKeyAs {V = ℕ} (variant_key names) (λ n. n) mid new (Err e) → ReadsOnlyKey names old new (Err e)
   key_refused new e p b k = record {
     sound = tt;
-    complete = λ u x r escape_free t i live key value is. k.complete u escape_free x i (failed_of p.rest ∙ live) (pair_key_found false old.unread mid.unread x u escape_free (after_gap_of old mid p) key) is;
+    complete = λ u x r escape_free t i live key value is. k.complete.memory u escape_free x i (failed_of p.rest ∙ live) (pair_key_found false old.unread mid.unread x u escape_free (after_gap_of old mid p) key) is;
     refused = λ live. other_key mid (record { passed = p; first = record { char = b.char; more = b.more; split = b.split; is_first = b.is_first } }) k.refused;
     unprompted = λ live. k.unprompted (failed_of p.rest ∙ live);
     failed = given_up old mid new p (record { failed = k.failed; same_text = k.same_text });
@@ -445,7 +445,7 @@ module _ (names : List (List ℕ)) (old mid : State) (p : PassedGap old mid) (st
       (λ t r i d reads shallow is. by t r i d (variant_next names (i, d) mid.unread h.char h.more r t p.solid h.split reads is) reads shallow is)
     where
       by : (t : Tree) (r : List ℕ) (i : ℕ) (d : Option Tree) → VariantAt h.char t → Reads mid.unread t r → mid.level + depth t ≤ max_depth → named_variant names t ≡ Some (i, d) → IsOutOfMemory e
-      by (text u escape_free) r i d (at_text _ _ q) reads shallow is = k.complete (text u escape_free) r i (failed_of p.rest ∙ p.live) reads shallow (place_named (index_of names u escape_free) i None d is)
+      by (text u escape_free) r i d (at_text _ _ q) reads shallow is = k.complete.memory (text u escape_free) r i (failed_of p.rest ∙ p.live) reads shallow (place_named (index_of names u escape_free) i None d is)
       by (object (member u escape_free w no_member)) r i d (at_object _ _ _ q) reads shallow is = absurd (true_false h.is_first (ap is_quote q))
       by null r i d at reads shallow is = absurd (cc)
       by (boolean b) r i d at reads shallow is = absurd (cc)

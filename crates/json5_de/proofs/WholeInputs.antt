@@ -59,7 +59,7 @@ live_after limit s mid x u e took = failed_of took.rest ∙ failed_of e
 pub blames_value : (V : Type 0) {C : Type 0} {convert : Tree → Option C} (limit : ℕ) (s : State) (x : List ℕ) (t : Tree) (r : List ℕ) (c : C) (e : Error) → limit ≤ max_depth → s ≡ at_start limit x → Reads x t r → depth t ≤ limit → convert t ≡ Some c → Completes {V = V} convert s (Err e)
     → IsOutOfMemory e ⊎ Refused (AfterBlanks Trailing) (record { input = x; unread = r }) e
 blames_value V limit s x t r c e bound is reads shallow converts complete =
-    inl (complete t r c (failed_of is) (subst (λ z. Reads z t r) (sym (ap (λ (s : State). s.unread) is)) reads) (let level = ap (λ (s : State). s.level) is in omega (arith, bound, level, shallow)) converts)
+    inl (complete.memory t r c (failed_of is) (subst (λ z. Reads z t r) (sym (ap (λ (s : State). s.unread) is)) reads) (let level = ap (λ (s : State). s.level) is in omega (arith, bound, level, shallow)) converts)
 
 -- what follows the value is refused
 pub blames_rest : (limit : ℕ) (s mid : State) (x : List ℕ) (t u : Tree) (r : List ℕ) (e : Error) → s ≡ at_start limit x → Reads x t r → TookValue s u mid → RefusedBy Trailing mid e

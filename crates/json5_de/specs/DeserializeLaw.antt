@@ -25,10 +25,13 @@ abbrev pub IsOkOrMemory : {V : Type 0} → Result V Error → Type 0
 IsOkOrMemory (Ok v) = Unit {0}
 IsOkOrMemory (Err e) = IsOutOfMemory e
 
+-- if a tree that converts can be read, this refusal says that memory ran out
+pub record OnlyForMemory {C : Type 0} (convert : Tree → Option C) (old : State) (e : Error) : Type 0 where
+  pub memory : (t : Tree) (r : List ℕ) (c : C) → old.failed ≡ false → Reads old.unread t r → old.level + depth t ≤ max_depth → convert t ≡ Some c → IsOutOfMemory e
+
 -- what can be read is read, unless memory runs out
 abbrev pub Completes : {V C : Type 0} → (Tree → Option C) → State → Result V Error → Type 0
-Completes {C = C} convert old result =
-    (t : Tree) (r : List ℕ) (c : C) → old.failed ≡ false → Reads old.unread t r → old.level + depth t ≤ max_depth → convert t ≡ Some c → IsOkOrMemory result
+Completes convert old result = IfErr result (OnlyForMemory convert old)
 
 -- a tree that is allocation-free and can be read is read without taking memory
 abbrev pub CompletesFree : {V C : Type 0} → (Tree → Bool) → (Tree → Option C) → State → Result V Error → Type 0

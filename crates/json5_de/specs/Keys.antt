@@ -5,7 +5,7 @@ use Rattle.json5_grammar.specs.Model.Collections.{ReadsKey}
 use Rattle.json5_types.specs.declared.error.Error.{Error}
 use Rattle.json5_text.specs.Cursor.{IsOutOfMemory}
 use Rattle.json5_de.specs.State.{State, OnlyRead, SameText, FailsIfErr}
-use Rattle.json5_de.specs.DeserializeLaw.{IsOkOrMemory, StaysFailed, Unprompted}
+use Rattle.json5_de.specs.DeserializeLaw.{StaysFailed, Unprompted}
 
 -- a key that spells u was read, with the blanks before it, and nothing else; escape_free says that no escape is used
 pub record TookKey (old : State) (u : List ℕ) (escape_free : Bool) (new : State) : Type 0 where
@@ -29,10 +29,13 @@ GivesKey content convert old new v = (u : List ℕ) × (escape_free : Bool) × T
 abbrev pub OneKeyAnswer : {V C : Type 0} → (V → C) → KeyConversion C → Type 0
 OneKeyAnswer {V = V} content convert = (old new last : State) (v w : V) → GivesKey content convert old new v → GivesKey content convert old last w → (content v ≡ content w) × (new ≡ last)
 
+-- if a key that converts can be read, this refusal says that memory ran out
+pub record KeyOnlyForMemory {C : Type 0} (convert : KeyConversion C) (old : State) (e : Error) : Type 0 where
+  pub memory : (u : List ℕ) (escape_free : Bool) (r : List ℕ) (c : C) → old.failed ≡ false → ReadsKey old.unread u escape_free r → convert u escape_free ≡ Some c → IsOutOfMemory e
+
 -- a key that converts is read, unless memory runs out
 abbrev pub CompletesKey : {V C : Type 0} → KeyConversion C → State → Result V Error → Type 0
-CompletesKey {C = C} convert old result =
-    (u : List ℕ) (escape_free : Bool) (r : List ℕ) (c : C) → old.failed ≡ false → ReadsKey old.unread u escape_free r → convert u escape_free ≡ Some c → IsOkOrMemory result
+CompletesKey convert old result = IfErr result (KeyOnlyForMemory convert old)
 
 -- a key without an escape is read without memory
 abbrev pub CompletesEscapeFreeKey : {V : Type 0} → State → Result V Error → Type 0

@@ -5,15 +5,17 @@ use Rattle.json5_grammar.specs.Language.Trees.{Tree, depth}
 use Rattle.json5_grammar.specs.Language.Values.{Val, Reads, Stops}
 use Rattle.json5_grammar.specs.Language.Documents.{max_depth}
 use Rattle.json5_types.specs.declared.error.Error.{Error}
-use Rattle.json5_text.specs.Cursor.{IsOutOfMemory}
 use Rattle.json5_de.specs.State.{State, SameText}
-use Rattle.json5_de.specs.DeserializeLaw.{Gives, CompletesFree, Unprompted}
+use Rattle.json5_de.specs.DeserializeLaw.{Gives, OnlyForMemory, CompletesFree, Unprompted}
 use Rattle.json5_de.specs.Faults.{RefusedByOrMemory}
+
+-- any tree that can be read converts to this content, if to any
+abbrev pub IsContent : {C : Type 0} → (Tree → Option C) → State → C → Type 0
+IsContent {C = C} convert old content = (t : Tree) (r : List ℕ) (c : C) → old.failed ≡ false → Reads old.unread t r → old.level + depth t ≤ max_depth → convert t ≡ Some c → content ≡ c
 
 -- if a tree that converts to c is in front, the call returns Ok of a value whose content is c, unless memory runs out
 abbrev pub ReadsContent : {V C : Type 0} → (V → C) → (Tree → Option C) → State → Result V Error → Type 0
-ReadsContent {C = C} content convert old result =
-    (t : Tree) (r : List ℕ) (c : C) → old.failed ≡ false → Reads old.unread t r → old.level + depth t ≤ max_depth → convert t ≡ Some c → MatchResult result (λ v. content v ≡ c) IsOutOfMemory
+ReadsContent content convert old result = MatchResult result (λ v. IsContent convert old (content v)) (OnlyForMemory convert old)
 
 -- one value is read from the front: the law of a type, and which content is returned
 pub record ReadsExactly {V C : Type 0} (content : V → C) (convert : Tree → Option C) (allocation_free : Tree → Bool) (refuses : State → Error → State → Type 0) (old new : State) (result : Result V Error) : Type 0 where

@@ -13,7 +13,7 @@ pub returns-in_err-value-clause-complete : goal.returns-in_err-value-clause-comp
 returns-in_err-value-clause-complete g c = λ t v doc converts.
     let (y, is, from) = err_from_is_err_and c.from_residual.result c.from_residual.ensures.1 in
     let k = readable c.args.limit c.within-de.result (chars c.args.input.now) t c.within-de.ensures.bound c.within-de.ensures.starts doc in
-    rw (is, from) (c.in_err-value.ensures.complete t k.rest v k.live k.reads k.shallow converts)
+    rw (is, from) (c.in_err-value.ensures.complete.memory t k.rest v k.live k.reads k.shallow converts)
 
 pub returns-in_err-value-clause-no_memory : goal.returns-in_err-value-clause-no_memory
 returns-in_err-value-clause-no_memory g c = λ t v doc converts allocation_free.

@@ -35,7 +35,7 @@ returns-in_err-check_not_failed g c =
     let had = c.in_err-check_not_failed.ensures.failed in
     rw (is, from) (record {
       sound = tt;
-      complete = λ t r v live reads shallow converts. absurd (true_false had.0 live);
+      complete = record { memory = λ t r v live reads shallow converts. absurd (true_false had.0 live) };
       no_memory = λ t r v live reads shallow converts allocation_free. absurd (true_false had.0 live);
       refused = λ live. absurd (true_false had.0 live);
       unprompted = λ live. absurd (true_false had.0 live);

@@ -17,7 +17,7 @@ returns-in_err-deserialize-clause-complete g c t r v live element shallow conver
     let at = rw c.if-branch.true at c.in_ok-advance_to_entry.ensures.sound in
     let (y, is, from) = err_from_is_err_and c.from_residual-in_err-deserialize.result c.from_residual-in_err-deserialize.ensures.1 in
     let level = level_of at.rest in
-    rw (is, from) (c.in_err-deserialize.ensures.complete t r v (failed_of at.rest ∙ at.live) (element_found c.args.comma_due c.args.self.now.unread c.advance_to_entry.new.self.unread r t at.begun element) (omega (arith, shallow, level)) converts)
+    rw (is, from) (c.in_err-deserialize.ensures.complete.memory t r v (failed_of at.rest ∙ at.live) (element_found c.args.comma_due c.args.self.now.unread c.advance_to_entry.new.self.unread r t at.begun element) (omega (arith, shallow, level)) converts)
 
 pub returns-in_err-deserialize-clause-closing : goal.returns-in_err-deserialize-clause-closing
 returns-in_err-deserialize-clause-closing g c r live close =

@@ -5,6 +5,7 @@ use Rattle.json5_de.specs.ObjectFaults.{no_value, in_value}
 use Rattle.json5_de.proofs.BracketSteps.{level_of, failed_of}
 use Rattle.json5_de.proofs.MemberRefusals.{value_read, value_found}
 use Rattle.json5_de.proofs.ReadSteps.{input_of}
+use Rattle.json5_de.proofs.Refinement.{completed}
 use Rattle.json5_grammar.proofs.CommonLemmas.{true_false}
 use Rattle.json5_de.proofs.de.Deserializer.read_member_value.Goals as goal
 
@@ -36,7 +37,7 @@ returns-clause-reads g c =
       sound = IfOk-weaker c.deserialize.result _ _ (λ v (t, value, is). (t, value_read c.args.self.now c.pass_colon.new.self c.deserialize.new.de t at value, is, refl, refl)) read.sound;
       complete = λ t r v live value shallow converts.
           let level = level_of at.rest in
-          read.complete t r v (failed_of at.rest ∙ at.live) (value_found c.args.self.now c.pass_colon.new.self t r at value) (omega (arith, level, shallow)) converts;
+          completed g.V.Deserialize.convert c.pass_colon.new.self c.deserialize.result read.complete t r v (failed_of at.rest ∙ at.live) (value_found c.args.self.now c.pass_colon.new.self t r at value) (omega (arith, level, shallow)) converts;
       cause = IfErr-weaker c.deserialize.result _ _ (λ e refuses. in_value c.pass_colon.new.self at refuses) read.refused;
       steady = record {
         same_text = read.same_text ∙ input_of at.rest;

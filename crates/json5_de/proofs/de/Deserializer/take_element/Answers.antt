@@ -25,7 +25,7 @@ returns-in-Err g c =
     let level = level_of at.rest in
     record {
       sound = search rules;
-      complete = λ t r v live element shallow converts. c.in-Err.ensures.complete t r v (failed_of at.rest ∙ at.live) (element_found c.args.comma_due c.args.self.now.unread c.take_step.new.self.unread r t at.begun element) (omega (arith, shallow, level)) converts;
+      complete = λ t r v live element shallow converts. c.in-Err.ensures.complete.memory t r v (failed_of at.rest ∙ at.live) (element_found c.args.comma_due c.args.self.now.unread c.take_step.new.self.unread r t at.begun element) (omega (arith, shallow, level)) converts;
       closing = λ r live close. absurd (no_close_found square square_signs c.args.comma_due c.args.self.now.unread c.take_step.new.self.unread r at.begun at.inside close);
       cause = in_element c.take_step.new.self at c.in-Err.ensures.refused;
       steady = record { same_text = c.in-Err.ensures.same_text ∙ input_of at.rest; unprompted = λ live. c.in-Err.ensures.unprompted (failed_of at.rest ∙ live); before = λ h. absurd (true_false h at.live) };

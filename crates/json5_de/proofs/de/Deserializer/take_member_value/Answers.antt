@@ -25,7 +25,7 @@ returns-in-Err g c =
       sound = tt;
       complete = λ t r v live value shallow converts.
           let level = level_of at.rest in
-          read.complete t r v (failed_of at.rest ∙ at.live) (value_found c.args.self.now c.take_colon.new.self t r at value) (omega (arith, level, shallow)) converts;
+          read.complete.memory t r v (failed_of at.rest ∙ at.live) (value_found c.args.self.now c.take_colon.new.self t r at value) (omega (arith, level, shallow)) converts;
       cause = in_value c.take_colon.new.self at read.refused;
       steady = record {
         same_text = read.same_text ∙ input_of at.rest;

@@ -41,7 +41,7 @@ returns-in_err-check_not_failed g c =
     rw (is, from) (record {
       reads = record {
         sound = tt;
-        complete = λ u escape_free r c live reads converts. absurd (true_false had.0 live);
+        complete = record { memory = λ u escape_free r c live reads converts. absurd (true_false had.0 live) };
         refused = λ live. absurd (true_false had.0 live);
         unprompted = λ live. absurd (true_false had.0 live);
         same_text = refl;

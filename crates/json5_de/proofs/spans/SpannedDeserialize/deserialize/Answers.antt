@@ -20,7 +20,7 @@ returns-in_err-skip_blank-clause-reads g c =
     let (y, is, from) = err_from_is_err_and c.from_residual.result c.from_residual.ensures.1 in
     rw (is, from) (record {
       sound = tt;
-      complete = λ t r v live reads shallow converts. absurd (blanks_no_value c.args.de.now c.in_err-skip_blank.field-0.0 t r (c.in_err-skip_blank.ensures.refused live) reads);
+      complete = record { memory = λ t r v live reads shallow converts. absurd (blanks_no_value c.args.de.now c.in_err-skip_blank.field-0.0 t r (c.in_err-skip_blank.ensures.refused live) reads) };
       no_memory = λ t r v live reads shallow converts allocation_free. absurd (blanks_no_value c.args.de.now c.in_err-skip_blank.field-0.0 t r (c.in_err-skip_blank.ensures.refused live) reads);
       refused = λ live. inl (c.in_err-skip_blank.ensures.refused live);
       unprompted = c.in_err-skip_blank.ensures.unprompted;
@@ -37,9 +37,9 @@ returns-in-Err-clause-reads g c =
     let passed = c.in_ok-skip_blank.ensures.passed in
     rw c.refuse.ensures.result (record {
       sound = tt;
-      complete = λ t r v live reads shallow converts.
+      complete = record { memory = λ t r v live reads shallow converts.
           let (still, here, room) = stands_after c.args.de.now c.skip_blank.new.self t r passed live reads shallow in
-          c.in-Err.ensures.complete t r v still here room converts;
+          c.in-Err.ensures.complete.memory t r v still here room converts };
       no_memory = λ t r v live reads shallow converts allocation_free.
           let (still, here, room) = stands_after c.args.de.now c.skip_blank.new.self t r passed live reads shallow in
           c.in-Err.ensures.no_memory t r v still here room converts allocation_free;
@@ -58,7 +58,7 @@ returns-in-Ok-clause-reads g c =
     let whole = took_after c.args.de.now c.skip_blank.new.self c.deserialize.new.de t passed took in
     record {
       sound = (t, whole, is);
-      complete = reads_content g.T.Deserialize.content g.T.Deserialize.convert c.args.de.now c.deserialize.new.de (Ok c.in-Ok.value) (t, whole, is) (λ t r v live reads shallow converts. tt);
+      complete = reads_content g.T.Deserialize.content g.T.Deserialize.convert c.args.de.now c.deserialize.new.de (Ok c.in-Ok.value) (t, whole, is) tt;
       no_memory = λ t r v live reads shallow converts allocation_free. refl;
       refused = tt;
       unprompted = tt;

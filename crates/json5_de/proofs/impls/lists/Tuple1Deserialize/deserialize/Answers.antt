@@ -9,6 +9,7 @@ use Rattle.json5_de.specs.State.{State}
 use Rattle.json5_de.specs.ConvertLists.{last_of}
 use Rattle.json5_de.specs.Lending.{state_of}
 use Rattle.json5_de.specs.ListFaults.{element, every, tuple_of_size, too_many}
+use Rattle.json5_de.proofs.ElementLoops.{completes_as}
 use Rattle.json5_de.proofs.ListFaults.{begun, one_further, reading, refuses_list, required_fault}
 use Rattle.json5_de.proofs.impls.lists.Tuple1Deserialize.deserialize.Goals as goal
 
@@ -18,11 +19,11 @@ one : {A : Type 0} (f : Tree → Option A) (s : State) (t : Tree) (r : List ℕ)
 one f s t r v reads shallow converts = grind arith
 
 pub returns-in_err-first-clause-complete : goal.returns-in_err-first-clause-complete
-returns-in_err-first-clause-complete g c t r v live reads shallow converts =
-    let (first, x, is_first, list, deep) = one g.A.Deserialize.convert c.args.de.now t r v reads shallow converts in
-    let all = c.in_ok-seq.ensures.opens.left (more first no_more) r live list deep in
-    let (error, is, from) = err_from_is_err_and c.from_residual-in_err-first.result c.from_residual-in_err-first.ensures.1 in
-    rw (is, from) (c.in_err-first.ensures.left (more first no_more) r all x is_first)
+returns-in_err-first-clause-complete g c =
+    completes_as _ _ _ _ c.from_residual-in_err-first.ensures.1 (λ t r v live reads shallow converts.
+        let (first, x, is_first, list, deep) = one g.A.Deserialize.convert c.args.de.now t r v reads shallow converts in
+        let all = c.in_ok-seq.ensures.opens.left (more first no_more) r live list deep in
+        c.in_err-first.ensures.left (more first no_more) r all x is_first)
 
 pub returns-in_err-first-clause-refused : goal.returns-in_err-first-clause-refused
 returns-in_err-first-clause-refused g c =
@@ -33,11 +34,12 @@ returns-in_err-first-clause-refused g c =
     rw (is, from) (refuses_list es (tuple_of_size 1) old _ _ none.read.live (search rules) (required_fault es (tuple_of_size 1) old _ _ 0 1 refl (omega arith) none (c.in_err-first.ensures.refused (reading es old _ 0 none))))
 
 pub returns-in_err-end-clause-complete : goal.returns-in_err-end-clause-complete
-returns-in_err-end-clause-complete g c t r v live reads shallow converts =
-    let (first, x, is_first, list, deep) = one g.A.Deserialize.convert c.args.de.now t r v reads shallow converts in
-    let all = c.in_ok-seq.ensures.opens.left (more first no_more) r live list deep in
-    let (same_first, after_first) = c.in_ok-first.ensures.left (more first no_more) r all in
-    absurd (false≢true ((c.in_err-end.ensures.alone (search rules)).left r after_first))
+returns-in_err-end-clause-complete g c =
+    completes_as _ _ _ _ c.from_residual-in_err-end.ensures.1 (λ t r v live reads shallow converts.
+        let (first, x, is_first, list, deep) = one g.A.Deserialize.convert c.args.de.now t r v reads shallow converts in
+        let all = c.in_ok-seq.ensures.opens.left (more first no_more) r live list deep in
+        let (same_first, after_first) = c.in_ok-first.ensures.left (more first no_more) r all in
+        absurd (false≢true ((c.in_err-end.ensures.alone (search rules)).left r after_first)))
 
 pub returns-in_err-end-clause-refused : goal.returns-in_err-end-clause-refused
 returns-in_err-end-clause-refused g c =

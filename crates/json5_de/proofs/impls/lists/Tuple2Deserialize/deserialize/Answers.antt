@@ -9,6 +9,7 @@ use Rattle.json5_de.specs.State.{State}
 use Rattle.json5_de.specs.ConvertLists.{first_of, last_of}
 use Rattle.json5_de.specs.Lending.{state_of}
 use Rattle.json5_de.specs.ListFaults.{element, every, first_then, tuple_of_size, too_many}
+use Rattle.json5_de.proofs.ElementLoops.{completes_as}
 use Rattle.json5_de.proofs.ListFaults.{begun, one_further, reading, refuses_list, required_fault}
 use Rattle.json5_de.proofs.impls.lists.Tuple2Deserialize.deserialize.Goals as goal
 
@@ -18,11 +19,11 @@ two : {A B : Type 0} (f : Tree → Option A) (g : Tree → Option B) (s : State)
 two f g s t r v reads shallow converts = grind arith
 
 pub returns-in_err-first-clause-complete : goal.returns-in_err-first-clause-complete
-returns-in_err-first-clause-complete g c t r v live reads shallow converts =
-    let (first, second, x, y, is_first, is_second, list, deep) = two g.A.Deserialize.convert g.B.Deserialize.convert c.args.de.now t r v reads shallow converts in
-    let all = c.in_ok-seq.ensures.opens.left (more first (more second no_more)) r live list deep in
-    let (error, is, from) = err_from_is_err_and c.from_residual-in_err-first.result c.from_residual-in_err-first.ensures.1 in
-    rw (is, from) (c.in_err-first.ensures.left (more first (more second no_more)) r all x is_first)
+returns-in_err-first-clause-complete g c =
+    completes_as _ _ _ _ c.from_residual-in_err-first.ensures.1 (λ t r v live reads shallow converts.
+        let (first, second, x, y, is_first, is_second, list, deep) = two g.A.Deserialize.convert g.B.Deserialize.convert c.args.de.now t r v reads shallow converts in
+        let all = c.in_ok-seq.ensures.opens.left (more first (more second no_more)) r live list deep in
+        c.in_err-first.ensures.left (more first (more second no_more)) r all x is_first)
 
 pub returns-in_err-first-clause-refused : goal.returns-in_err-first-clause-refused
 returns-in_err-first-clause-refused g c =
@@ -33,12 +34,12 @@ returns-in_err-first-clause-refused g c =
     rw (is, from) (refuses_list es (tuple_of_size 2) old _ _ none.read.live (search rules) (required_fault es (tuple_of_size 2) old _ _ 0 2 refl (omega arith) none (c.in_err-first.ensures.refused (reading es old _ 0 none))))
 
 pub returns-in_err-second-clause-complete : goal.returns-in_err-second-clause-complete
-returns-in_err-second-clause-complete g c t r v live reads shallow converts =
-    let (first, second, x, y, is_first, is_second, list, deep) = two g.A.Deserialize.convert g.B.Deserialize.convert c.args.de.now t r v reads shallow converts in
-    let all = c.in_ok-seq.ensures.opens.left (more first (more second no_more)) r live list deep in
-    let (same_first, after_first) = c.in_ok-first.ensures.left (more first (more second no_more)) r all in
-    let (error, is, from) = err_from_is_err_and c.from_residual-in_err-second.result c.from_residual-in_err-second.ensures.1 in
-    rw (is, from) (c.in_err-second.ensures.left (more second no_more) r after_first y is_second)
+returns-in_err-second-clause-complete g c =
+    completes_as _ _ _ _ c.from_residual-in_err-second.ensures.1 (λ t r v live reads shallow converts.
+        let (first, second, x, y, is_first, is_second, list, deep) = two g.A.Deserialize.convert g.B.Deserialize.convert c.args.de.now t r v reads shallow converts in
+        let all = c.in_ok-seq.ensures.opens.left (more first (more second no_more)) r live list deep in
+        let (same_first, after_first) = c.in_ok-first.ensures.left (more first (more second no_more)) r all in
+        c.in_err-second.ensures.left (more second no_more) r after_first y is_second)
 
 pub returns-in_err-second-clause-refused : goal.returns-in_err-second-clause-refused
 returns-in_err-second-clause-refused g c =
@@ -50,12 +51,13 @@ returns-in_err-second-clause-refused g c =
     rw (is, from) (refuses_list es (tuple_of_size 2) old _ _ to_first.read.live (search rules) (required_fault es (tuple_of_size 2) old _ _ 1 2 refl (omega arith) to_first (c.in_err-second.ensures.refused (reading es old _ 1 to_first))))
 
 pub returns-in_err-end-clause-complete : goal.returns-in_err-end-clause-complete
-returns-in_err-end-clause-complete g c t r v live reads shallow converts =
-    let (first, second, x, y, is_first, is_second, list, deep) = two g.A.Deserialize.convert g.B.Deserialize.convert c.args.de.now t r v reads shallow converts in
-    let all = c.in_ok-seq.ensures.opens.left (more first (more second no_more)) r live list deep in
-    let (same_first, after_first) = c.in_ok-first.ensures.left (more first (more second no_more)) r all in
-    let (same_second, after_second) = c.in_ok-second.ensures.left (more second no_more) r after_first in
-    absurd (false≢true ((c.in_err-end.ensures.alone (search rules)).left r after_second))
+returns-in_err-end-clause-complete g c =
+    completes_as _ _ _ _ c.from_residual-in_err-end.ensures.1 (λ t r v live reads shallow converts.
+        let (first, second, x, y, is_first, is_second, list, deep) = two g.A.Deserialize.convert g.B.Deserialize.convert c.args.de.now t r v reads shallow converts in
+        let all = c.in_ok-seq.ensures.opens.left (more first (more second no_more)) r live list deep in
+        let (same_first, after_first) = c.in_ok-first.ensures.left (more first (more second no_more)) r all in
+        let (same_second, after_second) = c.in_ok-second.ensures.left (more second no_more) r after_first in
+        absurd (false≢true ((c.in_err-end.ensures.alone (search rules)).left r after_second)))
 
 pub returns-in_err-end-clause-refused : goal.returns-in_err-end-clause-refused
 returns-in_err-end-clause-refused g c =
