@@ -129,6 +129,12 @@ pub completes_as : {V C : Type 0} (convert : Tree → Option C) (old : State) (e
     → ((t : Tree) (r : List ℕ) (c : C) → old.failed ≡ false → Reads old.unread t r → old.level + depth t ≤ max_depth → convert t ≡ Some c → IsOutOfMemory e) → Completes convert old result
 completes_as convert old e result is k = handed_on (λ r. Completes convert old r) e result is (record { memory = k })
 
+-- no array was opened
+pub unopened_completes : {A U D : Type 0} {Held : A → Type 0} {state_of : A → AccessState} {old : State} (g : Trees → Option D) (e : Error) (result : Result U Error) → IsErrAnd result (λ y. y ≡ e) → OpensArray Held state_of old (Err e) → Completes (array_of g) old result
+unopened_completes {old = old} g e result is_err opens = completes_as (array_of g) old e result is_err (λ t r d live reads shallow converts.
+    let (ts, is, list, deep) = is_array g old t r d reads shallow converts in
+    absurd (opens.left ts r live list deep))
+
 module _ {U V W C D : Type 0} {content : V → C} (given : W → C) {f : Tree → Option C} (g : Trees → Option D) {vs : List V} {old : State} {now new : AccessState} (e : Error) (result : Result U Error) where
   -- an element was refused
   pub next_completes : IsErrAnd result (λ y. y ≡ e) → HasContents f g → Reading content f old vs now → ((ts : Trees) (r : List ℕ) → ElementsLeft ts r now → LeavesFewer given f ts r new (Err e)) → Completes (array_of g) old result

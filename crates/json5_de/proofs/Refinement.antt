@@ -14,8 +14,9 @@ use Rattle.json5_text.specs.Cursor.{IsPositionOf}
 use Rattle.json5_types.specs.Errors.{IsCustomAt}
 use Rattle.json5_de.specs.State.{State}
 use Rattle.json5_de.specs.Faults.{RefusedBy}
-use Rattle.json5_de.specs.DeserializeLaw.{Gives, IsOkOrMemory, Completes, TookValue}
-use Rattle.json5_de.specs.Refinement.{ReadsContent, if_more, refined, NotAccepted, not_accepted}
+use Rattle.json5_de.specs.DeserializeLaw.{Gives, IsOkOrMemory, OnlyForMemory, Completes, TookValue}
+use Rattle.json5_de.specs.Keys.{KeyConversion, KeyOnlyForMemory}
+use Rattle.json5_de.specs.Refinement.{IsContent, ReadsContent, if_more, refined, NotAccepted, not_accepted}
 use Rattle.json5_de.specs.Spans.{SpansValue}
 use Rattle.json5_de.proofs.ReadSteps.{refused_token, input_of}
 
@@ -40,7 +41,7 @@ completes_by convert old (Err e) k = record { memory = k }
 
 -- only one tree can be read in front, so what is returned is its content
 pub reads_content : {V C : Type 0} (content : V → C) (convert : Tree → Option C) (old new : State) (result : Result V Error) → IfOk result (λ v. Gives content convert old new v) → Completes convert old result → ReadsContent content convert old result
-reads_content content convert old new (Ok v) (u, took, is) complete t r c live reads shallow converts =
+reads_content content convert old new (Ok v) (u, took, is) complete = λ t r c live reads shallow converts.
     let (same, rest) = one_phrase old.unread r new.unread t u reads took.reads in
     cc (same, is, converts)
 reads_content content convert old new (Err e) sound complete = complete
@@ -48,6 +49,18 @@ reads_content content convert old new (Err e) sound complete = complete
 pub completes : {V C : Type 0} (content : V → C) (convert : Tree → Option C) (old : State) (result : Result V Error) → ReadsContent content convert old result → Completes convert old result
 completes content convert old (Ok v) reads = tt
 completes content convert old (Err e) reads = reads
+
+-- where the read refused, no more is accepted
+pub accepted_completes : {A B : Type 0} {f : Tree → Option A} (g : A → Option B) {old : State} {e : Error} → OnlyForMemory f old e → OnlyForMemory (refined f g) old e
+accepted_completes {f = f} g k = record { memory = λ t r b live reads shallow converts. let (a, is, accepted) = parts g (f t) b converts in k.memory t r a live reads shallow is }
+
+-- what was read isn't accepted, so no tree that can be read converts
+pub refused_completes : {A B : Type 0} (f : Tree → Option A) (g : A → Option B) {old : State} {e : Error} {a : A} → IsContent f old a → g a ≡ None → OnlyForMemory (refined f g) old e
+refused_completes f g {a = a} same none = record { memory = λ t r b live reads shallow converts. absurd (no_content f g t a b (λ x is. same t r x live reads shallow is) none converts) }
+
+-- the same of a key: where the read refused, no more is accepted
+pub accepted_key_completes : {A B : Type 0} {f : KeyConversion A} (g : A → Option B) {old : State} {e : Error} → KeyOnlyForMemory f old e → KeyOnlyForMemory (λ u escape_free. if_more g (f u escape_free)) old e
+accepted_key_completes {f = f} g k = record { memory = λ u escape_free r b live reads converts. let (a, is, accepted) = parts g (f u escape_free) b converts in k.memory u escape_free r a live reads is }
 
 module _ {A B : Type 0} (f : Tree → Option A) (g : A → Option B) (old new : State) (a : A) (start end : ℕ) (p : Position) (e : Error) where
   -- what was read and isn't accepted is refused at its first character

@@ -363,6 +363,12 @@ pub or_default : {V C : Type 0} (content : V → C) (field : Option V) (default 
 or_default content None default = refl
 or_default content (Some v) default = refl
 
+-- no object was opened
+pub unopened_completes : {A U D : Type 0} {Held : A → Type 0} {state_of : A → MapAccessState} {old : State} (convert : Members → Option D) (e : Error) (result : Result U Error) → IsErrAnd result (λ y. y ≡ e) → OpensMap Held state_of old (Err e) → Completes (object_of convert) old result
+unopened_completes {old = old} convert e result is_err opens = handed_on (λ r. Completes (object_of convert) old r) e result is_err (record { memory = λ t r d live reads shallow is.
+    let (ps, same, converts) = object_only convert t d is in
+    absurd (opens.left ps r live (subst (λ u. Reads old.unread u r) same reads) (subst (λ u. old.level + depth u ≤ max_depth) same shallow)) })
+
 module _ {S D : Type 0} (plan : Plan S D) {I : Type 0} {Held : MapAccess I → Type 0} {old : State} (map : MapAccess I) (opens : OpensMap Held map_state_of old (Ok map)) where
   opened_live : (map_state_of map).at.reader.failed ≡ false
   opened_live = ap (λ (s : State). s.failed) opens.read.rest ∙ opens.read.live

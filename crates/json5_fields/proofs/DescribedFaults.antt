@@ -39,7 +39,7 @@ module _ {S D U I : Type 0} {Held : MapAccess I → Type 0} {old : State} where
   pub unfinished_completes : (plan : Plan S D) (map : MapAccess I) (opens : OpensMap Held map_state_of old (Ok map)) (e : Error) (result : Result U Error) → IsErrAnd result (λ y. y ≡ e) → {n : S} {now : MapAccessState} → ReadsMembers plan.step plan.start n (map_state_of map) now (Ok tt)
       → (plan.build n ≡ None) ⊎ IsOutOfMemory e → Completes (object_of plan.convert) old result
   unfinished_completes plan map opens e result is_err reads (inl none) = missing_completes plan map opens e result is_err reads none
-  unfinished_completes plan map opens e result is_err reads (inr memory) = handed_on (λ r. Completes (object_of plan.convert) old r) e result is_err (λ t r c live read shallow is. memory)
+  unfinished_completes plan map opens e result is_err reads (inr memory) = handed_on (λ r. Completes (object_of plan.convert) old r) e result is_err (record { memory = λ t r c live read shallow is. memory })
 
   pub unfinished_refused : (plan : Plan S D) (faults : ValueFaults) (e : Error) (result : Result U Error) → IsErrAnd result (λ y. y ≡ e) → (map : MapAccess I) (opens : OpensMap Held map_state_of old (Ok map)) {n : S} {now : MapAccess I} → KeepsMap map now
       → ReadsMembers plan.step plan.start n (map_state_of map) (map_state_of now) (Ok tt) → (plan.build n ≡ None) ⊎ IsOutOfMemory e → IsOwnAtBracket (map_state_of now).at e → IfErr result (λ e. old.failed ≡ false → DescribedFault plan faults old e)

@@ -32,10 +32,8 @@ impl<I: Input> Deserialize<I> for Defaults {
 
     fn deserialize(de: &mut Deserializer<I>) -> Result<Defaults> {
         let tags = WithDefault("tags", Vec::new(de.allocator()));
-        match read_struct(de, (WithDefaultText("host", "localhost"), tags)) {
-            Ok((host, tags)) => Ok(Defaults { host, tags }),
-            Err(e) => Err(e),
-        }
+        let (host, tags) = read_struct(de, (WithDefaultText("host", "localhost"), tags))?;
+        Ok(Defaults { host, tags })
     }
 }
 

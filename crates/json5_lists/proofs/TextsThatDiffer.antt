@@ -11,7 +11,7 @@ use Rattle.json5_types.specs.declared.error.Error.{Error}
 use Rattle.json5_types.specs.Errors.{LacksMemory}
 use Rattle.json5_value.proofs.NoFailedCode.{memory_other}
 use Rattle.json5_de.specs.State.{State}
-use Rattle.json5_de.specs.DeserializeLaw.{Gives, Completes, IsOkOrMemory, Unprompted}
+use Rattle.json5_de.specs.DeserializeLaw.{Gives, Completes, Unprompted}
 use Rattle.json5_de.specs.Refinement.{if_more}
 use Rattle.json5_de.specs.Spans.{SpansValue}
 use Rattle.json5_de.proofs.Refinement.{refused_at}
@@ -197,11 +197,11 @@ module _ (least most longest : ℕ) (old new : State) (list : List Placed) (resu
       by (Err e) memory = tt
 
   pub made_complete : Completes (distinct_texts least most longest) old result
-  made_complete t r c live reads shallow converts = by result made
+  made_complete = by result made
     where
-      by : (r : Result (Vec (String Global) Global) Error) → MatchResult r (λ v. all_texts v ≡ texts list) LacksMemory → IsOkOrMemory r
+      by : (r : Result (Vec (String Global) Global) Error) → MatchResult r (λ v. all_texts v ≡ texts list) LacksMemory → Completes (distinct_texts least most longest) old r
       by (Ok v) same = tt
-      by (Err e) memory = memory.kind
+      by (Err e) memory = record { memory = λ t r c live reads shallow converts. memory.kind }
 
   pub made_refused : IfErr result (λ e. DistinctFault least most longest old e new)
   made_refused = by result made

@@ -31,9 +31,7 @@ impl<I: Input> Deserialize<I> for Labels {
             most: 8,
             longest: 20,
         };
-        match read_distinct(de, rule) {
-            Ok(texts) => Ok(Labels { texts }),
-            Err(e) => Err(e),
-        }
+        let texts = read_distinct(de, rule)?;
+        Ok(Labels { texts })
     }
 }

@@ -24,10 +24,8 @@ impl<I: Input> Deserialize<I> for Id {
     ghost convert = { unsigned_below (2 ^ 32) };
 
     fn deserialize(de: &mut Deserializer<I>) -> Result<Id> {
-        match de.deserialize_u32() {
-            Ok(number) => Ok(Id { number }),
-            Err(e) => Err(e),
-        }
+        let number = de.deserialize_u32()?;
+        Ok(Id { number })
     }
 }
 
@@ -44,10 +42,8 @@ impl<I: Input> DeserializeKey<I> for Id {
     ghost convert = { (document_key (natural_kind (2 ^ 32))).convert };
 
     fn deserialize_key(key: &mut MapKey<'_, I>) -> Result<Id> {
-        match key.deserialize_u32() {
-            Ok(number) => Ok(Id { number }),
-            Err(e) => Err(e),
-        }
+        let number = key.deserialize_u32()?;
+        Ok(Id { number })
     }
 }
 

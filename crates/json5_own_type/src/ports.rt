@@ -74,10 +74,8 @@ impl<I: Input> Deserialize<I> for Endpoint {
     ghost refuses = { ⟦<(String, OpenPort) as Deserialize<I>>⟧.refuses };
 
     fn deserialize(de: &mut Deserializer<I>) -> Result<Endpoint> {
-        match read::<I, (String, OpenPort)>(de) {
-            Ok((host, port)) => Ok(Endpoint { host, port }),
-            Err(e) => Err(e),
-        }
+        let (host, port) = read::<I, (String, OpenPort)>(de)?;
+        Ok(Endpoint { host, port })
     }
 }
 

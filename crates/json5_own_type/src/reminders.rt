@@ -84,10 +84,8 @@ impl<I: Input> Deserialize<I> for Moment {
     ghost convert = { struct_of (⟦<(Required, Required) as StructFields<I, (String, u8)>>⟧.layout (codes "day", codes "hour")) };
 
     fn deserialize(de: &mut Deserializer<I>) -> Result<Moment> {
-        match read_struct(de, (Required("day"), Required("hour"))) {
-            Ok((day, hour)) => Ok(Moment { day, hour }),
-            Err(e) => Err(e),
-        }
+        let (day, hour) = read_struct(de, (Required("day"), Required("hour")))?;
+        Ok(Moment { day, hour })
     }
 }
 

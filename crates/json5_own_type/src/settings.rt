@@ -43,10 +43,8 @@ impl<I: Input> Deserialize<I> for Settings {
 
     fn deserialize(de: &mut Deserializer<I>) -> Result<Settings> {
         let port = WithDefault("port", OpenPort { number: 80 });
-        match read_struct(de, (Required("host"), port, Optional("label"))) {
-            Ok((host, port, label)) => Ok(Settings { host, port, label }),
-            Err(e) => Err(e),
-        }
+        let (host, port, label) = read_struct(de, (Required("host"), port, Optional("label")))?;
+        Ok(Settings { host, port, label })
     }
 }
 

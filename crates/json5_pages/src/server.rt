@@ -27,12 +27,8 @@ impl<I: Input> Deserialize<I> for Server {
     ghost convert = { struct_of (⟦<Parts as StructFields<I, Values>>⟧.layout (codes "host", ((codes "port", 80), codes "label"))) };
 
     fn deserialize(de: &mut Deserializer<I>) -> Result<Server> {
-        match read_struct(
-            de,
-            (Required("host"), WithDefault("port", 80), Optional("label")),
-        ) {
-            Ok((host, port, label)) => Ok(Server { host, port, label }),
-            Err(e) => Err(e),
-        }
+        let fields = (Required("host"), WithDefault("port", 80), Optional("label"));
+        let (host, port, label) = read_struct(de, fields)?;
+        Ok(Server { host, port, label })
     }
 }

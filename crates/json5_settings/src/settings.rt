@@ -22,7 +22,6 @@ pub struct Settings {
 }
 
 type SettingsParts = (Required, Required, Optional, WithDefault<Log>);
-
 type SettingsValues = (Server, Vec<Route>, Option<Limits>, Log);
 
 impl<I: Input> Deserialize<I> for Settings {
@@ -34,16 +33,14 @@ impl<I: Input> Deserialize<I> for Settings {
 
     fn deserialize(de: &mut Deserializer<I>) -> Result<Settings> {
         let (server, routes) = (Required("server"), Required("routes"));
-        let log = WithDefault("log", Log::Info);
-        match read_struct_only(de, (server, routes, Optional("limits"), log)) {
-            Ok((server, routes, limits, log)) => Ok(Settings {
-                server,
-                routes,
-                limits,
-                log,
-            }),
-            Err(e) => Err(e),
-        }
+        let (limits, log) = (Optional("limits"), WithDefault("log", Log::Info));
+        let (server, routes, limits, log) = read_struct_only(de, (server, routes, limits, log))?;
+        Ok(Settings {
+            server,
+            routes,
+            limits,
+            log,
+        })
     }
 }
 
@@ -56,7 +53,6 @@ pub struct Server {
 }
 
 type ServerParts = (Required, WithDefault<u16>, Optional);
-
 type ServerValues = (String, u16, Option<Tls>);
 
 impl<I: Input> Deserialize<I> for Server {
@@ -68,10 +64,8 @@ impl<I: Input> Deserialize<I> for Server {
 
     fn deserialize(de: &mut Deserializer<I>) -> Result<Server> {
         let fields = (Required("host"), WithDefault("port", 80), Optional("tls"));
-        match read_struct_only(de, fields) {
-            Ok((host, port, tls)) => Ok(Server { host, port, tls }),
-            Err(e) => Err(e),
-        }
+        let (host, port, tls) = read_struct_only(de, fields)?;
+        Ok(Server { host, port, tls })
     }
 }
 
@@ -90,10 +84,8 @@ impl<I: Input> Deserialize<I> for Tls {
     ghost convert = { struct_only (⟦<(Required, Required) as StructFields<I, (String, String)>>⟧.layout (codes "cert", codes "key")) };
 
     fn deserialize(de: &mut Deserializer<I>) -> Result<Tls> {
-        match read_struct_only(de, (Required("cert"), Required("key"))) {
-            Ok((cert, key)) => Ok(Tls { cert, key }),
-            Err(e) => Err(e),
-        }
+        let (cert, key) = read_struct_only(de, (Required("cert"), Required("key")))?;
+        Ok(Tls { cert, key })
     }
 }
 
@@ -106,7 +98,6 @@ pub struct Route {
 }
 
 type RouteParts = (Required, Optional, Required);
-
 type RouteValues = (String, Option<Vec<Method>>, String);
 
 impl<I: Input> Deserialize<I> for Route {
@@ -118,14 +109,12 @@ impl<I: Input> Deserialize<I> for Route {
 
     fn deserialize(de: &mut Deserializer<I>) -> Result<Route> {
         let fields = (Required("path"), Optional("methods"), Required("upstream"));
-        match read_struct_only(de, fields) {
-            Ok((path, methods, upstream)) => Ok(Route {
-                path,
-                methods,
-                upstream,
-            }),
-            Err(e) => Err(e),
-        }
+        let (path, methods, upstream) = read_struct_only(de, fields)?;
+        Ok(Route {
+            path,
+            methods,
+            upstream,
+        })
     }
 }
 
@@ -147,10 +136,8 @@ impl<I: Input> Deserialize<I> for Limits {
 
     fn deserialize(de: &mut Deserializer<I>) -> Result<Limits> {
         let fields = (WithDefault("body", 1048576), WithDefault("header", 8192));
-        match read_struct_only(de, fields) {
-            Ok((body, header)) => Ok(Limits { body, header }),
-            Err(e) => Err(e),
-        }
+        let (body, header) = read_struct_only(de, fields)?;
+        Ok(Limits { body, header })
     }
 }
 

@@ -1,32 +1,30 @@
 use Rattle.std.proofs.Common.{arith}
 use Rattle.std.proofs.lemmas.List.{length-map}
-use Rattle.json5_de.proofs.Refinement.{parts, no_content}
+use Rattle.json5_de.proofs.Refinement.{accepted_completes, refused_completes}
 use Rattle.json5_lists.specs.Distinct.{text_at, texts, texts_of, if_distinct, at_element, not_read}
 use Rattle.json5_lists.proofs.TextsThatDiffer.{unfit_none, few_none, all_taken, few_refused, made_sound, made_complete, made_refused, made_unprompted}
 use Rattle.json5_lists.proofs.distinct_texts.read_texts.Goals as goal
 
 pub returns-in-Err-clause-complete : goal.returns-in-Err-clause-complete
-returns-in-Err-clause-complete g c t r v live reads shallow converts =
-    let (us, is, accepted) = parts (if_distinct c.args.rule.least c.args.rule.most c.args.rule.longest) (texts_of t) v converts in
-    c.in-Err.ensures.reads.complete t r us live reads shallow is
+returns-in-Err-clause-complete g c = accepted_completes (if_distinct c.args.rule.least c.args.rule.most c.args.rule.longest) c.in-Err.ensures.reads.complete
 
 pub returns-in-Err-clause-refused : goal.returns-in-Err-clause-refused
 returns-in-Err-clause-refused g c = not_read c.in-Err.ensures.reads.refused
 
 pub returns-in-Some-clause-complete : goal.returns-in-Some-clause-complete
-returns-in-Some-clause-complete g c t r v live reads shallow converts =
+returns-in-Some-clause-complete g c =
     let none = unfit_none c.args.rule.least c.args.rule.most c.args.rule.longest c.in-Ok.list.value.items _ (rw c.as_slice-items.ensures.value at c.in-Some.ensures) in
-    absurd (no_content texts_of (if_distinct c.args.rule.least c.args.rule.most c.args.rule.longest) t (texts c.in-Ok.list.value.items) v (λ us is. c.in-Ok.ensures.reads.complete t r us live reads shallow is) none converts)
+    refused_completes texts_of (if_distinct c.args.rule.least c.args.rule.most c.args.rule.longest) c.in-Ok.ensures.reads.complete none
 
 pub returns-in-Some-clause-refused : goal.returns-in-Some-clause-refused
 returns-in-Some-clause-refused g c = at_element c.in-Ok.list.value.items _ c.in-Ok.ensures.reads.sound (rw c.as_slice-items.ensures.value at c.in-Some.ensures) c.fault_at.ensures.own
 
 pub returns-then-count-least-clause-complete : goal.returns-then-count-least-clause-complete
-returns-then-count-least-clause-complete g c t r v live reads shallow converts =
+returns-then-count-least-clause-complete g c =
     let items = c.as_slice-items.ensures.value in
     let short = rw items at c.if-count-least.true in
     let none = few_none c.args.rule.least c.args.rule.most c.args.rule.longest (texts c.in-Ok.list.value.items) (rw items at c.in_default.ensures) (rw (length-map c.in-Ok.list.value.items text_at) short) in
-    absurd (no_content texts_of (if_distinct c.args.rule.least c.args.rule.most c.args.rule.longest) t (texts c.in-Ok.list.value.items) v (λ us is. c.in-Ok.ensures.reads.complete t r us live reads shallow is) none converts)
+    refused_completes texts_of (if_distinct c.args.rule.least c.args.rule.most c.args.rule.longest) c.in-Ok.ensures.reads.complete none
 
 pub returns-then-count-least-clause-refused : goal.returns-then-count-least-clause-refused
 returns-then-count-least-clause-refused g c =

@@ -1,7 +1,9 @@
 use Rattle.std.proofs.Common.{rules, refl, Err, ◌∙◌, ◌∷◌, [], ◌++◌}
+use Rattle.json5_grammar.specs.Model.Collections.{pair_contents}
 use Rattle.json5_de.specs.Lending.{map_state_of}
 use Rattle.json5_de.specs.MapFaults.{sides}
 use Rattle.json5_de.proofs.MemberLoops.{begins, reads_key, reads_value, stops, key_completes, value_completes, end_completes, key_faults, value_faults, closes_there}
+use Rattle.json5_de.proofs.Structs.{unopened_completes}
 use Rattle.json5_de.proofs.impls.gather.gather.Goals as goal
 
 pub loop-next-init : goal.loop-next-init
@@ -24,6 +26,9 @@ loop-next-preserved g c =
       reading = reads_value g.K.DeserializeKey.content g.V.Deserialize.content g.K.DeserializeKey.convert g.V.Deserialize.convert c.in-Some-next.key c.in-Some-take_value.value key refl c.in-Some-take_value.ensures.access.start
           c.in-Some-take_value.ensures.read c.in-Some-take_value.ensures.left;
     }
+
+pub returns-in_err-map-clause-complete : goal.returns-in_err-map-clause-complete
+returns-in_err-map-clause-complete g c = unopened_completes (pair_contents g.K.DeserializeKey.convert g.V.Deserialize.convert) _ _ c.from_residual.ensures.1 c.in_err-map.ensures.opens
 
 pub returns-in_default-clause-complete : goal.returns-in_default-clause-complete
 returns-in_default-clause-complete g c = key_completes {U = Unit {0}} c.take_key.new.fault (Err c.take_key.new.fault) refl c.loop-next.invariant.reading c.in_default.ensures.left

@@ -2,7 +2,7 @@ use Rattle.std.proofs.Common.{rules, arith, refl, sym, ap, ◌∙◌, ◌∷◌,
 use Rattle.std.proofs.lemmas.List.{length-append, length-map}
 use Rattle.json5_de.specs.ConvertLists.{exactly}
 use Rattle.json5_de.specs.Lending.{state_of}
-use Rattle.json5_de.proofs.ElementLoops.{begins, steps, stops, required_completes, last_completes, required_faults, last_faults}
+use Rattle.json5_de.proofs.ElementLoops.{begins, steps, stops, required_completes, last_completes, required_faults, last_faults, unopened_completes}
 use Rattle.json5_de.proofs.ListLengths.{so_many, exactly_from}
 use Rattle.json5_de.proofs.impls.lists.ArrayDeserialize.deserialize.Goals as goal
 
@@ -19,6 +19,9 @@ loop-alloc-preserved g c = record {
   reading = steps g.T.Deserialize.content g.T.Deserialize.content c.in_ok-item.item c.in_ok-item.item refl c.loop-alloc.invariant.reading c.in_ok-push.ensures.items c.in_ok-item.ensures.access.start c.in_ok-item.ensures.read c.in_ok-item.ensures.left;
   few = grind (arith, c.loop-alloc-test.true, c.len.ensures, c.loop-alloc.items.ok.0, ap length c.in_ok-push.ensures.items, length-append c.loop-alloc.items.items (c.in_ok-item.item ∷ []));
 }
+
+pub returns-in_err-seq-clause-complete : goal.returns-in_err-seq-clause-complete
+returns-in_err-seq-clause-complete g c = unopened_completes _ _ _ c.from_residual.ensures.1 c.in_err-seq.ensures.opens
 
 pub returns-in_err-item-clause-complete : goal.returns-in_err-item-clause-complete
 returns-in_err-item-clause-complete g c =

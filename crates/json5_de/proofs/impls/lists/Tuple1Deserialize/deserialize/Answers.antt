@@ -9,7 +9,7 @@ use Rattle.json5_de.specs.State.{State}
 use Rattle.json5_de.specs.ConvertLists.{last_of}
 use Rattle.json5_de.specs.Lending.{state_of}
 use Rattle.json5_de.specs.ListFaults.{element, every, tuple_of_size, too_many}
-use Rattle.json5_de.proofs.ElementLoops.{completes_as}
+use Rattle.json5_de.proofs.ElementLoops.{completes_as, unopened_completes}
 use Rattle.json5_de.proofs.ListFaults.{begun, one_further, reading, refuses_list, required_fault}
 use Rattle.json5_de.proofs.impls.lists.Tuple1Deserialize.deserialize.Goals as goal
 
@@ -17,6 +17,9 @@ use Rattle.json5_de.proofs.impls.lists.Tuple1Deserialize.deserialize.Goals as go
 one : {A : Type 0} (f : Tree → Option A) (s : State) (t : Tree) (r : List ℕ) (v : A) → Reads s.unread t r → s.level + depth t ≤ max_depth → array_of (last_of f) t ≡ Some v
     → (first : Tree) × (x : A) × (f first ≡ Some x) × Reads s.unread (array (more first no_more)) r × (s.level + depth (array (more first no_more)) ≤ max_depth)
 one f s t r v reads shallow converts = grind arith
+
+pub returns-in_err-seq-clause-complete : goal.returns-in_err-seq-clause-complete
+returns-in_err-seq-clause-complete g c = unopened_completes _ _ _ c.from_residual.ensures.1 c.in_err-seq.ensures.opens
 
 pub returns-in_err-first-clause-complete : goal.returns-in_err-first-clause-complete
 returns-in_err-first-clause-complete g c =

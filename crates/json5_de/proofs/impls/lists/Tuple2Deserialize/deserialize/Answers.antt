@@ -9,7 +9,7 @@ use Rattle.json5_de.specs.State.{State}
 use Rattle.json5_de.specs.ConvertLists.{first_of, last_of}
 use Rattle.json5_de.specs.Lending.{state_of}
 use Rattle.json5_de.specs.ListFaults.{element, every, first_then, tuple_of_size, too_many}
-use Rattle.json5_de.proofs.ElementLoops.{completes_as}
+use Rattle.json5_de.proofs.ElementLoops.{completes_as, unopened_completes}
 use Rattle.json5_de.proofs.ListFaults.{begun, one_further, reading, refuses_list, required_fault}
 use Rattle.json5_de.proofs.impls.lists.Tuple2Deserialize.deserialize.Goals as goal
 
@@ -17,6 +17,9 @@ use Rattle.json5_de.proofs.impls.lists.Tuple2Deserialize.deserialize.Goals as go
 two : {A B : Type 0} (f : Tree → Option A) (g : Tree → Option B) (s : State) (t : Tree) (r : List ℕ) (v : A × B) → Reads s.unread t r → s.level + depth t ≤ max_depth → array_of (first_of f (last_of g)) t ≡ Some v
     → (first second : Tree) × (x : A) × (y : B) × (f first ≡ Some x) × (g second ≡ Some y) × Reads s.unread (array (more first (more second no_more))) r × (s.level + depth (array (more first (more second no_more))) ≤ max_depth)
 two f g s t r v reads shallow converts = grind arith
+
+pub returns-in_err-seq-clause-complete : goal.returns-in_err-seq-clause-complete
+returns-in_err-seq-clause-complete g c = unopened_completes _ _ _ c.from_residual.ensures.1 c.in_err-seq.ensures.opens
 
 pub returns-in_err-first-clause-complete : goal.returns-in_err-first-clause-complete
 returns-in_err-first-clause-complete g c =

@@ -2,7 +2,7 @@ use Rattle.std.proofs.Common.{rules, refl, Err, ◌∙◌}
 use Rattle.json5_grammar.specs.Model.Collections.{contents}
 use Rattle.json5_de.specs.Lending.{state_of}
 use Rattle.json5_de.proofs.ListFaults.{closes_there}
-use Rattle.json5_de.proofs.ElementLoops.{begins, steps, stops, next_completes, end_completes, next_faults}
+use Rattle.json5_de.proofs.ElementLoops.{begins, steps, stops, next_completes, end_completes, next_faults, unopened_completes}
 use Rattle.json5_de.proofs.impls.lists.VecDeserialize.deserialize.Goals as goal
 
 pub loop-next-init : goal.loop-next-init
@@ -17,6 +17,9 @@ loop-next-preserved g c = record {
   reading = steps g.T.Deserialize.content g.T.Deserialize.content c.in-Some-next.item c.in-Some-next.item refl c.loop-next.invariant.reading c.in_ok-push.ensures.items c.in-Some.ensures.access.start
       (rw c.in-Some-next.is at c.in-Some.ensures.read) (rw c.in-Some-next.is at c.in-Some.ensures.left);
 }
+
+pub returns-in_err-seq-clause-complete : goal.returns-in_err-seq-clause-complete
+returns-in_err-seq-clause-complete g c = unopened_completes _ _ _ c.from_residual.ensures.1 c.in_err-seq.ensures.opens
 
 pub returns-in_default-clause-complete : goal.returns-in_default-clause-complete
 returns-in_default-clause-complete g c =
