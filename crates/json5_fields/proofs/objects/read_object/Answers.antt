@@ -1,11 +1,14 @@
 use Rattle.std.proofs.Common.{rules, ap, ◌∙◌}
 use Rattle.json5_de.specs.Objects.{MapAccessState}
 use Rattle.json5_de.specs.StructFaults.{or_of, of_any}
-use Rattle.json5_de.proofs.Structs.{struct_read, fields_complete, fields_unprompted, end_completes, still}
+use Rattle.json5_de.proofs.Structs.{struct_read, unopened_completes, fields_complete, fields_unprompted, end_completes, still}
 use Rattle.json5_de.proofs.StructFaults.{unopened, pairs_refused, closes_there}
 use Rattle.json5_fields.specs.Layouts.{whole_plan, held_plan}
 use Rattle.json5_fields.proofs.DescribedFaults.{closed_free, finished_free, in_its_fields, opened_free, read_free, unfinished_completes, unfinished_refused}
 use Rattle.json5_fields.proofs.objects.read_object.Goals as goal
+
+pub returns-in_err-map-clause-complete : goal.returns-in_err-map-clause-complete
+returns-in_err-map-clause-complete g c = unopened_completes (g.F.StructFields.layout (g.F.StructFields.shape c.args.fields)).convert _ _ c.from_residual.ensures.1 c.in_err-map.ensures.opens
 
 pub returns-in_err-read_fields-clause-complete : goal.returns-in_err-read_fields-clause-complete
 returns-in_err-read_fields-clause-complete g c =

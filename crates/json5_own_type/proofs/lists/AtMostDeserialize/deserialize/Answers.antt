@@ -4,7 +4,7 @@ use Rattle.json5.specs.Trees.{Tree, Trees}
 use Rattle.json5.specs.Collections.{contents}
 use Rattle.json5.specs.declared.Spanned.{Spanned}
 use Rattle.json5.specs.Lending.{state_of}
-use Rattle.json5.proofs.ElementLoops.{HasContents, HasAtMost, begins, steps, stops, next_completes, past_completes, end_completes}
+use Rattle.json5.proofs.ElementLoops.{HasContents, HasAtMost, begins, steps, stops, unopened_completes, next_completes, past_completes, end_completes}
 use Rattle.json5_own_type.specs.Accepted.{at_most}
 use Rattle.json5_own_type.proofs.lists.AtMostDeserialize.deserialize.Goals as goal
 
@@ -28,6 +28,9 @@ loop-seq-preserved g c = record {
       (rw c.in-Some.is at c.in_ok-next.ensures.read) (rw c.in-Some.is at c.in_ok-next.ensures.left);
   few = grind (arith, c.if-len.false, c.len.ensures, c.loop-seq.values.ok.0, c.loop-seq.invariant.few, ap length c.in_ok-push.ensures.items, length-append c.loop-seq.values.items (c.in-Some.next.value ∷ []));
 }
+
+pub returns-in_err-seq-clause-complete : goal.returns-in_err-seq-clause-complete
+returns-in_err-seq-clause-complete g c = unopened_completes _ _ _ c.from_residual.ensures.1 c.in_err-seq.ensures.opens
 
 pub returns-in_err-next-clause-complete : goal.returns-in_err-next-clause-complete
 returns-in_err-next-clause-complete g c =

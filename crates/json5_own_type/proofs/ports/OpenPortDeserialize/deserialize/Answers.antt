@@ -1,17 +1,13 @@
-use Rattle.std.proofs.Common.{◌^◌, ap, inr, rules}
-use Rattle.json5.specs.Convert.{unsigned_below}
-use Rattle.json5.proofs.Refinement.{parts, no_content, refused_at}
+use Rattle.std.proofs.Common.{ap, inr, rules}
+use Rattle.json5.proofs.Refinement.{accepted_completes, refused_completes, refused_at}
 use Rattle.json5_own_type.specs.Accepted.{above_zero}
 use Rattle.json5_own_type.proofs.ports.OpenPortDeserialize.deserialize.Goals as goal
 
 pub returns-in_err-port-clause-complete : goal.returns-in_err-port-clause-complete
-returns-in_err-port-clause-complete g c t r v live reads shallow converts =
-    let (n, is, accepted) = parts above_zero (unsigned_below (2 ^ 16) t) v converts in
-    search (rules, c.in_err-port.ensures.reads.complete t r n live reads shallow is)
+returns-in_err-port-clause-complete g c = search (rules, accepted_completes above_zero c.in_err-port.ensures.reads.complete)
 
 pub returns-then-port-eq0-clause-complete : goal.returns-then-port-eq0-clause-complete
-returns-then-port-eq0-clause-complete g c t r v live reads shallow converts =
-    absurd (no_content (unsigned_below (2 ^ 16)) above_zero t c.in_ok-port.port.value v (λ n is. c.in_ok-port.ensures.reads.complete t r n live reads shallow is) (ap above_zero c.if-port-eq0.true) converts)
+returns-then-port-eq0-clause-complete g c = refused_completes _ above_zero c.in_ok-port.ensures.reads.complete (ap above_zero c.if-port-eq0.true)
 
 pub returns-then-port-eq0-clause-refused : goal.returns-then-port-eq0-clause-refused
 returns-then-port-eq0-clause-refused g c =

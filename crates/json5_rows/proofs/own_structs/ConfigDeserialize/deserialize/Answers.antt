@@ -1,7 +1,10 @@
 use Rattle.std.proofs.Common.{rules, refl, ◌∙◌}
-use Rattle.json5.proofs.Structs.{struct_read, fields_complete, fields_unprompted, missing_completes, end_completes, still}
+use Rattle.json5.proofs.Structs.{struct_read, unopened_completes, fields_complete, fields_unprompted, missing_completes, end_completes, still}
 use Rattle.json5_rows.specs.OwnStructs.{config}
 use Rattle.json5_rows.proofs.own_structs.ConfigDeserialize.deserialize.Goals as goal
+
+pub returns-in_err-map-clause-complete : goal.returns-in_err-map-clause-complete
+returns-in_err-map-clause-complete g c = unopened_completes config.convert _ _ c.from_residual.ensures.1 c.in_err-map.ensures.opens
 
 pub returns-in_err-read_fields-clause-complete : goal.returns-in_err-read_fields-clause-complete
 returns-in_err-read_fields-clause-complete g c = fields_complete config c.in_ok-map.map c.in_ok-map.ensures.opens _ _ c.from_residual-in_err-read_fields.ensures.1 c.in_err-read_fields.ensures.reads
