@@ -1,10 +1,11 @@
--- The words that a struct's `convert` is made of, in one place.
+-- The words that `convert` of a struct or of an enum of names is made of, in one place.
 use Rattle.std.specs.Prelude.{Option}
 use Rattle.json5_grammar.specs.Language.Trees.{Tree}
 use Rattle.json5_fields.specs.Layouts.{Layout}
-pub use Rattle.std.specs.Prelude.{codes}
+pub use Rattle.std.specs.Prelude.{[], ◌∷◌, codes}
 pub use Rattle.json5_grammar.specs.Model.Collections.{object_of}
 pub use Rattle.json5_fields.specs.Only.{only_these}
+pub use Rattle.json5_fields.specs.Named.{one_named}
 pub use Rattle.json5_fields.specs.Spares.{struct_free}
 pub use Rattle.json5_fields.specs.Described.{RefusesDescribed, RefusesOnly}
 

@@ -3,7 +3,7 @@ use Rattle.json5_de.specs.Objects.{MapAccessState}
 use Rattle.json5_de.specs.StructFaults.{or_of}
 use Rattle.json5_de.proofs.Structs.{struct_read, unopened_completes, fields_complete, fields_unprompted, end_completes, still}
 use Rattle.json5_de.proofs.StructFaults.{unopened, pairs_refused, closes_there}
-use Rattle.json5_fields.specs.Only.{whole_only, only_plan, of_unknown}
+use Rattle.json5_fields.specs.Only.{only_these, whole_only, only_plan, of_unknown}
 use Rattle.json5_fields.proofs.DescribedFaults.{closed_free, finished_free, in_its_fields, opened_free, read_free, unfinished_completes, unfinished_refused}
 use Rattle.json5_fields.proofs.only.read_only.Goals as goal
 
