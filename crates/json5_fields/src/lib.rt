@@ -1,10 +1,8 @@
 //! Structs and enums by a description: their fields and names, which are a value of a type that json5 knows.
 //!
 //! ```text
-//! match read_struct(de, (Required("host"), WithDefault("port", 80), Optional("label"))) {
-//!     Ok((host, port, label)) => Ok(Server { host, port, label }),
-//!     Err(e) => Err(e),
-//! }
+//! let (host, port, label) = read_struct(de, (Required("host"), WithDefault("port", 80), Optional("label")))?;
+//! Ok(Server { host, port, label })
 //!
 //! write_struct(ser, &(Field("host", &self.host), Field("port", &self.port), Given("label", &self.label)))
 //! ```

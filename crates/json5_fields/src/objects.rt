@@ -75,10 +75,8 @@ fn read_object<I: Input, V: Drop, F: StructFields<I, V>>(
 /// Reads an object into the values of these fields. An unknown field is passed over, a repeated one is refused.
 ///
 /// ```text
-/// match read_struct(de, (Required("host"), WithDefault("port", 80), Optional("label"))) {
-///     Ok((host, port, label)) => Ok(Server { host, port, label }),
-///     Err(e) => Err(e),
-/// }
+/// let (host, port, label) = read_struct(de, (Required("host"), WithDefault("port", 80), Optional("label")))?;
+/// Ok(Server { host, port, label })
 /// ```
 ///
 /// # Errors

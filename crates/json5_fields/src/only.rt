@@ -81,10 +81,9 @@ fn read_only<I: Input, V: Drop, F: StructFields<I, V>>(
 /// Reads an object into the values of these fields, as [`read_struct`](crate::read_struct) does, and refuses any other field.
 ///
 /// ```text
-/// match read_struct_only(de, (Required("host"), WithDefault("port", 80))) {    // `{host: 'a', prot: 1}` is refused
-///     Ok((host, port)) => Ok(Server { host, port }),
-///     Err(e) => Err(e),
-/// }
+/// // `{host: 'a', prot: 1}` is refused
+/// let (host, port) = read_struct_only(de, (Required("host"), WithDefault("port", 80)))?;
+/// Ok(Server { host, port })
 /// ```
 ///
 /// # Errors

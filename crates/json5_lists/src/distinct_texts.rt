@@ -167,10 +167,8 @@ fn read_texts<I: Input>(de: &mut Deserializer<I>, rule: Distinct) -> Result<Vec<
 /// Reads a list of strings that differ. Which element is refused first is a promise; it is refused where it was read.
 ///
 /// ```text
-/// match read_distinct(de, Distinct { least: 1, most: 8, longest: 20 }) {    // `['new', 'red']`
-///     Ok(texts) => Ok(Labels { texts }),
-///     Err(e) => Err(e),
-/// }
+/// let texts = read_distinct(de, Distinct { least: 1, most: 8, longest: 20 })?;    // `['new', 'red']`
+/// Ok(Labels { texts })
 /// ```
 ///
 /// # Errors
