@@ -20,6 +20,7 @@ pub struct Settings {
 }
 
 type SettingsParts = (Required, Required, Optional, WithDefault<Log>);
+
 type SettingsValues = (Server, Vec<Route>, Option<Limits>, Log);
 
 impl<I: Input> Deserialize<I> for Settings {
@@ -51,14 +52,13 @@ pub struct Server {
 }
 
 type ServerParts = (Required, WithDefault<u16>, Optional);
-type ServerValues = (String, u16, Option<Tls>);
 
 impl<I: Input> Deserialize<I> for Server {
-    ghost Content = { ⟦<ServerParts as StructFields<I, ServerValues>>⟧.Content };
+    ghost Content = { ⟦<ServerParts as StructFields<I, (String, u16, Option<Tls>)>>⟧.Content };
 
-    ghost content = { λ s. ⟦<ServerParts as StructFields<I, ServerValues>>⟧.content (s.host, s.port, s.tls) };
+    ghost content = { λ s. ⟦<ServerParts as StructFields<I, (String, u16, Option<Tls>)>>⟧.content (s.host, s.port, s.tls) };
 
-    ghost convert = { struct_only (⟦<ServerParts as StructFields<I, ServerValues>>⟧.layout (codes "host", ((codes "port", 80), codes "tls"))) };
+    ghost convert = { struct_only (⟦<ServerParts as StructFields<I, (String, u16, Option<Tls>)>>⟧.layout (codes "host", ((codes "port", 80), codes "tls"))) };
 
     fn deserialize(de: &mut Deserializer<I>) -> Result<Server> {
         let fields = (Required("host"), WithDefault("port", 80), Optional("tls"));
@@ -96,14 +96,13 @@ pub struct Route {
 }
 
 type RouteParts = (Required, Optional, Required);
-type RouteValues = (String, Option<Vec<Method>>, String);
 
 impl<I: Input> Deserialize<I> for Route {
-    ghost Content = { ⟦<RouteParts as StructFields<I, RouteValues>>⟧.Content };
+    ghost Content = { ⟦<RouteParts as StructFields<I, (String, Option<Vec<Method>>, String)>>⟧.Content };
 
-    ghost content = { λ r. ⟦<RouteParts as StructFields<I, RouteValues>>⟧.content (r.path, r.methods, r.upstream) };
+    ghost content = { λ r. ⟦<RouteParts as StructFields<I, (String, Option<Vec<Method>>, String)>>⟧.content (r.path, r.methods, r.upstream) };
 
-    ghost convert = { struct_only (⟦<RouteParts as StructFields<I, RouteValues>>⟧.layout (codes "path", (codes "methods", codes "upstream"))) };
+    ghost convert = { struct_only (⟦<RouteParts as StructFields<I, (String, Option<Vec<Method>>, String)>>⟧.layout (codes "path", (codes "methods", codes "upstream"))) };
 
     fn deserialize(de: &mut Deserializer<I>) -> Result<Route> {
         let fields = (Required("path"), Optional("methods"), Required("upstream"));

@@ -13,9 +13,11 @@ no_variant : (k : ℕ) → k ≢ 0 → k ≢ 1 → f_at k ≡ None
 no_variant k not_a not_b = rw (other_place 0 not_a, other_place 1 not_b) refl
 
 pub returns-in_ok-custom-in_default-clause-complete : goal.returns-in_ok-custom-in_default-clause-complete
-returns-in_ok-custom-in_default-clause-complete g c = record { memory = λ u escape_free r f live reads converts.
-    let (k, is, named) = parts f_at (index_of f_names u escape_free) f converts in
-    let (v, bare, took, read) = c.in_ok-place.ensures.reads.sound in
-    let same = one_reads_key _ _ _ _ _ _ _ reads took.reads in
-    let none = no_variant c.in_ok-place.place (search rules) (search rules) in
-    absurd (cc (same.0, is, read, named, none)) }
+returns-in_ok-custom-in_default-clause-complete g c = record {
+  memory = λ u escape_free r f live reads converts.
+      let (k, is, named) = parts f_at (index_of f_names u escape_free) f converts in
+      let (v, bare, took, read) = c.in_ok-place.ensures.reads.sound in
+      let same = one_reads_key _ _ _ _ _ _ _ reads took.reads in
+      let none = no_variant c.in_ok-place.place (search rules) (search rules) in
+      absurd (cc (same.0, is, read, named, none));
+}
