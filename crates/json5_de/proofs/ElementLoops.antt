@@ -164,12 +164,14 @@ module _ {U V W C D : Type 0} {content : V → C} (given : W → C) {f : Tree �
 
 -- one more was read than there may be, and is refused
 pub past_completes : {V C D : Type 0} {content : V → C} {f : Tree → Option C} (g : Trees → Option D) {vs : List V} {old : State} {now : AccessState} (e : Error) (n : ℕ) → HasAtMost f g n → n < length vs → Reading content f old vs now → Completes {V = Unit {0}} (array_of g) old (Err e)
-past_completes g {old = old} e n parts past m = record { memory = λ t r d live reads shallow converts.
-    let (ts, is, list, deep) = is_array g old t r d reads shallow converts in
-    let (cs, are, few) = parts ts d is in
-    let w = m.left ts r cs are live list deep in
-    let counted = w.counted in
-    absurd (omega (arith, past, few, counted)) }
+past_completes g {old = old} e n parts past m = record {
+  memory = λ t r d live reads shallow converts.
+      let (ts, is, list, deep) = is_array g old t r d reads shallow converts in
+      let (cs, are, few) = parts ts d is in
+      let w = m.left ts r cs are live list deep in
+      let counted = w.counted in
+      absurd (omega (arith, past, few, counted));
+}
 
 module _ {U V C D : Type 0} {content : V → C} {f : Tree → Option C} (g : Trees → Option D) {vs : List V} {old : State} {now : AccessState} (e : Error) (result : Result U Error) where
   -- the bracket was refused where all elements were read

@@ -116,9 +116,11 @@ module _ {U C D : Type 0} (keys : KeyConversion C) (values : Tree → Option D) 
   completes_as : IsErrAnd result (λ y. y ≡ e)
       → ((all : Members) (r : List ℕ) (cs : List (C × D)) → pair_contents keys values all ≡ Some cs → old.failed ≡ false → Reads old.unread (object all) r → old.level + depth (object all) ≤ max_depth → IsOutOfMemory e)
       → Completes (pairs_of keys values) old result
-  completes_as is_err k = handed_on (λ r. Completes (pairs_of keys values) old r) e result is_err (record { memory = λ t r c live reads shallow is.
-      let (all, same, are) = object_only (pair_contents keys values) t c is in
-      k all r c are live (subst (λ u. Reads old.unread u r) same reads) (subst (λ u. old.level + depth u ≤ max_depth) same shallow) })
+  completes_as is_err k = handed_on (λ r. Completes (pairs_of keys values) old r) e result is_err (record {
+    memory = λ t r c live reads shallow is.
+        let (all, same, are) = object_only (pair_contents keys values) t c is in
+        k all r c are live (subst (λ u. Reads old.unread u r) same reads) (subst (λ u. old.level + depth u ≤ max_depth) same shallow);
+  })
 
 module _ {K V C D : Type 0} (key : K → C) (value : V → D) (keys : KeyConversion C) (values : Tree → Option D) (r : List ℕ) (new : MapAccessState) where
   key_refused : (e : Error) (all : Members) (cs : List (C × D)) → pair_contents keys values all ≡ Some cs → LeavesAValue key keys all r new (Err e) → IsOutOfMemory e

@@ -54,9 +54,11 @@ finishes_same {V} {C} {content = content} {f = f} {h = h} {old = old} {new = new
 
 -- no variant was named
 pub enum_refused : {A U C : Type 0} (names : List (List ℕ)) (f : ℕ → Option Tree → Option C) (state_of : A → EnumAccessState) {old : State} (e : Error) (result : Result U Error) → IsErrAnd result (λ y. y ≡ e) → NamesVariant names state_of old (Err e) → Completes (enum_of names f) old result
-enum_refused names f state_of {old = old} e result is_err named = handed_on (λ r. Completes (enum_of names f) old r) e result is_err (record { memory = λ t r c live reads shallow is.
-    let ((k, d), one, rest) = parts (λ (k, d). f k d) (named_variant names t) c is in
-    named.left t r k d live reads shallow one })
+enum_refused names f state_of {old = old} e result is_err named = handed_on (λ r. Completes (enum_of names f) old r) e result is_err (record {
+  memory = λ t r c live reads shallow is.
+      let ((k, d), one, rest) = parts (λ (k, d). f k d) (named_variant names t) c is in
+      named.left t r k d live reads shallow one;
+})
 
 module _ {A V C : Type 0} (names : List (List ℕ)) (f : ℕ → Option Tree → Option C) (state_of : A → EnumAccessState) {content : V → C} {old new : State} {a : A} (result : Result V Error) (named : NamesVariant names state_of old (Ok a)) (k : ℕ) (at : (state_of a).variant ≡ k) (done : FinishesVariant content (f k) (state_of a) new result) where
   -- the variant at index k was named, and its content was read

@@ -365,9 +365,11 @@ or_default content (Some v) default = refl
 
 -- no object was opened
 pub unopened_completes : {A U D : Type 0} {Held : A → Type 0} {state_of : A → MapAccessState} {old : State} (convert : Members → Option D) (e : Error) (result : Result U Error) → IsErrAnd result (λ y. y ≡ e) → OpensMap Held state_of old (Err e) → Completes (object_of convert) old result
-unopened_completes {old = old} convert e result is_err opens = handed_on (λ r. Completes (object_of convert) old r) e result is_err (record { memory = λ t r d live reads shallow is.
-    let (ps, same, converts) = object_only convert t d is in
-    absurd (opens.left ps r live (subst (λ u. Reads old.unread u r) same reads) (subst (λ u. old.level + depth u ≤ max_depth) same shallow)) })
+unopened_completes {old = old} convert e result is_err opens = handed_on (λ r. Completes (object_of convert) old r) e result is_err (record {
+  memory = λ t r d live reads shallow is.
+      let (ps, same, converts) = object_only convert t d is in
+      absurd (opens.left ps r live (subst (λ u. Reads old.unread u r) same reads) (subst (λ u. old.level + depth u ≤ max_depth) same shallow));
+})
 
 module _ {S D : Type 0} (plan : Plan S D) {I : Type 0} {Held : MapAccess I → Type 0} {old : State} (map : MapAccess I) (opens : OpensMap Held map_state_of old (Ok map)) where
   opened_live : (map_state_of map).at.reader.failed ≡ false
@@ -386,10 +388,12 @@ module _ {S D : Type 0} (plan : Plan S D) {I : Type 0} {Held : MapAccess I → T
 
   module _ {U : Type 0} (e : Error) (result : Result U Error) where
     completes_as : IsErrAnd result (λ y. y ≡ e) → ((ps : Members) (r : List ℕ) (m : S) (d : D) → run plan.step plan.start ps ≡ Some m → plan.build m ≡ Some d → MembersLeft ps r (map_state_of map) → IsOutOfMemory e) → Completes (object_of plan.convert) old result
-    completes_as is_err k = handed_on (λ r. Completes (object_of plan.convert) old r) e result is_err (record { memory = λ t r d live reads shallow is.
-        let (ps, same, converts) = object_only plan.convert t d is in
-        let (m, are, built) = parts plan.build (run plan.step plan.start ps) d (sym (plan.says ps) ∙ converts) in
-        k ps r m d are built (opens.left ps r live (subst (λ u. Reads old.unread u r) same reads) (subst (λ u. old.level + depth u ≤ max_depth) same shallow)) })
+    completes_as is_err k = handed_on (λ r. Completes (object_of plan.convert) old r) e result is_err (record {
+      memory = λ t r d live reads shallow is.
+          let (ps, same, converts) = object_only plan.convert t d is in
+          let (m, are, built) = parts plan.build (run plan.step plan.start ps) d (sym (plan.says ps) ∙ converts) in
+          k ps r m d are built (opens.left ps r live (subst (λ u. Reads old.unread u r) same reads) (subst (λ u. old.level + depth u ≤ max_depth) same shallow));
+    })
 
     -- its members were refused
     pub fields_complete : {n : S} {now : MapAccessState} → IsErrAnd result (λ y. y ≡ e) → ReadsMembers plan.step plan.start n (map_state_of map) now (Err e) → Completes (object_of plan.convert) old result

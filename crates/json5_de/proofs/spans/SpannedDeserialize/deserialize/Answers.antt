@@ -37,9 +37,11 @@ returns-in-Err-clause-reads g c =
     let passed = c.in_ok-skip_blank.ensures.passed in
     rw c.refuse.ensures.result (record {
       sound = tt;
-      complete = record { memory = λ t r v live reads shallow converts.
-          let (still, here, room) = stands_after c.args.de.now c.skip_blank.new.self t r passed live reads shallow in
-          c.in-Err.ensures.complete.memory t r v still here room converts };
+      complete = record {
+        memory = λ t r v live reads shallow converts.
+            let (still, here, room) = stands_after c.args.de.now c.skip_blank.new.self t r passed live reads shallow in
+            c.in-Err.ensures.complete.memory t r v still here room converts;
+      };
       no_memory = λ t r v live reads shallow converts allocation_free.
           let (still, here, room) = stands_after c.args.de.now c.skip_blank.new.self t r passed live reads shallow in
           c.in-Err.ensures.no_memory t r v still here room converts allocation_free;

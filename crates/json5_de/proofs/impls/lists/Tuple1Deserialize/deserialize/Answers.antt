@@ -24,9 +24,9 @@ returns-in_err-seq-clause-complete g c = unopened_completes _ _ _ c.from_residua
 pub returns-in_err-first-clause-complete : goal.returns-in_err-first-clause-complete
 returns-in_err-first-clause-complete g c =
     completes_as _ _ _ _ c.from_residual-in_err-first.ensures.1 (λ t r v live reads shallow converts.
-        let (first, x, is_first, list, deep) = one g.A.Deserialize.convert c.args.de.now t r v reads shallow converts in
-        let all = c.in_ok-seq.ensures.opens.left (more first no_more) r live list deep in
-        c.in_err-first.ensures.left (more first no_more) r all x is_first)
+    let (first, x, is_first, list, deep) = one g.A.Deserialize.convert c.args.de.now t r v reads shallow converts in
+    let all = c.in_ok-seq.ensures.opens.left (more first no_more) r live list deep in
+    c.in_err-first.ensures.left (more first no_more) r all x is_first)
 
 pub returns-in_err-first-clause-refused : goal.returns-in_err-first-clause-refused
 returns-in_err-first-clause-refused g c =
@@ -39,10 +39,10 @@ returns-in_err-first-clause-refused g c =
 pub returns-in_err-end-clause-complete : goal.returns-in_err-end-clause-complete
 returns-in_err-end-clause-complete g c =
     completes_as _ _ _ _ c.from_residual-in_err-end.ensures.1 (λ t r v live reads shallow converts.
-        let (first, x, is_first, list, deep) = one g.A.Deserialize.convert c.args.de.now t r v reads shallow converts in
-        let all = c.in_ok-seq.ensures.opens.left (more first no_more) r live list deep in
-        let (same_first, after_first) = c.in_ok-first.ensures.left (more first no_more) r all in
-        absurd (false≢true ((c.in_err-end.ensures.alone (search rules)).left r after_first)))
+    let (first, x, is_first, list, deep) = one g.A.Deserialize.convert c.args.de.now t r v reads shallow converts in
+    let all = c.in_ok-seq.ensures.opens.left (more first no_more) r live list deep in
+    let (same_first, after_first) = c.in_ok-first.ensures.left (more first no_more) r all in
+    absurd (false≢true ((c.in_err-end.ensures.alone (search rules)).left r after_first)))
 
 pub returns-in_err-end-clause-refused : goal.returns-in_err-end-clause-refused
 returns-in_err-end-clause-refused g c =

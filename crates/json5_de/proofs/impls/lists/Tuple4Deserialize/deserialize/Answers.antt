@@ -24,9 +24,9 @@ returns-in_err-seq-clause-complete g c = unopened_completes _ _ _ c.from_residua
 pub returns-in_err-first-clause-complete : goal.returns-in_err-first-clause-complete
 returns-in_err-first-clause-complete g c =
     completes_as _ _ _ _ c.from_residual-in_err-first.ensures.1 (λ t r v live reads shallow converts.
-        let (first, second, third, fourth, x, y, z, w, is_first, is_second, is_third, is_fourth, list, deep) = four g.A.Deserialize.convert g.B.Deserialize.convert g.C.Deserialize.convert g.D.Deserialize.convert c.args.de.now t r v reads shallow converts in
-        let all = c.in_ok-seq.ensures.opens.left (more first (more second (more third (more fourth no_more)))) r live list deep in
-        c.in_err-first.ensures.left (more first (more second (more third (more fourth no_more)))) r all x is_first)
+    let (first, second, third, fourth, x, y, z, w, is_first, is_second, is_third, is_fourth, list, deep) = four g.A.Deserialize.convert g.B.Deserialize.convert g.C.Deserialize.convert g.D.Deserialize.convert c.args.de.now t r v reads shallow converts in
+    let all = c.in_ok-seq.ensures.opens.left (more first (more second (more third (more fourth no_more)))) r live list deep in
+    c.in_err-first.ensures.left (more first (more second (more third (more fourth no_more)))) r all x is_first)
 
 pub returns-in_err-first-clause-refused : goal.returns-in_err-first-clause-refused
 returns-in_err-first-clause-refused g c =
@@ -39,10 +39,10 @@ returns-in_err-first-clause-refused g c =
 pub returns-in_err-second-clause-complete : goal.returns-in_err-second-clause-complete
 returns-in_err-second-clause-complete g c =
     completes_as _ _ _ _ c.from_residual-in_err-second.ensures.1 (λ t r v live reads shallow converts.
-        let (first, second, third, fourth, x, y, z, w, is_first, is_second, is_third, is_fourth, list, deep) = four g.A.Deserialize.convert g.B.Deserialize.convert g.C.Deserialize.convert g.D.Deserialize.convert c.args.de.now t r v reads shallow converts in
-        let all = c.in_ok-seq.ensures.opens.left (more first (more second (more third (more fourth no_more)))) r live list deep in
-        let (same_first, after_first) = c.in_ok-first.ensures.left (more first (more second (more third (more fourth no_more)))) r all in
-        c.in_err-second.ensures.left (more second (more third (more fourth no_more))) r after_first y is_second)
+    let (first, second, third, fourth, x, y, z, w, is_first, is_second, is_third, is_fourth, list, deep) = four g.A.Deserialize.convert g.B.Deserialize.convert g.C.Deserialize.convert g.D.Deserialize.convert c.args.de.now t r v reads shallow converts in
+    let all = c.in_ok-seq.ensures.opens.left (more first (more second (more third (more fourth no_more)))) r live list deep in
+    let (same_first, after_first) = c.in_ok-first.ensures.left (more first (more second (more third (more fourth no_more)))) r all in
+    c.in_err-second.ensures.left (more second (more third (more fourth no_more))) r after_first y is_second)
 
 pub returns-in_err-second-clause-refused : goal.returns-in_err-second-clause-refused
 returns-in_err-second-clause-refused g c =
@@ -56,11 +56,11 @@ returns-in_err-second-clause-refused g c =
 pub returns-in_err-third-clause-complete : goal.returns-in_err-third-clause-complete
 returns-in_err-third-clause-complete g c =
     completes_as _ _ _ _ c.from_residual-in_err-third.ensures.1 (λ t r v live reads shallow converts.
-        let (first, second, third, fourth, x, y, z, w, is_first, is_second, is_third, is_fourth, list, deep) = four g.A.Deserialize.convert g.B.Deserialize.convert g.C.Deserialize.convert g.D.Deserialize.convert c.args.de.now t r v reads shallow converts in
-        let all = c.in_ok-seq.ensures.opens.left (more first (more second (more third (more fourth no_more)))) r live list deep in
-        let (same_first, after_first) = c.in_ok-first.ensures.left (more first (more second (more third (more fourth no_more)))) r all in
-        let (same_second, after_second) = c.in_ok-second.ensures.left (more second (more third (more fourth no_more))) r after_first in
-        c.in_err-third.ensures.left (more third (more fourth no_more)) r after_second z is_third)
+    let (first, second, third, fourth, x, y, z, w, is_first, is_second, is_third, is_fourth, list, deep) = four g.A.Deserialize.convert g.B.Deserialize.convert g.C.Deserialize.convert g.D.Deserialize.convert c.args.de.now t r v reads shallow converts in
+    let all = c.in_ok-seq.ensures.opens.left (more first (more second (more third (more fourth no_more)))) r live list deep in
+    let (same_first, after_first) = c.in_ok-first.ensures.left (more first (more second (more third (more fourth no_more)))) r all in
+    let (same_second, after_second) = c.in_ok-second.ensures.left (more second (more third (more fourth no_more))) r after_first in
+    c.in_err-third.ensures.left (more third (more fourth no_more)) r after_second z is_third)
 
 pub returns-in_err-third-clause-refused : goal.returns-in_err-third-clause-refused
 returns-in_err-third-clause-refused g c =
@@ -75,12 +75,12 @@ returns-in_err-third-clause-refused g c =
 pub returns-in_err-fourth-clause-complete : goal.returns-in_err-fourth-clause-complete
 returns-in_err-fourth-clause-complete g c =
     completes_as _ _ _ _ c.from_residual-in_err-fourth.ensures.1 (λ t r v live reads shallow converts.
-        let (first, second, third, fourth, x, y, z, w, is_first, is_second, is_third, is_fourth, list, deep) = four g.A.Deserialize.convert g.B.Deserialize.convert g.C.Deserialize.convert g.D.Deserialize.convert c.args.de.now t r v reads shallow converts in
-        let all = c.in_ok-seq.ensures.opens.left (more first (more second (more third (more fourth no_more)))) r live list deep in
-        let (same_first, after_first) = c.in_ok-first.ensures.left (more first (more second (more third (more fourth no_more)))) r all in
-        let (same_second, after_second) = c.in_ok-second.ensures.left (more second (more third (more fourth no_more))) r after_first in
-        let (same_third, after_third) = c.in_ok-third.ensures.left (more third (more fourth no_more)) r after_second in
-        c.in_err-fourth.ensures.left (more fourth no_more) r after_third w is_fourth)
+    let (first, second, third, fourth, x, y, z, w, is_first, is_second, is_third, is_fourth, list, deep) = four g.A.Deserialize.convert g.B.Deserialize.convert g.C.Deserialize.convert g.D.Deserialize.convert c.args.de.now t r v reads shallow converts in
+    let all = c.in_ok-seq.ensures.opens.left (more first (more second (more third (more fourth no_more)))) r live list deep in
+    let (same_first, after_first) = c.in_ok-first.ensures.left (more first (more second (more third (more fourth no_more)))) r all in
+    let (same_second, after_second) = c.in_ok-second.ensures.left (more second (more third (more fourth no_more))) r after_first in
+    let (same_third, after_third) = c.in_ok-third.ensures.left (more third (more fourth no_more)) r after_second in
+    c.in_err-fourth.ensures.left (more fourth no_more) r after_third w is_fourth)
 
 pub returns-in_err-fourth-clause-refused : goal.returns-in_err-fourth-clause-refused
 returns-in_err-fourth-clause-refused g c =
@@ -96,13 +96,13 @@ returns-in_err-fourth-clause-refused g c =
 pub returns-in_err-end-clause-complete : goal.returns-in_err-end-clause-complete
 returns-in_err-end-clause-complete g c =
     completes_as _ _ _ _ c.from_residual-in_err-end.ensures.1 (λ t r v live reads shallow converts.
-        let (first, second, third, fourth, x, y, z, w, is_first, is_second, is_third, is_fourth, list, deep) = four g.A.Deserialize.convert g.B.Deserialize.convert g.C.Deserialize.convert g.D.Deserialize.convert c.args.de.now t r v reads shallow converts in
-        let all = c.in_ok-seq.ensures.opens.left (more first (more second (more third (more fourth no_more)))) r live list deep in
-        let (same_first, after_first) = c.in_ok-first.ensures.left (more first (more second (more third (more fourth no_more)))) r all in
-        let (same_second, after_second) = c.in_ok-second.ensures.left (more second (more third (more fourth no_more))) r after_first in
-        let (same_third, after_third) = c.in_ok-third.ensures.left (more third (more fourth no_more)) r after_second in
-        let (same_fourth, after_fourth) = c.in_ok-fourth.ensures.left (more fourth no_more) r after_third in
-        absurd (false≢true ((c.in_err-end.ensures.alone (search rules)).left r after_fourth)))
+    let (first, second, third, fourth, x, y, z, w, is_first, is_second, is_third, is_fourth, list, deep) = four g.A.Deserialize.convert g.B.Deserialize.convert g.C.Deserialize.convert g.D.Deserialize.convert c.args.de.now t r v reads shallow converts in
+    let all = c.in_ok-seq.ensures.opens.left (more first (more second (more third (more fourth no_more)))) r live list deep in
+    let (same_first, after_first) = c.in_ok-first.ensures.left (more first (more second (more third (more fourth no_more)))) r all in
+    let (same_second, after_second) = c.in_ok-second.ensures.left (more second (more third (more fourth no_more))) r after_first in
+    let (same_third, after_third) = c.in_ok-third.ensures.left (more third (more fourth no_more)) r after_second in
+    let (same_fourth, after_fourth) = c.in_ok-fourth.ensures.left (more fourth no_more) r after_third in
+    absurd (false≢true ((c.in_err-end.ensures.alone (search rules)).left r after_fourth)))
 
 pub returns-in_err-end-clause-refused : goal.returns-in_err-end-clause-refused
 returns-in_err-end-clause-refused g c =
