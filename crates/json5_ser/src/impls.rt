@@ -3,4 +3,5 @@
 mod keys;
 mod lists;
 mod maps;
+mod printable;
 mod scalars;

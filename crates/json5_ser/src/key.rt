@@ -75,15 +75,6 @@ pub trait SerializeKey {
         ensures { WritesKey (as_key self.now) (serializer_of_key key.entry) result key.exit.0.now };
 }
 
-impl<W: Write + Drop> Serializer<W> {
-    /// Writes a key's text as `put_key` does, for a call that may be refused otherwise too.
-    fn write_text_key(&mut self, text: &str) -> Result<()>
-        ensures { WritesKey (named (chars text.now)) self.old result self.new }
-    {
-        Ok(self.put_key(text)?)
-    }
-}
-
 impl<W: Write + Drop> MapKey<'_, W> {
     ghost use Rattle.json5_ser.specs.KeyLending.{serializer_of_key, WritesNull};
 
@@ -99,8 +90,7 @@ impl<W: Write + Drop> MapKey<'_, W> {
     pub fn serialize_bool(self, value: bool) -> Result<()>
         ensures { WritesKey (named (bool_text value)) (serializer_of_key self.entry) result self.exit.0.now }
     {
-        let MapKey { ser } = self;
-        ser.write_text_key(bool_name(value))
+        self.serialize_str(bool_name(value))
     }
 
     /// Writes the text as a key.
@@ -117,7 +107,7 @@ impl<W: Write + Drop> MapKey<'_, W> {
         ensures { WritesKey (named (chars value.now)) (serializer_of_key self.entry) result self.exit.0.now }
     {
         let MapKey { ser } = self;
-        ser.write_text_key(value)
+        Ok(ser.put_key(value)?)
     }
 
     /// Writes the text of one character as a key.
@@ -166,8 +156,7 @@ impl<W: Write + Drop> MapKey<'_, W> {
     pub fn serialize_unit(self) -> Result<()>
         ensures { WritesNull self.entry result self.exit.0.now }
     {
-        let MapKey { ser } = self;
-        ser.write_text_key("null")
+        self.serialize_str("null")
     }
 
     /// Writes the key `null`, for a struct without fields. The name changes nothing.

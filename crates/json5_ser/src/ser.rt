@@ -2,11 +2,9 @@
 
 ghost use Rattle.std.specs.Prelude.{◌≡◌, ◌+◌, ◌-◌, true, false, None, IsErr, IfErr, OnOk};
 ghost use Rattle.std.specs.Str.{chars};
-ghost use Rattle.json5_write.specs.WrittenTrees.{Written, integer, natural, number, named};
+ghost use Rattle.json5_write.specs.WrittenTrees.{Written, named};
 ghost use Rattle.json5_write.specs.Writes.{WritesTree, SerializerState, Writes, fresh, fresh_within, at_depth, after_closing};
 ghost use Rattle.json5_write.specs.ShortWrites.{PutsTree, Puts};
-ghost use Rattle.json5_grammar.specs.Language.Numbers.{decimal};
-ghost use Rattle.json5_grammar.specs.Written.Quoting.{quoted_text};
 ghost use Rattle.json5_write.specs.Out.{piece, stopped, line, opened_by, closed_by, invalid_key, key_out};
 ghost use Rattle.json5_grammar.specs.declared.error_code.ErrorCode.TheVariants as codes;
 ghost use Rattle.json5_types.specs.Errors.{code, kind_of, error_position};
@@ -23,7 +21,6 @@ mod strings;
 
 use crate::collection::CollectionStage;
 use json5_types::ErrorCode;
-use json5_types::decimal::Decimal;
 use json5_types::error::{Error, Result};
 use json5_types::nesting::Limit;
 use json5_write::Printer;
@@ -201,38 +198,6 @@ impl<W: Write + Drop> Serializer<W> {
             Ok(()) => Ok(()),
             Err(refused) => refusal(refused),
         }
-    }
-
-    /// Writes the decimal digits of a number that isn't negative.
-    #[inline(always)]
-    pub(crate) fn put_unsigned(&mut self, value: u128) -> Put
-        ensures { PutsTree (natural value) self.old result self.new }
-    {
-        self.printer.put_unsigned(value)
-    }
-
-    /// Writes the decimal digits of a number, after a minus where it is negative.
-    #[inline(always)]
-    pub(crate) fn put_signed(&mut self, value: i128) -> Put
-        ensures { PutsTree (integer value) self.old result self.new }
-    {
-        self.printer.put_signed(value)
-    }
-
-    /// Writes a decimal, as `serialize_decimal` does.
-    #[inline(always)]
-    pub(crate) fn put_decimal(&mut self, value: &Decimal) -> Put
-        ensures { PutsTree (number (decimal value.now)) self.old result self.new }
-    {
-        self.printer.put_decimal(value)
-    }
-
-    /// Writes a string, as `serialize_str` does.
-    #[inline(always)]
-    pub(crate) fn put_str(&mut self, value: &str) -> Put
-        ensures { Puts (piece (quoted_text (chars value.now))) self.old result self.new }
-    {
-        self.printer.put_str(value)
     }
 
     /// Writes a key's text, between quotes if it is no identifier.

@@ -40,7 +40,7 @@ impl SerializeKey for u8 {
     ghost as_key = { natural_key };
 
     fn serialize_key<W: Write + Drop>(&self, key: MapKey<'_, W>) -> Result<()> {
-        key.serialize_u8(*self)
+        key.serialize_integer(*self)
     }
 }
 
@@ -48,7 +48,7 @@ impl SerializeKey for u16 {
     ghost as_key = { natural_key };
 
     fn serialize_key<W: Write + Drop>(&self, key: MapKey<'_, W>) -> Result<()> {
-        key.serialize_u16(*self)
+        key.serialize_integer(*self)
     }
 }
 
@@ -56,7 +56,7 @@ impl SerializeKey for u32 {
     ghost as_key = { natural_key };
 
     fn serialize_key<W: Write + Drop>(&self, key: MapKey<'_, W>) -> Result<()> {
-        key.serialize_u32(*self)
+        key.serialize_integer(*self)
     }
 }
 
@@ -64,7 +64,7 @@ impl SerializeKey for u64 {
     ghost as_key = { natural_key };
 
     fn serialize_key<W: Write + Drop>(&self, key: MapKey<'_, W>) -> Result<()> {
-        key.serialize_u64(*self)
+        key.serialize_integer(*self)
     }
 }
 
@@ -72,7 +72,7 @@ impl SerializeKey for u128 {
     ghost as_key = { natural_key };
 
     fn serialize_key<W: Write + Drop>(&self, key: MapKey<'_, W>) -> Result<()> {
-        key.serialize_u128(*self)
+        key.serialize_integer(*self)
     }
 }
 
@@ -80,7 +80,7 @@ impl SerializeKey for usize {
     ghost as_key = { natural_key };
 
     fn serialize_key<W: Write + Drop>(&self, key: MapKey<'_, W>) -> Result<()> {
-        key.serialize_u64(*self as u64)
+        key.serialize_integer(*self)
     }
 }
 
@@ -88,7 +88,7 @@ impl SerializeKey for i8 {
     ghost as_key = { integer_key };
 
     fn serialize_key<W: Write + Drop>(&self, key: MapKey<'_, W>) -> Result<()> {
-        key.serialize_i8(*self)
+        key.serialize_integer(*self)
     }
 }
 
@@ -96,7 +96,7 @@ impl SerializeKey for i16 {
     ghost as_key = { integer_key };
 
     fn serialize_key<W: Write + Drop>(&self, key: MapKey<'_, W>) -> Result<()> {
-        key.serialize_i16(*self)
+        key.serialize_integer(*self)
     }
 }
 
@@ -104,7 +104,7 @@ impl SerializeKey for i32 {
     ghost as_key = { integer_key };
 
     fn serialize_key<W: Write + Drop>(&self, key: MapKey<'_, W>) -> Result<()> {
-        key.serialize_i32(*self)
+        key.serialize_integer(*self)
     }
 }
 
@@ -112,7 +112,7 @@ impl SerializeKey for i64 {
     ghost as_key = { integer_key };
 
     fn serialize_key<W: Write + Drop>(&self, key: MapKey<'_, W>) -> Result<()> {
-        key.serialize_i64(*self)
+        key.serialize_integer(*self)
     }
 }
 
@@ -120,7 +120,7 @@ impl SerializeKey for i128 {
     ghost as_key = { integer_key };
 
     fn serialize_key<W: Write + Drop>(&self, key: MapKey<'_, W>) -> Result<()> {
-        key.serialize_i128(*self)
+        key.serialize_integer(*self)
     }
 }
 
@@ -128,7 +128,7 @@ impl SerializeKey for isize {
     ghost as_key = { integer_key };
 
     fn serialize_key<W: Write + Drop>(&self, key: MapKey<'_, W>) -> Result<()> {
-        key.serialize_i64(*self as i64)
+        key.serialize_integer(*self)
     }
 }
 

@@ -4,6 +4,7 @@ ghost use Rattle.json5_write.specs.WrittenTrees.{array, elements_of};
 ghost use Rattle.json5_write.specs.Commas.{comma_before, element_line};
 ghost use Rattle.json5_write.specs.ShortWrites.{Puts, PutsTree};
 
+use crate::impls::printable::Printable;
 use crate::{Serialize, Serializer};
 use json5_types::error::Result;
 use json5_write::brackets::Brackets;
@@ -37,27 +38,19 @@ fn put_items<T: Serialize, W: Write + Drop>(items: &[T], ser: &mut Serializer<W>
 }
 
 /// Writes an array of the elements.
-impl<T: Serialize> Serialize for Vec<T> {
+impl<T: Serialize> Printable for Vec<T> {
     ghost tree = { λ v. array (elements_of T.tree v.items) };
 
-    fn serialize<W: Write + Drop>(&self, ser: &mut Serializer<W>) -> Result<()> {
-        Ok(put_items(self, ser)?)
-    }
-
-    fn put<W: Write + Drop>(&self, ser: &mut Serializer<W>) -> Put {
+    fn print<W: Write + Drop>(&self, ser: &mut Serializer<W>) -> Put {
         put_items(self, ser)
     }
 }
 
 /// Writes an array of the elements.
-impl<T: Serialize, const N: usize> Serialize for [T; N] {
+impl<T: Serialize, const N: usize> Printable for [T; N] {
     ghost tree = { λ v. array (elements_of T.tree v) };
 
-    fn serialize<W: Write + Drop>(&self, ser: &mut Serializer<W>) -> Result<()> {
-        Ok(put_items(self, ser)?)
-    }
-
-    fn put<W: Write + Drop>(&self, ser: &mut Serializer<W>) -> Put {
+    fn print<W: Write + Drop>(&self, ser: &mut Serializer<W>) -> Put {
         put_items(self, ser)
     }
 }

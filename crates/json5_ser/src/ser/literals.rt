@@ -3,7 +3,7 @@
 ghost use Rattle.json5_write.specs.WrittenTrees.{null, boolean};
 ghost use Rattle.json5_write.specs.Writes.{WritesTree};
 
-use crate::Serializer;
+use crate::{Serialize, Serializer};
 use json5_types::error::Result;
 use std::io::Write;
 
@@ -20,7 +20,7 @@ impl<W: Write + Drop> Serializer<W> {
     pub fn serialize_unit(&mut self) -> Result<()>
         ensures { WritesTree null self.old result self.new }
     {
-        self.put("null")
+        ().serialize(self)
     }
 
     /// Writes `true` or `false`.
@@ -35,10 +35,6 @@ impl<W: Write + Drop> Serializer<W> {
     pub fn serialize_bool(&mut self, value: bool) -> Result<()>
         ensures { WritesTree (boolean value) self.old result self.new }
     {
-        if value {
-            self.put("true")
-        } else {
-            self.put("false")
-        }
+        value.serialize(self)
     }
 }

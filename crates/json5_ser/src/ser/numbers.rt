@@ -26,7 +26,7 @@ impl<W: Write + Drop> Serializer<W> {
     pub fn serialize_u8(&mut self, value: u8) -> Result<()>
         ensures { WritesTree (⟦<u8 as Serialize>⟧.tree value) self.old result self.new }
     {
-        self.serialize_u128(u128::from(value))
+        value.serialize(self)
     }
 
     /// Writes the decimal digits of a `u16`.
@@ -41,7 +41,7 @@ impl<W: Write + Drop> Serializer<W> {
     pub fn serialize_u16(&mut self, value: u16) -> Result<()>
         ensures { WritesTree (⟦<u16 as Serialize>⟧.tree value) self.old result self.new }
     {
-        self.serialize_u128(u128::from(value))
+        value.serialize(self)
     }
 
     /// Writes the decimal digits of a `u32`.
@@ -56,7 +56,7 @@ impl<W: Write + Drop> Serializer<W> {
     pub fn serialize_u32(&mut self, value: u32) -> Result<()>
         ensures { WritesTree (⟦<u32 as Serialize>⟧.tree value) self.old result self.new }
     {
-        self.serialize_u128(u128::from(value))
+        value.serialize(self)
     }
 
     /// Writes the decimal digits of a `u64`.
@@ -71,7 +71,7 @@ impl<W: Write + Drop> Serializer<W> {
     pub fn serialize_u64(&mut self, value: u64) -> Result<()>
         ensures { WritesTree (⟦<u64 as Serialize>⟧.tree value) self.old result self.new }
     {
-        self.serialize_u128(u128::from(value))
+        value.serialize(self)
     }
 
     /// Writes the decimal digits of a `u128`.
@@ -86,7 +86,7 @@ impl<W: Write + Drop> Serializer<W> {
     pub fn serialize_u128(&mut self, value: u128) -> Result<()>
         ensures { WritesTree (⟦<u128 as Serialize>⟧.tree value) self.old result self.new }
     {
-        Ok(self.put_unsigned(value)?)
+        value.serialize(self)
     }
 
     /// Writes the decimal digits of a `i8`, after a minus where it is negative (JSON5 section 6).
@@ -101,7 +101,7 @@ impl<W: Write + Drop> Serializer<W> {
     pub fn serialize_i8(&mut self, value: i8) -> Result<()>
         ensures { WritesTree (⟦<i8 as Serialize>⟧.tree value) self.old result self.new }
     {
-        self.serialize_i128(i128::from(value))
+        value.serialize(self)
     }
 
     /// Writes the decimal digits of a `i16`, after a minus where it is negative.
@@ -116,7 +116,7 @@ impl<W: Write + Drop> Serializer<W> {
     pub fn serialize_i16(&mut self, value: i16) -> Result<()>
         ensures { WritesTree (⟦<i16 as Serialize>⟧.tree value) self.old result self.new }
     {
-        self.serialize_i128(i128::from(value))
+        value.serialize(self)
     }
 
     /// Writes the decimal digits of a `i32`, after a minus where it is negative.
@@ -131,7 +131,7 @@ impl<W: Write + Drop> Serializer<W> {
     pub fn serialize_i32(&mut self, value: i32) -> Result<()>
         ensures { WritesTree (⟦<i32 as Serialize>⟧.tree value) self.old result self.new }
     {
-        self.serialize_i128(i128::from(value))
+        value.serialize(self)
     }
 
     /// Writes the decimal digits of a `i64`, after a minus where it is negative.
@@ -146,7 +146,7 @@ impl<W: Write + Drop> Serializer<W> {
     pub fn serialize_i64(&mut self, value: i64) -> Result<()>
         ensures { WritesTree (⟦<i64 as Serialize>⟧.tree value) self.old result self.new }
     {
-        self.serialize_i128(i128::from(value))
+        value.serialize(self)
     }
 
     /// Writes the decimal digits of a `i128`, after a minus where it is negative.
@@ -161,7 +161,7 @@ impl<W: Write + Drop> Serializer<W> {
     pub fn serialize_i128(&mut self, value: i128) -> Result<()>
         ensures { WritesTree (⟦<i128 as Serialize>⟧.tree value) self.old result self.new }
     {
-        Ok(self.put_signed(value)?)
+        value.serialize(self)
     }
 
     /// Writes a decimal in plain notation, always with a point; else `Infinity` or `NaN` (JSON5 section 6). A minus is before
@@ -178,7 +178,7 @@ impl<W: Write + Drop> Serializer<W> {
     pub fn serialize_decimal(&mut self, value: &Decimal) -> Result<()>
         ensures { WritesTree (number (numbers.decimal value.now)) self.old result self.new }
     {
-        Ok(self.put_decimal(value)?)
+        value.serialize(self)
     }
 
     /// Writes the number's spelling as a key.

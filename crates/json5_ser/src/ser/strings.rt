@@ -2,14 +2,24 @@
 
 ghost use Rattle.std.specs.Prelude.{[], ◌∷◌};
 ghost use Rattle.std.specs.Str.{chars};
+ghost use Rattle.json5_write.specs.ShortWrites.{PutsTree};
 ghost use Rattle.json5_write.specs.WrittenTrees.{text};
 ghost use Rattle.json5_write.specs.Writes.{WritesTree};
 
-use crate::Serializer;
+use crate::{Serialize, Serializer};
 use json5_types::error::Result;
+use json5_write::refusal::Put;
 use std::io::Write;
 
 impl<W: Write + Drop> Serializer<W> {
+    /// Writes a string of one character.
+    pub(crate) fn put_char(&mut self, value: char) -> Put
+        ensures { PutsTree (text (value ∷ [])) self.old result self.new }
+    {
+        let mut buffer = [0u8; 4];
+        self.printer.put_str(value.encode_utf8(&mut buffer))
+    }
+
     /// Writes a string (JSON5 section 5): between `'` where the text holds `"` and no `'`, else between `"`. That quote,
     /// backslashes, LF, CR, U+2028 and U+2029 are escaped, and all other characters are written as they are.
     ///
@@ -24,7 +34,7 @@ impl<W: Write + Drop> Serializer<W> {
     pub fn serialize_str(&mut self, value: &str) -> Result<()>
         ensures { WritesTree (text (chars value.now)) self.old result self.new }
     {
-        Ok(self.put_str(value)?)
+        value.serialize(self)
     }
 
     /// Writes a string of one character, as [`serialize_str`](Serializer::serialize_str) does.
@@ -39,7 +49,6 @@ impl<W: Write + Drop> Serializer<W> {
     pub fn serialize_char(&mut self, value: char) -> Result<()>
         ensures { WritesTree (text (value ∷ [])) self.old result self.new }
     {
-        let mut buffer = [0u8; 4];
-        self.serialize_str(value.encode_utf8(&mut buffer))
+        value.serialize(self)
     }
 }
