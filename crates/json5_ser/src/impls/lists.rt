@@ -6,7 +6,6 @@ ghost use Rattle.json5_write.specs.ShortWrites.{Puts, PutsTree};
 
 use crate::impls::printable::Printable;
 use crate::{Serialize, Serializer};
-use json5_types::error::Result;
 use json5_write::brackets::Brackets;
 use json5_write::refusal::Put;
 use std::io::Write;
@@ -56,59 +55,59 @@ impl<T: Serialize, const N: usize> Printable for [T; N] {
 }
 
 /// Writes an array of one element.
-impl<A: Serialize> Serialize for (A,) {
+impl<A: Serialize> Printable for (A,) {
     ghost use Rattle.json5_write.specs.WrittenTrees.{array, element, no_element};
 
     ghost tree = { λ t. array (element (A.tree t.0) no_element) };
 
-    fn serialize<W: Write + Drop>(&self, ser: &mut Serializer<W>) -> Result<()> {
-        let mut list = ser.serialize_tuple(1)?;
-        list.serialize_element(&self.0)?;
-        list.end()
+    fn print<W: Write + Drop>(&self, ser: &mut Serializer<W>) -> Put {
+        ser.open_brackets(Brackets::Square)?;
+        put_item(false, &self.0, ser)?;
+        ser.close_brackets(true, Brackets::Square)
     }
 }
 
 /// Writes an array of two elements.
-impl<A: Serialize, B: Serialize> Serialize for (A, B) {
+impl<A: Serialize, B: Serialize> Printable for (A, B) {
     ghost use Rattle.json5_write.specs.WrittenTrees.{array, element, no_element};
 
     ghost tree = { λ t. array (element (A.tree t.0) (element (B.tree t.1) no_element)) };
 
-    fn serialize<W: Write + Drop>(&self, ser: &mut Serializer<W>) -> Result<()> {
-        let mut list = ser.serialize_tuple(2)?;
-        list.serialize_element(&self.0)?;
-        list.serialize_element(&self.1)?;
-        list.end()
+    fn print<W: Write + Drop>(&self, ser: &mut Serializer<W>) -> Put {
+        ser.open_brackets(Brackets::Square)?;
+        put_item(false, &self.0, ser)?;
+        put_item(true, &self.1, ser)?;
+        ser.close_brackets(true, Brackets::Square)
     }
 }
 
 /// Writes an array of three elements.
-impl<A: Serialize, B: Serialize, C: Serialize> Serialize for (A, B, C) {
+impl<A: Serialize, B: Serialize, C: Serialize> Printable for (A, B, C) {
     ghost use Rattle.json5_write.specs.WrittenTrees.{array, element, no_element};
 
     ghost tree = { λ t. array (element (A.tree t.0) (element (B.tree t.1) (element (C.tree t.2) no_element))) };
 
-    fn serialize<W: Write + Drop>(&self, ser: &mut Serializer<W>) -> Result<()> {
-        let mut list = ser.serialize_tuple(3)?;
-        list.serialize_element(&self.0)?;
-        list.serialize_element(&self.1)?;
-        list.serialize_element(&self.2)?;
-        list.end()
+    fn print<W: Write + Drop>(&self, ser: &mut Serializer<W>) -> Put {
+        ser.open_brackets(Brackets::Square)?;
+        put_item(false, &self.0, ser)?;
+        put_item(true, &self.1, ser)?;
+        put_item(true, &self.2, ser)?;
+        ser.close_brackets(true, Brackets::Square)
     }
 }
 
 /// Writes an array of four elements.
-impl<A: Serialize, B: Serialize, C: Serialize, D: Serialize> Serialize for (A, B, C, D) {
+impl<A: Serialize, B: Serialize, C: Serialize, D: Serialize> Printable for (A, B, C, D) {
     ghost use Rattle.json5_write.specs.WrittenTrees.{array, element, no_element};
 
     ghost tree = { λ t. array (element (A.tree t.0) (element (B.tree t.1) (element (C.tree t.2) (element (D.tree t.3) no_element)))) };
 
-    fn serialize<W: Write + Drop>(&self, ser: &mut Serializer<W>) -> Result<()> {
-        let mut list = ser.serialize_tuple(4)?;
-        list.serialize_element(&self.0)?;
-        list.serialize_element(&self.1)?;
-        list.serialize_element(&self.2)?;
-        list.serialize_element(&self.3)?;
-        list.end()
+    fn print<W: Write + Drop>(&self, ser: &mut Serializer<W>) -> Put {
+        ser.open_brackets(Brackets::Square)?;
+        put_item(false, &self.0, ser)?;
+        put_item(true, &self.1, ser)?;
+        put_item(true, &self.2, ser)?;
+        put_item(true, &self.3, ser)?;
+        ser.close_brackets(true, Brackets::Square)
     }
 }

@@ -2,7 +2,7 @@
 
 ghost use Rattle.std.specs.Prelude.{◌≡◌, ◌+◌, OnOk};
 ghost use Rattle.std.specs.Str.{chars};
-ghost use Rattle.json5_write.specs.Out.{out, key_part, value_part, entry_out};
+ghost use Rattle.json5_write.specs.Out.{out, key_out, key_part, value_part, entry_out};
 ghost use Rattle.json5_ser.specs.Brackets.{variant_of};
 ghost use Rattle.json5_write.specs.Commas.{comma_before, member_line};
 ghost use Rattle.json5_write.specs.ShortWrites.{Puts};
@@ -12,7 +12,7 @@ ghost use Rattle.json5_write.specs.Writes.{Writes, at_depth};
 use crate::{MapKey, Serialize, SerializeKey, Serializer};
 use json5_types::error::Result;
 use json5_write::brackets::Brackets;
-use json5_write::refusal::Put;
+use json5_write::refusal::{Put, Refused};
 use std::io::Write;
 
 impl<W: Write + Drop> Serializer<W> {
@@ -67,22 +67,29 @@ impl<W: Write + Drop> Serializer<W> {
         Ok(())
     }
 
+    /// A key, whose refusal is returned as one byte.
+    fn put_map_key<K: SerializeKey>(&mut self, key: &K) -> Put
+        ensures { Puts (key_out (K.as_key key.now)) self.old result self.new }
+    {
+        match key.serialize_key(MapKey { ser: self }) {
+            Ok(()) => Ok(()),
+            Err(error) => Err(Refused::of(&error)),
+        }
+    }
+
     /// The line of a member, without the comma after it.
-    pub(crate) fn write_member_line<K: SerializeKey, T: Serialize>(
+    pub(crate) fn put_member<K: SerializeKey, T: Serialize>(
         &mut self,
         comma_due: bool,
         key: &K,
         value: &T,
-    ) -> Result<()>
-        ensures { Writes (comma_before comma_due (member_line self.old.limit self.old.depth (K.as_key key.now) (T.tree value.now))) self.old result self.new }
+    ) -> Put
+        ensures { Puts (comma_before comma_due (member_line self.old.limit self.old.depth (K.as_key key.now) (T.tree value.now))) self.old result self.new }
     {
         self.start_line(comma_due)?;
-        let written = key.serialize_key(MapKey { ser: self });
-        if written.is_err() {
-            return written;
-        }
+        self.put_map_key(key)?;
         self.put_piece(": ")?;
-        Ok(value.put(self)?)
+        value.put(self)
     }
 
     /// The value after a key.

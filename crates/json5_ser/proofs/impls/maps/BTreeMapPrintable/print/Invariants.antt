@@ -1,7 +1,7 @@
 use Rattle.json5_write.specs.WrittenTrees.{object, fields_of}
 use Rattle.json5_write.specs.Out.{out}
 use Rattle.json5_write.proofs.Commas.{Left, fields_left}
-use Rattle.json5_ser.proofs.impls.maps.IndexMapSerialize.serialize.Given as goal
+use Rattle.json5_ser.proofs.impls.maps.BTreeMapPrintable.print.Given as goal
 
 abbrev pub invariant-loop-key : goal.invariant-loop-key
 invariant-loop-key g l = record {

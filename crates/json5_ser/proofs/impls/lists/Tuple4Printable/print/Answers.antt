@@ -1,0 +1,75 @@
+use Rattle.std.proofs.Common.{true, false}
+use Rattle.json5_grammar.specs.Language.Characters.{left_bracket, right_bracket}
+use Rattle.json5_write.specs.WrittenTrees.{element, no_element}
+use Rattle.json5_write.specs.Out.{elements_out}
+use Rattle.json5_write.proofs.Commas.{left_first, element_line_on, open_stop, element_stop, left_closed}
+use Rattle.json5_ser.proofs.impls.lists.Tuple4Printable.print.Goals as goal
+
+pub returns-in_err-open_brackets : goal.returns-in_err-open_brackets
+returns-in_err-open_brackets g c =
+    let at = c.args.ser.now in
+    let one = g.A.Serialize.tree c.args.self.now.0 in
+    let two = g.B.Serialize.tree c.args.self.now.1 in
+    let three = g.C.Serialize.tree c.args.self.now.2 in
+    let four = g.D.Serialize.tree c.args.self.now.3 in
+    open_stop left_bracket (elements_out at.limit (element one (element two (element three (element four no_element)))) at.depth false) at _ _ _ c.in_err-open_brackets.ensures.opens c.from_residual.ensures.1
+
+pub returns-in_err-put_item : goal.returns-in_err-put_item
+returns-in_err-put_item g c =
+    let at = c.args.ser.now in
+    let one = g.A.Serialize.tree c.args.self.now.0 in
+    let two = g.B.Serialize.tree c.args.self.now.1 in
+    let three = g.C.Serialize.tree c.args.self.now.2 in
+    let four = g.D.Serialize.tree c.args.self.now.3 in
+    let opened = left_first left_bracket (elements_out at.limit (element one (element two (element three (element four no_element)))) at.depth false) _ _ c.in_ok-open_brackets.ensures.opens c.in_ok-open_brackets.ensures.deeper in
+    element_stop _ _ one (element two (element three (element four no_element))) _ false opened c.in_err-put_item.ensures c.from_residual-in_err-put_item.ensures.1
+
+pub returns-in_err-put_item-2 : goal.returns-in_err-put_item-2
+returns-in_err-put_item-2 g c =
+    let at = c.args.ser.now in
+    let one = g.A.Serialize.tree c.args.self.now.0 in
+    let two = g.B.Serialize.tree c.args.self.now.1 in
+    let three = g.C.Serialize.tree c.args.self.now.2 in
+    let four = g.D.Serialize.tree c.args.self.now.3 in
+    let opened = left_first left_bracket (elements_out at.limit (element one (element two (element three (element four no_element)))) at.depth false) _ _ c.in_ok-open_brackets.ensures.opens c.in_ok-open_brackets.ensures.deeper in
+    let after_one = element_line_on one (element two (element three (element four no_element))) false opened c.in_ok-put_item.ensures in
+    element_stop _ _ two (element three (element four no_element)) _ true after_one c.in_err-put_item-2.ensures c.from_residual-in_err-put_item-2.ensures.1
+
+pub returns-in_err-put_item-3 : goal.returns-in_err-put_item-3
+returns-in_err-put_item-3 g c =
+    let at = c.args.ser.now in
+    let one = g.A.Serialize.tree c.args.self.now.0 in
+    let two = g.B.Serialize.tree c.args.self.now.1 in
+    let three = g.C.Serialize.tree c.args.self.now.2 in
+    let four = g.D.Serialize.tree c.args.self.now.3 in
+    let opened = left_first left_bracket (elements_out at.limit (element one (element two (element three (element four no_element)))) at.depth false) _ _ c.in_ok-open_brackets.ensures.opens c.in_ok-open_brackets.ensures.deeper in
+    let after_one = element_line_on one (element two (element three (element four no_element))) false opened c.in_ok-put_item.ensures in
+    let after_two = element_line_on two (element three (element four no_element)) true after_one c.in_ok-put_item-2.ensures in
+    element_stop _ _ three (element four no_element) _ true after_two c.in_err-put_item-3.ensures c.from_residual-in_err-put_item-3.ensures.1
+
+pub returns-in_err-put_item-4 : goal.returns-in_err-put_item-4
+returns-in_err-put_item-4 g c =
+    let at = c.args.ser.now in
+    let one = g.A.Serialize.tree c.args.self.now.0 in
+    let two = g.B.Serialize.tree c.args.self.now.1 in
+    let three = g.C.Serialize.tree c.args.self.now.2 in
+    let four = g.D.Serialize.tree c.args.self.now.3 in
+    let opened = left_first left_bracket (elements_out at.limit (element one (element two (element three (element four no_element)))) at.depth false) _ _ c.in_ok-open_brackets.ensures.opens c.in_ok-open_brackets.ensures.deeper in
+    let after_one = element_line_on one (element two (element three (element four no_element))) false opened c.in_ok-put_item.ensures in
+    let after_two = element_line_on two (element three (element four no_element)) true after_one c.in_ok-put_item-2.ensures in
+    let after_three = element_line_on three (element four no_element) true after_two c.in_ok-put_item-3.ensures in
+    element_stop _ _ four no_element _ true after_three c.in_err-put_item-4.ensures c.from_residual-in_err-put_item-4.ensures.1
+
+pub returns : goal.returns
+returns g c =
+    let at = c.args.ser.now in
+    let one = g.A.Serialize.tree c.args.self.now.0 in
+    let two = g.B.Serialize.tree c.args.self.now.1 in
+    let three = g.C.Serialize.tree c.args.self.now.2 in
+    let four = g.D.Serialize.tree c.args.self.now.3 in
+    let opened = left_first left_bracket (elements_out at.limit (element one (element two (element three (element four no_element)))) at.depth false) _ _ c.in_ok-open_brackets.ensures.opens c.in_ok-open_brackets.ensures.deeper in
+    let after_one = element_line_on one (element two (element three (element four no_element))) false opened c.in_ok-put_item.ensures in
+    let after_two = element_line_on two (element three (element four no_element)) true after_one c.in_ok-put_item-2.ensures in
+    let after_three = element_line_on three (element four no_element) true after_two c.in_ok-put_item-3.ensures in
+    let after_four = element_line_on four no_element true after_three c.in_ok-put_item-4.ensures in
+    left_closed right_bracket _ _ true after_four c.close_brackets.ensures
