@@ -7,7 +7,7 @@ use std::alloc::{AllocError, Global};
 use std::io::{self, ErrorKind, Write};
 use std::marker::Model;
 
-static ZEROS: [u8; 4096] = [0; 4096];
+static ZEROS: [u8; 1024] = [0; 1024];
 
 /// Text that grows in memory. What was written is in front, and zeros follow it, so that a piece is stored with one test of the room.
 #[derive(Drop)]
