@@ -1,6 +1,6 @@
 //! Copies into a row of bytes.
 
-ghost use Rattle.std.specs.Prelude.{◌+◌, ◌≤◌, length, take};
+ghost use Rattle.std.specs.Prelude.{◌+◌, ◌<◌, ◌≤◌, length, take};
 ghost use Rattle.json5_write.specs.Copies.{Copied};
 
 use std::simd::Simd;
@@ -26,24 +26,31 @@ fn copy_ends<const N: usize>(row: &mut [u8], at: usize, text: &[u8])
     copy_front::<N>(row, at + last, &text[last..]);
 }
 
+/// Copies fewer than 8 bytes to this place.
+#[inline(always)]
+fn copy_few(row: &mut [u8], at: usize, text: &[u8])
+    requires fits { at + length text.now ≤ length row.old }
+    requires few { length text.now < 8 }
+    ensures { Copied row.old row.new at text.now (at + length text.now) }
+{
+    match text.len() {
+        4..=7 => copy_ends::<4>(row, at, text),
+        2..=3 => copy_ends::<2>(row, at, text),
+        1 => row[at] = text[0],
+        _ => {}
+    }
+}
+
 /// Copies the bytes to this place.
 #[inline(always)]
 pub(crate) fn copy_to(row: &mut [u8], at: usize, text: &[u8])
     requires { at + length text.now ≤ length row.old }
     ensures { Copied row.old row.new at text.now (at + length text.now) }
 {
-    let len = text.len();
-    if len > 32 {
-        row[at..at + len].copy_from_slice(text);
-    } else if len >= 16 {
-        copy_ends::<16>(row, at, text);
-    } else if len >= 8 {
-        copy_ends::<8>(row, at, text);
-    } else if len >= 4 {
-        copy_ends::<4>(row, at, text);
-    } else if len >= 2 {
-        copy_ends::<2>(row, at, text);
-    } else if len == 1 {
-        row[at] = text[0];
+    match text.len() {
+        0..=7 => copy_few(row, at, text),
+        8..=15 => copy_ends::<8>(row, at, text),
+        16..=32 => copy_ends::<16>(row, at, text),
+        len => row[at..at + len].copy_from_slice(text),
     }
 }
