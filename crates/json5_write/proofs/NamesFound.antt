@@ -1,8 +1,8 @@
 -- Identifiers, found character by character.
-use Rattle.std.proofs.Common.{◌≡◌, ℕ, List, [], ◌∷◌, ◌++◌, Bool, true, false, ◌&&◌, length, drop, refl, sym, ap, ◌∙◌, arith}
+use Rattle.std.proofs.Common.{◌≡◌, ℕ, ◌<◌, List, [], ◌∷◌, ◌++◌, Bool, true, false, ◌&&◌, length, drop, refl, sym, ap, ◌∙◌, arith, inl, inr}
 use Rattle.std.specs.Prelude.{nat_lt}
 use Rattle.std.specs.List.{list_all, take_while}
-use Rattle.std.proofs.lemmas.Bool.{and_parts}
+use Rattle.std.proofs.lemmas.Bool.{and_parts, cases_lt, le-ltb, agree_below, agree_below_at}
 use Rattle.std.proofs.lemmas.Bool.Decides.{nat_tests}
 use Rattle.std.specs.Str.{chars, IsUtf8}
 use Rattle.std.proofs.lemmas.Str.{chars-nil, chars_past_char}
@@ -10,6 +10,8 @@ use Rattle.json5_grammar.specs.Language.Characters.{is_identifier_start, is_iden
 use Rattle.json5_grammar.specs.Model.ReadNumbers.{rest_of}
 use Rattle.json5_grammar.proofs.CharacterTests.{front_each}
 use Rattle.json5_types.proofs.AsciiRuns.{PassesAscii, chars_split, rest_cut}
+use Rattle.json5_text.specs.ByteRuns.{is_ascii_part}
+use Rattle.json5_text.proofs.AsciiNames.{ascii_part}
 use Rattle.json5_write.specs.NameBytes.{is_name_byte}
 use Rattle.json5_grammar.specs.Written.Quoting.{is_name}
 use Rattle.json5_write.specs.Escaping.{StartsWithScalar}
@@ -37,6 +39,14 @@ pub no_name : (t : List ℕ) → t ≡ [] → false ≡ is_name (chars t)
 no_name t e = sym (ap (λ s. is_name (chars s)) e ∙ ap is_name chars-nil)
 
 -- ---- the ASCII characters in front
+
+-- a table that agrees with the ASCII characters of names
+pub by_table : (table : ℕ → Bool) (c : ℕ) → c < 256 → agree_below table (λ x. nat_lt x 128 && is_ascii_part x) 256 ≡ true → table c ≡ is_name_byte c
+by_table table c within agrees =
+    agree_below_at table (λ x. nat_lt x 128 && is_ascii_part x) 256 c agrees within ∙ elim (cases_lt c 128) [
+      | inl low ↦ ap (λ x. nat_lt c 128 && x) (sym (ascii_part c low))
+      | inr high ↦ rw (le-ltb c 128 high) refl
+    ]
 
 pub name_ascii : PassesAscii is_name_byte
 name_ascii c h = grind (arith, nat_tests)

@@ -10,12 +10,23 @@ ghost use Rattle.json5_write.specs.NameBytes.{is_name_byte, SkipsNameBytes};
 use crate::quoting::front;
 use json5_text::char::{is_json5_identifier, is_json5_identifier_start};
 
+// Each byte that may continue an identifier stands at its own place, and a comma at every other place.
+static NAME_BYTES: [u8; 256] = *b"\
+    ,,,,,,,,,,,,,,,,,,,,,,,,,,,,,,,,\
+    ,,,,$,,,,,,,,,,,0123456789,,,,,,\
+    ,ABCDEFGHIJKLMNOPQRSTUVWXYZ,,,,_\
+    ,abcdefghijklmnopqrstuvwxyz,,,,,\
+    ,,,,,,,,,,,,,,,,,,,,,,,,,,,,,,,,\
+    ,,,,,,,,,,,,,,,,,,,,,,,,,,,,,,,,\
+    ,,,,,,,,,,,,,,,,,,,,,,,,,,,,,,,,\
+    ,,,,,,,,,,,,,,,,,,,,,,,,,,,,,,,,";
+
 /// Whether the byte is an ASCII character that may continue an identifier.
 #[inline(always)]
 fn is_name_byte(byte: u8) -> bool
     ensures { result ≡ is_name_byte byte }
 {
-    byte < 128 && is_json5_identifier(char::from(byte))
+    NAME_BYTES[usize::from(byte)] != b','
 }
 
 /// How many such bytes are in front.
