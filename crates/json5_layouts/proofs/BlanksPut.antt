@@ -6,12 +6,7 @@ use Rattle.std.proofs.lemmas.Str.{chars-nil, chars-IsAscii, IsCharBoundary-from_
 use Rattle.std.proofs.lemmas.Str.Ascii.{IsAscii-nil, IsAscii-cons}
 use Rattle.json5_write.proofs.PiecesWritten.{chars_comma}
 use Rattle.json5_layouts.specs.Blanks.{blank_of}
-use Rattle.json5_layouts.specs.Layouts.{is_compact, line_in}
-use Rattle.json5_layouts.specs.Lines.{begun, BeginsLine}
 use Rattle.json5_layouts.specs.Styles.{comma_if}
-use Rattle.json5_layouts.specs.declared.layout.Layout.{Layout}
-use Rattle.json5_layouts.specs.declared.layout.Layout.TheVariants as layout
-use Rattle.json5_layouts.specs.declared.lines.Line.{Line}
 use Rattle.json5_layouts.specs.declared.lines.Blank.{Blank}
 use Rattle.json5_layouts.specs.declared.lines.Blank.TheVariants as blank
 
@@ -85,9 +80,3 @@ comma_alone due = ap (λ l. l ++ []) (chosen due [] (44 ∷ []) [] chars-nil cha
 -- no blank is left to put
 pub no_more : (a : List ℕ) (n b : ℕ) → n ≡ 0 → a ≡ a ++ replicate n b
 no_more a n b h = sym (ap (λ k. a ++ replicate k b) h ∙ append-nil a)
-
--- on one line there is the comma alone
-pub line_begun : (l : Layout) (due : Bool) (line : Line) (depth : ℕ) → BeginsLine line l depth → (if is_compact l then comma_if due else begun due line) ≡ comma_if due ++ line_in l depth
-line_begun layout.Compact due line depth h = sym (append-nil (comma_if due))
-line_begun (layout.Spaces n) due line depth h = h due
-line_begun layout.Tabs due line depth h = h due

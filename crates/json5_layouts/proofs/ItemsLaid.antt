@@ -1,5 +1,5 @@
 -- The next element or member of a list, and how deep it is.
-use Rattle.std.proofs.Common.{◌≡◌, ◌∙◌, ℕ, zero, suc, ◌+◌, ◌<◌, ◌≤◌, Bool, true, List, [], ◌∷◌, ◌++◌, length, get_or, drop, refl, sym, ap, subst, append_assoc, rules, arith, String, string_bytes}
+use Rattle.std.proofs.Common.{◌≡◌, ◌∙◌, ℕ, zero, suc, ◌+◌, ◌<◌, ◌≤◌, Bool, true, false, List, [], ◌∷◌, ◌++◌, append-nil, length, get_or, drop, refl, sym, ap, subst, append_assoc, rules, arith, String, string_bytes}
 use Rattle.std.specs.Prelude.{ℤ}
 use Rattle.std.specs.declared.alloc.Global.{Global}
 use Rattle.std.specs.Str.{chars}
@@ -10,7 +10,12 @@ use Rattle.json5_types.specs.ValueLookups.{datum_depth, items_depth, fields_dept
 use Rattle.json5_types.specs.ValueMeanings.{number, value_of, items_view, fields_view}
 use Rattle.json5_write.proofs.ValuesInside.{item_first}
 use Rattle.json5_layouts.specs.LaidBack.{HasNumbers, ItemsHaveNumbers, FieldsHaveNumbers}
-use Rattle.json5_layouts.specs.Styles.{Style, comma_if, laid, items_laid, fields_laid}
+use Rattle.json5_layouts.specs.Styles.{Style, comma_if, closed, laid, items_laid, fields_laid}
+use Rattle.json5_layouts.specs.Layouts.{is_compact, line_in, style_of}
+use Rattle.json5_layouts.specs.declared.layout.Layout.{Layout}
+use Rattle.json5_layouts.specs.declared.layout.Layout.TheVariants as layout
+use Rattle.json5_layouts.specs.declared.layout.Spelling.{Spelling}
+use Rattle.json5_layouts.specs.declared.layout.Spelling.TheVariants as spelling
 
 entry_then : (k m o r : List ℕ) → k ++ (m ++ (o ++ r)) ≡ (k ++ (m ++ o)) ++ r
 entry_then k m o r = simp append_assoc refl
@@ -24,6 +29,23 @@ pub next_field : (s : Style) (d : ℕ) (started : Bool) (fs : List (String Globa
 next_field s d started fs i f h e =
     ap (λ l. fields_laid s d started (fields_view l)) (item_first fs i f h e)
     ∙ ap (λ l. (comma_if started ++ s.line (d + 1)) ++ l) (entry_then (s.key (chars (string_bytes f.0))) (58 ∷ s.gap) (laid s (d + 1) (value_of f.1)) (fields_laid s d true (fields_view (drop (i + 1) fs))))
+
+-- ---- on one line
+
+no_line : (l : Layout) (d : ℕ) → is_compact l ≡ true → [] ≡ line_in l d
+no_line layout.Compact d h = refl
+no_line (layout.Spaces n) d h = absurd (cc)
+no_line layout.Tabs d h = absurd (cc)
+
+pub comma_alone_on_line : (l : Layout) (due : Bool) (d : ℕ) → is_compact l ≡ true → comma_if due ≡ comma_if due ++ line_in l d
+comma_alone_on_line l due d h = sym (append-nil (comma_if due)) ∙ ap (λ x. comma_if due ++ x) (no_line l d h)
+
+pub closed_on_line : (s : Spelling) (l : Layout) (d : ℕ) (started : Bool) → is_compact l ≡ true → closed (style_of s l) d started ≡ []
+closed_on_line s l d false h = refl
+closed_on_line spelling.Json5 layout.Compact d true h = refl
+closed_on_line spelling.Json layout.Compact d true h = refl
+closed_on_line s (layout.Spaces n) d true h = absurd (cc)
+closed_on_line s layout.Tabs d true h = absurd (cc)
 
 -- ---- numbers
 

@@ -6,7 +6,7 @@ ghost use Rattle.json5_grammar.specs.Language.Characters.{colon_sign, comma_sign
 ghost use Rattle.json5_write.specs.Out.{piece};
 ghost use Rattle.json5_write.specs.ShortWrites.{Puts};
 ghost use Rattle.json5_layouts.specs.Styles.{comma_if, closed};
-ghost use Rattle.json5_layouts.specs.Layouts.{gap_in, is_compact, has_last_comma, style_of};
+ghost use Rattle.json5_layouts.specs.Layouts.{gap_in, has_last_comma, style_of};
 ghost use Rattle.json5_layouts.specs.Lines.{begun, BeginsLine};
 ghost use Rattle.json5_layouts.specs.Blanks.{blank_of};
 
@@ -120,7 +120,7 @@ impl Line {
 
     /// Begins it, after a comma if one is due. It is one piece, unless it is very deep.
     #[inline(always)]
-    fn put<W: Write + Drop>(self, comma_due: bool, printer: &mut Printer<W>) -> Put
+    pub(crate) fn put<W: Write + Drop>(self, comma_due: bool, printer: &mut Printer<W>) -> Put
         ensures { Puts (piece (begun comma_due self)) printer.old result printer.new }
     {
         printer.put_piece(self.piece(comma_due))?;
@@ -131,21 +131,16 @@ impl Line {
     }
 }
 
-/// Begins the line, after a comma if one is due. Where all is on one line the comma is a constant, which is put faster.
+/// Writes a comma if one is due.
 #[inline(always)]
 #[tactic(auto, using(crate::proofs::PiecesPut::signs))]
-pub(crate) fn start_line<W: Write + Drop>(
-    layout: Layout,
-    line: Line,
-    comma_due: bool,
-    printer: &mut Printer<W>,
-) -> Put
-    ensures { Puts (piece (if is_compact layout then comma_if comma_due else begun comma_due line)) printer.old result printer.new }
+pub(crate) fn put_comma<W: Write + Drop>(comma_due: bool, printer: &mut Printer<W>) -> Put
+    ensures { Puts (piece (comma_if comma_due)) printer.old result printer.new }
 {
-    match layout {
-        Layout::Compact if comma_due => printer.put_piece(","),
-        Layout::Compact => printer.put_piece(""),
-        _ => line.put(comma_due, printer),
+    if comma_due {
+        printer.put_piece(",")
+    } else {
+        printer.put_piece("")
     }
 }
 
@@ -174,7 +169,7 @@ pub(crate) fn end_lines<W: Write + Drop>(
         return printer.put_piece("");
     }
     let line = Line::within(form.layout, depth);
-    start_line(form.layout, line, has_last_comma(form), printer)
+    line.put(has_last_comma(form), printer)
 }
 
 /// A colon, and a space where lines have blanks.

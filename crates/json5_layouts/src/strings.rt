@@ -18,6 +18,7 @@ use json5_write::refusal::Put;
 use std::io::Write;
 
 /// Writes a string.
+#[inline(always)]
 pub(crate) fn put_string<W: Write + Drop>(
     text: &str,
     spelling: Spelling,

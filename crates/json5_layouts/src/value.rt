@@ -1,6 +1,6 @@
 //! Values in a layout. Calls return small values, so that no frame holds an `Error`.
 
-ghost use Rattle.std.specs.Prelude.{◌+◌, ◌≤◌, ◌<◌, OnOk};
+ghost use Rattle.std.specs.Prelude.{◌≡◌, true, ◌+◌, ◌≤◌, ◌<◌, OnOk};
 ghost use Rattle.std.specs.Str.{chars};
 ghost use Rattle.json5_grammar.specs.Language.Documents.{max_depth};
 ghost use Rattle.json5_types.specs.ValueLookups.{datum_depth, items_depth, fields_depth};
@@ -9,10 +9,10 @@ ghost use Rattle.json5_write.specs.Out.{piece};
 ghost use Rattle.json5_write.specs.ShortWrites.{Puts, PutsTree};
 ghost use Rattle.json5_write.specs.WrittenTrees.{integer};
 ghost use Rattle.json5_layouts.specs.LaidBack.{HasNumbers, ItemsHaveNumbers, FieldsHaveNumbers};
-ghost use Rattle.json5_layouts.specs.Layouts.{laid_in, entry_in};
+ghost use Rattle.json5_layouts.specs.Layouts.{is_compact, laid_in, entry_in};
 
-use crate::layout::Form;
-use crate::lines::{Line, end_lines, start_line};
+use crate::layout::{Form, Layout};
+use crate::lines::{Line, end_lines, put_comma};
 use crate::strings::{put_key, put_string};
 use json5_types::value::Value;
 use json5_types::whole::Whole;
@@ -40,8 +40,8 @@ pub(crate) fn put_value<W: Write + Drop>(
         Value::Whole(number) => put_whole(*number, printer),
         Value::Decimal(number) => printer.put_decimal(number),
         Value::String(text) => put_string(text.as_str(), form.spelling, printer),
-        Value::Array(items) => put_items(items, form, depth, printer),
-        Value::Object(fields) => put_fields(fields, form, depth, printer),
+        Value::Array(items) => put_array(items, form, depth, printer),
+        Value::Object(fields) => put_object(fields, form, depth, printer),
     }
 }
 
@@ -59,6 +59,48 @@ fn put_whole<W: Write + Drop>(number: Whole, printer: &mut Printer<W>) -> Put
 
 /// Writes an array of the values.
 #[cycle(laid)]
+#[inline(always)]
+fn put_array<W: Write + Drop>(
+    items: &[Value],
+    form: &Form,
+    depth: usize,
+    printer: &mut Printer<W>,
+) -> Put
+    requires shallow { items_depth (items_view items.now) + depth < max_depth }
+    ensures text { Puts (piece (laid_in form.now depth (array (items_view items.now)))) printer.old result printer.new }
+    ensures numbers { OnOk result (ItemsHaveNumbers (items_view items.now)) }
+{
+    match form.layout {
+        Layout::Compact => put_items_on_line(items, form, depth, printer),
+        _ => put_items(items, form, depth, printer),
+    }
+}
+
+/// Writes an array on one line.
+#[cycle(laid)]
+fn put_items_on_line<W: Write + Drop>(
+    items: &[Value],
+    form: &Form,
+    depth: usize,
+    printer: &mut Printer<W>,
+) -> Put
+    requires shallow { items_depth (items_view items.now) + depth < max_depth }
+    requires on_line { is_compact form.now.layout ≡ true }
+    ensures text { Puts (piece (laid_in form.now depth (array (items_view items.now)))) printer.old result printer.new }
+    ensures numbers { OnOk result (ItemsHaveNumbers (items_view items.now)) }
+{
+    printer.put_piece("[")?;
+    let mut started = false;
+    for item in items {
+        put_comma(started, printer)?;
+        put_value(item, form, depth + 1, printer)?;
+        started = true;
+    }
+    printer.put_piece("]")
+}
+
+/// Writes an array of which each element begins a line.
+#[cycle(laid)]
 fn put_items<W: Write + Drop>(
     items: &[Value],
     form: &Form,
@@ -73,7 +115,7 @@ fn put_items<W: Write + Drop>(
     let line = Line::within(form.layout, depth + 1);
     let mut started = false;
     for item in items {
-        start_line(form.layout, line, started, printer)?;
+        line.put(started, printer)?;
         put_value(item, form, depth + 1, printer)?;
         started = true;
     }
@@ -82,6 +124,48 @@ fn put_items<W: Write + Drop>(
 }
 
 /// Writes an object of the members, in their order.
+#[cycle(laid)]
+#[inline(always)]
+fn put_object<W: Write + Drop>(
+    fields: &[(String, Value)],
+    form: &Form,
+    depth: usize,
+    printer: &mut Printer<W>,
+) -> Put
+    requires shallow { fields_depth (fields_view fields.now) + depth < max_depth }
+    ensures text { Puts (piece (laid_in form.now depth (object (fields_view fields.now)))) printer.old result printer.new }
+    ensures numbers { OnOk result (FieldsHaveNumbers (fields_view fields.now)) }
+{
+    match form.layout {
+        Layout::Compact => put_fields_on_line(fields, form, depth, printer),
+        _ => put_fields(fields, form, depth, printer),
+    }
+}
+
+/// Writes an object on one line.
+#[cycle(laid)]
+fn put_fields_on_line<W: Write + Drop>(
+    fields: &[(String, Value)],
+    form: &Form,
+    depth: usize,
+    printer: &mut Printer<W>,
+) -> Put
+    requires shallow { fields_depth (fields_view fields.now) + depth < max_depth }
+    requires on_line { is_compact form.now.layout ≡ true }
+    ensures text { Puts (piece (laid_in form.now depth (object (fields_view fields.now)))) printer.old result printer.new }
+    ensures numbers { OnOk result (FieldsHaveNumbers (fields_view fields.now)) }
+{
+    printer.put_piece("{")?;
+    let mut started = false;
+    for (key, value) in fields {
+        put_comma(started, printer)?;
+        put_entry(key, value, form, depth + 1, printer)?;
+        started = true;
+    }
+    printer.put_piece("}")
+}
+
+/// Writes an object of which each member begins a line.
 #[cycle(laid)]
 fn put_fields<W: Write + Drop>(
     fields: &[(String, Value)],
@@ -97,7 +181,7 @@ fn put_fields<W: Write + Drop>(
     let line = Line::within(form.layout, depth + 1);
     let mut started = false;
     for (key, value) in fields {
-        start_line(form.layout, line, started, printer)?;
+        line.put(started, printer)?;
         put_entry(key, value, form, depth + 1, printer)?;
         started = true;
     }

@@ -1,7 +1,6 @@
 use Rattle.std.proofs.Common.{◌++◌, ap, ◌∙◌}
 use Rattle.json5_layouts.specs.Layouts.{line_in}
 use Rattle.json5_layouts.specs.Styles.{comma_if}
-use Rattle.json5_layouts.proofs.BlanksPut.{line_begun}
 use Rattle.json5_layouts.proofs.PiecesPut.{put_as, chars_nil}
 use Rattle.json5_layouts.proofs.lines.end_lines.Goals as goal
 
@@ -11,4 +10,4 @@ returns-then-not-started g c = rw c.if-not-started.true (put_as _ _ _ _ _ chars_
 pub returns : goal.returns
 returns g c =
     let line = line_in c.args.form.now.layout c.args.depth in
-    rw c.if-not-started.false (put_as _ _ _ _ _ (line_begun c.args.form.now.layout c.has_last_comma.result c.within-line.result c.args.depth c.within-line.ensures ∙ ap (λ b. comma_if b ++ line) c.has_last_comma.ensures) c.start_line.ensures)
+    rw c.if-not-started.false (put_as _ _ _ _ _ (c.within-line.ensures c.has_last_comma.result ∙ ap (λ b. comma_if b ++ line) c.has_last_comma.ensures) c.put.ensures)

@@ -1,4 +1,4 @@
-use Rattle.std.proofs.Common.{◌≡◌, ◌+◌, ◌<◌, ◌≤◌, suc, false, [], ◌∷◌, ◌++◌, length, drop_of_length-le, refl, sym, ap, subst, rules, arith, append_assoc, string_bytes}
+use Rattle.std.proofs.Common.{◌≡◌, ◌+◌, ◌<◌, ◌≤◌, suc, false, [], ◌∷◌, ◌++◌, length, drop_of_length-le, refl, sym, ap, ◌∙◌, subst, rules, arith, append_assoc, string_bytes}
 use Rattle.std.specs.Str.{chars}
 use Rattle.json5_grammar.specs.Language.Numbers.{decimal, whole}
 use Rattle.json5_types.proofs.ValuesCompared.{view-Null, view-String, view-Array, view-Object}
@@ -11,8 +11,7 @@ use Rattle.json5_write.proofs.ShortWritesJoined.{Reaches-stop, Reaches-end}
 use Rattle.json5_layouts.specs.LaidBack.{ItemsHaveNumbers, FieldsHaveNumbers}
 use Rattle.json5_layouts.specs.Styles.{comma_if, closed, laid, items_laid, fields_laid}
 use Rattle.json5_layouts.specs.Layouts.{gap_in, key_in, style_of, laid_in}
-use Rattle.json5_layouts.proofs.BlanksPut.{line_begun}
-use Rattle.json5_layouts.proofs.ItemsLaid.{next_item, next_field, item_within, field_within, items_numbers, fields_numbers, view-Decimal, view-Whole}
+use Rattle.json5_layouts.proofs.ItemsLaid.{comma_alone_on_line, closed_on_line, next_item, next_field, item_within, field_within, items_numbers, fields_numbers, view-Decimal, view-Whole}
 use Rattle.json5_layouts.proofs.PiecesPut.{stop_first, then_second, put_as, wrote_as, refused_as, reaches_as, number_put, number_had, on_ok}
 use Rattle.json5_layouts.proofs.value.+laid.Goals as goal
 
@@ -29,16 +28,16 @@ pub put_value-returns-in-String-clause-numbers : goal.put_value-returns-in-Strin
 put_value-returns-in-String-clause-numbers g t c = rw (c.in-String.is, view-String c.in-String.text) (on_ok c.put_string.result tt)
 
 pub put_value-returns-in-Array-clause-text : goal.put_value-returns-in-Array-clause-text
-put_value-returns-in-Array-clause-text g t c = rw (c.in-Array.is, view-Array c.in-Array.items, ← c.deref.ensures.value) c.put_items.ensures.text
+put_value-returns-in-Array-clause-text g t c = rw (c.in-Array.is, view-Array c.in-Array.items, ← c.deref.ensures.value) c.put_array.ensures.text
 
 pub put_value-returns-in-Array-clause-numbers : goal.put_value-returns-in-Array-clause-numbers
-put_value-returns-in-Array-clause-numbers g t c = rw (c.in-Array.is, view-Array c.in-Array.items, ← c.deref.ensures.value) c.put_items.ensures.numbers
+put_value-returns-in-Array-clause-numbers g t c = rw (c.in-Array.is, view-Array c.in-Array.items, ← c.deref.ensures.value) c.put_array.ensures.numbers
 
 pub put_value-returns-in-Object-clause-text : goal.put_value-returns-in-Object-clause-text
-put_value-returns-in-Object-clause-text g t c = rw (c.in-Object.is, view-Object c.in-Object.fields, ← c.deref-in-Object.ensures.value) c.put_fields.ensures.text
+put_value-returns-in-Object-clause-text g t c = rw (c.in-Object.is, view-Object c.in-Object.fields, ← c.deref-in-Object.ensures.value) c.put_object.ensures.text
 
 pub put_value-returns-in-Object-clause-numbers : goal.put_value-returns-in-Object-clause-numbers
-put_value-returns-in-Object-clause-numbers g t c = rw (c.in-Object.is, view-Object c.in-Object.fields, ← c.deref-in-Object.ensures.value) c.put_fields.ensures.numbers
+put_value-returns-in-Object-clause-numbers g t c = rw (c.in-Object.is, view-Object c.in-Object.fields, ← c.deref-in-Object.ensures.value) c.put_object.ensures.numbers
 
 pub put_value-returns-in-Decimal-clause-text : goal.put_value-returns-in-Decimal-clause-text
 put_value-returns-in-Decimal-clause-text g t c =
@@ -60,17 +59,23 @@ put_value-returns-in-Whole-clause-numbers g t c =
     let z = c.in-Whole.number in
     rw (c.in-Whole.is, view-Whole z) (number_had (whole z) c.args.printer.now c.put_whole.new.printer c.put_whole.result c.put_whole.ensures)
 
-pub put_value-put_items-requires : goal.put_value-put_items-requires
-put_value-put_items-requires g t c =
+pub put_value-put_array-requires : goal.put_value-put_array-requires
+put_value-put_array-requires g t c =
     let deep : datum_depth (value_of c.args.value.now) ≡ suc (items_depth (items_view c.deref.result.now)) = rw (c.in-Array.is, view-Array c.in-Array.items, ← c.deref.ensures.value) refl in
     λ κs sub. (omega (arith, deep, c.decreases), (search rules, omega (arith, deep, c.requires)))
 
-pub put_value-put_fields-requires : goal.put_value-put_fields-requires
-put_value-put_fields-requires g t c =
+pub put_value-put_object-requires : goal.put_value-put_object-requires
+put_value-put_object-requires g t c =
     let deep : datum_depth (value_of c.args.value.now) ≡ suc (fields_depth (fields_view c.deref-in-Object.result.now)) = rw (c.in-Object.is, view-Object c.in-Object.fields, ← c.deref-in-Object.ensures.value) refl in
     λ κs sub. (omega (arith, deep, c.decreases), (search rules, omega (arith, deep, c.requires)))
 
 -- ---- arrays
+
+pub put_array-put_items_on_line-requires : goal.put_array-put_items_on_line-requires
+put_array-put_items_on_line-requires g t c = λ κs sub. (omega (arith, c.decreases), (search rules, (c.requires.shallow, rw c.in-Compact.is refl)))
+
+pub put_array-put_items-requires : goal.put_array-put_items-requires
+put_array-put_items-requires g t c = λ κs sub. (omega (arith, c.decreases), (search rules, c.requires.shallow))
 
 pub put_items-put_value-requires : goal.put_items-put_value-requires
 put_items-put_value-requires g t c =
@@ -88,14 +93,14 @@ put_items-loop-item-init g t c =
     let s = style_of c.args.form.now.spelling c.args.form.now.layout in
     record { numbers = λ h. h; reaches = Reaches-first (piece (91 ∷ [])) (piece (items_laid s c.args.depth false (items_view c.args.items.now))) _ _ (wrote_as _ _ _ _ chars_left_bracket c.in_ok-put_piece.ensures) }
 
-pub put_items-returns-in_err-start_line-clause-text : goal.put_items-returns-in_err-start_line-clause-text
-put_items-returns-in_err-start_line-clause-text g t c =
+pub put_items-returns-in_err-put-clause-text : goal.put_items-returns-in_err-put-clause-text
+put_items-returns-in_err-put-clause-text g t c =
     let l = c.loop-item in
     let s = style_of c.args.form.now.spelling c.args.form.now.layout in
     let left : l.item-index < length c.args.items.now = search rules in
     let v = c.item-item.result in
     let next = reaches_as _ _ _ _ _ (next_item s c.args.depth l.started c.args.items.now l.item-index v left c.item-item.is) l.invariant.reaches in
-    Reaches-stop _ (piece (comma_if l.started ++ s.line (c.args.depth + 1))) _ _ _ _ _ _ next c.from_residual-in_err-start_line.ensures.1 (refused_as _ _ _ _ _ (line_begun c.args.form.now.layout l.started c.within-line.result (c.args.depth + 1) c.within-line.ensures) c.in_err-start_line.ensures)
+    Reaches-stop _ (piece (comma_if l.started ++ s.line (c.args.depth + 1))) _ _ _ _ _ _ next c.from_residual-in_err-put.ensures.1 (refused_as _ _ _ _ _ (c.within-line.ensures l.started) c.in_err-put.ensures)
 
 pub put_items-returns-in_err-put_value-clause-text : goal.put_items-returns-in_err-put_value-clause-text
 put_items-returns-in_err-put_value-clause-text g t c =
@@ -104,7 +109,7 @@ put_items-returns-in_err-put_value-clause-text g t c =
     let left : l.item-index < length c.args.items.now = search rules in
     let v = c.item-item.result in
     let next = reaches_as _ _ _ _ _ (next_item s c.args.depth l.started c.args.items.now l.item-index v left c.item-item.is) l.invariant.reaches in
-    let after = Reaches-next _ (piece (comma_if l.started ++ s.line (c.args.depth + 1))) _ _ _ _ next (wrote_as _ _ _ _ (line_begun c.args.form.now.layout l.started c.within-line.result (c.args.depth + 1) c.within-line.ensures) c.in_ok-start_line.ensures) in
+    let after = Reaches-next _ (piece (comma_if l.started ++ s.line (c.args.depth + 1))) _ _ _ _ next (wrote_as _ _ _ _ (c.within-line.ensures l.started) c.in_ok-put.ensures) in
     Reaches-stop _ (piece (laid s (c.args.depth + 1) (value_of v))) _ _ _ _ _ _ after c.from_residual-in_err-put_value.ensures.1 c.in_err-put_value.ensures.text
 
 pub put_items-loop-item-preserved : goal.put_items-loop-item-preserved
@@ -114,7 +119,7 @@ put_items-loop-item-preserved g t c =
     let left : l.item-index < length c.args.items.now = search rules in
     let v = c.item-item.result in
     let next = reaches_as _ _ _ _ _ (next_item s c.args.depth l.started c.args.items.now l.item-index v left c.item-item.is) l.invariant.reaches in
-    let after = Reaches-next _ (piece (comma_if l.started ++ s.line (c.args.depth + 1))) _ _ _ _ next (wrote_as _ _ _ _ (line_begun c.args.form.now.layout l.started c.within-line.result (c.args.depth + 1) c.within-line.ensures) c.in_ok-start_line.ensures) in
+    let after = Reaches-next _ (piece (comma_if l.started ++ s.line (c.args.depth + 1))) _ _ _ _ next (wrote_as _ _ _ _ (c.within-line.ensures l.started) c.in_ok-put.ensures) in
     record {
       reaches = Reaches-next _ (piece (laid s (c.args.depth + 1) (value_of v))) _ _ _ _ after c.in_ok-put_value.ensures.text;
       numbers = λ rest. l.invariant.numbers (items_numbers c.args.items.now l.item-index v left c.item-item.is c.in_ok-put_value.ensures.numbers rest);
@@ -142,7 +147,77 @@ put_items-returns-clause-numbers g t c =
     let none : length c.args.items.now ≤ l.item-index = search rules in
     on_ok c.put_piece-2.result (l.invariant.numbers (subst (λ x. ItemsHaveNumbers (items_view x)) (sym (drop_of_length-le c.args.items.now none)) tt))
 
+-- ---- arrays on one line
+
+pub put_items_on_line-put_value-requires : goal.put_items_on_line-put_value-requires
+put_items_on_line-put_value-requires g t c =
+    let left : c.loop-item.item-index < length c.args.items.now = search rules in
+    let inside = item_within c.args.items.now c.loop-item.item-index c.item-item.result left c.item-item.is in
+    λ κs sub. (omega (arith, inside, c.decreases), (search rules, omega (arith, inside, c.requires.shallow)))
+
+pub put_items_on_line-returns-in_err-put_piece-clause-text : goal.put_items_on_line-returns-in_err-put_piece-clause-text
+put_items_on_line-returns-in_err-put_piece-clause-text g t c =
+    let s = style_of c.args.form.now.spelling c.args.form.now.layout in
+    stop_first (91 ∷ []) (items_laid s c.args.depth false (items_view c.args.items.now)) _ _ _ _ c.from_residual.ensures.1 (refused_as _ _ _ _ _ chars_left_bracket c.in_err-put_piece.ensures)
+
+pub put_items_on_line-loop-item-init : goal.put_items_on_line-loop-item-init
+put_items_on_line-loop-item-init g t c =
+    let s = style_of c.args.form.now.spelling c.args.form.now.layout in
+    record { numbers = λ h. h; reaches = Reaches-first (piece (91 ∷ [])) (piece (items_laid s c.args.depth false (items_view c.args.items.now))) _ _ (wrote_as _ _ _ _ chars_left_bracket c.in_ok-put_piece.ensures) }
+
+pub put_items_on_line-returns-in_err-put_comma-clause-text : goal.put_items_on_line-returns-in_err-put_comma-clause-text
+put_items_on_line-returns-in_err-put_comma-clause-text g t c =
+    let l = c.loop-item in
+    let s = style_of c.args.form.now.spelling c.args.form.now.layout in
+    let left : l.item-index < length c.args.items.now = search rules in
+    let v = c.item-item.result in
+    let next = reaches_as _ _ _ _ _ (next_item s c.args.depth l.started c.args.items.now l.item-index v left c.item-item.is) l.invariant.reaches in
+    Reaches-stop _ (piece (comma_if l.started ++ s.line (c.args.depth + 1))) _ _ _ _ _ _ next c.from_residual-in_err-put_comma.ensures.1 (refused_as _ _ _ _ _ (comma_alone_on_line c.args.form.now.layout l.started (c.args.depth + 1) c.requires.on_line) c.in_err-put_comma.ensures)
+
+pub put_items_on_line-returns-in_err-put_value-clause-text : goal.put_items_on_line-returns-in_err-put_value-clause-text
+put_items_on_line-returns-in_err-put_value-clause-text g t c =
+    let l = c.loop-item in
+    let s = style_of c.args.form.now.spelling c.args.form.now.layout in
+    let left : l.item-index < length c.args.items.now = search rules in
+    let v = c.item-item.result in
+    let next = reaches_as _ _ _ _ _ (next_item s c.args.depth l.started c.args.items.now l.item-index v left c.item-item.is) l.invariant.reaches in
+    let after = Reaches-next _ (piece (comma_if l.started ++ s.line (c.args.depth + 1))) _ _ _ _ next (wrote_as _ _ _ _ (comma_alone_on_line c.args.form.now.layout l.started (c.args.depth + 1) c.requires.on_line) c.in_ok-put_comma.ensures) in
+    Reaches-stop _ (piece (laid s (c.args.depth + 1) (value_of v))) _ _ _ _ _ _ after c.from_residual-in_err-put_value.ensures.1 c.in_err-put_value.ensures.text
+
+pub put_items_on_line-loop-item-preserved : goal.put_items_on_line-loop-item-preserved
+put_items_on_line-loop-item-preserved g t c =
+    let l = c.loop-item in
+    let s = style_of c.args.form.now.spelling c.args.form.now.layout in
+    let left : l.item-index < length c.args.items.now = search rules in
+    let v = c.item-item.result in
+    let next = reaches_as _ _ _ _ _ (next_item s c.args.depth l.started c.args.items.now l.item-index v left c.item-item.is) l.invariant.reaches in
+    let after = Reaches-next _ (piece (comma_if l.started ++ s.line (c.args.depth + 1))) _ _ _ _ next (wrote_as _ _ _ _ (comma_alone_on_line c.args.form.now.layout l.started (c.args.depth + 1) c.requires.on_line) c.in_ok-put_comma.ensures) in
+    record {
+      reaches = Reaches-next _ (piece (laid s (c.args.depth + 1) (value_of v))) _ _ _ _ after c.in_ok-put_value.ensures.text;
+      numbers = λ rest. l.invariant.numbers (items_numbers c.args.items.now l.item-index v left c.item-item.is c.in_ok-put_value.ensures.numbers rest);
+    }
+
+pub put_items_on_line-returns-clause-text : goal.put_items_on_line-returns-clause-text
+put_items_on_line-returns-clause-text g t c =
+    let l = c.loop-item in
+    let s = style_of c.args.form.now.spelling c.args.form.now.layout in
+    let none : length c.args.items.now ≤ l.item-index = search rules in
+    let closes = ap (λ x. items_laid s c.args.depth l.started (items_view x)) (drop_of_length-le c.args.items.now none) ∙ ap (λ x. x ++ 93 ∷ []) (closed_on_line c.args.form.now.spelling c.args.form.now.layout c.args.depth l.started c.requires.on_line) in
+    Reaches-end _ (piece (93 ∷ [])) _ _ _ _ (reaches_as _ _ _ _ _ closes l.invariant.reaches) (put_as _ _ _ _ _ chars_right_bracket c.put_piece-2.ensures)
+
+pub put_items_on_line-returns-clause-numbers : goal.put_items_on_line-returns-clause-numbers
+put_items_on_line-returns-clause-numbers g t c =
+    let l = c.loop-item in
+    let none : length c.args.items.now ≤ l.item-index = search rules in
+    on_ok c.put_piece-2.result (l.invariant.numbers (subst (λ x. ItemsHaveNumbers (items_view x)) (sym (drop_of_length-le c.args.items.now none)) tt))
+
 -- ---- objects
+
+pub put_object-put_fields_on_line-requires : goal.put_object-put_fields_on_line-requires
+put_object-put_fields_on_line-requires g t c = λ κs sub. (omega (arith, c.decreases), (search rules, (c.requires.shallow, rw c.in-Compact.is refl)))
+
+pub put_object-put_fields-requires : goal.put_object-put_fields-requires
+put_object-put_fields-requires g t c = λ κs sub. (omega (arith, c.decreases), (search rules, c.requires.shallow))
 
 pub put_fields-put_entry-requires : goal.put_fields-put_entry-requires
 put_fields-put_entry-requires g t c =
@@ -160,14 +235,14 @@ put_fields-loop-key-init g t c =
     let s = style_of c.args.form.now.spelling c.args.form.now.layout in
     record { numbers = λ h. h; reaches = Reaches-first (piece (123 ∷ [])) (piece (fields_laid s c.args.depth false (fields_view c.args.fields.now))) _ _ (wrote_as _ _ _ _ chars_left_brace c.in_ok-put_piece.ensures) }
 
-pub put_fields-returns-in_err-start_line-clause-text : goal.put_fields-returns-in_err-start_line-clause-text
-put_fields-returns-in_err-start_line-clause-text g t c =
+pub put_fields-returns-in_err-put-clause-text : goal.put_fields-returns-in_err-put-clause-text
+put_fields-returns-in_err-put-clause-text g t c =
     let l = c.loop-key in
     let s = style_of c.args.form.now.spelling c.args.form.now.layout in
     let left : l.key-index < length c.args.fields.now = search rules in
     let v = c.loop-key-item.result in
     let next = reaches_as _ _ _ _ _ (next_field s c.args.depth l.started c.args.fields.now l.key-index v left c.loop-key-item.is) l.invariant.reaches in
-    Reaches-stop _ (piece (comma_if l.started ++ s.line (c.args.depth + 1))) _ _ _ _ _ _ next c.from_residual-in_err-start_line.ensures.1 (refused_as _ _ _ _ _ (line_begun c.args.form.now.layout l.started c.within-line.result (c.args.depth + 1) c.within-line.ensures) c.in_err-start_line.ensures)
+    Reaches-stop _ (piece (comma_if l.started ++ s.line (c.args.depth + 1))) _ _ _ _ _ _ next c.from_residual-in_err-put.ensures.1 (refused_as _ _ _ _ _ (c.within-line.ensures l.started) c.in_err-put.ensures)
 
 pub put_fields-returns-in_err-put_entry-clause-text : goal.put_fields-returns-in_err-put_entry-clause-text
 put_fields-returns-in_err-put_entry-clause-text g t c =
@@ -176,7 +251,7 @@ put_fields-returns-in_err-put_entry-clause-text g t c =
     let left : l.key-index < length c.args.fields.now = search rules in
     let v = c.loop-key-item.result in
     let next = reaches_as _ _ _ _ _ (next_field s c.args.depth l.started c.args.fields.now l.key-index v left c.loop-key-item.is) l.invariant.reaches in
-    let after = Reaches-next _ (piece (comma_if l.started ++ s.line (c.args.depth + 1))) _ _ _ _ next (wrote_as _ _ _ _ (line_begun c.args.form.now.layout l.started c.within-line.result (c.args.depth + 1) c.within-line.ensures) c.in_ok-start_line.ensures) in
+    let after = Reaches-next _ (piece (comma_if l.started ++ s.line (c.args.depth + 1))) _ _ _ _ next (wrote_as _ _ _ _ (c.within-line.ensures l.started) c.in_ok-put.ensures) in
     Reaches-stop _ (piece (s.key (chars (string_bytes v.0)) ++ 58 ∷ (s.gap ++ laid s (c.args.depth + 1) (value_of v.1)))) _ _ _ _ _ _ after c.from_residual-in_err-put_entry.ensures.1 (rw c.deref.ensures at c.in_err-put_entry.ensures.text)
 
 pub put_fields-loop-key-preserved : goal.put_fields-loop-key-preserved
@@ -186,7 +261,7 @@ put_fields-loop-key-preserved g t c =
     let left : l.key-index < length c.args.fields.now = search rules in
     let v = c.loop-key-item.result in
     let next = reaches_as _ _ _ _ _ (next_field s c.args.depth l.started c.args.fields.now l.key-index v left c.loop-key-item.is) l.invariant.reaches in
-    let after = Reaches-next _ (piece (comma_if l.started ++ s.line (c.args.depth + 1))) _ _ _ _ next (wrote_as _ _ _ _ (line_begun c.args.form.now.layout l.started c.within-line.result (c.args.depth + 1) c.within-line.ensures) c.in_ok-start_line.ensures) in
+    let after = Reaches-next _ (piece (comma_if l.started ++ s.line (c.args.depth + 1))) _ _ _ _ next (wrote_as _ _ _ _ (c.within-line.ensures l.started) c.in_ok-put.ensures) in
     record {
       reaches = Reaches-next _ (piece (s.key (chars (string_bytes v.0)) ++ 58 ∷ (s.gap ++ laid s (c.args.depth + 1) (value_of v.1)))) _ _ _ _ after (rw c.deref.ensures at c.in_ok-put_entry.ensures.text);
       numbers = λ rest. l.invariant.numbers (fields_numbers c.args.fields.now l.key-index v left c.loop-key-item.is c.in_ok-put_entry.ensures.numbers rest);
@@ -210,6 +285,70 @@ put_fields-returns-clause-text g t c =
 
 pub put_fields-returns-clause-numbers : goal.put_fields-returns-clause-numbers
 put_fields-returns-clause-numbers g t c =
+    let l = c.loop-key in
+    let none : length c.args.fields.now ≤ l.key-index = search rules in
+    on_ok c.put_piece-2.result (l.invariant.numbers (subst (λ x. FieldsHaveNumbers (fields_view x)) (sym (drop_of_length-le c.args.fields.now none)) tt))
+
+-- ---- objects on one line
+
+pub put_fields_on_line-put_entry-requires : goal.put_fields_on_line-put_entry-requires
+put_fields_on_line-put_entry-requires g t c =
+    let left : c.loop-key.key-index < length c.args.fields.now = search rules in
+    let inside = field_within c.args.fields.now c.loop-key.key-index c.loop-key-item.result left c.loop-key-item.is in
+    λ κs sub. (omega (arith, inside, c.decreases), (search rules, omega (arith, inside, c.requires.shallow)))
+
+pub put_fields_on_line-returns-in_err-put_piece-clause-text : goal.put_fields_on_line-returns-in_err-put_piece-clause-text
+put_fields_on_line-returns-in_err-put_piece-clause-text g t c =
+    let s = style_of c.args.form.now.spelling c.args.form.now.layout in
+    stop_first (123 ∷ []) (fields_laid s c.args.depth false (fields_view c.args.fields.now)) _ _ _ _ c.from_residual.ensures.1 (refused_as _ _ _ _ _ chars_left_brace c.in_err-put_piece.ensures)
+
+pub put_fields_on_line-loop-key-init : goal.put_fields_on_line-loop-key-init
+put_fields_on_line-loop-key-init g t c =
+    let s = style_of c.args.form.now.spelling c.args.form.now.layout in
+    record { numbers = λ h. h; reaches = Reaches-first (piece (123 ∷ [])) (piece (fields_laid s c.args.depth false (fields_view c.args.fields.now))) _ _ (wrote_as _ _ _ _ chars_left_brace c.in_ok-put_piece.ensures) }
+
+pub put_fields_on_line-returns-in_err-put_comma-clause-text : goal.put_fields_on_line-returns-in_err-put_comma-clause-text
+put_fields_on_line-returns-in_err-put_comma-clause-text g t c =
+    let l = c.loop-key in
+    let s = style_of c.args.form.now.spelling c.args.form.now.layout in
+    let left : l.key-index < length c.args.fields.now = search rules in
+    let v = c.loop-key-item.result in
+    let next = reaches_as _ _ _ _ _ (next_field s c.args.depth l.started c.args.fields.now l.key-index v left c.loop-key-item.is) l.invariant.reaches in
+    Reaches-stop _ (piece (comma_if l.started ++ s.line (c.args.depth + 1))) _ _ _ _ _ _ next c.from_residual-in_err-put_comma.ensures.1 (refused_as _ _ _ _ _ (comma_alone_on_line c.args.form.now.layout l.started (c.args.depth + 1) c.requires.on_line) c.in_err-put_comma.ensures)
+
+pub put_fields_on_line-returns-in_err-put_entry-clause-text : goal.put_fields_on_line-returns-in_err-put_entry-clause-text
+put_fields_on_line-returns-in_err-put_entry-clause-text g t c =
+    let l = c.loop-key in
+    let s = style_of c.args.form.now.spelling c.args.form.now.layout in
+    let left : l.key-index < length c.args.fields.now = search rules in
+    let v = c.loop-key-item.result in
+    let next = reaches_as _ _ _ _ _ (next_field s c.args.depth l.started c.args.fields.now l.key-index v left c.loop-key-item.is) l.invariant.reaches in
+    let after = Reaches-next _ (piece (comma_if l.started ++ s.line (c.args.depth + 1))) _ _ _ _ next (wrote_as _ _ _ _ (comma_alone_on_line c.args.form.now.layout l.started (c.args.depth + 1) c.requires.on_line) c.in_ok-put_comma.ensures) in
+    Reaches-stop _ (piece (s.key (chars (string_bytes v.0)) ++ 58 ∷ (s.gap ++ laid s (c.args.depth + 1) (value_of v.1)))) _ _ _ _ _ _ after c.from_residual-in_err-put_entry.ensures.1 (rw c.deref.ensures at c.in_err-put_entry.ensures.text)
+
+pub put_fields_on_line-loop-key-preserved : goal.put_fields_on_line-loop-key-preserved
+put_fields_on_line-loop-key-preserved g t c =
+    let l = c.loop-key in
+    let s = style_of c.args.form.now.spelling c.args.form.now.layout in
+    let left : l.key-index < length c.args.fields.now = search rules in
+    let v = c.loop-key-item.result in
+    let next = reaches_as _ _ _ _ _ (next_field s c.args.depth l.started c.args.fields.now l.key-index v left c.loop-key-item.is) l.invariant.reaches in
+    let after = Reaches-next _ (piece (comma_if l.started ++ s.line (c.args.depth + 1))) _ _ _ _ next (wrote_as _ _ _ _ (comma_alone_on_line c.args.form.now.layout l.started (c.args.depth + 1) c.requires.on_line) c.in_ok-put_comma.ensures) in
+    record {
+      reaches = Reaches-next _ (piece (s.key (chars (string_bytes v.0)) ++ 58 ∷ (s.gap ++ laid s (c.args.depth + 1) (value_of v.1)))) _ _ _ _ after (rw c.deref.ensures at c.in_ok-put_entry.ensures.text);
+      numbers = λ rest. l.invariant.numbers (fields_numbers c.args.fields.now l.key-index v left c.loop-key-item.is c.in_ok-put_entry.ensures.numbers rest);
+    }
+
+pub put_fields_on_line-returns-clause-text : goal.put_fields_on_line-returns-clause-text
+put_fields_on_line-returns-clause-text g t c =
+    let l = c.loop-key in
+    let s = style_of c.args.form.now.spelling c.args.form.now.layout in
+    let none : length c.args.fields.now ≤ l.key-index = search rules in
+    let closes = ap (λ x. fields_laid s c.args.depth l.started (fields_view x)) (drop_of_length-le c.args.fields.now none) ∙ ap (λ x. x ++ 125 ∷ []) (closed_on_line c.args.form.now.spelling c.args.form.now.layout c.args.depth l.started c.requires.on_line) in
+    Reaches-end _ (piece (125 ∷ [])) _ _ _ _ (reaches_as _ _ _ _ _ closes l.invariant.reaches) (put_as _ _ _ _ _ chars_right_brace c.put_piece-2.ensures)
+
+pub put_fields_on_line-returns-clause-numbers : goal.put_fields_on_line-returns-clause-numbers
+put_fields_on_line-returns-clause-numbers g t c =
     let l = c.loop-key in
     let none : length c.args.fields.now ≤ l.key-index = search rules in
     on_ok c.put_piece-2.result (l.invariant.numbers (subst (λ x. FieldsHaveNumbers (fields_view x)) (sym (drop_of_length-le c.args.fields.now none)) tt))
