@@ -2,14 +2,18 @@
 use Rattle.std.proofs.Common.{◌≡◌, ◌<◌, ℕ, suc, ◌+◌, max, Bool, true, false, ◌&&◌, List, length, drop, get_or, Option, None, Some, refl, sym, ap, ap₂, ◌∙◌, arith, String}
 use Rattle.std.specs.declared.alloc.Global.{Global}
 use Rattle.json5_types.specs.declared.value.Value.{Value}
-use Rattle.json5_types.specs.ValueMeanings.{Items, Fields, value_of, items_view, fields_view}
+use Rattle.json5_grammar.specs.Language.Numbers as numbers
+use Rattle.json5_types.specs.ValueMeanings.{Datum, null, boolean, number, text, array, object, Items, no_item, item, Fields, value_of, items_view, fields_view}
 use Rattle.json5_types.specs.ValueLookups.{datum_depth, items_depth, fields_depth}
 use Rattle.json5_types.proofs.DeepestInside.{max_within}
 use Rattle.json5_write.proofs.ValuesInside.{item_first}
+use Rattle.std.specs.Prelude.{MatchOption}
+use Rattle.std.specs.Option.{is_some}
+use Rattle.std.proofs.lemmas.Bool.{and_parts}
 use Rattle.json5_layouts.specs.declared.layout.Spelling.{Spelling}
 use Rattle.json5_layouts.specs.declared.layout.Spelling.TheVariants as spelling
 use Rattle.json5_layouts.specs.JsonTexts.{is_json, items_are_json, fields_are_json}
-use Rattle.json5_layouts.specs.Writable.{is_spelled, is_within, is_writable, IsInside}
+use Rattle.json5_layouts.specs.Writable.{is_plain, items_are_plain, is_spelled, is_within, is_writable, IsFull, IsInside}
 
 abbrev pub items_writable : Spelling → Option ℕ → Items → Bool
 items_writable s left xs = is_within left (items_depth xs) && is_spelled s (items_are_json xs)
@@ -65,3 +69,35 @@ none_left spelling.Json (Some n) = grind arith
 -- a bracket takes one of the room
 pub one_more : (room left : Option ℕ) (depth : ℕ) (b : Bool) → IsInside room left → (is_within room (suc depth) && b) ≡ (is_within left depth && b)
 one_more room left depth b h = ap (λ w. w && b) (h depth)
+
+-- ---- plain ones
+
+pub next_plain : (vs : List Value) (i : ℕ) (v : Value) → i < length vs → v ≡ get_or vs i v → items_are_plain (items_view (drop i vs)) ≡ (is_plain (value_of v) && items_are_plain (items_view (drop (i + 1) vs)))
+next_plain vs i v h e = ap (λ l. items_are_plain (items_view l)) (item_first vs i v h e)
+
+flat : (x : Datum) → is_plain x ≡ true → (datum_depth x ≡ 0) × (is_json x ≡ true)
+flat null h = (refl, refl)
+flat (boolean b) h = (refl, refl)
+flat (number (numbers.whole z)) h = (refl, refl)
+flat (number (numbers.decimal d)) h = absurd (cc)
+flat (text u) h = (refl, refl)
+flat (array xs) h = absurd (cc)
+flat (object fs) h = absurd (cc)
+
+all_flat : (xs : Items) → items_are_plain xs ≡ true → (items_depth xs ≡ 0) × (items_are_json xs ≡ true)
+all_flat no_item h = (refl, refl)
+all_flat (item x xs) h =
+    let both = and_parts (is_plain x) (items_are_plain xs) h in
+    let first = flat x both.0 in
+    let rest = all_flat xs both.1 in
+    (ap₂ max first.0 rest.0, ap₂ (λ a b. a && b) first.1 rest.1)
+
+inside_one : (s : Spelling) (room : Option ℕ) (o : Option (Option ℕ)) → MatchOption o (IsFull room) (IsInside room) → is_some o ≡ (is_within room 1 && is_spelled s true)
+inside_one s room None full = sym (ap (λ r. is_within r 1 && is_spelled s true) full)
+inside_one s room (Some left) fits = sym (one_more room left 0 (is_spelled s true) fits ∙ none_left s left)
+
+-- an array of them takes one bracket
+pub plain_array : (s : Spelling) (room : Option ℕ) (o : Option (Option ℕ)) (xs : Items) → MatchOption o (IsFull room) (IsInside room) → items_are_plain xs ≡ true → is_some o ≡ is_writable s room (array xs)
+plain_array s room o xs h plain =
+    let all = all_flat xs plain in
+    inside_one s room o h ∙ sym (ap₂ (λ d j. is_within room (suc d) && is_spelled s j) all.0 all.1)

@@ -1,7 +1,8 @@
 -- What can be written: brackets within a room, and numbers that the spelling has. Private clauses and proofs alone cite it.
-use Rattle.std.specs.Prelude.{◌≡◌, ℕ, suc, Bool, true, ◌&&◌, nat_le, Option, None, Some}
+use Rattle.std.specs.Prelude.{◌≡◌, ℕ, suc, Bool, true, false, ◌&&◌, nat_le, Option, None, Some}
 use Rattle.json5_types.specs.ValueLookups.{datum_depth}
-use Rattle.json5_types.specs.ValueMeanings.{Datum}
+use Rattle.json5_grammar.specs.Language.Numbers.{whole, decimal}
+use Rattle.json5_types.specs.ValueMeanings.{Datum, null, boolean, number, text, array, object, Items, no_item, item}
 use Rattle.json5_layouts.specs.JsonTexts.{is_json}
 use Rattle.json5_layouts.specs.declared.layout.Spelling.{Spelling}
 use Rattle.json5_layouts.specs.declared.layout.Spelling.TheVariants as spelling
@@ -26,3 +27,17 @@ IsFull room = room ≡ Some 0
 -- what is left of the room within one more bracket
 abbrev pub IsInside : Option ℕ → Option ℕ → Type 0
 IsInside room left = (depth : ℕ) → is_within room (suc depth) ≡ is_within left depth
+
+-- no bracket is in it, and no decimal
+abbrev pub is_plain : Datum → Bool
+is_plain null = true
+is_plain (boolean b) = true
+is_plain (number (whole z)) = true
+is_plain (number (decimal d)) = false
+is_plain (text u) = true
+is_plain (array xs) = false
+is_plain (object fs) = false
+
+abbrev pub items_are_plain : Items → Bool
+items_are_plain no_item = true
+items_are_plain (item x xs) = is_plain x && items_are_plain xs

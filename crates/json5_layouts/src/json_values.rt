@@ -6,7 +6,7 @@ ghost use Rattle.json5_types.specs.Errors.{LacksMemory};
 ghost use Rattle.json5_types.specs.ValueLookups.{fits};
 ghost use Rattle.json5_types.specs.ValueMeanings.{array, object, value_of, items_view, fields_view};
 ghost use Rattle.json5_layouts.specs.JsonTexts.{is_json, is_json_number};
-ghost use Rattle.json5_layouts.specs.Writable.{is_spelled, is_writable, IsFull, IsInside};
+ghost use Rattle.json5_layouts.specs.Writable.{is_plain, items_are_plain, is_spelled, is_writable, IsFull, IsInside};
 
 use crate::layout::Spelling;
 use json5_types::decimal::Decimal;
@@ -55,6 +55,30 @@ fn inside(room: Room) -> Option<Room>
     }
 }
 
+/// Whether the value opens no bracket and has no decimal.
+#[inline(always)]
+fn is_plain(value: &Value) -> bool
+    ensures { result ≡ is_plain (value_of value.now) }
+{
+    !matches!(
+        value,
+        Value::Decimal(_) | Value::Array(_) | Value::Object(_)
+    )
+}
+
+/// Whether each element opens no bracket and has no decimal.
+#[inline(always)]
+fn are_plain(items: &[Value]) -> bool
+    ensures { result ≡ items_are_plain (items_view items.now) }
+{
+    for item in items {
+        if !is_plain(item) {
+            return false;
+        }
+    }
+    true
+}
+
 /// Whether the brackets are within the room, and the spelling has the numbers. It is one walk for both.
 #[cycle(writable)]
 #[inline(always)]
@@ -63,13 +87,25 @@ fn is_writable(value: &Value, spelling: Spelling, room: Room) -> bool
 {
     match value {
         Value::Decimal(number) => has_number(spelling, number),
-        Value::Array(items) => items_are_writable(items, spelling, room),
+        Value::Array(items) => array_is_writable(items, spelling, room),
         Value::Object(fields) => fields_are_writable(fields, spelling, room),
         _ => true,
     }
 }
 
-/// The same of an array of these elements.
+/// The same of an array of these elements. No call is made for plain ones.
+#[cycle(writable)]
+#[inline(always)]
+fn array_is_writable(items: &[Value], spelling: Spelling, room: Room) -> bool
+    ensures { result ≡ is_writable spelling room (array (items_view items.now)) }
+{
+    if are_plain(items) {
+        return inside(room).is_some();
+    }
+    items_are_writable(items, spelling, room)
+}
+
+/// The same, element by element.
 #[cycle(writable)]
 fn items_are_writable(items: &[Value], spelling: Spelling, room: Room) -> bool
     ensures { result ≡ is_writable spelling room (array (items_view items.now)) }

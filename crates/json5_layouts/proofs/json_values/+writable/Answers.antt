@@ -4,11 +4,15 @@ use Rattle.json5_types.specs.ValueLookups.{items_depth, fields_depth}
 use Rattle.json5_types.specs.ValueMeanings.{items_view, fields_view}
 use Rattle.json5_layouts.specs.JsonTexts.{items_are_json, fields_are_json}
 use Rattle.json5_layouts.specs.Writable.{is_spelled}
-use Rattle.json5_layouts.proofs.WritableLists.{items_writable, fields_writable, next_item, next_field, kept, lost, none_left, one_more}
+use Rattle.json5_layouts.proofs.WritableLists.{items_writable, fields_writable, next_item, next_field, kept, lost, none_left, one_more, plain_array}
 use Rattle.json5_layouts.proofs.json_values.+writable.Goals as goal
 
 pub is_writable-returns-in-Object : goal.is_writable-returns-in-Object
 is_writable-returns-in-Object t c = rw (c.in-Object.is, view-Object c.in-Object.fields, ← c.deref-in-Object.ensures.value) c.fields_are_writable.ensures
+
+pub array_is_writable-returns-then-are_plain : goal.array_is_writable-returns-then-are_plain
+array_is_writable-returns-then-are_plain t c =
+    c.is_some.ensures ∙ plain_array c.args.spelling c.args.room c.inside.result (items_view c.args.items.now) c.inside.ensures (sym c.are_plain.ensures ∙ c.if-are_plain.true)
 
 pub items_are_writable-loop-item-preserved : goal.items_are_writable-loop-item-preserved
 items_are_writable-loop-item-preserved t c =
