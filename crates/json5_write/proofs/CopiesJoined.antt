@@ -1,9 +1,9 @@
 -- Copies to places of one row, one after another.
-use Rattle.std.proofs.Common.{◌≡◌, ℕ, ◌+◌, ◌-◌, ◌≤◌, List, ◌++◌, length, take, drop, refl, ap, sym, ◌∙◌, arith, append_assoc, length-append, length-take-le, length-drop, take-add, take-take, take_at, drop_at, take_all, take-append-drop}
+use Rattle.std.proofs.Common.{◌≡◌, ℕ, ◌+◌, ◌-◌, ◌≤◌, List, ◌++◌, length, take, drop, refl, ap, sym, ◌∙◌, subst, arith, append_assoc, length-append, length-take-le, length-drop, take-add, take-take, take_at, drop_at, take_all, take-append-drop}
 use Rattle.json5_write.specs.Copies.{Copied}
 
 -- a second copy begins where the first ended
-Copied-then : {a b c xs ys : List ℕ} {i j k : ℕ} → Copied a b i xs j → Copied b c j ys k → Copied a c i (xs ++ ys) k
+pub Copied-then : {a b c xs ys : List ℕ} {i j k : ℕ} → Copied a b i xs j → Copied b c j ys k → Copied a c i (xs ++ ys) k
 Copied-then {a} {b} {c} {xs} {ys} {i} p q = record {
   front = q.front ∙ ap (λ l. l ++ ys) p.front ∙ append_assoc (take i a) xs ys;
   moved = omega (arith, p.moved, q.moved, length-append xs ys);
@@ -31,3 +31,7 @@ Copied-ends {a} {b} {c} {i} {j} {k} text half within fits covers p q =
     (λ x. take-take last half text (omega arith) x ++ take_all half (drop last text) (omega (arith, length-drop last text)) x) ∙ take-append-drop last text in
     let end : k ≡ i + length text = both.moved ∙ ap (λ l. i + length l) whole in
     record { front = ap (λ m. take m c) (sym end) ∙ (both.front ∙ ap (λ l. take i a ++ l) whole); moved = refl; len = both.len }
+
+-- the same end
+pub Copied-at : {a b xs : List ℕ} {i j : ℕ} (k : ℕ) → j ≡ k → Copied a b i xs j → Copied a b i xs k
+Copied-at {a} {b} {xs} {i} k e p = subst (λ end. Copied a b i xs end) e p

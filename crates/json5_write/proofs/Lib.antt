@@ -1,6 +1,7 @@
 -- Lists the lemmas about writing.
 pub mod OutputsJoined
 pub mod PiecesWritten
+pub mod QuotesWritten
 pub mod ShortWritesJoined
 pub mod TextsWhole
 pub mod QuotesFound

@@ -1,7 +1,8 @@
 //! Copies into a row of bytes.
 
-ghost use Rattle.std.specs.Prelude.{◌+◌, ◌<◌, ◌≤◌, length, take};
+ghost use Rattle.std.specs.Prelude.{◌+◌, ◌<◌, ◌≤◌, [], ◌∷◌, length, take};
 ghost use Rattle.json5_write.specs.Copies.{Copied};
+ghost use Rattle.json5_write.specs.Pieces.{between_quotes};
 
 use std::simd::Simd;
 
@@ -53,4 +54,24 @@ pub(crate) fn copy_to(row: &mut [u8], at: usize, text: &[u8])
         16..=32 => copy_ends::<16>(row, at, text),
         len => row[at..at + len].copy_from_slice(text),
     }
+}
+
+/// Stores a byte.
+#[inline(always)]
+fn copy_byte(row: &mut [u8], at: usize, byte: u8)
+    requires { at < length row.old }
+    ensures { Copied row.old row.new at (byte ∷ []) (at + 1) }
+{
+    row[at] = byte;
+}
+
+/// Copies the text between double quotes to this place.
+#[inline(always)]
+pub(crate) fn copy_between_quotes(row: &mut [u8], at: usize, text: &[u8])
+    requires { at + (length text.now + 2) ≤ length row.old }
+    ensures { Copied row.old row.new at (between_quotes text.now) (at + (length text.now + 2)) }
+{
+    copy_byte(row, at, b'"');
+    copy_to(row, at + 1, text);
+    copy_byte(row, at + 1 + text.len(), b'"');
 }

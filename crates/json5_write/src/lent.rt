@@ -2,6 +2,8 @@
 
 ghost use Rattle.json5_write.specs.ReferencedWriters.{named};
 
+use crate::sink::Sink;
+use crate::write_whole::write_whole;
 use std::io;
 use std::io::Write;
 
@@ -20,5 +22,14 @@ impl<W: Write> Write for Lent<'_, W> {
 
     fn flush(&mut self) -> io::Result<()> {
         self.writer.flush()
+    }
+}
+
+impl<W: Write> Sink for Lent<'_, W> {
+    #[inline(always)]
+    fn write_between_quotes(&mut self, text: &[u8]) -> io::Result<()> {
+        write_whole(self, b"\"")?;
+        write_whole(self, text)?;
+        write_whole(self, b"\"")
     }
 }

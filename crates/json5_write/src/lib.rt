@@ -14,6 +14,7 @@ pub mod literals;
 pub mod printer;
 mod quoting;
 pub mod refusal;
+pub mod sink;
 pub mod string_writer;
 pub mod value;
 mod whole_values;

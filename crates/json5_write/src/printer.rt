@@ -12,6 +12,7 @@ ghost use Rattle.json5_write.specs.WrittenTrees.{named};
 ghost use Rattle.json5_write.specs.Writes.{SerializerState, fresh_within, at_depth, after_closing};
 
 mod numbers;
+mod quotes;
 mod strings;
 
 use crate::brackets::Brackets;

@@ -2,7 +2,8 @@
 
 ghost use Rattle.std.specs.Prelude.{◌≡◌, ◌+◌, ◌≤◌, [], Some, take, vec_len, OnOk};
 
-use crate::byte_copies::copy_to;
+use crate::byte_copies::{copy_between_quotes, copy_to};
+use crate::sink::Sink;
 use std::alloc::{AllocError, Global};
 use std::io::{self, ErrorKind, Write};
 use std::marker::Model;
@@ -79,6 +80,20 @@ impl Write for StringWriter {
 
     /// Does nothing, since no bytes wait.
     fn flush(&mut self) -> io::Result<()> {
+        Ok(())
+    }
+}
+
+impl Sink for StringWriter {
+    #[inline(always)]
+    fn write_between_quotes(&mut self, text: &[u8]) -> io::Result<()> {
+        let room = self.bytes.len() - self.len;
+        let count = text.len() + 2;
+        if room < count && add_zeros(&mut self.bytes, count - room).is_err() {
+            return Err(io::Error::from(ErrorKind::OutOfMemory));
+        }
+        copy_between_quotes(&mut self.bytes, self.len, text);
+        self.len += count;
         Ok(())
     }
 }
