@@ -84,15 +84,7 @@ pub chars_line_feed : chars (10 ∷ []) ≡ 10 ∷ []
 unfolding chars
 chars_line_feed = refl
 
-pub chars_quote_colon : chars (34 ∷ 58 ∷ []) ≡ 34 ∷ 58 ∷ []
-unfolding chars
-chars_quote_colon = refl
-
-pub chars_quote_colon_space : chars (34 ∷ 58 ∷ 32 ∷ []) ≡ 34 ∷ 58 ∷ 32 ∷ []
-unfolding chars
-chars_quote_colon_space = refl
-
-pub ruleset signs = (chars_comma, chars_nil, chars_colon, chars_colon_space, chars_line_feed, chars_quote_colon, chars_quote_colon_space)
+pub ruleset signs = (chars_comma, chars_nil, chars_colon, chars_colon_space, chars_line_feed)
 
 pub chars_code_front : chars (92 ∷ 117 ∷ 48 ∷ 48 ∷ []) ≡ 92 ∷ 117 ∷ 48 ∷ 48 ∷ []
 unfolding chars

@@ -2,7 +2,7 @@
 
 ghost use Rattle.std.specs.Prelude.{◌≡◌, ◌≤◌, ◌∷◌, ◌++◌, Bool, if◌then◌else◌, replicate};
 ghost use Rattle.std.specs.Str.{chars};
-ghost use Rattle.json5_grammar.specs.Language.Characters.{colon_sign, comma_sign, double_quote, line_feed};
+ghost use Rattle.json5_grammar.specs.Language.Characters.{colon_sign, comma_sign, line_feed};
 ghost use Rattle.json5_write.specs.Out.{piece};
 ghost use Rattle.json5_write.specs.ShortWrites.{Puts};
 ghost use Rattle.json5_layouts.specs.Styles.{comma_if, closed};
@@ -181,17 +181,5 @@ pub(crate) fn colon(layout: Layout) -> &'static str
         Layout::Compact => ":",
         Layout::Spaces(_) => ": ",
         Layout::Tabs => ": ",
-    }
-}
-
-/// The quote that closes a key, a colon, and a space where lines have blanks.
-#[tactic(auto, using(crate::proofs::PiecesPut::signs))]
-pub(crate) fn quote_and_colon(layout: Layout) -> &'static str
-    ensures { chars result.now ≡ double_quote ∷ colon_sign ∷ gap_in layout }
-{
-    match layout {
-        Layout::Compact => "\":",
-        Layout::Spaces(_) => "\": ",
-        Layout::Tabs => "\": ",
     }
 }

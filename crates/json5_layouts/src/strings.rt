@@ -12,14 +12,15 @@ ghost use Rattle.json5_layouts.specs.JsonEscapes.{stands_in_json, StartsWithScal
 
 use crate::json_runs::skip_unescaped;
 use crate::layout::{Form, Spelling};
-use crate::lines::{colon, quote_and_colon};
+use crate::lines::colon;
 use json5_write::Printer;
 use json5_write::refusal::Put;
+use json5_write::sink::Sink;
 use std::io::Write;
 
 /// Writes a string.
 #[inline(always)]
-pub(crate) fn put_string<W: Write + Drop>(
+pub(crate) fn put_string<W: Sink + Drop>(
     text: &str,
     spelling: Spelling,
     printer: &mut Printer<W>,
@@ -27,14 +28,14 @@ pub(crate) fn put_string<W: Write + Drop>(
     ensures { Puts (piece (string_in spelling (chars text.now))) printer.old result printer.new }
 {
     match spelling {
-        Spelling::Json5 => printer.put_str(text),
+        Spelling::Json5 => printer.put_str_at_once(text),
         Spelling::Json => put_json_string(text, printer),
     }
 }
 
 /// Writes a key and the colon after it.
 #[inline(always)]
-pub(crate) fn put_key<W: Write + Drop>(text: &str, form: &Form, printer: &mut Printer<W>) -> Put
+pub(crate) fn put_key<W: Sink + Drop>(text: &str, form: &Form, printer: &mut Printer<W>) -> Put
     ensures { Puts (piece (key_in form.now.spelling (chars text.now) ++ colon_sign ∷ gap_in form.now.layout)) printer.old result printer.new }
 {
     match form.spelling {
@@ -43,35 +44,34 @@ pub(crate) fn put_key<W: Write + Drop>(text: &str, form: &Form, printer: &mut Pr
             printer.put_piece(colon(form.layout))
         }
         Spelling::Json => {
-            put_opened_string(text, printer)?;
-            printer.put_piece(quote_and_colon(form.layout))
+            put_json_string(text, printer)?;
+            printer.put_piece(colon(form.layout))
         }
     }
 }
 
 /// Writes the text between double quotes.
 #[inline(always)]
-fn put_json_string<W: Write + Drop>(text: &str, printer: &mut Printer<W>) -> Put
+fn put_json_string<W: Sink + Drop>(text: &str, printer: &mut Printer<W>) -> Put
     ensures { Puts (piece (json_string (chars text.now))) printer.old result printer.new }
 {
-    put_opened_string(text, printer)?;
+    if skip_unescaped(text).is_empty() {
+        return printer.put_between_quotes(text);
+    }
+    put_escaped_string(text, printer)
+}
+
+/// The same of a text with an escape.
+#[inline(never)]
+fn put_escaped_string<W: Write + Drop>(text: &str, printer: &mut Printer<W>) -> Put
+    ensures { Puts (piece (json_string (chars text.now))) printer.old result printer.new }
+{
+    printer.put_piece("\"")?;
+    put_json_chars(text, printer)?;
     printer.put_piece("\"")
 }
 
-/// Writes the text after a double quote, without the one that closes.
-#[inline(always)]
-fn put_opened_string<W: Write + Drop>(text: &str, printer: &mut Printer<W>) -> Put
-    ensures { Puts (piece (double_quote ∷ json_escaped_all (chars text.now))) printer.old result printer.new }
-{
-    printer.put_piece("\"")?;
-    if skip_unescaped(text).is_empty() {
-        return printer.put_piece(text);
-    }
-    put_json_chars(text, printer)
-}
-
 /// Writes the text, and escapes what JSON has to have escaped. What is between two escapes is written in one piece.
-#[inline(never)]
 fn put_json_chars<W: Write + Drop>(text: &str, printer: &mut Printer<W>) -> Put
     ensures { Puts (piece (json_escaped_all (chars text.now))) printer.old result printer.new }
 {

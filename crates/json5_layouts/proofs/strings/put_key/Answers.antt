@@ -1,13 +1,10 @@
-use Rattle.std.proofs.Common.{◌≡◌, ℕ, List, [], ◌∷◌, ◌++◌, sym, ap, append_assoc}
+use Rattle.std.proofs.Common.{◌∷◌}
 use Rattle.std.specs.Str.{chars}
 use Rattle.json5_grammar.specs.Written.Quoting.{key_text}
-use Rattle.json5_layouts.specs.JsonTexts.{json_escaped_all}
+use Rattle.json5_layouts.specs.JsonTexts.{json_string}
 use Rattle.json5_layouts.specs.Layouts.{gap_in}
 use Rattle.json5_layouts.proofs.PiecesPut.{stop_first, then_second, put_as}
 use Rattle.json5_layouts.proofs.strings.put_key.Goals as goal
-
-split : (text last : List ℕ) → (34 ∷ text) ++ 34 ∷ 58 ∷ last ≡ (34 ∷ text ++ 34 ∷ []) ++ 58 ∷ last
-split text last = ap (λ l. 34 ∷ l) (sym (append_assoc text (34 ∷ []) (58 ∷ last)))
 
 pub returns-in_err-put_key-in-Json5 : goal.returns-in_err-put_key-in-Json5
 returns-in_err-put_key-in-Json5 g c =
@@ -17,14 +14,10 @@ pub returns-in_ok-put_key-in-Json5 : goal.returns-in_ok-put_key-in-Json5
 returns-in_ok-put_key-in-Json5 g c =
     rw c.in-Json5.is (then_second (key_text (chars c.args.text.now)) (58 ∷ gap_in c.args.form.now.layout) _ _ _ _ c.in_ok-put_key-in-Json5.ensures (put_as _ _ _ _ _ c.colon.ensures c.put_piece.ensures))
 
-pub returns-in_err-put_opened_string-in-Json : goal.returns-in_err-put_opened_string-in-Json
-returns-in_err-put_opened_string-in-Json g c =
-    let text = json_escaped_all (chars c.args.text.now) in
-    let last = gap_in c.args.form.now.layout in
-    rw c.in-Json.is (put_as _ _ _ _ _ (split text last) (stop_first (34 ∷ text) (34 ∷ 58 ∷ last) _ _ _ _ c.from_residual-in_err-put_opened_string-in-Json.ensures.1 c.in_err-put_opened_string-in-Json.ensures))
+pub returns-in_err-put_json_string-in-Json : goal.returns-in_err-put_json_string-in-Json
+returns-in_err-put_json_string-in-Json g c =
+    rw c.in-Json.is (stop_first (json_string (chars c.args.text.now)) (58 ∷ gap_in c.args.form.now.layout) _ _ _ _ c.from_residual-in_err-put_json_string-in-Json.ensures.1 c.in_err-put_json_string-in-Json.ensures)
 
-pub returns-in_ok-put_opened_string-in-Json : goal.returns-in_ok-put_opened_string-in-Json
-returns-in_ok-put_opened_string-in-Json g c =
-    let text = json_escaped_all (chars c.args.text.now) in
-    let last = gap_in c.args.form.now.layout in
-    rw c.in-Json.is (put_as _ _ _ _ _ (split text last) (then_second (34 ∷ text) (34 ∷ 58 ∷ last) _ _ _ _ c.in_ok-put_opened_string-in-Json.ensures (put_as _ _ _ _ _ c.quote_and_colon.ensures c.put_piece-in-Json.ensures)))
+pub returns-in_ok-put_json_string-in-Json : goal.returns-in_ok-put_json_string-in-Json
+returns-in_ok-put_json_string-in-Json g c =
+    rw c.in-Json.is (then_second (json_string (chars c.args.text.now)) (58 ∷ gap_in c.args.form.now.layout) _ _ _ _ c.in_ok-put_json_string-in-Json.ensures (put_as _ _ _ _ _ c.colon-in-Json.ensures c.put_piece-in-Json.ensures))
