@@ -6,20 +6,19 @@ mod answers;
 mod hand;
 mod own;
 
-use std::io::{self, BufRead, BufReader, BufWriter, Write};
+use std::io;
 
 fn main(rt: HostRuntime) -> io::Result<()> {
     let alloc = rt.alloc();
-    let mut output = BufWriter::new(alloc, rt.stdout())?;
-    for line in BufReader::new(alloc, rt.stdin())?.lines(alloc) {
-        let line = line?;
-        let Some((name, text)) = line.as_str().split_once('|') else {
+    let rows = io::read_to_string(alloc, rt.stdin())?;
+    for line in rows.as_str().lines() {
+        let Some((name, text)) = line.split_once('|') else {
             continue;
         };
         match answers::answer(alloc, name, text) {
-            Ok(words) => writeln!(output, "{name}|{text} =>{words}")?,
-            Err(fault) => writeln!(output, "{name}|{text} => ERR {fault}")?,
+            Ok(words) => println!(rt; "{line} =>{words}")?,
+            Err(fault) => println!(rt; "{line} => ERR {fault}")?,
         }
     }
-    output.flush()
+    Ok(())
 }
