@@ -2,7 +2,7 @@
 
 use serde::Deserialize;
 
-/// `{ server: { .. }, routes: [ .. ], limits: { .. }, log: 'info', timeouts: { .. } }`
+/// `{ server: { .. }, routes: [ .. ], limits: { .. }, log: 'error' }`
 #[derive(Drop, Deserialize)]
 #[serde(deny_unknown_fields)]
 pub struct Settings {
@@ -11,7 +11,6 @@ pub struct Settings {
     pub limits: Option<Limits>,
     #[serde(default = "info")]
     pub log: Log,
-    pub timeouts: Option<Timeouts>,
 }
 
 /// `{ host: 'shop.example', port: 8443, tls: { .. } }`; the port is 80 where it is missing.
@@ -51,18 +50,8 @@ pub struct Limits {
     pub header: u32,
 }
 
-/// Seconds.
-#[derive(Drop, Deserialize)]
-#[serde(deny_unknown_fields)]
-pub struct Timeouts {
-    #[serde(default = "half_a_minute")]
-    pub read: u16,
-    #[serde(default = "half_a_minute")]
-    pub write: u16,
-}
-
 /// `'error'`, `'info'` or `'debug'`
-#[derive(Clone, Copy, Debug, Deserialize)]
+#[derive(Debug, Drop, Deserialize)]
 #[serde(rename_all = "lowercase")]
 pub enum Log {
     Error,
@@ -71,7 +60,7 @@ pub enum Log {
 }
 
 /// `'GET'` or `'POST'`
-#[derive(Clone, Copy, Debug, Deserialize)]
+#[derive(Drop, Deserialize)]
 #[serde(rename_all = "UPPERCASE")]
 pub enum Method {
     Get,
@@ -92,8 +81,4 @@ fn mebibyte() -> u64 {
 
 fn eight_kibibytes() -> u32 {
     8192
-}
-
-fn half_a_minute() -> u16 {
-    30
 }
