@@ -11,22 +11,15 @@ use std::{env, fs};
 
 fn main(rt: HostRuntime) -> Result<()> {
     let alloc = rt.alloc();
-    let words: Vec<String> = env::args(&rt)?.skip(1).collect(alloc)?;
-    for word in &words {
-        let path = word.as_str();
-        let text = fs::read_to_string(&rt, path)?;
-        match json5_serde::from_str::<Settings>(alloc, text.as_str()) {
+    for path in env::args(&rt)?.skip(1) {
+        let text = fs::read_to_string(&rt, &path)?;
+        match json5_serde::from_str::<Settings>(alloc, &text) {
             Ok(settings) => {
-                let server = &settings.server;
-                println!(rt;
-                    "{path}: {}:{}, {} routes, log {:?}",
-                    server.host,
-                    server.port,
-                    settings.routes.len(),
-                    settings.log
-                )?
+                let (server, routes) = (&settings.server, settings.routes.len());
+                let (host, port, log) = (&server.host, server.port, &settings.log);
+                println!(rt; "{path}: {host}:{port}, {routes} routes, log {log:?}")?
             }
-            Err(error) => println!(rt; "{}", Report::new(alloc, path, text.as_str(), &error)?)?,
+            Err(error) => println!(rt; "{}", Report::new(alloc, &path, &text, &error)?)?,
         }
     }
     Ok(())
