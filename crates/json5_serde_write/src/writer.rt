@@ -12,9 +12,11 @@ use json5_types::nesting::Limit;
 use json5_types::number::Number;
 use json5_types::whole::Whole;
 use json5_write::brackets::Brackets;
+use json5_write::literals::bool_name;
 use json5_write::refusal::Refused;
 use serde::{Case, NameKind};
 use std::alloc::Global;
+use std::fmt::Display;
 
 /// What the next step sends.
 #[derive(Clone, Copy, Drop)]
@@ -81,22 +83,18 @@ impl Json5 {
     fn scalar_key(&mut self, scalar: Scalar<'_>) -> Step {
         self.next = Next::Value;
         match scalar {
+            Scalar::Null => self.pen.key("null"),
+            Scalar::Bool(truth) => self.pen.key(bool_name(truth)),
+            Scalar::Unsigned(number) => self.shown_key(&number),
+            Scalar::Signed(number) => self.shown_key(&number),
+            Scalar::Decimal(number) => self.shown_key(number),
             Scalar::Text(text) => self.pen.key(text),
-            _ => self.shown_key(scalar),
         }
     }
 
     #[inline(never)]
-    fn shown_key(&mut self, scalar: Scalar<'_>) -> Step {
-        let alloc = self.alloc;
-        let text = match scalar {
-            Scalar::Null => String::from_str(alloc, "null")?,
-            Scalar::Bool(truth) => format!(in alloc; "{truth}")?,
-            Scalar::Unsigned(number) => format!(in alloc; "{number}")?,
-            Scalar::Signed(number) => format!(in alloc; "{number}")?,
-            Scalar::Decimal(number) => format!(in alloc; "{number}")?,
-            Scalar::Text(text) => String::from_str(alloc, text)?,
-        };
+    fn shown_key<T: Display>(&mut self, number: &T) -> Step {
+        let text = format!(in self.alloc; "{number}")?;
         self.pen.key(text.as_str())
     }
 
