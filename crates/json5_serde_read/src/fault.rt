@@ -5,7 +5,7 @@ use json5_types::error::Error;
 use std::alloc::Global;
 
 /// What a value was expected to be.
-#[derive(Clone, Copy, Debug, Drop, PartialEq, Eq)]
+#[derive(Clone, Copy, Drop)]
 pub(crate) enum Wanted {
     Null,
     Integer,
@@ -49,7 +49,7 @@ pub(crate) enum Long {
 }
 
 /// What is said with words.
-#[derive(Clone, Copy, Debug, Drop, PartialEq, Eq)]
+#[derive(Clone, Copy, Drop)]
 pub(crate) enum Saying {
     /// The value names no variant, and these were expected.
     UnknownVariant,
@@ -97,11 +97,11 @@ impl Fault {
         }
     }
 
-    /// What it says with words, and the offset.
-    pub(crate) fn saying(&self) -> Option<(Saying, usize)> {
+    /// What it says with words, the offset, and the words.
+    pub(crate) fn said(&self) -> Option<(Saying, usize, &str)> {
         match self {
             Fault::Long(long) => match long.as_ref() {
-                Long::Said(saying, at, _) => Some((*saying, *at)),
+                Long::Said(saying, at, known) => Some((*saying, *at, words(known))),
                 Long::Scanned(_, _) => None,
             },
             _ => None,
@@ -110,8 +110,8 @@ impl Fault {
 
     /// Whether it is one of names, of which a second reading may tell more.
     pub(crate) fn is_of_names(&self) -> bool {
-        match self.saying() {
-            Some((saying, _)) => matches!(
+        match self.said() {
+            Some((saying, _, _)) => matches!(
                 saying,
                 Saying::UnknownVariant | Saying::UnknownKey | Saying::Missing
             ),
@@ -131,7 +131,15 @@ impl Fault {
     pub(crate) fn is_of_type(&self) -> bool {
         match self {
             Fault::Misfit(_, _) | Fault::BorrowedBytes(_) | Fault::WrongLength(_) => true,
-            _ => self.saying().is_some(),
+            _ => self.said().is_some(),
         }
+    }
+}
+
+/// The words, as far as they are known.
+pub(crate) fn words(known: &Option<String>) -> &str {
+    match known {
+        Some(words) => words.as_str(),
+        None => "",
     }
 }

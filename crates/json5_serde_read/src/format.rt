@@ -28,7 +28,7 @@ impl<'t> Json5<'t> {
     fn long_i64(&mut self) -> Step<i64> {
         match self.whole()?.as_i128().and_then(|n| i64::try_from(n).ok()) {
             Some(n) => Ok(n),
-            None => Err(self.misfit(Wanted::In64Bits)),
+            None => Err(Fault::Misfit(Wanted::In64Bits, self.last)),
         }
     }
 
@@ -38,7 +38,7 @@ impl<'t> Json5<'t> {
         let whole = self.whole()?;
         match whole.as_u128().and_then(|n| u64::try_from(n).ok()) {
             Some(n) => Ok(n),
-            None => Err(self.misfit(out_of_range(whole))),
+            None => Err(Fault::Misfit(out_of_range(whole), self.last)),
         }
     }
 
@@ -52,7 +52,7 @@ impl<'t> Json5<'t> {
         };
         match read {
             Some(x) => Ok(x),
-            None => Err(self.misfit(Wanted::Another)),
+            None => Err(Fault::Misfit(Wanted::Another, self.last)),
         }
     }
 
@@ -84,12 +84,9 @@ impl<'t> Format for Json5<'t> {
             };
         }
         self.begin()?;
-        if self.walk.peek() == Some('f') {
-            self.word(Literal::False)?;
-            return Ok(false);
-        }
-        self.word(Literal::True)?;
-        Ok(true)
+        let truth = self.walk.peek() != Some('f');
+        self.word(if truth { Literal::True } else { Literal::False })?;
+        Ok(truth)
     }
 
     fn i64(&mut self, _input: &[u8]) -> Step<i64> {
@@ -113,14 +110,14 @@ impl<'t> Format for Json5<'t> {
     fn i128(&mut self, _input: &[u8]) -> Step<i128> {
         match self.whole()?.as_i128() {
             Some(n) => Ok(n),
-            None => Err(self.misfit(Wanted::In128Bits)),
+            None => Err(Fault::Misfit(Wanted::In128Bits, self.last)),
         }
     }
 
     fn u128(&mut self, _input: &[u8]) -> Step<u128> {
         match self.whole()?.as_u128() {
             Some(n) => Ok(n),
-            None => Err(self.misfit(Wanted::NotNegative)),
+            None => Err(Fault::Misfit(Wanted::NotNegative, self.last)),
         }
     }
 
@@ -137,7 +134,7 @@ impl<'t> Format for Json5<'t> {
         let mut rest = text.as_str().chars();
         match rest.next() {
             Some(c) if rest.as_str().is_empty() => Ok(c),
-            _ => Err(self.misfit(Wanted::Character)),
+            _ => Err(Fault::Misfit(Wanted::Character, self.last)),
         }
     }
 
@@ -145,11 +142,11 @@ impl<'t> Format for Json5<'t> {
     fn plain_str(&mut self, _input: &[u8]) -> Step<(usize, usize)> {
         match self.cow()? {
             CowStr::Borrowed(text) => {
-                let is_quoted = self.begins(self.last) == Some(Kind::Str);
+                let is_quoted = matches!(self.begins(self.last), Some(Kind::Str));
                 let start = self.last.saturating_add(is_quoted as usize);
                 Ok((start, start.saturating_add(text.len())))
             }
-            CowStr::Owned(_) => Err(self.misfit(Wanted::BorrowedText)),
+            CowStr::Owned(_) => Err(Fault::Misfit(Wanted::BorrowedText, self.last)),
         }
     }
 
@@ -199,13 +196,12 @@ impl<'t> Format for Json5<'t> {
 
     fn take_unit(&mut self, _input: &[u8]) -> Step<bool> {
         if self.at_key {
-            let mark = self.mark();
+            let before = self.walk.fork();
             if self.key()?.as_str() == "null" {
-                self.release(mark);
                 return Ok(true);
             }
-            self.rewind(mark);
-            self.release(mark);
+            self.walk = before;
+            self.at_key = true;
             return Ok(false);
         }
         self.begin()?;
@@ -356,11 +352,19 @@ impl<'t> Format for Json5<'t> {
     }
 
     fn duplicate(&self, name: &str) -> Fault {
-        self.said(Saying::Duplicate, self.here(), self.kept(name))
+        self.said(
+            Saying::Duplicate,
+            self.past_blanks(self.last),
+            self.kept(name),
+        )
     }
 
     fn unknown_key(&self) -> Fault {
-        self.said(Saying::UnknownKey, self.here(), self.expected())
+        self.said(
+            Saying::UnknownKey,
+            self.past_blanks(self.last),
+            self.expected(),
+        )
     }
 
     fn unknown_variant(&self) -> Fault {
@@ -376,7 +380,7 @@ impl<'t> Format for Json5<'t> {
     }
 
     fn invalid(&self) -> Fault {
-        Fault::Misfit(self.wanted, self.here())
+        Fault::Misfit(self.wanted, self.past_blanks(self.last))
     }
 
     fn no_memory(&self) -> Fault {
@@ -384,6 +388,10 @@ impl<'t> Format for Json5<'t> {
     }
 
     fn custom(&self, message: &str) -> Fault {
-        self.said(Saying::Custom, self.here(), self.kept(message))
+        self.said(
+            Saying::Custom,
+            self.past_blanks(self.last),
+            self.kept(message),
+        )
     }
 }

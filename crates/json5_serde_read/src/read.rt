@@ -4,12 +4,12 @@ ghost use Rattle.std.specs.Prelude.{◌≡◌, OnOk, IfOk};
 ghost use Rattle.json5_walk.specs.Walks.{IsDocument, IsDocumentWithin};
 
 use crate::fault::Fault;
-use crate::messages::{custom, told};
+use crate::messages::{plain, told};
 use crate::reader::Json5;
 use json5_types::ErrorCode;
 use json5_types::error::{Error, Result};
 use json5_types::nesting::Limit;
-use serde::{Deserialize, DeserializeOwned, Deserializer};
+use serde::{Deserialize, DeserializeOwned, Deserializer, Format};
 use std::alloc::Global;
 use std::io::{ErrorKind, Read};
 
@@ -51,17 +51,28 @@ pub fn from_str_within<'de, T: Deserialize<'de>>(
     ensures { OnOk result (IsDocumentWithin limit text.now) }
 {
     let mut format = Json5::new(alloc, limit, text);
-    let value = match read_one::<T>(alloc, text, &mut format) {
-        Ok(value) => value,
-        Err(fault) => return Err(refused::<T>(limit, text, &format, fault)),
-    };
-    match format.end(limit, text) {
-        Ok(()) => Ok(value),
-        Err(fault) => Err(told(alloc, text, format.cause(fault))),
+    match read_one::<T>(limit, text, &mut format) {
+        Ok(value) => Ok(value),
+        Err(fault) => Err(refused::<T>(limit, text, &format, fault)),
     }
 }
 
-/// The fault of a text. Where it is one of names, the text is read once more for the names that were expected.
+/// Reads a `T` to the end of the text.
+fn read_one<'de, T: Deserialize<'de>>(
+    limit: Limit,
+    text: &'de str,
+    format: &mut Json5<'_>,
+) -> std::result::Result<T, Fault>
+    ensures { OnOk result (IsDocumentWithin limit text.now) }
+{
+    let alloc = format.alloc;
+    let value = T::deserialize(alloc, &mut Deserializer::new(text.as_bytes(), format))?;
+    format.end(limit, text)?;
+    Ok(value)
+}
+
+/// The fault of a text. Where it is one of names, the text is read once more for the names that were expected. Where a
+/// mark wasn't kept since memory ran out, that is the cause of any fault that came after.
 #[cold]
 fn refused<'de, T: Deserialize<'de>>(
     limit: Limit,
@@ -69,21 +80,14 @@ fn refused<'de, T: Deserialize<'de>>(
     format: &Json5<'_>,
     fault: Fault,
 ) -> Error {
-    let alloc = format.alloc;
-    if !fault.is_of_names() {
-        return told(alloc, text, format.cause(fault));
+    if format.is_full {
+        return Error::new(ErrorCode::OutOfMemory);
     }
-    let mut second = Json5::asking(limit, text, format, &fault);
-    let again = read_one::<T>(alloc, text, &mut second).err();
-    told(alloc, text, format.cause(fault.or(again)))
-}
-
-fn read_one<'de, T: Deserialize<'de>>(
-    alloc: Global,
-    text: &'de str,
-    format: &mut Json5<'_>,
-) -> std::result::Result<T, Fault> {
-    T::deserialize(alloc, &mut Deserializer::new(text.as_bytes(), format))
+    let fault = match Json5::asking(limit, text, format, &fault) {
+        Some(mut second) => fault.or(read_one::<T>(limit, text, &mut second).err()),
+        None => fault,
+    };
+    told(format.alloc, text, fault)
 }
 
 /// Reads a text that these bytes are in UTF-8, as [`from_str`] does.
@@ -131,7 +135,7 @@ fn text_in<'b>(alloc: Global, bytes: &'b [u8]) -> Result<&'b str>
         Err(error) => {
             let valid = bytes.get(..error.valid_up_to()).unwrap_or(&[]);
             let text = std::str::from_utf8(valid).unwrap_or("");
-            Err(custom(alloc, text, text.len(), "invalid UTF-8"))
+            Err(plain(alloc, text, text.len(), "invalid UTF-8"))
         }
     }
 }
@@ -148,40 +152,24 @@ fn text_in<'b>(alloc: Global, bytes: &'b [u8]) -> Result<&'b str>
 pub fn from_str_owned<T: DeserializeOwned>(alloc: Global, limit: Limit, text: &str) -> Result<T>
     ensures { OnOk result (IsDocumentWithin limit text.now) }
 {
-    let mut format = Json5::new(alloc, limit, text);
-    let value = match read_owned::<T>(alloc, text, &mut format) {
-        Ok(value) => value,
-        Err(fault) => return Err(refused_owned::<T>(limit, text, &format, fault)),
-    };
-    match format.end(limit, text) {
-        Ok(()) => Ok(value),
-        Err(fault) => Err(told(alloc, text, format.cause(fault))),
+    match from_str_within::<Owned<T>>(alloc, limit, text) {
+        Ok(Owned(value)) => Ok(value),
+        Err(error) => Err(error),
     }
 }
 
-/// As [`refused`].
-#[cold]
-fn refused_owned<T: DeserializeOwned>(
-    limit: Limit,
-    text: &str,
-    format: &Json5<'_>,
-    fault: Fault,
-) -> Error {
-    let alloc = format.alloc;
-    if !fault.is_of_names() {
-        return told(alloc, text, format.cause(fault));
-    }
-    let mut second = Json5::asking(limit, text, format, &fault);
-    let again = read_owned::<T>(alloc, text, &mut second).err();
-    told(alloc, text, format.cause(fault.or(again)))
-}
+/// A value that borrows nothing, read as one that may.
+#[derive(Drop)]
+struct Owned<T>(T);
 
-fn read_owned<T: DeserializeOwned>(
-    alloc: Global,
-    text: &str,
-    format: &mut Json5<'_>,
-) -> std::result::Result<T, Fault> {
-    T::deserialize_owned(alloc, &mut Deserializer::new(text.as_bytes(), format))
+impl<'de, T: DeserializeOwned> Deserialize<'de> for Owned<T> {
+    #[inline(always)]
+    fn deserialize<F: Format>(
+        alloc: Global,
+        from: &mut Deserializer<'de, '_, F>,
+    ) -> std::result::Result<Owned<T>, F::Error> {
+        Ok(Owned(T::deserialize_owned(alloc, from)?))
+    }
 }
 
 /// Reads all that a reader gives as one text, as [`from_str_within`] does: a `T` that borrows nothing from it.

@@ -41,20 +41,13 @@ pub(crate) struct Json5<'t> {
     pub(crate) wanted: Wanted,
     /// Where the last name stands that was none of those asked for, or the blanks before it.
     pub(crate) unknown: usize,
-    /// Where an unknown name stands, or a bracket without a field, of which the fault is to tell more. Only a text that was
-    /// refused is read for that.
-    pub(crate) asked: Option<usize>,
-    /// The names that were expected there.
-    pub(crate) expected: Option<String>,
-    /// The names of the fields there, and their keys.
-    pub(crate) fields: Vec<Field>,
-}
-
-/// The name of a field, as it stands in Rust or is renamed, and its key.
-#[derive(Drop)]
-pub(crate) struct Field {
-    name: String,
-    key: String,
+    /// Where an unknown name stands, or a bracket without a field, of which the fault is to tell more. Only a text that
+    /// was refused is read for that; else it is `usize::MAX`.
+    asked: usize,
+    /// The name of the field that is missing there, as it stands in Rust or is renamed.
+    field: Option<String>,
+    /// The names that were expected there, or the key of that field.
+    expected: Option<String>,
 }
 
 #[derive(Drop)]
@@ -76,25 +69,30 @@ impl<'t> Json5<'t> {
             closed: 0,
             wanted: Wanted::Another,
             unknown: 0,
-            asked: None,
+            asked: usize::MAX,
+            field: None,
             expected: None,
-            fields: Vec::new(alloc),
         }
     }
 
-    /// The same over a text that was refused with this fault of names, which is to tell more.
+    /// The same over a text that was refused, to tell more of its fault. None where a second reading tells no more.
     pub(crate) fn asking(
         limit: Limit,
         text: &'t str,
         first: &Json5<'_>,
         fault: &Fault,
-    ) -> Json5<'t> {
+    ) -> Option<Json5<'t>> {
+        let (saying, at, name) = fault.said()?;
         let mut format = Json5::new(first.alloc, limit, text);
-        format.asked = match fault.saying() {
-            Some((Saying::Missing, bracket)) => Some(bracket),
-            _ => Some(first.unknown),
-        };
-        format
+        match saying {
+            Saying::UnknownVariant | Saying::UnknownKey => format.asked = first.unknown,
+            Saying::Missing => {
+                format.asked = at;
+                format.field = first.kept(name);
+            }
+            _ => return None,
+        }
+        Some(format)
     }
 
     /// Where the innermost bracket begins that is open.
@@ -109,7 +107,7 @@ impl<'t> Json5<'t> {
     #[cold]
     #[inline(never)]
     pub(crate) fn scanned(&self, error: Error) -> Fault {
-        if error.code() == Some(ErrorCode::Failed) {
+        if let Some(ErrorCode::Failed) = error.code() {
             if self.is_full {
                 return Fault::Bare(ErrorCode::OutOfMemory);
             }
@@ -120,16 +118,6 @@ impl<'t> Json5<'t> {
             None => Long::Scanned(self.walk.located(error), 0),
         };
         Fault::long(self.alloc, long)
-    }
-
-    /// Why reading ended: where a mark wasn't kept since memory ran out, that is the cause of any fault that came after.
-    #[cold]
-    #[inline(never)]
-    pub(crate) fn cause(&self, fault: Fault) -> Fault {
-        if self.is_full {
-            return Fault::Bare(ErrorCode::OutOfMemory);
-        }
-        fault
     }
 
     /// The first code at the innermost bracket where the text ends, else the second one here.
@@ -242,11 +230,6 @@ impl<'t> Json5<'t> {
         Fault::long(self.alloc, Long::Said(saying, at, words))
     }
 
-    /// Where the last value or key begins.
-    pub(crate) fn here(&self) -> usize {
-        self.past_blanks(self.last)
-    }
-
     /// The offset after the blanks at this one.
     #[cold]
     #[inline(never)]
@@ -336,15 +319,8 @@ impl<'t> Json5<'t> {
         };
         match number {
             Number::Whole(whole) => Ok(whole),
-            Number::Decimal(_) => Err(self.misfit(Wanted::Integer)),
+            Number::Decimal(_) => Err(Fault::Misfit(Wanted::Integer, self.last)),
         }
-    }
-
-    /// The last value isn't what was wanted.
-    #[cold]
-    #[inline(never)]
-    pub(crate) fn misfit(&self, wanted: Wanted) -> Fault {
-        Fault::Misfit(wanted, self.last)
     }
 
     /// Takes a key, and gives its text.
@@ -519,9 +495,9 @@ impl<'t> Json5<'t> {
             return false;
         };
         match code {
-            ErrorCode::ExpectedNull => kind != Kind::Unit,
-            ErrorCode::ExpectedBool => kind != Kind::Bool,
-            ErrorCode::ExpectedNumber => kind != Kind::Float,
+            ErrorCode::ExpectedNull => !matches!(kind, Kind::Unit),
+            ErrorCode::ExpectedBool => !matches!(kind, Kind::Bool),
+            ErrorCode::ExpectedNumber => !matches!(kind, Kind::Float),
             ErrorCode::ExpectedString
             | ErrorCode::ExpectedOpeningBracket
             | ErrorCode::ExpectedOpeningBrace
@@ -541,7 +517,7 @@ impl<'t> Json5<'t> {
         let found = serde::find(names, key);
         if found == usize::MAX {
             self.unknown = self.last;
-            if self.asked == Some(self.last) {
+            if self.asked == self.last {
                 self.expected = list_of(self.alloc, names);
             }
         }
@@ -554,34 +530,39 @@ impl<'t> Json5<'t> {
         self.found(names, key)
     }
 
-    /// Where an object ended whose keys were looked up: notes the keys of its fields, if they were asked for.
+    /// Where an object ended whose keys were looked up: notes the key of the missing field, if it was asked for.
     #[inline(always)]
     pub(crate) fn ended(&mut self, names: &[Name<'_>]) {
-        if self.asked == Some(self.closed) {
-            self.note_fields(names);
+        if self.asked == self.closed {
+            self.note_key(names);
         }
     }
 
     #[cold]
     #[inline(never)]
-    fn note_fields(&mut self, names: &[Name<'_>]) {
-        self.fields.clear();
+    fn note_key(&mut self, names: &[Name<'_>]) {
         for name in names {
-            if let Some(field) = field_of(self.alloc, name) {
-                let _ = self.fields.push(field);
+            if self.is_asked(name.name) {
+                self.expected = key_of(self.alloc, name);
             }
         }
     }
 
-    /// The key of a field, as far as it was noted.
+    /// Whether the key of this field was asked for.
+    fn is_asked(&self, name: &str) -> bool {
+        match &self.field {
+            Some(field) => field.as_str() == name,
+            None => false,
+        }
+    }
+
+    /// The key of a field, if it was noted, or else its name.
     #[cold]
     pub(crate) fn key_of(&self, name: &str) -> Option<String> {
-        for field in &self.fields {
-            if field.name.as_str() == name {
-                return self.kept(field.key.as_str());
-            }
+        match &self.expected {
+            Some(key) if self.is_asked(name) => self.kept(key.as_str()),
+            _ => self.kept(name),
         }
-        self.kept(name)
     }
 
     /// The names that were expected, if they were asked for.
@@ -646,14 +627,11 @@ fn list_of(alloc: Global, names: &[Name<'_>]) -> Option<String> {
     Some(list)
 }
 
-/// The name and the key of a field.
-fn field_of(alloc: Global, name: &Name<'_>) -> Option<Field> {
+/// The key of a field.
+fn key_of(alloc: Global, name: &Name<'_>) -> Option<String> {
     let mut key = String::new(alloc);
     name.case.append(name.kind, name.name, &mut key).ok()?;
-    Some(Field {
-        name: String::from_str(alloc, name.name).ok()?,
-        key,
-    })
+    Some(key)
 }
 
 /// How many of the names may be read.
