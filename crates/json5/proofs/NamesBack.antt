@@ -1,5 +1,5 @@
 -- Names of fields and variants in ASCII, which are written by their characters and read by their bytes.
-use Rattle.std.proofs.Common.{◌≡◌, ◌<◌, ℕ, zero, suc, List, [], ◌∷◌, Bool, true, false, ◌&&◌, ◌||◌, refl, arith}
+use Rattle.std.proofs.Common.{◌≡◌, ◌<◌, ℕ, zero, suc, List, [], ◌∷◌, Bool, true, false, ◌&&◌, ◌||◌, refl, sym, subst, arith}
 use Rattle.std.specs.Char.{is_ascii}
 use Rattle.std.specs.List.{list_all}
 use Rattle.std.specs.Str.{IsAscii, chars, encode_utf8_all}
@@ -12,9 +12,9 @@ both : (a b : Bool) → (a && b) ≡ true → (a ≡ true) × (b ≡ true)
 both true b e = (refl, e)
 both false b e = absurd (cc)
 
-or_true : (a : Bool) → (a || true) ≡ true
-or_true true = refl
-or_true false = refl
+either : (a b : Bool) → b ≡ true → (a || b) ≡ true
+either true b e = refl
+either false b e = e
 
 below : (c : ℕ) → is_ascii c ≡ true → c < 128
 below c e = grind (arith, nat_tests)
@@ -30,4 +30,4 @@ name_back name e = encodes-chars name (IsUtf8-from_ascii name (all_below name e)
 
 -- it is written without an escape; for a literal name the second and the third argument are `refl`
 pub plain_name : (name : List ℕ) → list_all is_ascii name ≡ true → is_escape_free_text name ≡ true → is_escape_free_key (chars name) ≡ true
-plain_name name e plain = rw (chars-IsAscii name (all_below name e), plain) (or_true (is_name name))
+plain_name name e plain = subst (λ u. is_escape_free_key u ≡ true) (sym (chars-IsAscii name (all_below name e))) (either (is_name name) (is_escape_free_text name) plain)
