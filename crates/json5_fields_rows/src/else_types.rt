@@ -32,8 +32,10 @@ impl<I: Input> Deserialize<I> for Defaults {
 
     fn deserialize(de: &mut Deserializer<I>) -> Result<Defaults> {
         let tags = WithDefault("tags", Vec::new(de.allocator()));
-        let (host, tags) = read_struct(de, (WithDefaultText("host", "localhost"), tags))?;
-        Ok(Defaults { host, tags })
+        match read_struct(de, (WithDefaultText("host", "localhost"), tags)) {
+            Ok((host, tags)) => Ok(Defaults { host, tags }),
+            Err(e) => Err(e),
+        }
     }
 }
 

@@ -29,9 +29,10 @@ impl<I: Input> Deserialize<I> for Prefixes {
     ghost convert = { struct_of (⟦<PrefixParts as StructFields<I, PrefixValues>>⟧.layout (codes "a", ((codes "ab", 7), codes "abc"))) };
 
     fn deserialize(de: &mut Deserializer<I>) -> Result<Prefixes> {
-        let fields = (Required("a"), WithDefault("ab", 7), Optional("abc"));
-        let (a, ab, abc) = read_struct(de, fields)?;
-        Ok(Prefixes { a, ab, abc })
+        match read_struct(de, (Required("a"), WithDefault("ab", 7), Optional("abc"))) {
+            Ok((a, ab, abc)) => Ok(Prefixes { a, ab, abc }),
+            Err(e) => Err(e),
+        }
     }
 }
 
@@ -72,11 +73,12 @@ impl<I: Input> Deserialize<I> for Only {
     ghost refuses = { RefusesOnly (⟦<PrefixParts as StructFields<I, PrefixValues>>⟧.layout (codes "a", ((codes "ab", 7), codes "abc"))) ⟦<PrefixParts as StructFields<I, PrefixValues>>⟧.faults };
 
     fn deserialize(de: &mut Deserializer<I>) -> Result<Only> {
-        let fields = (Required("a"), WithDefault("ab", 7), Optional("abc"));
-        let (a, ab, abc) = read_struct_only(de, fields)?;
-        Ok(Only {
-            prefixes: Prefixes { a, ab, abc },
-        })
+        match read_struct_only(de, (Required("a"), WithDefault("ab", 7), Optional("abc"))) {
+            Ok((a, ab, abc)) => Ok(Only {
+                prefixes: Prefixes { a, ab, abc },
+            }),
+            Err(e) => Err(e),
+        }
     }
 }
 
@@ -112,12 +114,14 @@ impl<I: Input> Deserialize<I> for Long {
     fn deserialize(de: &mut Deserializer<I>) -> Result<Long> {
         let short = Required("a2345678901234567890123456789012");
         let long = Required("a23456789012345678901234567890123");
-        let (short, long, nested) = read_struct(de, (short, long, Optional("nested")))?;
-        Ok(Long {
-            short,
-            long,
-            nested,
-        })
+        match read_struct(de, (short, long, Optional("nested"))) {
+            Ok((short, long, nested)) => Ok(Long {
+                short,
+                long,
+                nested,
+            }),
+            Err(e) => Err(e),
+        }
     }
 }
 

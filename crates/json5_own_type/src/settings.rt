@@ -43,8 +43,10 @@ impl<I: Input> Deserialize<I> for Settings {
 
     fn deserialize(de: &mut Deserializer<I>) -> Result<Settings> {
         let port = WithDefault("port", OpenPort { number: 80 });
-        let (host, port, label) = read_struct(de, (Required("host"), port, Optional("label")))?;
-        Ok(Settings { host, port, label })
+        match read_struct(de, (Required("host"), port, Optional("label"))) {
+            Ok((host, port, label)) => Ok(Settings { host, port, label }),
+            Err(e) => Err(e),
+        }
     }
 }
 

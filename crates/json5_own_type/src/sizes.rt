@@ -58,7 +58,7 @@ impl Serialize for Size {
 
 /// Reads a size. What was written of one is read as the same, and no request for memory can refuse it.
 pub fn size_of_text(alloc: Global, text: &str) -> Result<Size>
-    ensures { (w h : ℕ) → w < 2 ^ 32 → h < 2 ^ 32 → Doc max_depth (chars text.now) (marks (size_tree w h)) → IsOkAnd result (λ s. (s.width, s.height) ≡ (w, h)) }
+    ensures { (w h : ℕ) → w < 2 ^ 32 → h < 2 ^ 32 → Doc max_depth (chars text.now) (marks (size_tree w h)) → IsOkAnd result (λ s. ◌≡◌ {A = ℕ × ℕ} (s.width, s.height) (w, h)) }
 {
     from_str(alloc, text)
 }
