@@ -1,5 +1,5 @@
 -- What is written of the types of this crate.
-use Rattle.std.specs.Prelude.{ℕ, List, codes, string_bytes}
+use Rattle.std.specs.Prelude.{◌≡◌, ℕ, List, codes, string_bytes}
 use Rattle.std.specs.Str.{chars}
 use Rattle.json5.specs.WrittenFields.{field_named, field_given}
 use Rattle.json5.specs.WrittenTrees.{Written, WrittenKey, object, no_field, array, element, no_element, text, natural, named, newtype_variant}
@@ -9,6 +9,7 @@ use Rattle.json5_own_type.specs.declared.reminders.Moment.{Moment}
 use Rattle.json5_own_type.specs.declared.reminders.Reminder.{Reminder}
 use Rattle.json5_own_type.specs.declared.reminders.Reminder.TheVariants.{Off, Daily, Weekly, Once}
 use Rattle.json5_own_type.specs.declared.settings.Settings.{Settings}
+use Rattle.json5_own_type.specs.declared.sizes.Size.{Size}
 
 -- a label that is missing is left out
 abbrev pub settings_tree : Settings → Written
@@ -19,6 +20,10 @@ settings_tree s = object
 
 abbrev pub size_tree : ℕ → ℕ → Written
 size_tree width height = object (field_named (codes "width") (natural width) (field_named (codes "height") (natural height) no_field))
+
+-- a size of this width and this height
+abbrev pub IsSize : ℕ → ℕ → Size → Type 0
+IsSize width height s = ◌≡◌ {A = ℕ × ℕ} (s.width, s.height) (width, height)
 
 abbrev pub name_of : Color → List ℕ
 name_of Red = codes "red"

@@ -1,11 +1,11 @@
 //! A size, which is read without memory.
 
-ghost use Rattle.std.specs.Prelude.{◌≡◌, ◌<◌, ◌^◌, ℕ, IsOkAnd};
+ghost use Rattle.std.specs.Prelude.{◌<◌, ◌^◌, ℕ, IsOkAnd};
 ghost use Rattle.std.specs.Str.{chars};
 ghost use Rattle.json5.specs.Documents.{Doc, max_depth};
 ghost use Rattle.json5.specs.EscapeFreeMarks.{marks};
 ghost use Rattle.json5.specs.Structs.{codes, struct_of, struct_free};
-ghost use Rattle.json5_own_type.specs.Written.{size_tree};
+ghost use Rattle.json5_own_type.specs.Written.{IsSize, size_tree};
 
 use json5::fields::StructFields;
 use json5::{
@@ -58,7 +58,7 @@ impl Serialize for Size {
 
 /// Reads a size. What was written of one is read as the same, and no request for memory can refuse it.
 pub fn size_of_text(alloc: Global, text: &str) -> Result<Size>
-    ensures { (w h : ℕ) → w < 2 ^ 32 → h < 2 ^ 32 → Doc max_depth (chars text.now) (marks (size_tree w h)) → IsOkAnd result (λ s. ◌≡◌ {A = ℕ × ℕ} (s.width, s.height) (w, h)) }
+    ensures { (w h : ℕ) → w < 2 ^ 32 → h < 2 ^ 32 → Doc max_depth (chars text.now) (marks (size_tree w h)) → IsOkAnd result (IsSize w h) }
 {
     from_str(alloc, text)
 }

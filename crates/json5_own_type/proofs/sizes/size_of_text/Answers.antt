@@ -14,7 +14,7 @@ use Rattle.json5.specs.WrittenTrees.{natural}
 use Rattle.json5.proofs.NamesBack.{plain_name}
 use Rattle.json5.proofs.ReadsBack.{natural_back}
 use Rattle.json5.proofs.StructsBack.{struct_back, and_back, required_back}
-use Rattle.json5_own_type.specs.Written.{size_tree}
+use Rattle.json5_own_type.specs.Written.{IsSize, size_tree}
 use Rattle.json5_own_type.specs.declared.sizes.Size.{Size}
 use Rattle.json5_own_type.proofs.sizes.size_of_text.Goals as goal
 
@@ -27,7 +27,7 @@ size_free : (w h : ℕ) → w < 2 ^ 32 → h < 2 ^ 32 → struct_free (spares_bo
 size_free w h small low = rw (plain_name (codes "width") refl refl, plain_name (codes "height") refl refl, natural_back (2 ^ 32) w small, natural_back (2 ^ 32) h low) refl
 
 -- a call that needs no memory returns it
-returned : (w h : ℕ) (result : Result Size Error) → MatchResult result (λ s. ◌≡◌ {A = ℕ × ℕ} (s.width, s.height) (w, h)) IsOutOfMemory → IsOk result → IsOkAnd result (λ s. ◌≡◌ {A = ℕ × ℕ} (s.width, s.height) (w, h))
+returned : (w h : ℕ) (result : Result Size Error) → MatchResult result (IsSize w h) IsOutOfMemory → IsOk result → IsOkAnd result (IsSize w h)
 returned w h (Ok s) same ok = same
 returned w h (Err e) memory ok = absurd (false≢true ok)
 
