@@ -2,6 +2,7 @@ use Rattle.std.proofs.Common.{◌≡◌, ◌≢◌, ℕ, None, refl, rules}
 use Rattle.json5.proofs.ObjectsRead.{one_reads_key}
 use Rattle.json5.specs.Convert.{index_of}
 use Rattle.json5.specs.Keys.{CompletesKey}
+use Rattle.json5.specs.Lending.{reader_of_key}
 use Rattle.json5.proofs.ElementLoops.{handed_on}
 use Rattle.json5.proofs.Refinement.{parts, accepted_key_completes}
 use Rattle.json5.proofs.OwnEnums.{other_place}
@@ -10,7 +11,7 @@ use Rattle.json5_rows.proofs.own_enums.FDeserializeKey.deserialize_key.Goals as 
 
 pub returns-in_err-place-clause-complete : goal.returns-in_err-place-clause-complete
 returns-in_err-place-clause-complete g c =
-    handed_on (λ r. CompletesKey f_named _ r) _ _ c.from_residual.ensures.1 (accepted_key_completes f_at c.in_err-place.ensures.reads.complete)
+    handed_on (λ r. CompletesKey f_named (reader_of_key c.args.key.now) r) _ _ c.from_residual.ensures.1 (accepted_key_completes f_at c.in_err-place.ensures.reads.complete)
 
 no_variant : (k : ℕ) → k ≢ 0 → k ≢ 1 → f_at k ≡ None
 no_variant k not_a not_b = rw (other_place 0 not_a, other_place 1 not_b) refl
