@@ -2,7 +2,7 @@
 use Rattle.std.specs.Prelude.{Option}
 use Rattle.json5_grammar.specs.Language.Trees.{Tree}
 use Rattle.json5_fields.specs.Layouts.{Layout}
-pub use Rattle.std.specs.Prelude.{[], ◌∷◌, codes}
+pub use Rattle.std.specs.Prelude.{codes}
 pub use Rattle.json5_grammar.specs.Model.Collections.{object_of}
 pub use Rattle.json5_fields.specs.Only.{only_these}
 pub use Rattle.json5_fields.specs.Named.{one_named}

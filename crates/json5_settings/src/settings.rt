@@ -1,6 +1,7 @@
 //! The settings of a web server. An unknown field is refused.
 
-ghost use Rattle.json5.specs.Structs.{[], ◌∷◌, codes, one_named, struct_only};
+ghost use Rattle.std.specs.Prelude.{[], ◌∷◌};
+ghost use Rattle.json5.specs.Structs.{codes, one_named, struct_only};
 ghost use Rattle.json5_settings.specs.declared.settings.Log.TheVariants.{Error, Info, Debug};
 ghost use Rattle.json5_settings.specs.declared.settings.Method.TheVariants.{Get, Post};
 
