@@ -12,7 +12,7 @@ use Rattle.json5_types.specs.Errors.{code, kind_of, error_position, or_position}
 use Rattle.json5_de.specs.State.{State, OnlyRead}
 use Rattle.json5_de.specs.Faults.{AtEnd, AtOther, IsPositionless, IsAfter}
 use Rattle.json5_de.specs.Arrays.{AccessState, bare, Opened, TookElement, AtClose, GivesElement, PositionedAtBracket, IsAtBracket, is_comma_or_closing}
-use Rattle.json5_value.specs.declared.brackets.Brackets.{Brackets}
+use Rattle.json5_value.specs.declared.brackets.BracketPair.{BracketPair}
 use Rattle.json5_value.specs.Brackets.{square}
 use Rattle.json5_de.specs.AccessCalls.{Cause, RefusesCall, RefusesElement, not_reached, in_element, RefusesNext}
 use Rattle.json5_de.proofs.ExpectedKinds.{end_fault, other_fault}
@@ -43,7 +43,7 @@ abbrev seen_from : State → ℕ → AccessState
 seen_from s start = record { reader = s; start = start; comma_due = false }
 
 -- what was opened is blocked, and seen as it was
-pub opened_seen : (b : Brackets) (old first last : State) (start : ℕ) → Opened b old first → last ≡ record first { failed = true } → seen_from first start ≡ seen_from (record last { failed = false }) start
+pub opened_seen : (b : BracketPair) (old first last : State) (start : ℕ) → Opened b old first → last ≡ record first { failed = true } → seen_from first start ≡ seen_from (record last { failed = false }) start
 opened_seen b old first last start o blocked =
     let live : first.failed ≡ false = ap (λ (s : State). s.failed) o.rest ∙ o.live in
     ap (λ s. seen_from s start) (ap (λ f. record first { failed = f }) live ∙ ap (λ (s : State). record s { failed = false }) (sym blocked))

@@ -13,7 +13,7 @@ use Rattle.json5_de.specs.AccessCalls.{RefusesElement}
 use Rattle.json5_de.specs.Lending.{state_of, blocking, KeepsAccess, ReadsNext}
 use Rattle.json5_de.specs.Stages.{is_comma_due, with_element}
 use Rattle.json5_de.specs.declared.seq.SeqAccess.{SeqAccess}
-use Rattle.json5_de.specs.declared.stage.Stage.{Stage}
+use Rattle.json5_de.specs.declared.stage.AccessStage.{AccessStage}
 use Rattle.json5_de.proofs.StagesPassed.{comma_after_member}
 use Rattle.json5_de.proofs.ArrayElements.{reads_element, reads_more, leaves_fewer}
 use Rattle.json5_de.proofs.AccessCalls.{gives_seen, gives_next, refuses_next}
@@ -22,7 +22,7 @@ use Rattle.json5_de.proofs.AccessCalls.{gives_seen, gives_next, refuses_next}
 abbrev pub lent : {I : Type 0} → SeqAccess I → State → SeqAccess I
 lent s after = record s { de = record s.de { now = after } }
 
-kept : {I : Type 0} (old : SeqAccess I) (after : State) (stage : Stage) (failed : Bool) → SameText (state_of old).reader after → KeepsAccess old (record (blocking (lent old after) failed) { stage = stage })
+kept : {I : Type 0} (old : SeqAccess I) (after : State) (stage : AccessStage) (failed : Bool) → SameText (state_of old).reader after → KeepsAccess old (record (blocking (lent old after) failed) { stage = stage })
 kept old after stage failed same = record { same_reference = refl; blocks = refl; start = refl; same_text = same }
 
 module _ {I V C : Type 0} (content : V → C) (convert : Tree → Option C) (refuses : State → Error → State → Type 0) (old : SeqAccess I) where

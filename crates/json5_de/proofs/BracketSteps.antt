@@ -25,7 +25,7 @@ use Rattle.std.proofs.lemmas.List.{append-nil}
 use Rattle.json5_de.specs.State.{State, cursor_of, OnlyRead}
 use Rattle.json5_de.specs.DeserializeLaw.{TookValue}
 use Rattle.json5_de.specs.ReaderSteps.{PassedGap, TookText}
-use Rattle.json5_value.specs.declared.brackets.Brackets.{Brackets}
+use Rattle.json5_value.specs.declared.brackets.BracketPair.{BracketPair}
 use Rattle.json5_de.specs.BracketSigns.{AreSigns}
 use Rattle.json5_value.specs.Brackets.{square}
 use Rattle.json5_de.specs.Arrays.{TookElement, NotOpened, no_bracket, text_ends, too_deep, NoBracket, other_sign, bracket_missing, NotClosed, not_here, after_comma as comma_before}
@@ -51,15 +51,15 @@ after_gap_of old mid p = record { gap = p.gap; split = p.split; is_gap = p.is_ga
 
 -- ---- what is refused
 
-pub no_next : (b : Brackets) (comma_due : Bool) (x : List ℕ) (reason : Option ErrorCode) (place : Option (List ℕ)) → comma_due ≡ true → NotBegun (λ c. c == 0x2C) x → NotBegun (λ c. c == b.closing) x → Unexpected b.ends codes.ExpectedComma x reason place → NoNext b comma_due x reason place
+pub no_next : (b : BracketPair) (comma_due : Bool) (x : List ℕ) (reason : Option ErrorCode) (place : Option (List ℕ)) → comma_due ≡ true → NotBegun (λ c. c == 0x2C) x → NotBegun (λ c. c == b.closing) x → Unexpected b.ends codes.ExpectedComma x reason place → NoNext b comma_due x reason place
 no_next b comma_due x reason place d m n at_end = comma_missing d
 no_next b comma_due x reason place d m n (at_char c r) = no_comma c r d m n
 
-pub not_opened_here : (b : Brackets) (level : ℕ) (x : List ℕ) (reason : Option ErrorCode) (place : Option (List ℕ)) → NotBegun (λ c. c == b.opening) x → Unexpected b.ends b.not_opened x reason place → NotOpened b level x reason place
+pub not_opened_here : (b : BracketPair) (level : ℕ) (x : List ℕ) (reason : Option ErrorCode) (place : Option (List ℕ)) → NotBegun (λ c. c == b.opening) x → Unexpected b.ends b.not_opened x reason place → NotOpened b level x reason place
 not_opened_here b level x reason place n at_end = text_ends
 not_opened_here b level x reason place n (at_char c r) = no_bracket c r n
 
-pub no_bracket_here : (b : Brackets) (comma : Bool) (x : List ℕ) (reason : Option ErrorCode) (place : Option (List ℕ)) → (comma ≡ true → NotBegun (λ c. c == 0x2C) x) → NotBegun (λ c. c == b.closing) x
+pub no_bracket_here : (b : BracketPair) (comma : Bool) (x : List ℕ) (reason : Option ErrorCode) (place : Option (List ℕ)) → (comma ≡ true → NotBegun (λ c. c == 0x2C) x) → NotBegun (λ c. c == b.closing) x
     → Unexpected b.ends b.not_closed x reason place → NoBracket b comma x reason place
 no_bracket_here b comma x reason place m n at_end = bracket_missing
 no_bracket_here b comma x reason place m n (at_char c r) = other_sign c r n m
@@ -81,7 +81,7 @@ no_gap_faulty : (s : State) (e : Error) (y : List ℕ) → Refused FaultyBlanks 
 no_gap_faulty s e y f g = let (w, p, shown, fault) = f.fault in no_blank_fault g.is_gap g.solid (subst (λ z. BlankFault z f.reason f.place w p shown) g.split fault)
 
 -- neither a comma nor the bracket where a comma is due
-nothing_due : (b : Brackets) (x : List ℕ) → ((y : List ℕ) → IsSign 0x2C x y → ⊥) → ((r : List ℕ) → IsSign b.closing x r → ⊥) → NothingNext b true x
+nothing_due : (b : BracketPair) (x : List ℕ) → ((y : List ℕ) → IsSign 0x2C x y → ⊥) → ((r : List ℕ) → IsSign b.closing x r → ⊥) → NothingNext b true x
 nothing_due b x m n = record { no_entry = λ y g. m g.0 g.1; no_close = λ r c. close r c }
   where
     close : (r : List ℕ) → IsEnd b.closing true x r → ⊥
@@ -89,17 +89,17 @@ nothing_due b x m n = record { no_entry = λ y g. m g.0 g.1; no_close = λ r c. 
     close r (inr (y, comma, c)) = m y comma
 
 -- neither the comma that is due nor the bracket
-pub nowhere_next : (b : Brackets) → AreSigns b → (comma_due : Bool) (x y : List ℕ) → comma_due ≡ true → IsAfterGap x y → NotBegun (λ c. c == 0x2C) y → NotBegun (λ c. c == b.closing) y → NothingNext b comma_due x
+pub nowhere_next : (b : BracketPair) → AreSigns b → (comma_due : Bool) (x y : List ℕ) → comma_due ≡ true → IsAfterGap x y → NotBegun (λ c. c == 0x2C) y → NotBegun (λ c. c == b.closing) y → NothingNext b comma_due x
 nowhere_next b k comma_due x y is g m n = subst (λ d. NothingNext b d x) (sym is)
     (nothing_due b x (λ z c. no_sign_next 0x2C x y z comma_solid g m c) (λ r c. no_sign_next b.closing x y r k.closing g n c))
 
 -- a comment in front is at fault
-pub nowhere_faulty : (b : Brackets) → AreSigns b → (comma_due : Bool) (s : State) (e : Error) → Refused FaultyBlanks (cursor_of s) e → NothingNext b comma_due s.unread
+pub nowhere_faulty : (b : BracketPair) → AreSigns b → (comma_due : Bool) (s : State) (e : Error) → Refused FaultyBlanks (cursor_of s) e → NothingNext b comma_due s.unread
 nowhere_faulty b k false s e f = record { no_entry = λ y g. no_gap_faulty s e y f g; no_close = λ r c. no_sign_faulty b.closing s e r k.closing f c }
 nowhere_faulty b k true s e f = nothing_due b s.unread (λ y c. no_sign_faulty 0x2C s e y comma_solid f c) (λ r c. no_sign_faulty b.closing s e r k.closing f c)
 
 -- a comment after the comma is at fault
-pub nowhere_after : (b : Brackets) → AreSigns b → (comma_due : Bool) (s mid next : State) (e : Error) → comma_due ≡ true → PassedGap s mid → NotBegun (λ c. c == b.closing) mid.unread → TookText mid (0x2C ∷ []) next → Refused FaultyBlanks (cursor_of next) e
+pub nowhere_after : (b : BracketPair) → AreSigns b → (comma_due : Bool) (s mid next : State) (e : Error) → comma_due ≡ true → PassedGap s mid → NotBegun (λ c. c == b.closing) mid.unread → TookText mid (0x2C ∷ []) next → Refused FaultyBlanks (cursor_of next) e
     → NothingNext b comma_due s.unread
 nowhere_after b k comma_due s mid next e is p n took f = subst (λ d. NothingNext b d s.unread) (sym is) (record { no_entry = λ y begun. entry y begun; no_close = λ r c. close r c })
   where
@@ -120,7 +120,7 @@ pub only_read : (s t u : State) → OnlyRead s t → OnlyRead t u → OnlyRead s
 only_read s t u a b = b ∙ ap (λ (m : State). record m { unread = u.unread }) a
 
 -- the bracket or an element after the comma
-pub goes_after : (b : Brackets) (comma_due is : Bool) (s mid next last : State) → comma_due ≡ true → PassedGap s mid → TookText mid (0x2C ∷ []) next → PassedGap next last
+pub goes_after : (b : BracketPair) (comma_due is : Bool) (s mid next last : State) → comma_due ≡ true → PassedGap s mid → TookText mid (0x2C ∷ []) next → PassedGap next last
     → (is ≡ true → slice_get last.unread 0 ≡ Some b.closing) → (is ≡ false → NotBegun (λ c. c == b.closing) last.unread) → AdvancesToEntry b comma_due s last (not is)
 goes_after b comma_due true s mid next last d p took q found other =
     let (r, split) = some_next last.unread b.closing (found refl) in
@@ -152,7 +152,7 @@ reads_gap : (x r : List ℕ) (t : Tree) → Reads x t r → (y : List ℕ) × Is
 reads_gap x r t p = (p.phrase ++ r, record { gap = p.front; split = p.split; is_gap = Gap.blanks p.blank; solid = value_solid r (val_head p.value) })
 
 -- if no element may begin, there is none
-pub no_element_next : (b : Brackets) (comma_due : Bool) (x r : List ℕ) (t : Tree) → NothingNext b comma_due x → IsElement comma_due x t r → ⊥
+pub no_element_next : (b : BracketPair) (comma_due : Bool) (x r : List ℕ) (t : Tree) → NothingNext b comma_due x → IsElement comma_due x t r → ⊥
 no_element_next b false x r t n e = let (y, g) = reads_gap x r t e in n.no_entry y g
 no_element_next b true x r t n (z, comma, e) = let (y, g) = reads_gap z r t e in n.no_entry y (z, comma, g)
 
@@ -162,7 +162,7 @@ element_found false x y r t g p = reads_found x g.gap y r t g.split g.is_gap g.s
 element_found true x y r t (z, comma, g) (k, other, p) = reads_found z g.gap y r t g.split g.is_gap g.solid (after_same_comma (λ q. Reads q t r) x z k comma other p)
 
 -- no bracket closes there
-pub no_close_found : (b : Brackets) → AreSigns b → (comma_due : Bool) (x y r : List ℕ) → IsEntryStart comma_due x y → NotBegun (λ c. c == b.closing) y → IsEnd b.closing comma_due x r → ⊥
+pub no_close_found : (b : BracketPair) → AreSigns b → (comma_due : Bool) (x y r : List ℕ) → IsEntryStart comma_due x y → NotBegun (λ c. c == b.closing) y → IsEnd b.closing comma_due x r → ⊥
 no_close_found b k false x y r g n c = no_sign_next b.closing x y r k.closing g n c
 no_close_found b k true x y r (z, comma, g) n (inl c) = no_comma_end b.closing x z r k.closing k.no_comma comma c
 no_close_found b k true x y r (z, comma, g) n (inr (w, other, c)) = no_sign_next b.closing z y r k.closing g n (after_same_comma (λ q. IsSign b.closing q r) x z w comma other c)
@@ -187,7 +187,7 @@ square_signs = record {
 }
 
 -- one open bracket too many
-pub too_deep_here : (b : Brackets) (level : ℕ) (s next : State) (e : Error) (p : Position) → level ≡ max_depth → TookText s (b.opening ∷ []) next → kind_of e ≡ code codes.TooDeep → error_position e ≡ Some p
+pub too_deep_here : (b : BracketPair) (level : ℕ) (s next : State) (e : Error) (p : Position) → level ≡ max_depth → TookText s (b.opening ∷ []) next → kind_of e ≡ code codes.TooDeep → error_position e ≡ Some p
     → ((before : List ℕ) → s.input ≡ before ++ s.unread → p ≡ position_after before) → Refused (NotOpened b level) (cursor_of s) e
 too_deep_here b level s next e p full took kind place there = record {
   reason = Some codes.TooDeep;
@@ -199,17 +199,17 @@ too_deep_here b level s next e p full took kind place there = record {
 
 -- ---- no closing
 
-pub no_close_next : (b : Brackets) → AreSigns b → (comma_due : Bool) (s mid : State) (r : List ℕ) → PassedGap s mid → (comma_due ≡ true → NotBegun (λ c. c == 0x2C) mid.unread) → NotBegun (λ c. c == b.closing) mid.unread → IsEnd b.closing comma_due s.unread r → ⊥
+pub no_close_next : (b : BracketPair) → AreSigns b → (comma_due : Bool) (s mid : State) (r : List ℕ) → PassedGap s mid → (comma_due ≡ true → NotBegun (λ c. c == 0x2C) mid.unread) → NotBegun (λ c. c == b.closing) mid.unread → IsEnd b.closing comma_due s.unread r → ⊥
 no_close_next b k false s mid r p m n c = no_sign_next b.closing s.unread mid.unread r k.closing (after_gap_of s mid p) n c
 no_close_next b k true s mid r p m n (inl c) = no_sign_next b.closing s.unread mid.unread r k.closing (after_gap_of s mid p) n c
 no_close_next b k true s mid r p m n (inr (y, comma, c)) = no_sign_next 0x2C s.unread mid.unread y comma_solid (after_gap_of s mid p) (m refl) comma
 
 -- a comment in front is at fault
-pub no_close_faulty : (b : Brackets) → AreSigns b → (comma_due : Bool) (s : State) (e : Error) (r : List ℕ) → Refused FaultyBlanks (cursor_of s) e → IsEnd b.closing comma_due s.unread r → ⊥
+pub no_close_faulty : (b : BracketPair) → AreSigns b → (comma_due : Bool) (s : State) (e : Error) (r : List ℕ) → Refused FaultyBlanks (cursor_of s) e → IsEnd b.closing comma_due s.unread r → ⊥
 no_close_faulty b k comma_due s e r f c = (nowhere_faulty b k comma_due s e f).no_close r c
 
 -- after the comma
-pub no_close_after : (b : Brackets) → AreSigns b → (comma_due : Bool) (s mid next : State) (r : List ℕ) → comma_due ≡ true → PassedGap s mid → TookText mid (0x2C ∷ []) next → (IsSign b.closing next.unread r → ⊥) → IsEnd b.closing comma_due s.unread r → ⊥
+pub no_close_after : (b : BracketPair) → AreSigns b → (comma_due : Bool) (s mid next : State) (r : List ℕ) → comma_due ≡ true → PassedGap s mid → TookText mid (0x2C ∷ []) next → (IsSign b.closing next.unread r → ⊥) → IsEnd b.closing comma_due s.unread r → ⊥
 no_close_after b k comma_due s mid next r d p took n c = by (subst (λ t. IsEnd b.closing t s.unread r) d c)
   where
     comma : IsSign 0x2C s.unread next.unread
@@ -226,13 +226,13 @@ ok_unless (Err e) k h = absurd (h e k)
 -- ---- what is refused instead of a closing bracket
 
 -- without a comma, or where no comma is due
-pub refused_bracket : (b : Brackets) (comma_due : Bool) (s mid at : State) (e : Error) → PassedGap s mid → at ≡ mid → (comma_due ≡ true → NotBegun (λ c. c == 0x2C) mid.unread)
+pub refused_bracket : (b : BracketPair) (comma_due : Bool) (s mid at : State) (e : Error) → PassedGap s mid → at ≡ mid → (comma_due ≡ true → NotBegun (λ c. c == 0x2C) mid.unread)
     → Refused (Unexpected b.ends b.not_closed) (cursor_of at) e × NotBegun (λ c. c == b.closing) at.unread → RefusedBy (NotClosed b comma_due) s e
 refused_bracket b comma_due s mid at e p same m (f, n) =
     refused_token s mid e p (refused_as at mid e same (λ reason place k. not_here (no_bracket_here b comma_due mid.unread reason place m (subst (NotBegun (λ c. c == b.closing)) (unread_of same) n) k)) f)
 
 -- after the comma
-pub refused_bracket_after : (b : Brackets) (comma_due : Bool) (s mid next far : State) (e : Error) → comma_due ≡ true → PassedGap s mid → TookText mid (0x2C ∷ []) next → PassedGap next far
+pub refused_bracket_after : (b : BracketPair) (comma_due : Bool) (s mid next far : State) (e : Error) → comma_due ≡ true → PassedGap s mid → TookText mid (0x2C ∷ []) next → PassedGap next far
     → Refused (Unexpected b.ends b.not_closed) (cursor_of far) e × NotBegun (λ c. c == b.closing) far.unread → RefusedBy (NotClosed b comma_due) s e
 refused_bracket_after b comma_due s mid next far e d p took q (f, n) =
     let there : Refused (AfterBlanks (NoBracket b false)) (cursor_of next) e =
@@ -240,22 +240,22 @@ refused_bracket_after b comma_due s mid next far e d p took q (f, n) =
     refused_token s mid e p (refused_after mid next e (0x2C ∷ []) took (λ reason place k. comma_before d k) there)
 
 -- a faulty comment after the comma
-pub refused_blanks_after : (b : Brackets) (comma_due : Bool) (s mid next : State) (e : Error) → comma_due ≡ true → PassedGap s mid → TookText mid (0x2C ∷ []) next → (next.failed ≡ false → Refused FaultyBlanks (cursor_of next) e) → RefusedBy (NotClosed b comma_due) s e
+pub refused_blanks_after : (b : BracketPair) (comma_due : Bool) (s mid next : State) (e : Error) → comma_due ≡ true → PassedGap s mid → TookText mid (0x2C ∷ []) next → (next.failed ≡ false → Refused FaultyBlanks (cursor_of next) e) → RefusedBy (NotClosed b comma_due) s e
 refused_blanks_after b comma_due s mid next e d p took f =
     refused_token s mid e p (refused_after mid next e (0x2C ∷ []) took (λ reason place k. comma_before d (in_blanks k)) (f (failed_of took.rest ∙ failed_of p.rest ∙ p.live)))
 
 -- ---- no opening
 
-opens_begun : (b : Brackets) (level : ℕ) (x r : List ℕ) (reason : Option ErrorCode) (place : Option (List ℕ)) → x ≡ b.opening ∷ r → level < max_depth → NotOpened b level x reason place → ⊥
+opens_begun : (b : BracketPair) (level : ℕ) (x r : List ℕ) (reason : Option ErrorCode) (place : Option (List ℕ)) → x ≡ b.opening ∷ r → level < max_depth → NotOpened b level x reason place → ⊥
 opens_begun b level x r reason place e room (no_bracket c q n) = let same : c ≡ b.opening = cc in true_false (ap (λ d. d == b.opening) same ∙ same_char b.opening) n
 opens_begun b level x r reason place e room text_ends = absurd (cc)
 opens_begun b level x r reason place e room (too_deep q full) = omega (arith, room, full)
 
 -- an opening bracket within the limit isn't refused
-pub no_opening_refusal : (b : Brackets) → AreSigns b → (level : ℕ) (x r : List ℕ) (reason : Option ErrorCode) (place : Option (List ℕ)) → IsSign b.opening x r → level < max_depth → AfterBlanks (NotOpened b level) x reason place → ⊥
+pub no_opening_refusal : (b : BracketPair) → AreSigns b → (level : ℕ) (x r : List ℕ) (reason : Option ErrorCode) (place : Option (List ℕ)) → IsSign b.opening x r → level < max_depth → AfterBlanks (NotOpened b level) x reason place → ⊥
 no_opening_refusal b k level x r reason place o room (in_blanks (w, p, shown, f)) = no_sign_in_blanks b.opening x w p r reason place shown k.opening f o
 no_opening_refusal b k level x r reason place o room (after_gap {w = w} {x = y} {place = q} g s f) =
     opens_begun b level y r reason q (sign_found b.opening (w ++ y) w y r k.opening refl g s o) room f
 
-pub opening_refused : (b : Brackets) → AreSigns b → (s : State) (e : Error) (r : List ℕ) → RefusedBy (NotOpened b s.level) s e → s.failed ≡ false → IsSign b.opening s.unread r → s.level < max_depth → ⊥
+pub opening_refused : (b : BracketPair) → AreSigns b → (s : State) (e : Error) (r : List ℕ) → RefusedBy (NotOpened b s.level) s e → s.failed ≡ false → IsSign b.opening s.unread r → s.level < max_depth → ⊥
 opening_refused b k s e r f live o room = let f = f live in no_opening_refusal b k s.level s.unread r f.reason f.place o room f.fault

@@ -5,7 +5,7 @@ use Rattle.json5_grammar.specs.declared.error_code.ErrorCode.TheVariants as code
 use Rattle.json5_grammar.specs.Language.Numbers.{Number}
 use Rattle.json5_de.specs.ObjectFaults.{NoColon, no_colon, colon_missing}
 use Rattle.json5_de.specs.Faults.{AfterBlanks, in_blanks, after_gap, NotNumber, faulty_number, other_number, NotText, faulty_text, other_text, Trailing, trailing}
-use Rattle.json5_value.specs.declared.brackets.Brackets.{Brackets}
+use Rattle.json5_value.specs.declared.brackets.BracketPair.{BracketPair}
 use Rattle.json5_de.specs.BracketSigns.{AreSigns}
 use Rattle.json5_de.specs.Arrays.{NotClosed, NoBracket, other_sign, bracket_missing, not_here, after_comma, NotOpened, no_bracket, text_ends, too_deep}
 use Rattle.json5_de.specs.AccessCalls.{NoNext, no_comma, comma_missing, in_blanks_after}
@@ -32,22 +32,22 @@ text_lacks other h f x reason place (other_text r str none) = h
 some_other : (c : ErrorCode) → c ≢ codes.Failed → Some c ≢ Some codes.Failed
 some_other c h e = h (cc)
 
-bracket_lacks : (b : Brackets) → AreSigns b → (comma : Bool) → Lacks (NoBracket b comma)
+bracket_lacks : (b : BracketPair) → AreSigns b → (comma : Bool) → Lacks (NoBracket b comma)
 bracket_lacks b k comma x reason place (other_sign c r h l) = some_other b.not_closed k.other_not_closed
 bracket_lacks b k comma x reason place bracket_missing = some_other b.ends k.other_ends
 
-pub closing_lacks : (b : Brackets) → AreSigns b → (comma_due : Bool) → Lacks (NotClosed b comma_due)
+pub closing_lacks : (b : BracketPair) → AreSigns b → (comma_due : Bool) → Lacks (NotClosed b comma_due)
 closing_lacks b k comma_due x reason place (not_here f) = bracket_lacks b k comma_due x reason place f
 closing_lacks b k comma_due x reason place (after_comma {x = y} {place = p} h f) = after_lacks (bracket_lacks b k false) y reason p f
 
-pub opening_lacks : (b : Brackets) → AreSigns b → (level : ℕ) → Lacks (NotOpened b level)
+pub opening_lacks : (b : BracketPair) → AreSigns b → (level : ℕ) → Lacks (NotOpened b level)
 opening_lacks b k level x reason place (no_bracket c r h) = some_other b.not_opened k.other_not_opened
 opening_lacks b k level x reason place text_ends = some_other b.ends k.other_ends
 opening_lacks b k level x reason place (too_deep r full) = λ e. absurd (cc)
 
 -- ---- where the next member is expected
 
-pub next_lacks : (b : Brackets) → AreSigns b → (comma_due : Bool) → Lacks (NoNext b comma_due)
+pub next_lacks : (b : BracketPair) → AreSigns b → (comma_due : Bool) → Lacks (NoNext b comma_due)
 next_lacks b w comma_due x reason place (no_comma c r d h k) = λ e. absurd (cc)
 next_lacks b w comma_due x reason place (comma_missing d) = some_other b.ends w.other_ends
 next_lacks b w comma_due x reason place (in_blanks_after d (before, part, shown, fault)) = in_blanks_other fault

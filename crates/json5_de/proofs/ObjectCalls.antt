@@ -15,8 +15,8 @@ use Rattle.json5_de.specs.ObjectFaults.{RefusesMemberKey, RefusesMemberValue}
 use Rattle.json5_de.specs.Lending.{map_state_of, blocking_map, KeepsMap, ReadsNextKey, ReadsNextValue}
 use Rattle.json5_de.specs.Stages.{is_comma_due, is_pending, with_key}
 use Rattle.json5_de.specs.declared.map.MapAccess.{MapAccess}
-use Rattle.json5_de.specs.declared.stage.Stage.{Stage}
-use Rattle.json5_de.specs.declared.stage.Stage.TheVariants as stages
+use Rattle.json5_de.specs.declared.stage.AccessStage.{AccessStage}
+use Rattle.json5_de.specs.declared.stage.AccessStage.TheVariants as stages
 use Rattle.json5_de.proofs.StagesPassed.{comma_after_key, key_after_key}
 use Rattle.json5_de.proofs.ObjectMembers.{reads_a_key, reads_pair_key, leaves_a_value, reads_a_pair, reads_pair_value, leaves_pairs}
 use Rattle.json5_de.proofs.MemberRefusals.{gives_key_seen, gives_next_key, refuses_next_key, gives_value_seen, gives_next_value, refuses_next_value}
@@ -25,7 +25,7 @@ use Rattle.json5_de.proofs.MemberRefusals.{gives_key_seen, gives_next_key, refus
 abbrev pub lent : {I : Type 0} → MapAccess I → State → MapAccess I
 lent m after = record m { de = record m.de { now = after } }
 
-kept : {I : Type 0} (old : MapAccess I) (after : State) (stage : Stage) (failed : Bool) → SameText (map_state_of old).at.reader after → KeepsMap old (record (blocking_map (lent old after) failed) { stage = stage })
+kept : {I : Type 0} (old : MapAccess I) (after : State) (stage : AccessStage) (failed : Bool) → SameText (map_state_of old).at.reader after → KeepsMap old (record (blocking_map (lent old after) failed) { stage = stage })
 kept old after stage failed same = record { same_reference = refl; blocks = refl; start = refl; same_text = same }
 
 module _ {I K C : Type 0} (content : K → C) (convert : KeyConversion C) (refuses : State → Error → State → Type 0) (old : MapAccess I) (no_key : is_pending old.stage ≡ false) where

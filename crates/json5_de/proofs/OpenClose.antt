@@ -7,7 +7,7 @@ use Rattle.json5_grammar.specs.Model.Collections.{IsEnd}
 use Rattle.json5_types.specs.declared.error.Error.{Error}
 use Rattle.json5_de.specs.State.{State}
 use Rattle.json5_de.specs.Faults.{RefusedBy, IsPositionless}
-use Rattle.json5_value.specs.declared.brackets.Brackets.{Brackets}
+use Rattle.json5_value.specs.declared.brackets.BracketPair.{BracketPair}
 use Rattle.json5_de.specs.BracketSigns.{AreSigns}
 use Rattle.json5_de.specs.Enums.{ClosesLast}
 use Rattle.json5_de.specs.Arrays.{AccessState, Opened, Closed, NotOpened, NotClosed, OpensAs, ClosesAs}
@@ -21,7 +21,7 @@ use Rattle.json5_de.proofs.BracketSteps.{opening_refused, only_read, level_of, u
 use Rattle.json5_de.proofs.EntryCodes.{expects_opening, expects_closing, full_fault, end_no_sign, other_no_sign, end_not_closed, other_not_closed}
 use Rattle.json5_grammar.proofs.CommonLemmas.{true_false}
 
-pub opens : {A : Type 0} (b : Brackets) → AreSigns b → (state_of : A → AccessState) (old : State) (a : A) → Opened b old (state_of a).reader → (state_of a).comma_due ≡ false
+pub opens : {A : Type 0} (b : BracketPair) → AreSigns b → (state_of : A → AccessState) (old : State) (a : A) → Opened b old (state_of a).reader → (state_of a).comma_due ≡ false
     → ((before : List ℕ) → old.input ≡ before ++ b.opening ∷ (state_of a).reader.unread → (state_of a).start ≡ length (encode_utf8_all before)) → OpensAs b state_of old (Ok a)
 opens b k state_of old a o comma_due start = record {
   opened = (o, comma_due);
@@ -35,7 +35,7 @@ opens b k state_of old a o comma_due start = record {
   before = λ h. absurd (true_false h o.live);
 }
 
-pub refuses_opening : {A : Type 0} (b : Brackets) → AreSigns b → (state_of : A → AccessState) (old : State) (e : Error) → RefusedBy (NotOpened b old.level) old e → (old.failed ≡ true → IsPositionless codes.Failed e) → OpensAs b state_of old (Err e)
+pub refuses_opening : {A : Type 0} (b : BracketPair) → AreSigns b → (state_of : A → AccessState) (old : State) (e : Error) → RefusedBy (NotOpened b old.level) old e → (old.failed ≡ true → IsPositionless codes.Failed e) → OpensAs b state_of old (Err e)
 refuses_opening b k state_of old e f before = record {
   opened = tt;
   start = tt;
@@ -49,10 +49,10 @@ refuses_opening b k state_of old e f before = record {
 }
 
 -- a call that refuses as another did
-pub opens_too : {A B : Type 0} (b : Brackets) (state_of : A → AccessState) (seen_too : B → AccessState) (old : State) (e : Error) → OpensAs b state_of old (Err e) → OpensAs b seen_too old (Err e)
+pub opens_too : {A B : Type 0} (b : BracketPair) (state_of : A → AccessState) (seen_too : B → AccessState) (old : State) (e : Error) → OpensAs b state_of old (Err e) → OpensAs b seen_too old (Err e)
 opens_too b state_of seen_too old e o = record { opened = tt; start = tt; complete = o.complete; refused = o.refused; ends = o.ends; differs = o.differs; too_deep = o.too_deep; unprompted = o.unprompted; before = o.before }
 
-pub closes : (b : Brackets) → AreSigns b → (comma_due : Bool) (old new : State) → Closed b comma_due old new → ClosesAs b comma_due old new (Ok tt)
+pub closes : (b : BracketPair) → AreSigns b → (comma_due : Bool) (old new : State) → Closed b comma_due old new → ClosesAs b comma_due old new (Ok tt)
 closes b k comma_due old new c = record {
   closed = c;
   complete = λ r live end. refl;
@@ -64,14 +64,14 @@ closes b k comma_due old new c = record {
 }
 
 -- a bracket before which no comma is
-closed_at_once : (b : Brackets) (comma_due : Bool) (old new : State) → Closed b false old new → Closed b comma_due old new
+closed_at_once : (b : BracketPair) (comma_due : Bool) (old new : State) → Closed b false old new → Closed b comma_due old new
 closed_at_once b false old new c = c
 closed_at_once b true old new c = record { live = c.live; close = inl c.close; rest = c.rest }
 
-pub closes_at_once : (b : Brackets) → AreSigns b → (comma_due : Bool) (old new : State) → Closed b false old new → ClosesLast b comma_due old new (Ok tt)
+pub closes_at_once : (b : BracketPair) → AreSigns b → (comma_due : Bool) (old new : State) → Closed b false old new → ClosesLast b comma_due old new (Ok tt)
 closes_at_once b k comma_due old new c = record { closes = closes b k comma_due old new (closed_at_once b comma_due old new c); same_text = input_of c.rest; failed = tt }
 
-pub refuses_closing : (b : Brackets) → AreSigns b → (comma_due : Bool) (old new : State) (e : Error) → RefusedBy (NotClosed b comma_due) old e → ((r : List ℕ) → old.failed ≡ false → IsEnd b.closing comma_due old.unread r → IsOk {T = Unit {0}} {E = Error} (Err e)) → (old.failed ≡ true → IsPositionless codes.Failed e) → ClosesAs b comma_due old new (Err e)
+pub refuses_closing : (b : BracketPair) → AreSigns b → (comma_due : Bool) (old new : State) (e : Error) → RefusedBy (NotClosed b comma_due) old e → ((r : List ℕ) → old.failed ≡ false → IsEnd b.closing comma_due old.unread r → IsOk {T = Unit {0}} {E = Error} (Err e)) → (old.failed ≡ true → IsPositionless codes.Failed e) → ClosesAs b comma_due old new (Err e)
 refuses_closing b k comma_due old new e f complete before = record {
   closed = tt;
   complete = complete;
@@ -82,7 +82,7 @@ refuses_closing b k comma_due old new e f complete before = record {
   before = before;
 }
 
-pub opens_same : {A B : Type 0} (b : Brackets) (see : A → AccessState) (state_of : B → AccessState) (old : State) (a : A) (d : B) → see a ≡ state_of d → OpensAs b see old (Ok a) → OpensAs b state_of old (Ok d)
+pub opens_same : {A B : Type 0} (b : BracketPair) (see : A → AccessState) (state_of : B → AccessState) (old : State) (a : A) (d : B) → see a ≡ state_of d → OpensAs b see old (Ok a) → OpensAs b state_of old (Ok d)
 opens_same b see state_of old a d same o = record {
   opened = subst (λ s. Opened b old s.reader × (s.comma_due ≡ false)) same o.opened;
   start = subst (λ (s : AccessState). (before : List ℕ) → old.input ≡ before ++ b.opening ∷ s.reader.unread → s.start ≡ length (encode_utf8_all before)) same o.start;
@@ -96,7 +96,7 @@ opens_same b see state_of old a d same o = record {
 }
 
 -- a bracket that was taken and counted
-pub opened_here : (b : Brackets) (old mid next last : State) → PassedGap old mid → TookText mid (b.opening ∷ []) next → (next.level < max_depth) × (last ≡ record next { level = next.level + 1 }) → Opened b old last
+pub opened_here : (b : BracketPair) (old mid next last : State) → PassedGap old mid → TookText mid (b.opening ∷ []) next → (next.level < max_depth) × (last ≡ record next { level = next.level + 1 }) → Opened b old last
 opened_here b old mid next last p took (room, entered) =
     let read = only_read old mid next p.rest took.rest in
     let level = level_of read in
@@ -108,13 +108,13 @@ opened_here b old mid next last p took (room, entered) =
       rest = counted ∙ ap (λ x. record old { unread = x; level = old.level + 1 }) (sym (unread_of entered));
     }
 
-pub starts_here : (b : Brackets) (old mid next last : State) (start : ℕ) → PassedGap old mid → TookText mid (b.opening ∷ []) next → last ≡ record next { level = next.level + 1 }
+pub starts_here : (b : BracketPair) (old mid next last : State) (start : ℕ) → PassedGap old mid → TookText mid (b.opening ∷ []) next → last ≡ record next { level = next.level + 1 }
     → ((before : List ℕ) → mid.input ≡ before ++ mid.unread → start ≡ length (encode_utf8_all before)) → (before : List ℕ) → old.input ≡ before ++ b.opening ∷ last.unread → start ≡ length (encode_utf8_all before)
 starts_here b old mid next last start p took entered counted before split =
     counted before (input_of p.rest ∙ split ∙ ap (λ z. before ++ z) (sym (took.split ∙ ap (λ z. b.opening ∷ z) (sym (unread_of entered)))))
 
 -- a bracket that was taken after the comma
-pub closed_after : {V : Type 0} (b : Brackets) (comma_due : Bool) (old mid next far last : State) (result : Result V Error) → comma_due ≡ true → PassedGap old mid → TookText mid (0x2C ∷ []) next → PassedGap next far
+pub closed_after : {V : Type 0} (b : BracketPair) (comma_due : Bool) (old mid next far last : State) (result : Result V Error) → comma_due ≡ true → PassedGap old mid → TookText mid (0x2C ∷ []) next → PassedGap next far
     → OnOk result ((far.unread ≡ b.closing ∷ last.unread) × (last ≡ record far { unread = last.unread; level = far.level - 1 })) → OnOk result (Closed b comma_due old last)
 closed_after b comma_due old mid next far last (Err e) d p took q k = tt
 closed_after b comma_due old mid next far last (Ok v) d p took q (split, left) =

@@ -20,7 +20,7 @@ use Rattle.json5_text.specs.TextTokens.{IsSliceAt}
 use Rattle.json5_text.specs.declared.short_texts.Span.{Span}
 use Rattle.json5_text.specs.declared.short_ways.ShortStep.{ShortStep}
 use Rattle.json5_text.specs.declared.short_ways.ShortStep.TheVariants as short
-use Rattle.json5_value.specs.declared.brackets.Brackets.{Brackets}
+use Rattle.json5_value.specs.declared.brackets.BracketPair.{BracketPair}
 use Rattle.json5_de.specs.Convert.{natural_below, integer_below, every_text}
 use Rattle.json5_de.specs.KeyKinds.{ReadsKeyAs, string_key}
 use Rattle.json5_de.specs.Keys.{TookKey}
@@ -114,11 +114,11 @@ begun_by : (comma_due : Bool) (x y : List ℕ) → StepsTo comma_due x y → IsE
 begun_by false x y k = record { gap = k.gap; split = k.split; is_gap = k.is_gap; solid = k.solid }
 begun_by true x y (z, comma, k) = (z, comma, record { gap = k.gap; split = k.split; is_gap = k.is_gap; solid = k.solid })
 
-pub short_step : (b : Brackets) (comma_due : Bool) (before after : Cursor) (level : ℕ) (failed : Bool) (old : State) (step : ShortStep) → reader_at before level failed ≡ old → failed ≡ false → TakesShortStep b.closing comma_due before after step
+pub short_step : (b : BracketPair) (comma_due : Bool) (before after : Cursor) (level : ℕ) (failed : Bool) (old : State) (step : ShortStep) → reader_at before level failed ≡ old → failed ≡ false → TakesShortStep b.closing comma_due before after step
     → StepsShort b comma_due old (reader_at after level failed) step
 short_step b comma_due before after level failed old short.Other e live k = same_reader before after level failed old e k
-short_step b comma_due before after level failed old short.Member e live k =
-    subst (λ s. StepsShort b comma_due s (reader_at after level failed) short.Member) e
+short_step b comma_due before after level failed old short.Entry e live k =
+    subst (λ s. StepsShort b comma_due s (reader_at after level failed) short.Entry) e
     (record { live = live; begun = begun_by comma_due before.unread after.unread k.step.0; inside = k.step.1; rest = ap (λ i. record { input = i; unread = after.unread; level = level; failed = failed }) k.same })
 short_step b comma_due before after level failed old short.Closing e live k =
     subst (λ s. StepsShort b comma_due s (reader_at after level failed) short.Closing) e

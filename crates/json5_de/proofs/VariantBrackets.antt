@@ -8,7 +8,7 @@ use Rattle.json5_types.specs.declared.error.Error.{Error}
 use Rattle.json5_value.specs.Offsets.{StartsAfter, PositionedAt}
 use Rattle.json5_de.specs.State.{State, GivesUp}
 use Rattle.json5_de.specs.ReaderSteps.{IsMismatch}
-use Rattle.json5_value.specs.declared.brackets.Brackets.{Brackets}
+use Rattle.json5_value.specs.declared.brackets.BracketPair.{BracketPair}
 use Rattle.json5_de.specs.BracketSigns.{AreSigns}
 use Rattle.json5_value.specs.Brackets.{square, curly}
 use Rattle.json5_de.specs.Arrays.{AccessState, IsStart, Opened, OpensAs, ClosesArray}
@@ -64,7 +64,7 @@ object_ends old new result k = record { alone = λ none. object_closed old new r
 pub struct_ends : (brace : ℕ) (old : MapAccessState) (new : State) (result : Result (Unit {0}) Error) → ClosesContent curly old.at.comma_due brace old.at.reader new result → EndsObject (Some brace) old new result
 struct_ends brace old new result k = record { alone = λ none. absurd (cc); in_variant = λ start some. let same : brace ≡ start = cc in subst (λ b. ClosesStruct b old new result) same (struct_closed brace old new result k) }
 
-module _ (b : Brackets) (signs : AreSigns b) (comma_due : Bool) (brace : ℕ) (old : State) where
+module _ (b : BracketPair) (signs : AreSigns b) (comma_due : Bool) (brace : ℕ) (old : State) where
   -- the own bracket isn't there
   pub content_not_ended : (new : State) (own e : Error) → ClosesLast b comma_due old new (Err own) → PositionedAt (StartsAfter new.input brace) own e → ClosesContent b comma_due brace old new (Err e)
   content_not_ended new own e k placed = record {
@@ -103,7 +103,7 @@ module _ (b : Brackets) (signs : AreSigns b) (comma_due : Bool) (brace : ℕ) (o
 
 -- ---- opening
 
-module _ (b : Brackets) (old : EnumAccessState) where
+module _ (b : BracketPair) (old : EnumAccessState) where
   pub content_opened : (state_of : ℕ → AccessState) (start : ℕ) → old.has_content ≡ true → OpensAs b state_of old.reader (Ok start) → OpensContent b state_of old (Ok start)
   content_opened state_of start has o = record { has_content = has; opened = o.opened; start = o.start; complete = λ r h live sign room. refl; refused = tt; unprompted = tt }
 

@@ -12,7 +12,7 @@ use Rattle.json5_text.specs.TokenFaults.{FaultyBlanks}
 use Rattle.json5_types.specs.declared.error.Error.{Error}
 use Rattle.json5_types.specs.Errors.{code, kind_of}
 use Rattle.json5_de.specs.State.{State, OnlyRead, SameText, cursor_of, FailsIfErr}
-use Rattle.json5_value.specs.declared.brackets.Brackets.{Brackets}
+use Rattle.json5_value.specs.declared.brackets.BracketPair.{BracketPair}
 use Rattle.json5_value.specs.Brackets.{square}
 use Rattle.json5_de.specs.DeserializeLaw.{Unprompted, Steady}
 use Rattle.json5_de.specs.Faults.{RefusedBy, AtEnd, DiffersWith}
@@ -32,7 +32,7 @@ IsEntryStart false x y = IsAfterGap x y
 IsEntryStart true x y = (z : List ℕ) × IsSign comma_sign x z × IsAfterGap z y
 
 -- the closing bracket in front was taken
-abbrev pub TookClosing : Brackets → State → State → Type 0
+abbrev pub TookClosing : BracketPair → State → State → Type 0
 TookClosing b old new = (old.unread ≡ b.closing ∷ new.unread) × (new ≡ record old { unread = new.unread; level = old.level - 1 })
 
 -- the fault of what isn't expected here, and the reader has failed
@@ -41,39 +41,39 @@ pub record IsUnexpected (ends differs : ErrorCode) (old new : State) (e : Error)
   pub state : new ≡ record old { failed = true }
 
 -- something else is in front
-abbrev pub RefusesClosing : Brackets → State → Error → Type 0
+abbrev pub RefusesClosing : BracketPair → State → Error → Type 0
 RefusesClosing b old e = Refused (Unexpected b.ends b.not_closed) (cursor_of old) e × NotBegun (λ c. c == b.closing) old.unread
 
 -- the closing bracket is taken if it is in front
-pub record TakesClosing (b : Brackets) (old new : State) (result : Result (Unit {0}) Error) : Type 0 where
+pub record TakesClosing (b : BracketPair) (old new : State) (result : Result (Unit {0}) Error) : Type 0 where
   pub taken : OnOk result (TookClosing b old new)
   pub refused : IfErr result (RefusesClosing b old)
   pub same_text : SameText old new
 
 -- an element or a member may begin here: no closing bracket is next
-pub record AtEntry (b : Brackets) (comma_due : Bool) (old new : State) : Type 0 where
+pub record AtEntry (b : BracketPair) (comma_due : Bool) (old new : State) : Type 0 where
   pub live : old.failed ≡ false
   pub begun : IsEntryStart comma_due old.unread new.unread
   pub inside : NotBegun (λ c. c == b.closing) new.unread
   pub rest : OnlyRead old new
 
-abbrev pub AdvancesToEntry : Brackets → Bool → State → State → Bool → Type 0
+abbrev pub AdvancesToEntry : BracketPair → Bool → State → State → Bool → Type 0
 AdvancesToEntry b comma_due old new true = AtEntry b comma_due old new
 AdvancesToEntry b comma_due old new false = AtClose b comma_due old new
 
 -- neither the start of an element or a member nor the closing bracket follows in x
-pub record NothingNext (b : Brackets) (comma_due : Bool) (x : List ℕ) : Type 0 where
+pub record NothingNext (b : BracketPair) (comma_due : Bool) (x : List ℕ) : Type 0 where
   pub no_entry : (y : List ℕ) → IsEntryStart comma_due x y → ⊥
   pub no_close : (r : List ℕ) → IsEnd b.closing comma_due x r → ⊥
 
 -- what is refused where the next element or member is expected
-pub data NoNext (b : Brackets) (comma_due : Bool) : List ℕ → Option ErrorCode → Option (List ℕ) → Type 0 where
+pub data NoNext (b : BracketPair) (comma_due : Bool) : List ℕ → Option ErrorCode → Option (List ℕ) → Type 0 where
   no_comma : (c : ℕ) (r : List ℕ) → comma_due ≡ true → (c == comma_sign) ≡ false → (c == b.closing) ≡ false → NoNext b comma_due (c ∷ r) (Some codes.ExpectedComma) (Some [])
   comma_missing : comma_due ≡ true → NoNext b comma_due [] (Some b.ends) None
   in_blanks_after : {x : List ℕ} {reason : Option ErrorCode} {place : Option (List ℕ)} → comma_due ≡ true → FaultyBlanks x reason place → NoNext b comma_due (comma_sign ∷ x) reason (after_text (comma_sign ∷ []) place)
 
 -- the reader goes to the next element or member, or to the closing bracket
-pub record Advances (b : Brackets) (comma_due : Bool) (old new : State) (result : Result Bool Error) : Type 0 where
+pub record Advances (b : BracketPair) (comma_due : Bool) (old new : State) (result : Result Bool Error) : Type 0 where
   pub sound : IfOk result (λ more. AdvancesToEntry b comma_due old new more)
   pub refused : IfErr result (RefusedBy (NoNext b comma_due) old)
   pub nowhere : OnErr result (old.failed ≡ false → NothingNext b comma_due old.unread)

@@ -19,7 +19,7 @@ use Rattle.json5_de.specs.DeserializeLaw.{IsOkOrMemory, TookValue, Unprompted, A
 use Rattle.json5_value.specs.Offsets.{PositionedAt, StartsAfter}
 use Rattle.json5_de.specs.ConvertLists.{if_some}
 use Rattle.json5_de.specs.Faults.{AfterBlanks, IsAfter, RefusedBy, EndsWith, DiffersWith}
-use Rattle.json5_value.specs.declared.brackets.Brackets.{Brackets}
+use Rattle.json5_value.specs.declared.brackets.BracketPair.{BracketPair}
 use Rattle.json5_value.specs.Brackets.{square}
 
 -- what contracts see of an access: the reader that is lent to it, the count of bytes before the opening bracket,
@@ -36,26 +36,26 @@ bare reader comma_due = record { reader = reader; start = 0; comma_due = comma_d
 -- ---- brackets
 
 -- blanks and an opening bracket were taken, and one more bracket is open
-pub record Opened (b : Brackets) (old new : State) : Type 0 where
+pub record Opened (b : BracketPair) (old new : State) : Type 0 where
   pub live : old.failed ≡ false
   pub room : old.level < max_depth
   pub bracket : IsSign b.opening old.unread new.unread
   pub rest : new ≡ record old { unread = new.unread; level = old.level + 1 }
 
 -- the closing bracket was taken, after a comma if one is there and may be, and one bracket less is open
-pub record Closed (b : Brackets) (comma_due : Bool) (old new : State) : Type 0 where
+pub record Closed (b : BracketPair) (comma_due : Bool) (old new : State) : Type 0 where
   pub live : old.failed ≡ false
   pub close : IsEnd b.closing comma_due old.unread new.unread
   pub rest : new ≡ record old { unread = new.unread; level = old.level - 1 }
 
 -- the closing bracket is next, after a comma if one is there and may be
-pub record AtClose (b : Brackets) (comma_due : Bool) (old new : State) : Type 0 where
+pub record AtClose (b : BracketPair) (comma_due : Bool) (old new : State) : Type 0 where
   pub live : old.failed ≡ false
   pub close : (r : List ℕ) × IsEnd b.closing comma_due old.unread r × (new.unread ≡ b.closing ∷ r)
   pub rest : OnlyRead old new
 
 -- nothing is refused if the closing bracket follows
-abbrev pub CompletesClose : {V : Type 0} → Brackets → AccessState → Result V Error → Type 0
+abbrev pub CompletesClose : {V : Type 0} → BracketPair → AccessState → Result V Error → Type 0
 CompletesClose b old result = (r : List ℕ) → old.reader.failed ≡ false → IsEnd b.closing old.comma_due old.reader.unread r → IsOk result
 
 -- ---- an array
@@ -139,7 +139,7 @@ abbrev pub HasPosition : Error → Type 0
 HasPosition e = error_position e ≢ None
 
 -- an opening bracket follows the blanks w, and no more brackets may be open
-pub record AtFull (b : Brackets) (old : State) (w : List ℕ) : Type 0 where
+pub record AtFull (b : BracketPair) (old : State) (w : List ℕ) : Type 0 where
   pub live : old.failed ≡ false
   pub full : old.level ≡ max_depth
   pub blank : Blanks w
@@ -147,37 +147,37 @@ pub record AtFull (b : Brackets) (old : State) (w : List ℕ) : Type 0 where
   pub split : old.unread ≡ w ++ b.opening ∷ more
 
 -- TooDeep at that bracket
-abbrev pub TooDeepAt : {V : Type 0} → Brackets → State → Result V Error → Type 0
+abbrev pub TooDeepAt : {V : Type 0} → BracketPair → State → Result V Error → Type 0
 TooDeepAt b old result = (w : List ℕ) → AtFull b old w → IsErrAnd result (IsAfter codes.TooDeep old w)
 
 -- ---- what begins the rest
 
-abbrev pub is_opening : Brackets → ℕ → Bool
+abbrev pub is_opening : BracketPair → ℕ → Bool
 is_opening b c = c == b.opening
 
 -- after an element or a member
-abbrev pub is_comma_or_closing : Brackets → ℕ → Bool
+abbrev pub is_comma_or_closing : BracketPair → ℕ → Bool
 is_comma_or_closing b c = (c == comma_sign) || (c == b.closing)
 
 -- the closing bracket, or the comma that may be before it
-abbrev pub begins_close : Brackets → Bool → ℕ → Bool
+abbrev pub begins_close : BracketPair → Bool → ℕ → Bool
 begins_close b comma_due c = (c == b.closing) || (comma_due && (c == comma_sign))
 
 -- ---- what is refused
 
 -- where an opening bracket is expected, and so many are open: there is no bracket, or it is one too many
-pub data NotOpened (b : Brackets) (level : ℕ) : List ℕ → Option ErrorCode → Option (List ℕ) → Type 0 where
+pub data NotOpened (b : BracketPair) (level : ℕ) : List ℕ → Option ErrorCode → Option (List ℕ) → Type 0 where
   no_bracket : (c : ℕ) (r : List ℕ) → (c == b.opening) ≡ false → NotOpened b level (c ∷ r) (Some b.not_opened) (Some [])
   text_ends : NotOpened b level [] (Some b.ends) None
   too_deep : (r : List ℕ) → level ≡ max_depth → NotOpened b level (b.opening ∷ r) (Some codes.TooDeep) (Some [])
 
 -- where the closing bracket is expected
-pub data NoBracket (b : Brackets) (comma : Bool) : List ℕ → Option ErrorCode → Option (List ℕ) → Type 0 where
+pub data NoBracket (b : BracketPair) (comma : Bool) : List ℕ → Option ErrorCode → Option (List ℕ) → Type 0 where
   other_sign : (c : ℕ) (r : List ℕ) → (c == b.closing) ≡ false → (comma ≡ true → (c == comma_sign) ≡ false) → NoBracket b comma (c ∷ r) (Some b.not_closed) (Some [])
   bracket_missing : NoBracket b comma [] (Some b.ends) None
 
 -- where the closing bracket is expected, and a comma before it may be
-pub data NotClosed (b : Brackets) (comma_due : Bool) : List ℕ → Option ErrorCode → Option (List ℕ) → Type 0 where
+pub data NotClosed (b : BracketPair) (comma_due : Bool) : List ℕ → Option ErrorCode → Option (List ℕ) → Type 0 where
   not_here : {x : List ℕ} {reason : Option ErrorCode} {place : Option (List ℕ)} → NoBracket b comma_due x reason place → NotClosed b comma_due x reason place
   after_comma : {x : List ℕ} {reason : Option ErrorCode} {place : Option (List ℕ)} → comma_due ≡ true → AfterBlanks (NoBracket b false) x reason place
       → NotClosed b comma_due (comma_sign ∷ x) reason (after_text (comma_sign ∷ []) place)
@@ -185,11 +185,11 @@ pub data NotClosed (b : Brackets) (comma_due : Bool) : List ℕ → Option Error
 -- ---- what the calls of an access mean
 
 -- the count of bytes before the bracket that was taken
-abbrev pub IsStart : Brackets → List ℕ → AccessState → Type 0
+abbrev pub IsStart : BracketPair → List ℕ → AccessState → Type 0
 IsStart b input s = (before : List ℕ) → input ≡ before ++ b.opening ∷ s.reader.unread → s.start ≡ length (encode_utf8_all before)
 
 -- where a bracket that opens is expected
-pub record OpensAs {A : Type 0} (b : Brackets) (state_of : A → AccessState) (old : State) (result : Result A Error) : Type 0 where
+pub record OpensAs {A : Type 0} (b : BracketPair) (state_of : A → AccessState) (old : State) (result : Result A Error) : Type 0 where
   pub opened : IfOk result (λ a. Opened b old (state_of a).reader × ((state_of a).comma_due ≡ false))
   pub start : IfOk result (λ a. IsStart b old.input (state_of a))
   pub complete : (r : List ℕ) → old.failed ≡ false → IsSign b.opening old.unread r → old.level < max_depth → IsOk result
@@ -201,12 +201,12 @@ pub record OpensAs {A : Type 0} (b : Brackets) (state_of : A → AccessState) (o
   pub before : AnswersFailed old result
 
 -- the opening bracket is taken, which begins after so many bytes; a refusal is for good
-pub record TakesOpening (b : Brackets) (old new : State) (result : Result ℕ Error) : Type 0 where
+pub record TakesOpening (b : BracketPair) (old new : State) (result : Result ℕ Error) : Type 0 where
   pub opens : OpensAs b (λ start. record { reader = new; start = start; comma_due = false }) old result
   pub failed : GivesUpIfErr old new result
 
 -- where the closing bracket is expected
-pub record ClosesAs (b : Brackets) (comma_due : Bool) (old new : State) (result : Result (Unit {0}) Error) : Type 0 where
+pub record ClosesAs (b : BracketPair) (comma_due : Bool) (old new : State) (result : Result (Unit {0}) Error) : Type 0 where
   pub closed : OnOk result (Closed b comma_due old new)
   pub complete : (r : List ℕ) → old.failed ≡ false → IsEnd b.closing comma_due old.unread r → IsOk result
   pub refused : IfErr result (RefusedBy (NotClosed b comma_due) old)

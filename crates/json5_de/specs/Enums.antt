@@ -19,7 +19,7 @@ use Rattle.json5_de.specs.Refinement.{if_more}
 use Rattle.json5_value.specs.Offsets.{PositionedAt, StartsAfter}
 use Rattle.json5_de.specs.ReaderSteps.{PassedGap, IsMismatch}
 use Rattle.json5_de.specs.Faults.{RefusedBy, RefusedByOrMemory, NotText, EndsWith, DiffersWith}
-use Rattle.json5_value.specs.declared.brackets.Brackets.{Brackets}
+use Rattle.json5_value.specs.declared.brackets.BracketPair.{BracketPair}
 use Rattle.json5_value.specs.Brackets.{square, curly}
 use Rattle.json5_de.specs.Arrays.{AccessState, IsStart, Opened, NotOpened, Closed, NotClosed, ClosesAs, ClosesArray, ElementsRead, ElementsLeft}
 use Rattle.json5_de.specs.Keys.{TookKey}
@@ -225,18 +225,18 @@ pub record ReadsVariant {V C : Type 0} (content : V → C) (convert : Option Tre
 -- ---- a content that is read through an access
 
 -- a closing bracket is taken; a refusal is for good
-pub record ClosesLast (b : Brackets) (comma_due : Bool) (old new : State) (result : Result (Unit {0}) Error) : Type 0 where
+pub record ClosesLast (b : BracketPair) (comma_due : Bool) (old new : State) (result : Result (Unit {0}) Error) : Type 0 where
   pub closes : ClosesAs b comma_due old new result
   pub same_text : SameText old new
   pub failed : FailsIfErr new result
 
 -- why a content isn't closed, or then the variant's brace: a fault of the content's bracket without a position gets the brace's
-pub data RefusesEnding (b : Brackets) (comma_due : Bool) (brace : ℕ) (old : State) (e : Error) : Type 0 where
+pub data RefusesEnding (b : BracketPair) (comma_due : Bool) (brace : ℕ) (old : State) (e : Error) : Type 0 where
   not_ended : (own : Error) → RefusedBy (NotClosed b comma_due) old own → PositionedAt (StartsAfter old.input brace) own e → RefusesEnding b comma_due brace old e
   brace_open : (after : State) → Closed b comma_due old after → RefusedBy (NotClosed curly true) after e → RefusesEnding b comma_due brace old e
 
 -- the bracket of a variant's content is taken, and then the variant's brace
-pub record ClosesContent (b : Brackets) (comma_due : Bool) (brace : ℕ) (old new : State) (result : Result (Unit {0}) Error) : Type 0 where
+pub record ClosesContent (b : BracketPair) (comma_due : Bool) (brace : ℕ) (old new : State) (result : Result (Unit {0}) Error) : Type 0 where
   pub closed : OnOk result ((after : State) × Closed b comma_due old after × Closed curly true after new)
   pub complete : (x r : List ℕ) → old.failed ≡ false → IsEnd b.closing comma_due old.unread x → IsBrace true x r → IsOk result
   pub refused : IfErr result (RefusesEnding b comma_due brace old)
@@ -266,7 +266,7 @@ pub record EndsObject (brace : Option ℕ) (old : MapAccessState) (new : State) 
   pub in_variant : (start : ℕ) → brace ≡ Some start → ClosesStruct start old new result
 
 -- the content of a variant is opened, which begins with this bracket
-pub record OpensContent {A : Type 0} (b : Brackets) (state_of : A → AccessState) (old : EnumAccessState) (result : Result A Error) : Type 0 where
+pub record OpensContent {A : Type 0} (b : BracketPair) (state_of : A → AccessState) (old : EnumAccessState) (result : Result A Error) : Type 0 where
   pub has_content : OnOk result (old.has_content ≡ true)
   pub opened : IfOk result (λ a. Opened b old.reader (state_of a).reader × ((state_of a).comma_due ≡ false))
   pub start : IfOk result (λ a. IsStart b old.reader.input (state_of a))
@@ -275,7 +275,7 @@ pub record OpensContent {A : Type 0} (b : Brackets) (state_of : A → AccessStat
   pub unprompted : Unprompted old.reader result
 
 -- that bracket is taken, which begins after so many bytes; a refusal is for good
-pub record TakesContentOpening (b : Brackets) (old : EnumAccessState) (new : State) (result : Result ℕ Error) : Type 0 where
+pub record TakesContentOpening (b : BracketPair) (old : EnumAccessState) (new : State) (result : Result ℕ Error) : Type 0 where
   pub opens : OpensContent b (λ start. record { reader = new; start = start; comma_due = false }) old result
   pub failed : GivesUpIfErr old.reader new result
 

@@ -88,8 +88,8 @@ module _ {I : Type 0} where
   KeyIsNamed name m = KeyBegins name m.key_start m.de.now.input m.de.now.unread
 
   -- the same of a call that says whether there was a key
-  abbrev pub NamesItsKey : List ℕ → MapAccess I → Result Bool Error → Type 0
-  NamesItsKey name m result = BeginsIfGiven name m.key_start m.de.now.input m.de.now.unread result
+  abbrev pub IsItsKey : List ℕ → MapAccess I → Result Bool Error → Type 0
+  IsItsKey name m result = BeginsIfGiven name m.key_start m.de.now.input m.de.now.unread result
 
   -- a key was read and its value wasn't yet
   abbrev pub KeyPending : MapAccess I → Type 0

@@ -20,7 +20,7 @@ pub mod TokenCalls
 pub mod Objects
 pub mod ObjectFaults
 pub mod Maps
-pub mod FieldNames
+pub mod FieldKeys
 pub mod Fields
 pub mod Plans
 pub mod KeyPlaces

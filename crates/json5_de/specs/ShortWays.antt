@@ -10,7 +10,7 @@ use Rattle.json5_types.specs.declared.error.Error.{Error}
 use Rattle.json5_text.specs.declared.short_texts.Span.{Span}
 use Rattle.json5_text.specs.declared.short_ways.ShortStep.{ShortStep}
 use Rattle.json5_text.specs.declared.short_ways.ShortStep.TheVariants as short
-use Rattle.json5_value.specs.declared.brackets.Brackets.{Brackets}
+use Rattle.json5_value.specs.declared.brackets.BracketPair.{BracketPair}
 use Rattle.json5_de.specs.Arrays.{Opened, Closed, IsStart}
 use Rattle.json5_de.specs.Keys.{TookKey}
 use Rattle.json5_de.specs.DeserializeLaw.{TookValue}
@@ -24,8 +24,8 @@ abbrev pub ReadsShort : {V C : Type 0} → Kind C → (V → C) → State → St
 ReadsShort kind content old new result = MatchOption result (new ≡ old) (λ v. ReadsAs kind content old new (Ok v))
 
 -- a step to the next element or member, or to the closing bracket, is taken, or nothing
-abbrev pub StepsShort : Brackets → Bool → State → State → ShortStep → Type 0
-StepsShort b comma_due old new short.Member = AdvancesToEntry b comma_due old new true
+abbrev pub StepsShort : BracketPair → Bool → State → State → ShortStep → Type 0
+StepsShort b comma_due old new short.Entry = AdvancesToEntry b comma_due old new true
 StepsShort b comma_due old new short.Closing = AdvancesToEntry b comma_due old new false
 StepsShort b comma_due old new short.Other = new ≡ old
 
@@ -51,11 +51,11 @@ PassesShortColon old new true = AfterColon old new
 PassesShortColon old new false = new ≡ old
 
 -- an opening bracket is taken, so many bytes after the start, or nothing
-abbrev pub OpensShort : Brackets → State → State → Option ℕ → Type 0
+abbrev pub OpensShort : BracketPair → State → State → Option ℕ → Type 0
 OpensShort b old new result = MatchOption result (new ≡ old) (λ start. Opened b old new × IsStart b old.input (record { reader = new; start = start; comma_due = false }))
 
 -- a closing bracket is taken, or nothing
-abbrev pub ClosesShort : Brackets → State → State → Bool → Type 0
+abbrev pub ClosesShort : BracketPair → State → State → Bool → Type 0
 ClosesShort b old new true = Closed b false old new
 ClosesShort b old new false = new ≡ old
 

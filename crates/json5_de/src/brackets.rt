@@ -63,7 +63,7 @@ impl<I: Input> Deserializer<I> {
         ensures { Advances (brackets_of kind) comma_due self.old self.new result }
     {
         match self.short_step(kind, comma_due) {
-            ShortStep::Member => Ok(true),
+            ShortStep::Entry => Ok(true),
             ShortStep::Closing => Ok(false),
             ShortStep::Other => self.advance_slowly(kind, comma_due),
         }
@@ -80,7 +80,7 @@ impl<I: Input> Deserializer<I> {
         ensures { Advances (brackets_of kind) comma_due self.old self.new (answered result fault.new) }
     {
         match self.short_step(kind, comma_due) {
-            ShortStep::Member => Some(true),
+            ShortStep::Entry => Some(true),
             ShortStep::Closing => Some(false),
             ShortStep::Other => self.take_step_slowly(kind, comma_due, fault),
         }
@@ -125,7 +125,7 @@ impl<I: Input> Deserializer<I> {
     }
 
     /// Takes the closing bracket in front.
-    fn bracket(&mut self, kind: BracketKind) -> Result<()>
+    fn close_bracket(&mut self, kind: BracketKind) -> Result<()>
         ensures { TakesClosing (brackets_of kind) self.old self.new result }
     {
         let brackets = kind.brackets();
@@ -146,12 +146,12 @@ impl<I: Input> Deserializer<I> {
     {
         self.skip_blank()?;
         if !comma_due {
-            return self.bracket(kind);
+            return self.close_bracket(kind);
         }
         if !self.eat(',') {
-            return self.bracket(kind);
+            return self.close_bracket(kind);
         }
         self.skip_blank()?;
-        self.bracket(kind)
+        self.close_bracket(kind)
     }
 }

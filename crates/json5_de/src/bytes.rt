@@ -31,7 +31,7 @@ impl<I: Input> Deserializer<I> {
     pub fn deserialize_bytes(&mut self) -> Result<ByteBuf>
         ensures { ReadsBytes self.old self.new result }
     {
-        let string = self.found_string()?;
+        let string = self.find_string()?;
         self.bytes_of(&string)
     }
 

@@ -397,7 +397,7 @@ impl<I: Input> Deserializer<I> {
     /// Refuses a value that isn't of the type that is expected: a custom message, at the offset.
     #[cold]
     #[inline(never)]
-    pub(crate) fn mismatch<T>(&mut self, offset: usize, mismatch: &Mismatch<'_>) -> Result<T>
+    pub(crate) fn refuse_mismatch<T>(&mut self, offset: usize, mismatch: &Mismatch<'_>) -> Result<T>
         ensures { GivesUpWith (IsMismatch self.old.input offset) self.old self.new result }
     {
         let error = self.mismatch_at(offset, mismatch);

@@ -11,7 +11,7 @@ use crate::de::{Deserialize, Deserializer};
 use crate::map::MapAccess;
 use crate::mismatch::Mismatch;
 use crate::seq::SeqAccess;
-use crate::stage::Stage;
+use crate::stage::AccessStage;
 use crate::variant_names::Named;
 use json5_text::input::Input;
 use json5_types::error::Result;
@@ -145,7 +145,7 @@ impl<I: Input> Deserializer<I> {
         ensures { TakesContentOpening (brackets_of kind) (named_state_of self.old name.now) self.new result }
     {
         if !name.has_content {
-            return self.mismatch(name.start, &Mismatch::WithoutContent(expected));
+            return self.refuse_mismatch(name.start, &Mismatch::WithoutContent(expected));
         }
         match self.open(kind) {
             Ok(start) => Ok(start),
@@ -187,7 +187,7 @@ impl<I: Input> Deserializer<I> {
         ensures { ReadsVariant T.content (content_of T.convert) (content_free T.allocation_free) T.refuses (named_state_of self.old name) self.new result }
     {
         if !name.has_content {
-            return self.mismatch(name.start, &Mismatch::WithoutContent("newtype"));
+            return self.refuse_mismatch(name.start, &Mismatch::WithoutContent("newtype"));
         }
         self.in_brace(name.start)
     }
@@ -275,7 +275,7 @@ impl<'a, I: Input> EnumAccess<'a, I> {
         Ok(SeqAccess {
             de,
             start,
-            stage: Stage::Empty,
+            stage: AccessStage::Empty,
             failed: false,
             brace: Some(name.start),
         })
@@ -308,7 +308,7 @@ impl<'a, I: Input> EnumAccess<'a, I> {
             de,
             start,
             key_start: start,
-            stage: Stage::Empty,
+            stage: AccessStage::Empty,
             failed: false,
             brace: Some(name.start),
         })

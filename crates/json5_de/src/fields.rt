@@ -7,18 +7,18 @@ ghost use Rattle.json5_de.specs.Convert.{every_text};
 ghost use Rattle.json5_de.specs.KeyKinds.{RefusedAsKey, string_key};
 ghost use Rattle.json5_de.specs.ObjectFaults.{ReadsKeyAtEntry, ReadsKeyOfMember};
 ghost use Rattle.json5_de.specs.DeserializeLaw.{IsUnprompted};
-ghost use Rattle.json5_de.specs.FieldNames.{name_text};
+ghost use Rattle.json5_de.specs.FieldKeys.{field_key_text};
 ghost use Rattle.json5_de.specs.Fields.{FieldRead, FieldRequired, IsOwnAtBracket, RefusesHere};
 ghost use Rattle.json5_de.specs.Plans.{PassesMember, ReadsMembers};
 ghost use Rattle.json5_de.specs.ShortWays.{filled_if_given};
 ghost use Rattle.json5_de.specs.KeyPlaces.{BeginsIfGiven};
 ghost use Rattle.json5_grammar.specs.Language.Blanks.{Solid};
 ghost use Rattle.json5_de.specs.StructFaults.{RefusesMembers};
-ghost use Rattle.json5_de.specs.Lending.{map_state_of, at_its_key, beginning_at, RefusesWithOwn, KeepsMap, KeyPending, NoKeyPending, TakesPendingKey, ReadsNextKey, NamesItsKey};
+ghost use Rattle.json5_de.specs.Lending.{map_state_of, at_its_key, beginning_at, RefusesWithOwn, KeepsMap, KeyPending, NoKeyPending, TakesPendingKey, ReadsNextKey, IsItsKey};
 
 use crate::any::IgnoredAny;
 use crate::de::{Deserialize, Deserializer};
-use crate::field_names::FieldName;
+use crate::field_keys::FieldKey;
 use crate::map::MapAccess;
 use json5_text::input::Input;
 use json5_text::short_ways::ShortStep;
@@ -73,59 +73,63 @@ pub trait Fields<I: Input>: Sized + Drop {
 }
 
 impl<I: Input> Deserializer<I> {
-    /// Reads the next key of an object as `member_key::<String>` does, and takes it as a name. Says whether there was one, and
+    /// Reads the next key of an object as `read_member_key::<String>` does, and keeps its text. Says whether there was one, and
     /// puts into `start` how many bytes come before it. A key of the short way takes no memory.
     #[inline(always)]
-    fn member_name(
+    fn read_field_key(
         &mut self,
         comma_due: bool,
-        name: &mut FieldName<I>,
+        field_key: &mut FieldKey<I>,
         start: &mut usize,
     ) -> Result<bool>
-        ensures key { ReadsKeyOfMember name_text every_text (RefusedAsKey string_key) comma_due self.old self.new (filled_if_given name.new result) }
-        ensures begins { BeginsIfGiven name.new start.new self.new.input self.new.unread result }
+        ensures key { ReadsKeyOfMember field_key_text every_text (RefusedAsKey string_key) comma_due self.old self.new (filled_if_given field_key.new result) }
+        ensures begins { BeginsIfGiven field_key.new start.new self.new.input self.new.unread result }
     {
         match self.short_step(BracketKind::Object, comma_due) {
-            ShortStep::Member => {}
+            ShortStep::Entry => {}
             ShortStep::Closing => return Ok(false),
-            ShortStep::Other => return self.member_name_slowly(comma_due, name, start),
+            ShortStep::Other => return self.read_field_key_slowly(comma_due, field_key, start),
         }
         *start = self.offset();
         let Some(span) = self.short_key() else {
-            return self.entry_name(name, start);
+            return self.read_entry_field_key(field_key, start);
         };
-        name.put(self.input(), span);
+        field_key.put(self.input(), span);
         Ok(true)
     }
 
     /// The same for anything in front.
     #[inline(never)]
-    fn member_name_slowly(
+    fn read_field_key_slowly(
         &mut self,
         comma_due: bool,
-        name: &mut FieldName<I>,
+        field_key: &mut FieldKey<I>,
         start: &mut usize,
     ) -> Result<bool>
-        ensures key { ReadsKeyOfMember name_text every_text (RefusedAsKey string_key) comma_due self.old self.new (filled_if_given name.new result) }
-        ensures begins { BeginsIfGiven name.new start.new self.new.input self.new.unread result }
+        ensures key { ReadsKeyOfMember field_key_text every_text (RefusedAsKey string_key) comma_due self.old self.new (filled_if_given field_key.new result) }
+        ensures begins { BeginsIfGiven field_key.new start.new self.new.input self.new.unread result }
     {
         match self.advance_to_entry(BracketKind::Object, comma_due) {
-            Ok(true) => self.entry_name(name, start),
+            Ok(true) => self.read_entry_field_key(field_key, start),
             Ok(false) => Ok(false),
             Err(e) => Err(e),
         }
     }
 
-    /// Takes the name of the member that begins here, if a key begins it.
+    /// Reads the key of the member that begins here, if a key begins it, and keeps its text.
     #[inline(never)]
-    fn entry_name(&mut self, name: &mut FieldName<I>, start: &mut usize) -> Result<bool>
-        ensures key { ReadsKeyAtEntry name_text every_text (RefusedAsKey string_key) self.old self.new (filled_if_given name.new result) }
-        ensures begins { Solid self.old.unread → BeginsIfGiven name.new start.new self.new.input self.new.unread result }
+    fn read_entry_field_key(
+        &mut self,
+        field_key: &mut FieldKey<I>,
+        start: &mut usize,
+    ) -> Result<bool>
+        ensures key { ReadsKeyAtEntry field_key_text every_text (RefusedAsKey string_key) self.old self.new (filled_if_given field_key.new result) }
+        ensures begins { Solid self.old.unread → BeginsIfGiven field_key.new start.new self.new.input self.new.unread result }
     {
         *start = self.offset();
-        match self.entry_key::<String>() {
+        match self.read_entry_key::<String>() {
             Ok(Some(key)) => {
-                name.put_owned(key);
+                field_key.put_owned(key);
                 Ok(true)
             }
             Ok(None) => Ok(false),
@@ -274,15 +278,22 @@ impl<'a, I: Input> MapAccess<'a, I> {
         }
     }
 
-    /// Reads the next key as `next_name` does, and puts into `start` how many bytes come before it.
+    /// Reads the next key as `next_field_key` does, and puts into `start` how many bytes come before it.
     #[inline(always)]
-    fn take_name(&mut self, name: &mut FieldName<I>, start: &mut usize) -> Result<bool>
+    fn read_next_field_key(
+        &mut self,
+        field_key: &mut FieldKey<I>,
+        start: &mut usize,
+    ) -> Result<bool>
         requires no_key { NoKeyPending self.old }
-        ensures key { ReadsNextKey name_text every_text (RefusedAsKey string_key) self.old self.new (filled_if_given name.new result) }
-        ensures begins { BeginsIfGiven name.new start.new self.new.de.now.input self.new.de.now.unread result }
+        ensures key { ReadsNextKey field_key_text every_text (RefusedAsKey string_key) self.old self.new (filled_if_given field_key.new result) }
+        ensures begins { BeginsIfGiven field_key.new start.new self.new.de.now.input self.new.de.now.unread result }
     {
         self.de.set_failed(self.failed);
-        match self.de.member_name(self.stage.is_comma_due(), name, start) {
+        match self
+            .de
+            .read_field_key(self.stage.is_comma_due(), field_key, start)
+        {
             Ok(given) => {
                 self.de.set_failed(true);
                 self.stage = self.stage.with_key(given);
@@ -292,15 +303,15 @@ impl<'a, I: Input> MapAccess<'a, I> {
         }
     }
 
-    /// Reads the next key as `next_key::<String>` does, takes it as a name, and keeps where it begins. Says whether there was one.
+    /// Reads the next key as `next_key::<String>` does, keeps its text, and where it begins. Says whether there was one.
     #[inline(always)]
-    fn next_name(&mut self, name: &mut FieldName<I>) -> Result<bool>
+    fn next_field_key(&mut self, field_key: &mut FieldKey<I>) -> Result<bool>
         requires no_key { NoKeyPending self.old }
-        ensures key { ReadsNextKey name_text every_text (RefusedAsKey string_key) self.old self.new (filled_if_given name.new result) }
-        ensures named { NamesItsKey name.new self.new result }
+        ensures key { ReadsNextKey field_key_text every_text (RefusedAsKey string_key) self.old self.new (filled_if_given field_key.new result) }
+        ensures named { IsItsKey field_key.new self.new result }
     {
         let mut start = self.key_start;
-        match self.take_name(name, &mut start) {
+        match self.read_next_field_key(field_key, &mut start) {
             Ok(given) => {
                 self.key_start = start;
                 Ok(given)
@@ -330,9 +341,9 @@ impl<'a, I: Input> MapAccess<'a, I> {
         ensures reads { ReadsMembers F.step (F.content fields.old) (F.content fields.new) (map_state_of self.old) (map_state_of self.new) result }
         ensures refused { RefusesMembers F.step F.refuses (F.content fields.old) (map_state_of self.old) result }
     {
-        let mut name = FieldName::new(self.de.allocator(), self.de.input());
-        while self.next_name(&mut name)? {
-            fields.read(self, name.as_str())?;
+        let mut field_key = FieldKey::new(self.de.allocator(), self.de.input());
+        while self.next_field_key(&mut field_key)? {
+            fields.read(self, field_key.as_str())?;
         }
         Ok(())
     }

@@ -17,7 +17,7 @@ pub(crate) struct FoundText {
 
 impl<I: Input> Deserializer<I> {
     /// Takes a string, blanks before it included.
-    pub(crate) fn found_string(&mut self) -> Result<FoundText>
+    pub(crate) fn find_string(&mut self) -> Result<FoundText>
         ensures { FindsString self.old self.new result }
     {
         self.skip_blank()?;
@@ -27,7 +27,7 @@ impl<I: Input> Deserializer<I> {
     }
 
     /// Takes a key, blanks before it included.
-    pub(crate) fn found_key(&mut self) -> Result<FoundText>
+    pub(crate) fn find_key(&mut self) -> Result<FoundText>
         ensures { FindsKey self.old self.new result }
     {
         self.skip_blank()?;

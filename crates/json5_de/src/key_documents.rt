@@ -29,7 +29,7 @@ impl<I: Input> MapKey<'_, I> {
     pub fn deserialize_unit(&mut self) -> Result<()>
         ensures { ReadsNullKey self.old self.new result }
     {
-        self.de.key_document()
+        self.de.read_key_document()
     }
 
     /// Reads a key whose text is `null`, as a struct without fields. The name changes nothing.
@@ -59,7 +59,7 @@ impl<I: Input> MapKey<'_, I> {
     pub fn deserialize_bool(&mut self) -> Result<bool>
         ensures { KeyReads (document_key bool_kind) (λ b. b) self.old self.new result }
     {
-        self.de.key_document()
+        self.de.read_key_document()
     }
 
     /// Reads a key whose text is a whole number from 0 to 255, with any blanks and comments around it.
@@ -74,7 +74,7 @@ impl<I: Input> MapKey<'_, I> {
     pub fn deserialize_u8(&mut self) -> Result<u8>
         ensures { KeyReads (document_key (natural_kind (2 ^ 8))) (λ n. n) self.old self.new result }
     {
-        self.de.key_document()
+        self.de.read_key_document()
     }
 
     /// Reads a key whose text is a whole number from 0 to 65535.
@@ -89,7 +89,7 @@ impl<I: Input> MapKey<'_, I> {
     pub fn deserialize_u16(&mut self) -> Result<u16>
         ensures { KeyReads (document_key (natural_kind (2 ^ 16))) (λ n. n) self.old self.new result }
     {
-        self.de.key_document()
+        self.de.read_key_document()
     }
 
     /// Reads a key whose text is a whole number from 0 to 2^32 - 1.
@@ -104,7 +104,7 @@ impl<I: Input> MapKey<'_, I> {
     pub fn deserialize_u32(&mut self) -> Result<u32>
         ensures { KeyReads (document_key (natural_kind (2 ^ 32))) (λ n. n) self.old self.new result }
     {
-        self.de.key_document()
+        self.de.read_key_document()
     }
 
     /// Reads a key whose text is a whole number from 0 to 2^64 - 1.
@@ -119,7 +119,7 @@ impl<I: Input> MapKey<'_, I> {
     pub fn deserialize_u64(&mut self) -> Result<u64>
         ensures { KeyReads (document_key (natural_kind (2 ^ 64))) (λ n. n) self.old self.new result }
     {
-        self.de.key_document()
+        self.de.read_key_document()
     }
 
     /// Reads a key whose text is a whole number from 0 to 2^128 - 1.
@@ -134,7 +134,7 @@ impl<I: Input> MapKey<'_, I> {
     pub fn deserialize_u128(&mut self) -> Result<u128>
         ensures { KeyReads (document_key (natural_kind (2 ^ 128))) (λ n. n) self.old self.new result }
     {
-        self.de.key_document()
+        self.de.read_key_document()
     }
 
     /// Reads a key whose text is a whole number from -128 to 127.
@@ -149,7 +149,7 @@ impl<I: Input> MapKey<'_, I> {
     pub fn deserialize_i8(&mut self) -> Result<i8>
         ensures { KeyReads (document_key (integer_kind (2 ^ 7))) (λ n. n) self.old self.new result }
     {
-        self.de.key_document()
+        self.de.read_key_document()
     }
 
     /// Reads a key whose text is a whole number from -32768 to 32767.
@@ -164,7 +164,7 @@ impl<I: Input> MapKey<'_, I> {
     pub fn deserialize_i16(&mut self) -> Result<i16>
         ensures { KeyReads (document_key (integer_kind (2 ^ 15))) (λ n. n) self.old self.new result }
     {
-        self.de.key_document()
+        self.de.read_key_document()
     }
 
     /// Reads a key whose text is a whole number from -2^31 to 2^31 - 1.
@@ -179,7 +179,7 @@ impl<I: Input> MapKey<'_, I> {
     pub fn deserialize_i32(&mut self) -> Result<i32>
         ensures { KeyReads (document_key (integer_kind (2 ^ 31))) (λ n. n) self.old self.new result }
     {
-        self.de.key_document()
+        self.de.read_key_document()
     }
 
     /// Reads a key whose text is a whole number from -2^63 to 2^63 - 1.
@@ -194,7 +194,7 @@ impl<I: Input> MapKey<'_, I> {
     pub fn deserialize_i64(&mut self) -> Result<i64>
         ensures { KeyReads (document_key (integer_kind (2 ^ 63))) (λ n. n) self.old self.new result }
     {
-        self.de.key_document()
+        self.de.read_key_document()
     }
 
     /// Reads a key whose text is a whole number from -2^127 to 2^127 - 1.
@@ -209,7 +209,7 @@ impl<I: Input> MapKey<'_, I> {
     pub fn deserialize_i128(&mut self) -> Result<i128>
         ensures { KeyReads (document_key (integer_kind (2 ^ 127))) (λ n. n) self.old self.new result }
     {
-        self.de.key_document()
+        self.de.read_key_document()
     }
 
     /// Reads a key whose text is a number of any kind, as a decimal.
@@ -224,7 +224,7 @@ impl<I: Input> MapKey<'_, I> {
     pub fn deserialize_decimal(&mut self) -> Result<Decimal>
         ensures { KeyReads (document_key decimal_kind) (λ d. d) self.old self.new result }
     {
-        self.de.key_document()
+        self.de.read_key_document()
     }
 }
 
@@ -237,10 +237,10 @@ fn is_out_of_memory(error: &Error) -> bool
 
 impl<I: Input> Deserializer<I> {
     /// Reads a key as a document of its own.
-    pub(crate) fn key_document<T: FromText>(&mut self) -> Result<T>
+    pub(crate) fn read_key_document<T: FromText>(&mut self) -> Result<T>
         ensures { ReadsKeyAs (document_key T.kind) T.content self.old self.new result }
     {
-        let key = self.found_key()?;
+        let key = self.find_key()?;
         match T::from_text(self.allocator(), self.token_text(&key.token)) {
             Ok(value) => Ok(value),
             Err(e) => {

@@ -48,7 +48,7 @@ impl<I: Input> MapKey<'_, I> {
     pub fn deserialize_char(&mut self) -> Result<char>
         ensures { KeyReads char_key (λ c. c) self.old self.new result }
     {
-        let key = self.de.found_key()?;
+        let key = self.de.find_key()?;
         self.de.character_of(&key)
     }
 
@@ -66,7 +66,7 @@ impl<I: Input> MapKey<'_, I> {
     pub fn deserialize_enum(&mut self, _name: &'static str, variants: &[&str]) -> Result<usize>
         ensures { KeyReads (variant_key (names_bytes variants.now)) (λ n. n) self.old self.new result }
     {
-        let key = self.de.found_key()?;
+        let key = self.de.find_key()?;
         self.de.variant_of(&key, variants)
     }
 
@@ -82,7 +82,7 @@ impl<I: Input> MapKey<'_, I> {
     pub fn deserialize_ignored_any(&mut self) -> Result<()>
         ensures { KeyReads ignored_key (λ _. tt) self.old self.new result }
     {
-        self.de.found_key()?;
+        self.de.find_key()?;
         Ok(())
     }
 
@@ -99,7 +99,7 @@ impl<I: Input> MapKey<'_, I> {
     pub fn deserialize_bytes(&mut self) -> Result<ByteBuf>
         ensures { ReadsBytesKey self.old self.new result }
     {
-        let key = self.de.found_key()?;
+        let key = self.de.find_key()?;
         self.de.bytes_of(&key)
     }
 
@@ -184,7 +184,7 @@ impl<I: Input> Deserializer<I> {
     pub(crate) fn key_string_slowly(&mut self) -> Result<String>
         ensures { ReadsKeyAs string_key string_bytes self.old self.new result }
     {
-        let key = self.found_key()?;
+        let key = self.find_key()?;
         match self.own_key_text(key.token) {
             Ok(text) => Ok(text),
             Err(e) => self.refuse(e),
@@ -199,7 +199,7 @@ impl<'de, I: Borrows<'de>> Deserializer<I> {
     fn key_cow_slowly(&mut self) -> Result<CowStr<'de>>
         ensures { ReadsKeyAs cow_key (λ t. (cow_bytes t, is_borrowed t)) self.old self.new result }
     {
-        let key = self.found_key()?;
+        let key = self.find_key()?;
         Ok(self.borrowed_key_text(key.token))
     }
 
@@ -208,10 +208,13 @@ impl<'de, I: Borrows<'de>> Deserializer<I> {
     fn key_str_slowly(&mut self) -> Result<&'de str>
         ensures { ReadsKeyAs escape_free_key (λ t. t.now) self.old self.new result }
     {
-        let key = self.found_key()?;
+        let key = self.find_key()?;
         match self.borrowed_key_text(key.token) {
             CowStr::Borrowed(text) => Ok(text),
-            CowStr::Owned(text) => self.mismatch(key.start, &Mismatch::Escaped(text.as_str())),
+            CowStr::Owned(text) => self.refuse_mismatch(
+                key.start,
+                &Mismatch::Escaped(text.as_str()),
+            ),
         }
     }
 }

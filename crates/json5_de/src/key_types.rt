@@ -181,7 +181,7 @@ impl<I: Input, T: FromText> DeserializeKey<I> for T {
     ghost refuses = { RefusedAsKey (document_key T.kind) };
 
     fn deserialize_key(key: &mut MapKey<'_, I>) -> Result<T> {
-        key.de.key_document()
+        key.de.read_key_document()
     }
 }
 

@@ -8,7 +8,7 @@ mod btree_map;
 mod bytes;
 mod de;
 mod enums;
-mod field_names;
+mod field_keys;
 mod fields;
 mod found_text;
 mod gather;

@@ -32,7 +32,7 @@ impl<I: Input> Deserialize<I> for usize {
         if let Some(natural) = de.short_natural(0xffffffffffffffff) {
             return Ok(natural as usize);
         }
-        match de.natural(0xffffffffffffffff, "usize") {
+        match de.read_natural(0xffffffffffffffff, "usize") {
             Ok(natural) => Ok(natural as usize),
             Err(e) => Err(e),
         }
@@ -61,7 +61,7 @@ impl<I: Input> Deserialize<I> for isize {
         if let Some(integer) = de.short_integer(0x7fffffffffffffff) {
             return Ok(integer as isize);
         }
-        match de.signed_integer(0x7fffffffffffffff, "isize") {
+        match de.read_signed_integer(0x7fffffffffffffff, "isize") {
             Ok(integer) => Ok(integer as isize),
             Err(e) => Err(e),
         }

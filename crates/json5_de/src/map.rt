@@ -10,7 +10,7 @@ ghost use Rattle.json5_de.specs.ObjectFaults.{PassesColon, ReadsValueOfMember};
 
 use crate::de::{Deserialize, Deserializer};
 use crate::key::DeserializeKey;
-use crate::stage::Stage;
+use crate::stage::AccessStage;
 use json5_text::input::Input;
 use json5_types::error::{Error, Result};
 use json5_types::{ErrorCode, Position};
@@ -44,7 +44,7 @@ pub struct MapAccess<'a, I: Input> {
     pub(crate) start: usize,
     /// The count of bytes before the key that `read_fields` read last.
     pub(crate) key_start: usize,
-    pub(crate) stage: Stage,
+    pub(crate) stage: AccessStage,
     /// Whether a call of the access was refused.
     pub(crate) failed: bool,
     /// The count of bytes before the brace of the variant whose content it reads, which its end closes too.
@@ -99,7 +99,7 @@ impl<I: Input> Deserializer<I> {
             de: self,
             start,
             key_start: start,
-            stage: Stage::Empty,
+            stage: AccessStage::Empty,
             failed: false,
             brace: None,
         })
@@ -131,18 +131,18 @@ impl<I: Input> Deserializer<I> {
 
     /// Takes the colon after a key.
     #[inline(always)]
-    pub(crate) fn colon(&mut self) -> Result<()>
+    pub(crate) fn pass_colon(&mut self) -> Result<()>
         ensures { PassesColon self.old self.new result }
     {
         if self.short_colon() {
             return Ok(());
         }
-        self.colon_slowly()
+        self.pass_colon_slowly()
     }
 
     /// The same after any blanks.
     #[inline(never)]
-    fn colon_slowly(&mut self) -> Result<()>
+    fn pass_colon_slowly(&mut self) -> Result<()>
         ensures { PassesColon self.old self.new result }
     {
         self.skip_blank()?;
@@ -154,14 +154,14 @@ impl<I: Input> Deserializer<I> {
 
     /// A colon and the value after a key.
     #[inline(always)]
-    fn member_value<V: Deserialize<I>>(&mut self) -> Result<V>
+    fn read_member_value<V: Deserialize<I>>(&mut self) -> Result<V>
         ensures { ReadsValueOfMember V.content V.convert V.refuses self.old self.new result }
     {
-        self.colon()?;
+        self.pass_colon()?;
         V::deserialize(self)
     }
 
-    /// The same as `colon`; the error of a refusal is left in `fault`.
+    /// The same as `pass_colon`; the error of a refusal is left in `fault`.
     #[inline(always)]
     fn take_colon(&mut self, fault: &mut Error) -> Option<()>
         ensures { PassesColon self.old self.new (answered result fault.new) }
@@ -177,7 +177,7 @@ impl<I: Input> Deserializer<I> {
     fn take_colon_slowly(&mut self, fault: &mut Error) -> Option<()>
         ensures { PassesColon self.old self.new (answered result fault.new) }
     {
-        match self.colon_slowly() {
+        match self.pass_colon_slowly() {
             Ok(()) => Some(()),
             Err(error) => {
                 *fault = error;
@@ -186,7 +186,7 @@ impl<I: Input> Deserializer<I> {
         }
     }
 
-    /// The same as `member_value`; the error of a refusal is left in `fault`.
+    /// The same as `read_member_value`; the error of a refusal is left in `fault`.
     #[inline(always)]
     fn take_member_value<V: Deserialize<I>>(&mut self, fault: &mut Error) -> Option<V>
         ensures { ReadsValueOfMember V.content V.convert V.refuses self.old self.new (answered result fault.new) }
@@ -249,7 +249,7 @@ impl<'a, I: Input> MapAccess<'a, I> {
         ensures { ReadsNextKey K.content K.convert K.refuses self.old self.new result }
     {
         self.de.set_failed(self.failed);
-        match self.de.member_key(self.stage.is_comma_due()) {
+        match self.de.read_member_key(self.stage.is_comma_due()) {
             Ok(key) => {
                 self.de.set_failed(true);
                 self.stage = self.stage.with_key(key.is_some());
@@ -280,10 +280,10 @@ impl<'a, I: Input> MapAccess<'a, I> {
         ensures { ReadsNextValue V.content V.convert V.refuses self.old self.new result }
     {
         self.de.set_failed(self.failed);
-        match self.de.member_value::<V>() {
+        match self.de.read_member_value::<V>() {
             Ok(value) => {
                 self.de.set_failed(true);
-                self.stage = Stage::Started;
+                self.stage = AccessStage::Started;
                 Ok(value)
             }
             Err(e) => Err(self.refused(e)),
@@ -330,7 +330,7 @@ impl<'a, I: Input> MapAccess<'a, I> {
         match self.de.take_member_value::<V>(fault) {
             Some(value) => {
                 self.de.set_failed(true);
-                self.stage = Stage::Started;
+                self.stage = AccessStage::Started;
                 Some(value)
             }
             None => {

@@ -81,7 +81,7 @@ impl<I: Input> Deserializer<I> {
 
     /// The key of the member that begins here.
     #[inline(always)]
-    pub(crate) fn entry_key<K: DeserializeKey<I>>(&mut self) -> Result<Option<K>>
+    pub(crate) fn read_entry_key<K: DeserializeKey<I>>(&mut self) -> Result<Option<K>>
         ensures reads { ReadsKeyAtEntry K.content K.convert K.refuses self.old self.new result }
         ensures here { IfOk result (λ o. IfSome o (GivesKey K.content K.convert self.old self.new)) }
     {
@@ -98,22 +98,25 @@ impl<I: Input> Deserializer<I> {
 
     /// The next key of an object, or None if the closing brace is next.
     #[inline(always)]
-    pub(crate) fn member_key<K: DeserializeKey<I>>(&mut self, comma_due: bool) -> Result<Option<K>>
+    pub(crate) fn read_member_key<K: DeserializeKey<I>>(
+        &mut self,
+        comma_due: bool,
+    ) -> Result<Option<K>>
         ensures { ReadsKeyOfMember K.content K.convert K.refuses comma_due self.old self.new result }
     {
         match self.advance_to_entry(BracketKind::Object, comma_due) {
-            Ok(true) => self.entry_key(),
+            Ok(true) => self.read_entry_key(),
             Ok(false) => Ok(None),
             Err(e) => Err(e),
         }
     }
 
-    /// The same as `entry_key`; the error of a refusal is left in `fault`.
+    /// The same as `read_entry_key`; the error of a refusal is left in `fault`.
     #[inline(always)]
     fn take_entry_key<K: DeserializeKey<I>>(&mut self, fault: &mut Error) -> Option<Option<K>>
         ensures { ReadsKeyAtEntry K.content K.convert K.refuses self.old self.new (answered result fault.new) }
     {
-        match self.entry_key::<K>() {
+        match self.read_entry_key::<K>() {
             Ok(key) => Some(key),
             Err(error) => {
                 *fault = error;
@@ -122,7 +125,7 @@ impl<I: Input> Deserializer<I> {
         }
     }
 
-    /// The same as `member_key`; the error of a refusal is left in `fault`.
+    /// The same as `read_member_key`; the error of a refusal is left in `fault`.
     #[inline(always)]
     pub(crate) fn take_member_key<K: DeserializeKey<I>>(
         &mut self,

@@ -37,7 +37,7 @@ impl<I: Input> Deserializer<I> {
     pub fn deserialize_variant(&mut self, variants: &[&str]) -> Result<usize>
         ensures { ReadsAs (variant_kind (names_bytes variants.now)) (λ n. n) self.old self.new result }
     {
-        let string = self.found_string()?;
+        let string = self.find_string()?;
         self.variant_of(&string, variants)
     }
 

@@ -96,41 +96,41 @@ impl<I: Input> Deserializer<I> {
     }
 
     /// Reads a whole number, and returns the count of bytes before it too.
-    fn whole(&mut self, name: &str) -> Result<(usize, Whole)>
+    fn read_whole(&mut self, name: &str) -> Result<(usize, Whole)>
         ensures reads { ReadsAs (whole_kind (λ z. Some z)) (λ read. read.1) self.old self.new result }
         ensures place { IfOk result (λ read. WholeAt self.old self.new read.0 read.1) }
     {
         self.skip_blank()?;
         let start = self.offset();
         let Number::Whole(whole) = self.number()? else {
-            return self.mismatch(start, &Mismatch::NotWhole(name));
+            return self.refuse_mismatch(start, &Mismatch::NotWhole(name));
         };
         Ok((start, whole))
     }
 
     /// Reads a whole number from 0 to `max`.
     #[inline(never)]
-    pub(crate) fn natural(&mut self, max: u128, name: &str) -> Result<u128>
+    pub(crate) fn read_natural(&mut self, max: u128, name: &str) -> Result<u128>
         ensures reads { ReadsAs (natural_kind (max + 1)) (λ n. n) self.old self.new result }
         ensures fits { IfOk result (IsUpTo max) }
     {
-        let (start, whole) = self.whole(name)?;
+        let (start, whole) = self.read_whole(name)?;
         let Some(natural) = unsigned(whole, max) else {
-            return self.mismatch(start, &Mismatch::OutOfRange(whole, name));
+            return self.refuse_mismatch(start, &Mismatch::OutOfRange(whole, name));
         };
         Ok(natural)
     }
 
     /// Reads a whole number from `-max - 1` to `max`.
     #[inline(never)]
-    pub(crate) fn signed_integer(&mut self, max: i128, name: &str) -> Result<i128>
+    pub(crate) fn read_signed_integer(&mut self, max: i128, name: &str) -> Result<i128>
         requires { pos 0 ≤ℤ max }
         ensures reads { ReadsAs (integer_kind (nat_abs max + 1)) (λ n. n) self.old self.new result }
         ensures fits { IfOk result (IsWithin max) }
     {
-        let (start, whole) = self.whole(name)?;
+        let (start, whole) = self.read_whole(name)?;
         let Some(integer) = signed(whole, max) else {
-            return self.mismatch(start, &Mismatch::OutOfRange(whole, name));
+            return self.refuse_mismatch(start, &Mismatch::OutOfRange(whole, name));
         };
         Ok(integer)
     }
@@ -152,7 +152,7 @@ impl<I: Input> Deserializer<I> {
         if let Some(natural) = self.short_natural(0xff) {
             return Ok(natural as u8);
         }
-        match self.natural(0xff, "u8") {
+        match self.read_natural(0xff, "u8") {
             Ok(natural) => Ok(natural as u8),
             Err(e) => Err(e),
         }
@@ -174,7 +174,7 @@ impl<I: Input> Deserializer<I> {
         if let Some(natural) = self.short_natural(0xffff) {
             return Ok(natural as u16);
         }
-        match self.natural(0xffff, "u16") {
+        match self.read_natural(0xffff, "u16") {
             Ok(natural) => Ok(natural as u16),
             Err(e) => Err(e),
         }
@@ -196,7 +196,7 @@ impl<I: Input> Deserializer<I> {
         if let Some(natural) = self.short_natural(0xffffffff) {
             return Ok(natural as u32);
         }
-        match self.natural(0xffffffff, "u32") {
+        match self.read_natural(0xffffffff, "u32") {
             Ok(natural) => Ok(natural as u32),
             Err(e) => Err(e),
         }
@@ -218,7 +218,7 @@ impl<I: Input> Deserializer<I> {
         if let Some(natural) = self.short_natural(0xffffffffffffffff) {
             return Ok(natural);
         }
-        match self.natural(0xffffffffffffffff, "u64") {
+        match self.read_natural(0xffffffffffffffff, "u64") {
             Ok(natural) => Ok(natural as u64),
             Err(e) => Err(e),
         }
@@ -236,7 +236,7 @@ impl<I: Input> Deserializer<I> {
     pub fn deserialize_u128(&mut self) -> Result<u128>
         ensures { ReadsAs (natural_kind (2 ^ 128)) (λ n. n) self.old self.new result }
     {
-        self.natural(u128::MAX, "u128")
+        self.read_natural(u128::MAX, "u128")
     }
 
     /// Reads a whole number from -128 to 127 as `i8`. Takes no memory where it succeeds.
@@ -255,7 +255,7 @@ impl<I: Input> Deserializer<I> {
         if let Some(integer) = self.short_integer(0x7f) {
             return Ok(integer as i8);
         }
-        match self.signed_integer(0x7f, "i8") {
+        match self.read_signed_integer(0x7f, "i8") {
             Ok(integer) => Ok(integer as i8),
             Err(e) => Err(e),
         }
@@ -277,7 +277,7 @@ impl<I: Input> Deserializer<I> {
         if let Some(integer) = self.short_integer(0x7fff) {
             return Ok(integer as i16);
         }
-        match self.signed_integer(0x7fff, "i16") {
+        match self.read_signed_integer(0x7fff, "i16") {
             Ok(integer) => Ok(integer as i16),
             Err(e) => Err(e),
         }
@@ -299,7 +299,7 @@ impl<I: Input> Deserializer<I> {
         if let Some(integer) = self.short_integer(0x7fffffff) {
             return Ok(integer as i32);
         }
-        match self.signed_integer(0x7fffffff, "i32") {
+        match self.read_signed_integer(0x7fffffff, "i32") {
             Ok(integer) => Ok(integer as i32),
             Err(e) => Err(e),
         }
@@ -321,7 +321,7 @@ impl<I: Input> Deserializer<I> {
         if let Some(integer) = self.short_integer(0x7fffffffffffffff) {
             return Ok(integer as i64);
         }
-        match self.signed_integer(0x7fffffffffffffff, "i64") {
+        match self.read_signed_integer(0x7fffffffffffffff, "i64") {
             Ok(integer) => Ok(integer as i64),
             Err(e) => Err(e),
         }
@@ -339,6 +339,6 @@ impl<I: Input> Deserializer<I> {
     pub fn deserialize_i128(&mut self) -> Result<i128>
         ensures { ReadsAs (integer_kind (2 ^ 127)) (λ n. n) self.old self.new result }
     {
-        self.signed_integer(i128::MAX, "i128")
+        self.read_signed_integer(i128::MAX, "i128")
     }
 }

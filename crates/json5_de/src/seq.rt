@@ -13,7 +13,7 @@ ghost use Rattle.json5_de.specs.ListFaults.{IsTooShort, LeavesRequired, RefusesR
 ghost use Rattle.json5_de.specs.AccessCalls.{RefusesElement, TakesElement};
 
 use crate::de::{Deserialize, Deserializer};
-use crate::stage::Stage;
+use crate::stage::AccessStage;
 use json5_text::input::Input;
 use json5_types::error::{Error, Result};
 use json5_types::{ErrorCode, Position};
@@ -43,7 +43,7 @@ pub struct SeqAccess<'a, I: Input> {
     pub(crate) de: &'a mut Deserializer<I>,
     /// The count of bytes before the opening bracket.
     pub(crate) start: usize,
-    pub(crate) stage: Stage,
+    pub(crate) stage: AccessStage,
     /// Whether a call of the access was refused.
     pub(crate) failed: bool,
     /// The count of bytes before the brace of the variant whose content it reads, which its end closes too.
@@ -72,7 +72,7 @@ impl<I: Input> Deserializer<I> {
 
     /// Reads the next element of an array, or returns None if the closing bracket is next.
     #[inline(always)]
-    fn element<T: Deserialize<I>>(&mut self, comma_due: bool) -> Result<Option<T>>
+    fn read_element<T: Deserialize<I>>(&mut self, comma_due: bool) -> Result<Option<T>>
         ensures sound { IfOk result (λ o. GivesElement T.content T.convert (bare self.old comma_due) (bare self.new (comma_due || is_some o)) o) }
         ensures complete { CompletesElement T.convert (bare self.old comma_due) result }
         ensures closing { CompletesClose square (bare self.old comma_due) result }
@@ -134,7 +134,7 @@ impl<I: Input> Deserializer<I> {
         Ok(SeqAccess {
             de: self,
             start,
-            stage: Stage::Empty,
+            stage: AccessStage::Empty,
             failed: false,
             brace: None,
         })
@@ -214,7 +214,7 @@ impl<'a, I: Input> SeqAccess<'a, I> {
         ensures { ReadsNext T.content T.convert T.refuses self.old self.new result }
     {
         self.de.set_failed(self.failed);
-        match self.de.element(self.stage.is_comma_due()) {
+        match self.de.read_element(self.stage.is_comma_due()) {
             Ok(next) => {
                 self.de.set_failed(true);
                 self.stage = self.stage.with_element(next.is_some());

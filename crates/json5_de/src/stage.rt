@@ -5,7 +5,7 @@ ghost use Rattle.json5_de.specs.Stages.{is_comma_due, is_pending, with_element, 
 
 /// How far the reading of an array or an object has come.
 #[derive(Clone, Copy)]
-pub(crate) enum Stage {
+pub(crate) enum AccessStage {
     /// Nothing of it was read.
     Empty,
     /// Its first key was read, and the value comes next.
@@ -16,42 +16,42 @@ pub(crate) enum Stage {
     LaterKey,
 }
 
-impl Stage {
+impl AccessStage {
     /// Whether an element or a member was read, so that a comma is due before the next one.
     #[inline(always)]
     pub(crate) fn is_comma_due(self) -> bool
         ensures { result ≡ is_comma_due self }
     {
-        matches!(self, Stage::Started | Stage::LaterKey)
+        matches!(self, AccessStage::Started | AccessStage::LaterKey)
     }
 
     /// Whether a key was read and its value wasn't yet.
     pub(crate) fn is_pending(self) -> bool
         ensures { result ≡ is_pending self }
     {
-        matches!(self, Stage::FirstKey | Stage::LaterKey)
+        matches!(self, AccessStage::FirstKey | AccessStage::LaterKey)
     }
 
     /// The stage after a call for an element, which was read or not.
     #[inline(always)]
-    pub(crate) fn with_element(self, given: bool) -> Stage
+    pub(crate) fn with_element(self, given: bool) -> AccessStage
         ensures { result ≡ with_element self given }
     {
-        if given { Stage::Started } else { self }
+        if given { AccessStage::Started } else { self }
     }
 
     /// The stage after a call for a key, which was read or not.
     #[inline(always)]
-    pub(crate) fn with_key(self, given: bool) -> Stage
+    pub(crate) fn with_key(self, given: bool) -> AccessStage
         ensures { result ≡ with_key self given }
     {
         if !given {
             return self;
         }
         if self.is_comma_due() {
-            Stage::LaterKey
+            AccessStage::LaterKey
         } else {
-            Stage::FirstKey
+            AccessStage::FirstKey
         }
     }
 }

@@ -71,7 +71,7 @@ impl<I: Input> Deserializer<I> {
     pub fn deserialize_char(&mut self) -> Result<char>
         ensures { ReadsAs char_kind (λ c. c) self.old self.new result }
     {
-        let string = self.found_string()?;
+        let string = self.find_string()?;
         self.character_of(&string)
     }
 
@@ -149,7 +149,7 @@ impl<'de, I: Borrows<'de>> Deserializer<I> {
         let start = self.offset();
         match self.text()? {
             CowStr::Borrowed(text) => Ok(text),
-            CowStr::Owned(text) => self.mismatch(start, &Mismatch::Escaped(text.as_str())),
+            CowStr::Owned(text) => self.refuse_mismatch(start, &Mismatch::Escaped(text.as_str())),
         }
     }
 }

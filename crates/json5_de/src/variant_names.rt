@@ -29,7 +29,7 @@ pub struct Named {
 
 impl<I: Input> Deserializer<I> {
     /// Takes the only key of an object, one of the variants, and its colon.
-    fn only_key(&mut self, variants: &[&str]) -> Result<usize>
+    fn read_only_key(&mut self, variants: &[&str]) -> Result<usize>
         ensures { ReadsOnlyKey (names_bytes variants.now) self.old self.new result }
     {
         self.skip_blank()?;
@@ -39,18 +39,18 @@ impl<I: Input> Deserializer<I> {
                 ErrorCode::ExpectedIdentifier,
             ));
         }
-        let key = self.found_key()?;
+        let key = self.find_key()?;
         let variant = self.variant_of(&key, variants)?;
-        self.colon()?;
+        self.pass_colon()?;
         Ok(variant)
     }
 
     /// Opens an object and takes its only key and the colon. After the brace a fault without a position gets that of the brace.
-    fn keyed_variant(&mut self, variants: &[&str]) -> Result<usize>
+    fn read_keyed_variant(&mut self, variants: &[&str]) -> Result<usize>
         ensures { ReadsKeyed (names_bytes variants.now) self.old self.new result }
     {
         let start = self.open(BracketKind::Object)?;
-        match self.only_key(variants) {
+        match self.read_only_key(variants) {
             Ok(variant) => Ok(variant),
             Err(e) => Err(self.with_position_at(start, e)),
         }
@@ -95,7 +95,7 @@ impl<I: Input> Deserializer<I> {
             });
         }
         if self.at_object() {
-            let variant = self.keyed_variant(variants)?;
+            let variant = self.read_keyed_variant(variants)?;
             return Ok(Named {
                 start,
                 variant,

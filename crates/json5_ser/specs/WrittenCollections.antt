@@ -10,7 +10,7 @@ use Rattle.json5_grammar.specs.Faults.Fronts.{closing}
 use Rattle.json5_write.specs.Brackets.{bracket_of}
 use Rattle.json5_ser.specs.Brackets.{is_square}
 use Rattle.json5_ser.specs.Stages.{is_started, is_pending}
-use Rattle.json5_ser.specs.declared.stage.Stage.{Stage}
+use Rattle.json5_ser.specs.declared.stage.CollectionStage.{CollectionStage}
 use Rattle.json5_ser.specs.declared.collection.SerializeCollection.{SerializeCollection}
 use Rattle.json5_ser.specs.contracts.serializer.Serializer.{the_row}
 
@@ -111,7 +111,7 @@ module _ {W : Type 0} where
   ending c = within_variant (in_variant c) (outer c) (closed_by ((state_of c).depth - 1) (has_member c) (closing (bracket_of c.brackets)))
 
   -- the serializer is blocked again, and the collection reaches the next stage if nothing was refused
-  pub record Settles (old : SerializeCollection W) (written : Result ⊤ Error) (next : Stage) (new : SerializeCollection W) (result : Result ⊤ Error) : Type 0 where
+  pub record Settles (old : SerializeCollection W) (written : Result ⊤ Error) (next : CollectionStage) (new : SerializeCollection W) (result : Result ⊤ Error) : Type 0 where
     pub same : result ≡ written
     pub same_reference : reference_of new ≡ reference_of old
     pub blocks : serializer_of new ≡ record (serializer_of old) { failed = true }

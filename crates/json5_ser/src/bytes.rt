@@ -12,8 +12,8 @@ use crate::Serializer;
 use json5_types::error::Result;
 use std::io::Write;
 
-/// Whether the digits are an identifier: they begin with a letter.
-fn is_word(bytes: &[u8]) -> bool
+/// Whether the hexadecimal digits are an identifier: they begin with a letter.
+fn is_hex_identifier(bytes: &[u8]) -> bool
     ensures { result ≡ is_name (encode_lower bytes.now) }
 {
     match bytes {
@@ -24,7 +24,7 @@ fn is_word(bytes: &[u8]) -> bool
 
 impl<W: Write + Drop> Serializer<W> {
     /// Writes the digits in lower case, two a byte.
-    fn put_digits_of(&mut self, bytes: &[u8]) -> Result<()>
+    fn write_hex_digits(&mut self, bytes: &[u8]) -> Result<()>
         ensures { Writes (piece (encode_lower bytes.now)) self.old result self.new }
     {
         self.check_not_failed()?;
@@ -52,16 +52,16 @@ impl<W: Write + Drop> Serializer<W> {
         ensures { WritesTree (text (encode_lower value.now)) self.old result self.new }
     {
         self.put("\"")?;
-        self.put_digits_of(value)?;
+        self.write_hex_digits(value)?;
         self.put("\"")
     }
 
     /// Writes the digits of bytes as a key.
-    pub(crate) fn put_bytes_name(&mut self, value: &[u8]) -> Result<()>
+    pub(crate) fn write_bytes_key(&mut self, value: &[u8]) -> Result<()>
         ensures { WritesKey (named (encode_lower value.now)) self.old result self.new }
     {
-        if is_word(value) {
-            return self.put_digits_of(value);
+        if is_hex_identifier(value) {
+            return self.write_hex_digits(value);
         }
         self.serialize_bytes(value)
     }

@@ -8,7 +8,7 @@ ghost use Rattle.json5_write.specs.Writes.{Writes};
 
 mod opening;
 
-use crate::stage::Stage;
+use crate::stage::CollectionStage;
 use crate::{Serialize, SerializeKey, Serializer};
 use json5_types::error::Result;
 use json5_write::brackets::Brackets;
@@ -33,7 +33,7 @@ use std::io::Write;
 pub struct SerializeCollection<'a, W: Write + Drop> {
     ser: &'a mut Serializer<W>,
     brackets: Brackets,
-    stage: Stage,
+    stage: CollectionStage,
     /// Whether it is what a variant holds, so that its end closes the variant's object too.
     in_variant: bool,
     /// Whether a call of the collection was refused.
@@ -59,7 +59,7 @@ impl<W: Write + Drop> Drop for SerializeCollection<'_, W> {
 
 impl<W: Write + Drop> Serializer<W> {
     /// Writes an element of an array.
-    fn element<T: Serialize>(&mut self, value: &T) -> Result<()>
+    fn write_element<T: Serialize>(&mut self, value: &T) -> Result<()>
         ensures { Writes (element_out self.old.depth (out self.old.limit (T.tree value.now) self.old.depth)) self.old result self.new }
     {
         self.start_line(false)?;
@@ -99,7 +99,7 @@ impl<W: Write + Drop> SerializeCollection<'_, W> {
 
     /// Blocks the serializer again after a call, and sets the next stage if nothing was refused.
     #[inline(always)]
-    fn settle(&mut self, written: Result<()>, next: Stage) -> Result<()>
+    fn settle(&mut self, written: Result<()>, next: CollectionStage) -> Result<()>
         ensures { Settles self.old written next self.new result }
     {
         self.ser.set_failed(true);
@@ -128,8 +128,8 @@ impl<W: Write + Drop> SerializeCollection<'_, W> {
         ensures { Steps (element_out (state_of self.old).depth (out (state_of self.old).limit (T.tree value.now) (state_of self.old).depth)) false self.old result self.new }
     {
         self.ser.set_failed(self.failed);
-        let written = self.ser.element(value);
-        self.settle(written, Stage::Started)
+        let written = self.ser.write_element(value);
+        self.settle(written, CollectionStage::Started)
     }
 
     /// Writes the key of the next member, on a line of its own. The collection must be an object, and no key may wait for its
@@ -148,8 +148,8 @@ impl<W: Write + Drop> SerializeCollection<'_, W> {
         ensures { Steps (key_part (state_of self.old).depth (K.as_key key.now)) true self.old result self.new }
     {
         self.ser.set_failed(self.failed);
-        let written = self.ser.key(key);
-        self.settle(written, Stage::KeyPending)
+        let written = self.ser.write_key(key);
+        self.settle(written, CollectionStage::KeyPending)
     }
 
     /// Writes the value of the key that was written last, after `: ` and with a comma after it. A key must wait for it.
@@ -167,8 +167,8 @@ impl<W: Write + Drop> SerializeCollection<'_, W> {
         ensures { Steps (value_part (out (state_of self.old).limit (T.tree value.now) (state_of self.old).depth)) false self.old result self.new }
     {
         self.ser.set_failed(self.failed);
-        let written = self.ser.value(value);
-        self.settle(written, Stage::Started)
+        let written = self.ser.write_value(value);
+        self.settle(written, CollectionStage::Started)
     }
 
     /// Writes a member: its key and its value. The collection must be an object, and no key may wait for its value.
@@ -189,8 +189,8 @@ impl<W: Write + Drop> SerializeCollection<'_, W> {
         ensures { Steps (entry_out (state_of self.old).limit (state_of self.old).depth (K.as_key key.now) (T.tree value.now)) false self.old result self.new }
     {
         self.ser.set_failed(self.failed);
-        let written = self.ser.entry(key, value);
-        self.settle(written, Stage::Started)
+        let written = self.ser.write_entry(key, value);
+        self.settle(written, CollectionStage::Started)
     }
 
     /// Writes a field of a struct, as [`serialize_entry`](SerializeCollection::serialize_entry) writes a member.
@@ -207,8 +207,8 @@ impl<W: Write + Drop> SerializeCollection<'_, W> {
         ensures { Steps (entry_out (state_of self.old).limit (state_of self.old).depth (named (chars key.now)) (T.tree value.now)) false self.old result self.new }
     {
         self.ser.set_failed(self.failed);
-        let written = self.ser.field(key, value);
-        self.settle(written, Stage::Started)
+        let written = self.ser.write_field(key, value);
+        self.settle(written, CollectionStage::Started)
     }
 
     /// Closes the array or the object, and a variant's object around it. The serializer continues after it. No key may wait for

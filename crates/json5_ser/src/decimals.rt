@@ -14,7 +14,7 @@ use json5_types::error::Result;
 use std::io::Write;
 
 /// Whether the number's spelling is an identifier: infinity and not-a-number without a minus.
-fn is_word(value: &Decimal) -> bool
+fn is_decimal_identifier(value: &Decimal) -> bool
     ensures name { result ≡ is_name (decimal_text value.now) }
     ensures normal { Normal value.now }
 {
@@ -43,10 +43,10 @@ impl<W: Write + Drop> Serializer<W> {
     }
 
     /// Writes the number's spelling as a key.
-    pub(crate) fn put_decimal_name(&mut self, value: &Decimal) -> Result<()>
+    pub(crate) fn write_decimal_key(&mut self, value: &Decimal) -> Result<()>
         ensures { WritesKey (named (decimal_text value.now)) self.old result self.new }
     {
-        if is_word(value) {
+        if is_decimal_identifier(value) {
             return self.serialize_decimal(value);
         }
         self.put("\"")?;

@@ -77,7 +77,7 @@ pub trait SerializeKey {
 
 impl<W: Write + Drop> Serializer<W> {
     /// Writes a key's text as `put_key` does, for a call that may be refused otherwise too.
-    fn put_name(&mut self, text: &str) -> Result<()>
+    fn write_text_key(&mut self, text: &str) -> Result<()>
         ensures { WritesKey (named (chars text.now)) self.old result self.new }
     {
         Ok(self.put_key(text)?)
@@ -100,7 +100,7 @@ impl<W: Write + Drop> MapKey<'_, W> {
         ensures { WritesKey (named (bool_text value)) (serializer_of_key self.entry) result self.exit.0.now }
     {
         let MapKey { ser } = self;
-        ser.put_name(bool_name(value))
+        ser.write_text_key(bool_name(value))
     }
 
     /// Writes the text as a key.
@@ -117,7 +117,7 @@ impl<W: Write + Drop> MapKey<'_, W> {
         ensures { WritesKey (named (chars value.now)) (serializer_of_key self.entry) result self.exit.0.now }
     {
         let MapKey { ser } = self;
-        ser.put_name(value)
+        ser.write_text_key(value)
     }
 
     /// Writes the text of one character as a key.
@@ -151,7 +151,7 @@ impl<W: Write + Drop> MapKey<'_, W> {
         ensures { WritesKey (named (encode_lower value.now)) (serializer_of_key self.entry) result self.exit.0.now }
     {
         let MapKey { ser } = self;
-        ser.put_bytes_name(value)
+        ser.write_bytes_key(value)
     }
 
     /// Writes the key `null`.
@@ -167,7 +167,7 @@ impl<W: Write + Drop> MapKey<'_, W> {
         ensures { WritesNull self.entry result self.exit.0.now }
     {
         let MapKey { ser } = self;
-        ser.put_name("null")
+        ser.write_text_key("null")
     }
 
     /// Writes the key `null`, for a struct without fields. The name changes nothing.

@@ -18,7 +18,7 @@ impl<K: SerializeKey + Ord, V: Serialize> Serialize for BTreeMap<K, V> {
         ser.open_brackets(Brackets::Curly)?;
         let mut comma_due = false;
         for (key, value) in self {
-            let written = ser.member_line(comma_due, key, value);
+            let written = ser.write_member_line(comma_due, key, value);
             if written.is_err() {
                 return written;
             }
@@ -38,7 +38,7 @@ impl<K: SerializeKey + Eq + Hash, V: Serialize> Serialize for IndexMap<K, V> {
         ser.open_brackets(Brackets::Curly)?;
         let mut comma_due = false;
         for (key, value) in self {
-            let written = ser.member_line(comma_due, key, value);
+            let written = ser.write_member_line(comma_due, key, value);
             if written.is_err() {
                 return written;
             }

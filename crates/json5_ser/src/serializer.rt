@@ -19,7 +19,7 @@ mod integers;
 mod literals;
 mod strings;
 
-use crate::stage::Stage;
+use crate::stage::CollectionStage;
 use json5_types::ErrorCode;
 use json5_types::decimal::Decimal;
 use json5_types::error::{Error, Result};
@@ -212,7 +212,7 @@ impl<W: Write + Drop> Serializer<W> {
     }
 
     /// Closes a collection; its bracket is on its own line if something was written in it.
-    pub(crate) fn close(&mut self, brackets: Brackets, stage: Stage) -> Result<()>
+    pub(crate) fn close(&mut self, brackets: Brackets, stage: CollectionStage) -> Result<()>
         ensures { Writes (closed_by (self.old.depth - 1) (is_started stage) (closing (bracket_of brackets))) (after_closing self.old) result self.new }
     {
         Ok(self.printer.close(stage.is_started(), brackets)?)

@@ -5,7 +5,7 @@ ghost use Rattle.json5_ser.specs.Stages.{is_started, is_pending};
 
 /// How far a collection has come.
 #[derive(Clone, Copy)]
-pub(crate) enum Stage {
+pub(crate) enum CollectionStage {
     /// Nothing was written in it.
     Empty,
     /// An element or a member was written in it.
@@ -14,18 +14,18 @@ pub(crate) enum Stage {
     KeyPending,
 }
 
-impl Stage {
+impl CollectionStage {
     /// Whether something was written in it.
     pub(crate) fn is_started(self) -> bool
         ensures { result ≡ is_started self }
     {
-        !matches!(self, Stage::Empty)
+        !matches!(self, CollectionStage::Empty)
     }
 
     /// Whether a key waits for its value.
     pub(crate) fn is_pending(self) -> bool
         ensures { result ≡ is_pending self }
     {
-        matches!(self, Stage::KeyPending)
+        matches!(self, CollectionStage::KeyPending)
     }
 }

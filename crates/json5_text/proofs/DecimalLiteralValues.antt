@@ -14,7 +14,7 @@ use Rattle.json5_grammar.specs.Model.ReadNumbers.{is_whole, in_whole, in_exponen
 use Rattle.json5_grammar.proofs.CharacterTests.{in_exponents_yes, in_exponents_true}
 use Rattle.json5_grammar.proofs.FixedWidthLaws.{IsChecked, checked_is, capped_range, capped_same}
 use Rattle.json5_text.specs.declared.decimal_literals.Exponent.{Exponent}
-use Rattle.json5_text.specs.declared.decimal_literals.Literal.{Literal}
+use Rattle.json5_text.specs.declared.decimal_literals.DecimalLiteral.{DecimalLiteral}
 use Rattle.json5_text.specs.NumberParts.{raised_of, parts_of, limited_exponent, is_whole_literal, MeansDecimal}
 use Rattle.json5_types.specs.NumberDecimals.{IsFiniteIfInRange}
 use mathlib.Core.Bool.{true≢false}
@@ -27,7 +27,7 @@ whole_at m i g h None None p q = refl
 whole_at m i g h None (Some e) p q = cc
 whole_at m i g h (Some b) e p q = cc
 
-pub not_whole : (m : Bool) (l : Literal) → (is_whole_literal m l ≡ true → ⊥) → is_whole_literal m l ≡ false
+pub not_whole : (m : Bool) (l : DecimalLiteral) → (is_whole_literal m l ≡ true → ⊥) → is_whole_literal m l ≡ false
 not_whole m l n = by (is_whole_literal m l) refl
   where
     by : (b : Bool) → is_whole_literal m l ≡ b → b ≡ false
@@ -106,30 +106,30 @@ after_each None d e h = rw e no_char
 after_each (Some x) d e h = h
 
 -- a literal's number, with the digits after the point and the lowered exponent that code has
-pub record Found (l : Literal) (after : List ℕ) (e : ℤ) : Type 0 where
+pub record Found (l : DecimalLiteral) (after : List ℕ) (e : ℤ) : Type 0 where
   pub after_is : after ≡ digits_after (parts_of l).after
   pub exponent_is : e ≡ limited_exponent (2 ^ 100) l.exponent -ℤ pos (length after)
   pub short : length (l.before.now ++ after) < 2 ^ 64
 
-pub found_is : (l : Literal) (after : List ℕ) (r e : ℤ) → after ≡ digits_after (parts_of l).after → r ≡ limited_exponent (2 ^ 100) l.exponent -ℤ pos (length after) → e ≡ r → length l.before.now < 2 ^ 63 → length after < 2 ^ 63 → Found l after e
+pub found_is : (l : DecimalLiteral) (after : List ℕ) (r e : ℤ) → after ≡ digits_after (parts_of l).after → r ≡ limited_exponent (2 ^ 100) l.exponent -ℤ pos (length after) → e ≡ r → length l.before.now < 2 ^ 63 → length after < 2 ^ 63 → Found l after e
 found_is l after r e h k f a b = record { after_is = h; exponent_is = f ∙ k; short = omega (arith, length-append l.before.now after) }
 
-agree_found : (l : Literal) (after : List ℕ) (e : ℤ) → Found l after e → Agree (normal_exponent (l.before.now ++ after) e) (exponent_of (parts_of l).before (parts_of l).after (parts_of l).raised)
+agree_found : (l : DecimalLiteral) (after : List ℕ) (e : ℤ) → Found l after e → Agree (normal_exponent (l.before.now ++ after) e) (exponent_of (parts_of l).before (parts_of l).after (parts_of l).raised)
 agree_found l after e h =
     let s = h.short in
     let a = agree_exponent (l.before.now ++ after) l.exponent (length after) (omega (arith, length-append l.before.now after)) (omega arith) in
     rw (h.exponent_is, ← h.after_is) a
 
-pub literal_decimal : (q : List ℕ) (m : Bool) (r : List ℕ) (l : Literal) (after : List ℕ) (e : ℤ) (d : Decimal) → Found l after e → is_whole_literal m l ≡ false → InExponents (normal_exponent (l.before.now ++ after) e)
+pub literal_decimal : (q : List ℕ) (m : Bool) (r : List ℕ) (l : DecimalLiteral) (after : List ℕ) (e : ℤ) (d : Decimal) → Found l after e → is_whole_literal m l ≡ false → InExponents (normal_exponent (l.before.now ++ after) e)
     → d ≡ finite m (without_zeros (l.before.now ++ after)) (normal_exponent (l.before.now ++ after) e) → if_literal q m r (Some (parts_of l)) ≡ got (decimal d) r
 literal_decimal q m r l after e d h w k g =
     judged_decimal q m r (parts_of l).before (parts_of l).after (parts_of l).raised d (normal_exponent (l.before.now ++ after) e) w (agree_found l after e h) k
     (g ∙ ap (λ z. finite m (without_zeros (l.before.now ++ z)) (normal_exponent (l.before.now ++ after) e)) h.after_is)
 
-pub literal_past : (q : List ℕ) (m : Bool) (r : List ℕ) (l : Literal) (after : List ℕ) (e : ℤ) → Found l after e → is_whole_literal m l ≡ false → (InExponents (normal_exponent (l.before.now ++ after) e) → ⊥)
+pub literal_past : (q : List ℕ) (m : Bool) (r : List ℕ) (l : DecimalLiteral) (after : List ℕ) (e : ℤ) → Found l after e → is_whole_literal m l ≡ false → (InExponents (normal_exponent (l.before.now ++ after) e) → ⊥)
     → if_literal q m r (Some (parts_of l)) ≡ bad (Some OverflowParsingNumber) (here q)
 literal_past q m r l after e h w n = judged_past q m r (parts_of l).before (parts_of l).after (parts_of l).raised (normal_exponent (l.before.now ++ after) e) w (agree_found l after e h) n
 
-pub means_decimal : (m : Bool) (l : Literal) (after : List ℕ) (e : ℤ) (o : Option Decimal) → Found l after e → is_whole_literal m l ≡ false → IsFiniteIfInRange m (l.before.now ++ after) e o → MeansDecimal m l o
+pub means_decimal : (m : Bool) (l : DecimalLiteral) (after : List ℕ) (e : ℤ) (o : Option Decimal) → Found l after e → is_whole_literal m l ≡ false → IsFiniteIfInRange m (l.before.now ++ after) e o → MeansDecimal m l o
 means_decimal m l after e None h w k = λ q r. literal_past q m r l after e h w (λ i. true≢false (sym (k.in_range.1 i)))
 means_decimal m l after e (Some d) h w k = λ q r. literal_decimal q m r l after e d h w (k.in_range.0 refl) k.value

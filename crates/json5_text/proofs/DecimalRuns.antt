@@ -7,9 +7,9 @@ use Rattle.json5_grammar.specs.Language.Characters.{is_digit, NotBegun}
 use Rattle.json5_grammar.specs.Language.Numbers.{is_empty, in_run}
 use Rattle.json5_grammar.specs.Model.ReadNumbers.{Parts, front_of, rest_of, exponent_digits, exponent_sign, exponent_at, no_point, at_point, literal_at}
 use Rattle.json5_grammar.proofs.CharacterTests.{by_test, digit_in_run, e_in_run, rest_none, front_none}
-use Rattle.json5_text.specs.declared.decimal_literals.Literal.{Literal}
+use Rattle.json5_text.specs.declared.decimal_literals.DecimalLiteral.{DecimalLiteral}
 use Rattle.json5_text.specs.declared.decimal_literals.Tail.{Tail}
-use Rattle.json5_text.specs.NumberParts.{begun, after_sign, run_of, EndsRun, ReadsTail, ReadsLiteral}
+use Rattle.json5_text.specs.NumberParts.{begun, split_sign, run_of, EndsRun, ReadsTail, ReadsDecimalLiteral}
 use Rattle.json5_text.proofs.DecimalLiteralParts.{literal_ends, literal_plain, literal_pointed}
 
 -- ---- one step into a run
@@ -106,7 +106,7 @@ pub same_end : (x y r : List ℕ) → rest_of in_run (chars x) ≡ rest_of in_ru
 same_end x y r e k = record { follows = k.follows ∙ sym e; text = k.text }
 
 -- the literal of a run whose end the rest has
-pub whole_literal : (x y : List ℕ) (n m : Option Parts) (l : Option Literal) → n ≡ m → rest_of in_run (chars x) ≡ rest_of in_run (chars y) → ReadsLiteral m y l → ReadsLiteral n x l
+pub whole_literal : (x y : List ℕ) (n m : Option Parts) (l : Option DecimalLiteral) → n ≡ m → rest_of in_run (chars x) ≡ rest_of in_run (chars y) → ReadsDecimalLiteral m y l → ReadsDecimalLiteral n x l
 whole_literal x y n m None e f h = e ∙ h
 whole_literal x y n m (Some l) e f h = record { read = e ∙ h.read; digits = h.digits; ends = same_end x y l.rest.now f h.ends }
 
@@ -150,17 +150,17 @@ past_none d z a b = (by (in_run d) refl, refl)
     by true h = let k = run_more (d ∷ z) z d refl h in ap exponent_sign k ∙ escape_free ∙ ap (exponent_digits false) (sym k)
     by false h = let k = no_run (d ∷ z) h in ap exponent_sign k ∙ ap (exponent_digits false) (sym k)
 
-past_sign_at : (y : List ℕ) → PastSign y (after_sign y)
+past_sign_at : (y : List ℕ) → PastSign y (split_sign y)
 unfolding front_of
 past_sign_at [] = (refl, refl)
 past_sign_at (d ∷ z) =
     by_test (PastSign (d ∷ z)) (d == 43) (false, z) _ (λ h. past_plus d z (grind (arith, nat_tests)))
     (λ a. by_test (PastSign (d ∷ z)) (d == 45) (true, z) (false, d ∷ z) (λ h. past_minus d z (grind (arith, nat_tests))) (λ b. past_none d z a b))
 
-pub past_sign : (y z : List ℕ) (m : Bool) → after_sign y ≡ (m, z) → PastSign y (m, z)
+pub past_sign : (y z : List ℕ) (m : Bool) → split_sign y ≡ (m, z) → PastSign y (m, z)
 past_sign y z m e = subst (PastSign y) e (past_sign_at y)
 
-pub signed_tail : (x y z : List ℕ) (c : ℕ) (m : Bool) (t : Option Tail) → chars x ≡ c ∷ y → ((c == 101) || (c == 69)) ≡ true → after_sign y ≡ (m, chars z)
+pub signed_tail : (x y z : List ℕ) (c : ℕ) (m : Bool) (t : Option Tail) → chars x ≡ c ∷ y → ((c == 101) || (c == 69)) ≡ true → split_sign y ≡ (m, chars z)
     → ReadsTail (exponent_digits m (run_of (chars z))) z t → ReadsTail (exponent_at (run_of (chars x))) x t
 signed_tail x y z c m None e k s h = at_mark (chars x) y c e k ∙ (past_sign y (chars z) m s).0 ∙ h
 signed_tail x y z c m (Some t) e k s h = record {

@@ -5,14 +5,14 @@ use Rattle.std.proofs.lemmas.List.{append-nil, append_assoc}
 use Rattle.json5_grammar.specs.Language.Numbers.{is_empty, finite, InExponents, without_front_zeros, without_zeros, normal_exponent, all_digits, digits_after}
 use Rattle.json5_grammar.specs.Model.ReadNumbers.{Parts, is_integer, exponent_at, with_exponent, no_point, at_point}
 use Rattle.json5_grammar.proofs.NormalForms.{front_twice}
-use Rattle.json5_text.specs.declared.decimal_literals.Literal.{Literal}
-use Rattle.json5_text.specs.NumberParts.{parts_of, digits_of, IsLiteral, ReadsLiteral, MeansFinite}
+use Rattle.json5_text.specs.declared.decimal_literals.DecimalLiteral.{DecimalLiteral}
+use Rattle.json5_text.specs.NumberParts.{parts_of, digits_of, IsDecimalLiteral, ReadsDecimalLiteral, MeansFinite}
 use Rattle.json5_text.proofs.DecimalLiteralValues.{Found, means_decimal}
 use Rattle.json5_types.specs.DigitRuns.{Gathers}
 use Rattle.json5_types.specs.NumberDecimals.{IsFiniteIfInRange, Normalizes}
 use Rattle.json5_grammar.specs.Language.Numbers as numbers
 
-pub if_read : (n : Option Parts) (x : List ℕ) (o : Option Literal) → ReadsLiteral n x o → IfSome o (IsLiteral n x)
+pub if_read : (n : Option Parts) (x : List ℕ) (o : Option DecimalLiteral) → ReadsDecimalLiteral n x o → IfSome o (IsDecimalLiteral n x)
 if_read n x None h = tt
 if_read n x (Some l) h = h
 
@@ -33,11 +33,11 @@ gathers_same g e seen h = g seen h ∙ ap (λ z. without_front_zeros (seen ++ z)
 gathers_on : {a b c s t : List ℕ} → Gathers a b s → Gathers b c t → Gathers a c (s ++ t)
 gathers_on {s = s} {t = t} g k seen h = k (seen ++ s) (g seen h) ∙ ap without_front_zeros (append_assoc seen s t)
 
-pub gathers_plain : {a b : List ℕ} (i x y : List ℕ) (o : Option Literal) → Gathers a b i → ReadsLiteral (no_point i y) x o → IfSome o (λ l. Gathers a b (digits_of l))
+pub gathers_plain : {a b : List ℕ} (i x y : List ℕ) (o : Option DecimalLiteral) → Gathers a b i → ReadsDecimalLiteral (no_point i y) x o → IfSome o (λ l. Gathers a b (digits_of l))
 gathers_plain i x y None g h = tt
 gathers_plain i x y (Some l) g h = gathers_same g (parts_digits (is_integer i) i None (exponent_at y) (parts_of l) h.read ∙ append-nil i)
 
-pub gathers_pointed : {a b c : List ℕ} (i f x y : List ℕ) (o : Option Literal) → Gathers a b i → Gathers b c f → ReadsLiteral (at_point i f y) x o → IfSome o (λ l. Gathers a c (digits_of l))
+pub gathers_pointed : {a b c : List ℕ} (i f x y : List ℕ) (o : Option DecimalLiteral) → Gathers a b i → Gathers b c f → ReadsDecimalLiteral (at_point i f y) x o → IfSome o (λ l. Gathers a c (digits_of l))
 gathers_pointed i f x y None g k h = tt
 gathers_pointed i f x y (Some l) g k h = gathers_same (gathers_on g k) (parts_digits _ i (Some f) (exponent_at y) (parts_of l) h.read)
 
@@ -60,6 +60,6 @@ finite_normal : (m : Bool) (d new : List ℕ) (e x : ℤ) → Normalizes d e new
 finite_normal m d new e x n = record { in_range = (λ _. n.in_range.0 refl, λ _. refl); value = ap (λ z. finite m z x) n.digits ∙ ap (finite m (without_zeros d)) n.value }
 
 -- what the digits of a literal and its exponent mean
-pub few_means : (l : Literal) (after d new : List ℕ) (e : ℤ) (o : Option ℤ) → Found l after e → d ≡ without_front_zeros (l.before.now ++ after) → Normalizes d e new o → IfSome o (λ x. MeansFinite l new x)
+pub few_means : (l : DecimalLiteral) (after d new : List ℕ) (e : ℤ) (o : Option ℤ) → Found l after e → d ≡ without_front_zeros (l.before.now ++ after) → Normalizes d e new o → IfSome o (λ x. MeansFinite l new x)
 few_means l after d new e None f g n = tt
 few_means l after d new e (Some x) f g n = λ m w. means_decimal m l after e (Some (finite m new x)) f w (finite_same m (l.before.now ++ after) d e (Some (finite m new x)) g (finite_normal m d new e x n))

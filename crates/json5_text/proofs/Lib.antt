@@ -25,7 +25,7 @@ pub mod FirstBytes
 pub mod AsciiBlanks
 pub mod AsciiNames
 pub mod FewDigits
-pub mod ShortWholes
+pub mod WholesOfFewDigits
 pub mod ShortWays
 pub mod ShortSteps
 pub mod ShortTexts

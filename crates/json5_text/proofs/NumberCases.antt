@@ -10,7 +10,7 @@ use Rattle.json5_grammar.specs.Model.Reading.{bad, here, inner, word_at}
 use Rattle.std.specs.Str.{chars}
 use Rattle.json5_grammar.proofs.CommonLemmas.{not_eq}
 use Rattle.json5_text.proofs.NumberSteps.{infinity_rest, nan_rest}
-use Rattle.json5_text.specs.NumberParts.{after_sign}
+use Rattle.json5_text.specs.NumberParts.{split_sign}
 use Rattle.json5_grammar.specs.Model.ReadNumbers.{front_of, rest_of, literal_at, if_literal, decimal_run, at_zero, unsigned, number}
 
 -- ---- decimal runs
@@ -75,10 +75,10 @@ after_cond f true b u v w = refl
 after_cond f false true u v w = refl
 after_cond f false false u v w = refl
 
-signed_at : (x : List ℕ) → number x ≡ unsigned x (after_sign x).0 (after_sign x).1
+signed_at : (x : List ℕ) → number x ≡ unsigned x (split_sign x).0 (split_sign x).1
 unfolding number unsigned
 signed_at [] = refl
 signed_at (c ∷ r) = after_cond {A = Bool × List ℕ} (λ p. unsigned (c ∷ r) p.0 p.1) (c == 43) (c == 45) (false, r) (true, r) (false, c ∷ r)
 
-pub number_signed : (x y : List ℕ) (m : Bool) → after_sign x ≡ (m, y) → number x ≡ unsigned x m y
+pub number_signed : (x y : List ℕ) (m : Bool) → split_sign x ≡ (m, y) → number x ≡ unsigned x m y
 number_signed x y m e = signed_at x ∙ ap (λ (p : Bool × List ℕ). unsigned x p.0 p.1) e

@@ -16,7 +16,7 @@ use Rattle.json5_text.specs.declared.strings_and_names.Kind.{Kind}
 use Rattle.json5_text.specs.declared.strings_and_names.Kind.TheVariants as kind
 use Rattle.json5_text.specs.declared.strings_and_names.Quote.{Quote}
 use Rattle.json5_text.specs.declared.strings_and_names.Quote.TheVariants as quotes
-use Rattle.json5_text.specs.declared.strings_and_names.Step.{Step}
+use Rattle.json5_text.specs.declared.strings_and_names.EscapeStep.{EscapeStep}
 use Rattle.json5_text.specs.declared.strings_and_names.Stop.{Stop}
 use Rattle.json5_text.specs.declared.strings_and_names.Stop.TheVariants as stop
 use Rattle.json5_text.specs.Scan.{SkipsAll, AtEscape, in_list}
@@ -166,7 +166,7 @@ stepped_to_end k escape after u end last a e z = record {
 pub read_there : (k j : Kind) (escape u : List ℕ) (end : Stop) (x y : Bor (List ℕ)) (a : AtStop k escape u end) → end ≡ stop.Escape j x y → (text_at k (chars escape) ≡ put u a.escape_free (text_at j (chars x.now))) × AtEscape x.now y.now
 read_there k j escape u end x y a e = subst (ReadsUpTo (text_at k (chars escape)) u a.escape_free) e a.goes_on
 
-pub stepped_past : (k j : Kind) (escape after u : List ℕ) (end : Stop) (x y : Bor (List ℕ)) (step : Step) → AtStop k escape u end → end ≡ stop.Escape j x y → AtEscape escape after → IsEscapeStep j x.now y.now step
+pub stepped_past : (k j : Kind) (escape after u : List ℕ) (end : Stop) (x y : Bor (List ℕ)) (step : EscapeStep) → AtStop k escape u end → end ≡ stop.Escape j x y → AtEscape escape after → IsEscapeStep j x.now y.now step
     → IsStepped k escape after (u ++ (in_list step.spelled ++ chars step.run.now)) step.stop
 stepped_past k j escape after u end x y step a e b s =
     let here = read_there k j escape u end x y a e in

@@ -22,7 +22,7 @@ use Rattle.json5_types.specs.DigitRuns.{SplitsDigits}
 use Rattle.json5_text.specs.ShortWays.{IsInFront}
 use Rattle.json5_text.specs.ShortNumberSkips.{FollowsSign, FollowsMantissa, FollowsPower, FollowsExponent}
 use Rattle.json5_text.specs.TokenResults.{GivesRest}
-use Rattle.json5_text.proofs.ShortWholes.{whole_digits, literal_end, not_lengthened, ends_chars, lengthens_ascii}
+use Rattle.json5_text.proofs.WholesOfFewDigits.{whole_digits, literal_end, not_lengthened, ends_chars, lengthens_ascii}
 
 -- ---- a sign in front
 

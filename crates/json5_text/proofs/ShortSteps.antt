@@ -16,10 +16,10 @@ use Rattle.json5_text.specs.TokenResults.{GivesValue}
 use Rattle.json5_text.specs.Cursor.{Cursor}
 use Rattle.json5_text.specs.Scan.{Leaves, LeavesAt}
 use Rattle.json5_text.specs.ShortWays.{IsStep, FindsStep, IsInFront, Stepped, FindsSign, TakesShortSign}
-use Rattle.json5_text.specs.declared.short_ways.Step.{Step}
+use Rattle.json5_text.specs.declared.short_ways.EntryStep.{EntryStep}
 use Rattle.json5_types.proofs.AsciiRuns.{PassesAscii}
 use Rattle.json5_text.proofs.ScanTokens.{left_counted, blanks_passed}
-use Rattle.json5_text.proofs.ShortWholes.{ends_chars}
+use Rattle.json5_text.proofs.WholesOfFewDigits.{ends_chars}
 
 sign_ascii : (sign : ℕ) → sign < 128 → PassesAscii (λ c. c == sign)
 sign_ascii sign h c e = grind (arith, nat_tests)
@@ -58,7 +58,7 @@ after_comma : (closing : ℕ) (at_closing : Bool) (x y z : List ℕ) → IsSign 
 after_comma closing true x y z c (r, e, f) = (r, inr (z, c, e), f)
 after_comma closing false x y z c (s, f) = ((z, c, s), f)
 
-comma_found : (text rest next : List ℕ) (closing : ℕ) (found : Step) → GivesValue (skip between (chars text)) tt rest → IsInFront comma_sign rest true → next ≡ drop 1 rest → FindsStep closing false next found → FindsStep closing true text found
+comma_found : (text rest next : List ℕ) (closing : ℕ) (found : EntryStep) → GivesValue (skip between (chars text)) tt rest → IsInFront comma_sign rest true → next ≡ drop 1 rest → FindsStep closing false next found → FindsStep closing true text found
 comma_found text rest next closing found g f n k =
     let b = blanks_passed (chars text) (chars text) (chars rest) refl g.read in
     let front : chars rest ≡ comma_sign ∷ chars next = f.1 ∙ ap (λ z. comma_sign ∷ chars z) (sym n) in
@@ -72,12 +72,12 @@ comma_found text rest next closing found g f n k =
       text_rest = k.text_rest;
     }
 
-pub if_comma : (text rest next : List ℕ) (closing : ℕ) (o : Option Step) → GivesValue (skip between (chars text)) tt rest → IsInFront comma_sign rest true → next ≡ drop 1 rest → IfSome o (FindsStep closing false next) → IfSome o (FindsStep closing true text)
+pub if_comma : (text rest next : List ℕ) (closing : ℕ) (o : Option EntryStep) → GivesValue (skip between (chars text)) tt rest → IsInFront comma_sign rest true → next ≡ drop 1 rest → IfSome o (FindsStep closing false next) → IfSome o (FindsStep closing true text)
 if_comma text rest next closing None g f n k = tt
 if_comma text rest next closing (Some found) g f n k = comma_found text rest next closing found g f n k
 
 -- what was found in front was taken
-pub stepped : {closing : ℕ} {comma_due : Bool} {text : List ℕ} {found : Step} (old new : Cursor) (b : Bool) → FindsStep closing comma_due text found → chars text ≡ old.unread → LeavesAt old found.left new → found.at_closing ≡ b → Stepped closing comma_due b old new
+pub stepped : {closing : ℕ} {comma_due : Bool} {text : List ℕ} {found : EntryStep} (old new : Cursor) (b : Bool) → FindsStep closing comma_due text found → chars text ≡ old.unread → LeavesAt old found.left new → found.at_closing ≡ b → Stepped closing comma_due b old new
 stepped {closing = closing} {comma_due = comma_due} old new b k e left is =
     let l = left k.passed (chars k.rest) (sym e ∙ k.split) (k.counted ∙ left_counted k.rest k.text_rest) in
     let step : IsStep closing comma_due b old.unread new.unread = rw (e, is, sym l.1) at k.step in

@@ -25,7 +25,7 @@ use Rattle.json5_text.specs.Scan.{InText, Leaves, LeavesAt, SkipsAll}
 use Rattle.json5_text.specs.ScanTexts.{quote_of}
 use Rattle.json5_text.specs.ShortWays.{IsInFront}
 use Rattle.json5_text.specs.ShortTexts.{ReadsEscapeFreeString, ReadsEscapeFreeKey, IsEscapeFreeString, IsEscapeFreeKey, TookEscapeFree, IsSliceBefore, FindsEscapeFree, HasSolid, FindsFirst}
-use Rattle.json5_text.specs.declared.short_texts.FoundText.{FoundText}
+use Rattle.json5_text.specs.declared.short_texts.TextBounds.{TextBounds}
 use Rattle.json5_text.specs.declared.strings_and_names.Quote.{Quote}
 use Rattle.json5_text.specs.declared.strings_and_names.Quote.TheVariants as quotes
 use Rattle.json5_text.proofs.AsciiNames.{ascii_start, ascii_part, parts_ascii, parts_counted}
@@ -68,17 +68,17 @@ quoted_found q body rest u v s f =
 quote_first : (q : Quote) (text body : List ℕ) → IsInFront (quote_of q) text true → body ≡ drop 1 text → chars text ≡ quote_of q ∷ chars body
 quote_first q text body f e = f.1 ∙ ap (λ z. quote_of q ∷ chars z) (sym e)
 
-pub string_first : (q : Quote) (text body : List ℕ) (o : Option FoundText) → IsInFront (quote_of q) text true → body ≡ drop 1 text
+pub string_first : (q : Quote) (text body : List ℕ) (o : Option TextBounds) → IsInFront (quote_of q) text true → body ≡ drop 1 text
     → IfSome o (FindsEscapeFree IsEscapeFreeString (quote_of q ∷ chars body)) → IfSome o (FindsFirst IsEscapeFreeString (chars text))
 string_first q text body None f e k = tt
 string_first q text body (Some found) f e k =
     let same = quote_first q text body f e in
     (subst (λ z. FindsEscapeFree IsEscapeFreeString z found) (sym same) k, (quote_of q, chars body, same, quote_solid q))
 
-as_key : (x : List ℕ) (found : FoundText) → FindsFirst IsEscapeFreeString x found → FindsFirst IsEscapeFreeKey x found
+as_key : (x : List ℕ) (found : TextBounds) → FindsFirst IsEscapeFreeString x found → FindsFirst IsEscapeFreeKey x found
 as_key x found (k, solid) = (record { token = k.token; spelled = k.spelled; rest = k.rest; split = k.split; is_token = string_key k.is_token; place = k.place; counted = k.counted }, solid)
 
-pub key_first : (x : List ℕ) (o : Option FoundText) → IfSome o (FindsFirst IsEscapeFreeString x) → IfSome o (FindsFirst IsEscapeFreeKey x)
+pub key_first : (x : List ℕ) (o : Option TextBounds) → IfSome o (FindsFirst IsEscapeFreeString x) → IfSome o (FindsFirst IsEscapeFreeKey x)
 key_first x None k = tt
 key_first x (Some found) k = as_key x found k
 
@@ -194,7 +194,7 @@ pub key_read : ReadsToken IsEscapeFreeKey ReadsEscapeFreeKey
 key_read x w s u r e b k = record { front = w; spelling = s; split = e; blank = b; key = k }
 
 -- blanks and a token are in front of x
-pub record Found (IsRead : List ℕ → List ℕ → List ℕ → Type 0) (x : List ℕ) (found : FoundText) : Type 0 where
+pub record Found (IsRead : List ℕ → List ℕ → List ℕ → Type 0) (x : List ℕ) (found : TextBounds) : Type 0 where
   pub spelled : List ℕ
   pub taken : List ℕ
   pub rest : List ℕ
@@ -203,7 +203,7 @@ pub record Found (IsRead : List ℕ → List ℕ → List ℕ → Type 0) (x : L
   pub place : IsSliceBefore x spelled found.from found.to
   pub counted : found.left ≡ bytes_in rest
 
-pub spaced : {IsToken IsRead : List ℕ → List ℕ → List ℕ → Type 0} {found : FoundText} (text x y : List ℕ) → ReadsToken IsToken IsRead → text ≡ x → skip between text ≡ skip between y → FindsFirst IsToken y found → Found IsRead x found
+pub spaced : {IsToken IsRead : List ℕ → List ℕ → List ℕ → Type 0} {found : TextBounds} (text x y : List ℕ) → ReadsToken IsToken IsRead → text ≡ x → skip between text ≡ skip between y → FindsFirst IsToken y found → Found IsRead x found
 spaced text x y reads f e (k, solid) =
     let b = blanks_before x y (ap (skip between) (sym f) ∙ e) solid in
     let split = b.split ∙ ap (λ z. b.front ++ z) k.split in
@@ -231,10 +231,10 @@ from_fits {u = u} k e p = fits_left _ _ k (whole_split p.before (u ++ p.rest) k 
 to_fits : {text x u : List ℕ} {offset end from to : ℕ} → InText text offset end → chars (drop offset text) ≡ x → IsSliceBefore x u from to → to ≤ from
 to_fits {u = u} k e p = let b = bytes_append u p.rest in let f = p.begins in let t = p.ends in omega arith
 
-pub begins_inside : {IsRead : List ℕ → List ℕ → List ℕ → Type 0} {text x : List ℕ} {offset end : ℕ} {found : FoundText} → InText text offset end → chars (drop offset text) ≡ x → Found IsRead x found → found.from ≤ end
+pub begins_inside : {IsRead : List ℕ → List ℕ → List ℕ → Type 0} {text x : List ℕ} {offset end : ℕ} {found : TextBounds} → InText text offset end → chars (drop offset text) ≡ x → Found IsRead x found → found.from ≤ end
 begins_inside k e f = from_fits k e f.place
 
-pub ends_inside : {IsRead : List ℕ → List ℕ → List ℕ → Type 0} {text x : List ℕ} {offset end : ℕ} {found : FoundText} → InText text offset end → chars (drop offset text) ≡ x → Found IsRead x found → found.to ≤ end
+pub ends_inside : {IsRead : List ℕ → List ℕ → List ℕ → Type 0} {text x : List ℕ} {offset end : ℕ} {found : TextBounds} → InText text offset end → chars (drop offset text) ≡ x → Found IsRead x found → found.to ≤ end
 ends_inside k e f = let a = from_fits k e f.place in let b = to_fits k e f.place in omega arith
 
 stands_at : {text x u : List ℕ} {offset end from to : ℕ} (s : Cursor) → InText text offset end → chars text ≡ s.input → chars (drop offset text) ≡ x → IsSliceBefore x u from to → IsSliceAt s.input u (end - from) (end - to)
@@ -247,10 +247,10 @@ stands_at {text = text} {u = u} {offset = offset} {end = end} {from = from} {to 
     let t = p.ends in
     record { before = before; rest = p.rest; split = sym i ∙ whole; starts = omega arith; ends = omega arith }
 
-pub found_leaves : {IsRead : List ℕ → List ℕ → List ℕ → Type 0} {found : FoundText} (s : Cursor) → Found IsRead s.unread found → Leaves s found.left
+pub found_leaves : {IsRead : List ℕ → List ℕ → List ℕ → Type 0} {found : TextBounds} (s : Cursor) → Found IsRead s.unread found → Leaves s found.left
 found_leaves s k = record { passed = k.taken; rest = k.rest; split = k.split; counted = k.counted }
 
-pub took_escape_free : {IsRead : List ℕ → List ℕ → List ℕ → Type 0} {text : List ℕ} {offset end : ℕ} {found : FoundText} (old new : Cursor) → InText text offset end → chars text ≡ old.input → chars (drop offset text) ≡ old.unread → Found IsRead old.unread found
+pub took_escape_free : {IsRead : List ℕ → List ℕ → List ℕ → Type 0} {text : List ℕ} {offset end : ℕ} {found : TextBounds} (old new : Cursor) → InText text offset end → chars text ≡ old.input → chars (drop offset text) ≡ old.unread → Found IsRead old.unread found
     → LeavesAt old found.left new → TookEscapeFree IsRead old new (record { start = end - found.from; end = end - found.to })
 took_escape_free {IsRead = IsRead} old new k i e f left =
     let l = left f.taken f.rest f.split f.counted in

@@ -13,10 +13,10 @@ use Rattle.json5_grammar.specs.Model.ReadBlanks.{skip, between}
 use Rattle.json5_grammar.specs.Model.ReadNumbers.{number}
 use Rattle.json5_grammar.specs.Language.Values.{is_number}
 use Rattle.json5_grammar.proofs.ValueHeads.{val_head, skip_value}
-use Rattle.json5_text.specs.ByteRuns.{IsShort}
+use Rattle.json5_text.specs.ByteRuns.{SpellsFewDigits}
 use Rattle.json5_text.specs.Cursor.{Cursor}
-use Rattle.json5_text.specs.ShortWays.{IsShortWhole, TookNumber, TookInRange}
-use Rattle.json5_text.proofs.ShortWholes.{short_bare, short_minus}
+use Rattle.json5_text.specs.ShortWays.{IsWholeOfFewDigits, TookNumber, TookInRange}
+use Rattle.json5_text.proofs.WholesOfFewDigits.{few_bare, few_minus}
 use Rattle.json5_text.proofs.ScanNumbers.{number_taken}
 use Rattle.json5_text.proofs.ScanTokens.{blanks_passed}
 
@@ -25,22 +25,22 @@ pub kept : (z : ℤ) → neg_ℤ (pos (10 ^ 19)) ≤ℤ z → z ≤ℤ pos (10 ^
 kept z l h = to_z-of_z w128 z (omega (arith, ints, l, h))
 
 -- the number that is kept is that in front
-pub kept_whole : (s r : List ℕ) (z k : ℤ) → IsShortWhole s z r → k ≡ z → IsShortWhole s k r
+pub kept_whole : (s r : List ℕ) (z k : ℤ) → IsWholeOfFewDigits s z r → k ≡ z → IsWholeOfFewDigits s k r
 kept_whole s r z k w e = rw e w
 
-pub bare_whole : (s r : List ℕ) (n : ℕ) (z : ℤ) → IsShort s n r → z ≡ pos n → IsShortWhole s (to_z w128 (of_z w128 z)) r
+pub bare_whole : (s r : List ℕ) (n : ℕ) (z : ℤ) → SpellsFewDigits s n r → z ≡ pos n → IsWholeOfFewDigits s (to_z w128 (of_z w128 z)) r
 bare_whole s r n z k e =
     let l = k.small in
     let same : to_z w128 (of_z w128 z) ≡ pos n = kept z (omega (arith, ints, e, l)) (omega (arith, ints, e, l)) ∙ e in
-    kept_whole s r (pos n) _ (record { gives = short_bare s r n (pos n) k refl; low = omega (arith, ints, l); high = omega (arith, ints, l) }) same
+    kept_whole s r (pos n) _ (record { gives = few_bare s r n (pos n) k refl; low = omega (arith, ints, l); high = omega (arith, ints, l) }) same
 
-pub minus_whole : (s t r : List ℕ) (n : ℕ) (z : ℤ) → chars s ≡ 45 ∷ chars t → IsShort t n r → z ≡ pos n → IsShortWhole s (to_z w128 (of_z w128 (pos 0 -ℤ to_z w128 (of_z w128 z)))) r
+pub minus_whole : (s t r : List ℕ) (n : ℕ) (z : ℤ) → chars s ≡ 45 ∷ chars t → SpellsFewDigits t n r → z ≡ pos n → IsWholeOfFewDigits s (to_z w128 (of_z w128 (pos 0 -ℤ to_z w128 (of_z w128 z)))) r
 minus_whole s t r n z m k e =
     let l = k.small in
     let same : to_z w128 (of_z w128 z) ≡ pos n = kept z (omega (arith, ints, e, l)) (omega (arith, ints, e, l)) ∙ e in
     let minus : pos 0 -ℤ to_z w128 (of_z w128 z) ≡ neg_ℤ (pos n) = ap (λ (y : ℤ). pos 0 -ℤ y) same ∙ omega (arith, ints) in
     let both : to_z w128 (of_z w128 (pos 0 -ℤ to_z w128 (of_z w128 z))) ≡ neg_ℤ (pos n) = kept _ (omega (arith, ints, minus, l)) (omega (arith, ints, minus, l)) ∙ minus in
-    kept_whole s r (neg_ℤ (pos n)) _ (record { gives = short_minus s t r n (neg_ℤ (pos n)) m k refl; low = omega (arith, ints, l); high = omega (arith, ints, l) }) both
+    kept_whole s r (neg_ℤ (pos n)) _ (record { gives = few_minus s t r n (neg_ℤ (pos n)) m k refl; low = omega (arith, ints, l); high = omega (arith, ints, l) }) both
 
 -- ---- a number after blanks
 

@@ -71,7 +71,7 @@ pub record IsFewDigits (bytes : List ℕ) (found : FewDigits) : Type 0 where
   pub small : found.value < 10 ^ 19
 
 -- the digits in front are this number, and nothing in the rest continues it
-pub record IsShort (text : List ℕ) (value : ℕ) (rest : List ℕ) : Type 0 where
+pub record SpellsFewDigits (text : List ℕ) (value : ℕ) (rest : List ℕ) : Type 0 where
   pub digits : List ℕ
   pub split : chars text ≡ digits ++ chars rest
   pub integer : Integer digits

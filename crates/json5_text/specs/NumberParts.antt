@@ -9,7 +9,7 @@ use Rattle.json5_grammar.specs.Model.ReadNumbers.{Parts, is_whole, front_of, res
 use Rattle.json5_grammar.specs.Model.Reading.{got, bad, here}
 use Rattle.json5_grammar.specs.declared.error_code.ErrorCode.TheVariants.{OverflowParsingNumber}
 use Rattle.json5_text.specs.declared.decimal_literals.Exponent.{Exponent}
-use Rattle.json5_text.specs.declared.decimal_literals.Literal.{Literal}
+use Rattle.json5_text.specs.declared.decimal_literals.DecimalLiteral.{DecimalLiteral}
 use Rattle.json5_text.specs.declared.number_slices.Scanned.{Scanned}
 use Rattle.json5_text.specs.declared.decimal_literals.Tail.{Tail}
 use Rattle.json5_text.specs.declared.number_slices.Scanned.TheVariants as scanned
@@ -25,11 +25,11 @@ scanned_of (scanned.Finite d) = numbers.decimal d
 abbrev pub raised_of : Exponent → ℤ
 raised_of e = signed e.negative (spelled 10 0 e.digits.now)
 
-abbrev pub parts_of : Literal → Parts
+abbrev pub parts_of : DecimalLiteral → Parts
 parts_of l = record { before = l.before.now; after = option_map (λ digits. digits.now) l.after; raised = option_map raised_of l.exponent }
 
 -- the digits before the point, and those after it
-abbrev pub digits_of : Literal → List ℕ
+abbrev pub digits_of : DecimalLiteral → List ℕ
 digits_of l = numbers.all_digits (parts_of l).before (parts_of l).after
 
 -- the written exponent, or the limit if that is less
@@ -41,24 +41,24 @@ abbrev pub limited_exponent : ℕ → Option Exponent → ℤ
 limited_exponent limit None = pos 0
 limited_exponent limit (Some e) = signed_limited limit e
 
-abbrev pub is_whole_literal : Bool → Literal → Bool
+abbrev pub is_whole_literal : Bool → DecimalLiteral → Bool
 is_whole_literal negative l = is_whole negative (parts_of l).before (parts_of l).after (parts_of l).raised
 
 abbrev pub HasExponentDigits : Exponent → Type 0
 HasExponentDigits e = Each is_digit e.digits.now
 
-pub record HasDigits (l : Literal) : Type 0 where
+pub record HasDigits (l : DecimalLiteral) : Type 0 where
   pub before : Each is_digit l.before.now
   pub after : IfSome l.after (λ digits. Each is_digit digits.now)
   pub exponent : IfSome l.exponent HasExponentDigits
 
 -- the literal means this decimal; or its exponent is out of range
-abbrev pub MeansDecimal : Bool → Literal → Option numbers.Decimal → Type 0
+abbrev pub MeansDecimal : Bool → DecimalLiteral → Option numbers.Decimal → Type 0
 MeansDecimal negative l None = (start rest : List ℕ) → if_literal start negative rest (Some (parts_of l)) ≡ bad (Some OverflowParsingNumber) (here start)
 MeansDecimal negative l (Some d) = (start rest : List ℕ) → if_literal start negative rest (Some (parts_of l)) ≡ got (numbers.decimal d) rest
 
 -- unless it means a whole number, the literal means these digits times ten to the exponent
-abbrev pub MeansFinite : Literal → List ℕ → ℤ → Type 0
+abbrev pub MeansFinite : DecimalLiteral → List ℕ → ℤ → Type 0
 MeansFinite l digits exponent = (negative : Bool) → is_whole_literal negative l ≡ false → MeansDecimal negative l (Some (numbers.finite negative digits exponent))
 
 -- ---- a decimal run in front of the input
@@ -69,9 +69,9 @@ begun p [] = false
 begun p (c ∷ x) = p c
 
 -- whether a minus is in front, and what follows the sign in front, if there is one
-abbrev pub after_sign : List ℕ → Bool × List ℕ
-after_sign [] = (false, [])
-after_sign (c ∷ x) = cond (c == plus_sign) (false, x) (cond (c == minus_sign) (true, x) (false, c ∷ x))
+abbrev pub split_sign : List ℕ → Bool × List ℕ
+split_sign [] = (false, [])
+split_sign (c ∷ x) = cond (c == plus_sign) (false, x) (cond (c == minus_sign) (true, x) (false, c ∷ x))
 
 -- an unsigned number in front of the text is a decimal run
 abbrev pub IsAtRun : List ℕ → Type 0
@@ -100,12 +100,12 @@ ReadsTail reading whole None = reading ≡ None
 ReadsTail reading whole (Some t) = IsTail reading whole t
 
 -- the literal, that its parts are digits, and what follows the decimal run in front
-pub record IsLiteral (reading : Option Parts) (whole : List ℕ) (l : Literal) : Type 0 where
+pub record IsDecimalLiteral (reading : Option Parts) (whole : List ℕ) (l : DecimalLiteral) : Type 0 where
   pub read : reading ≡ Some (parts_of l)
   pub digits : HasDigits l
   pub ends : EndsRun whole l.rest.now
 
 -- the literal, if reading gives one
-abbrev pub ReadsLiteral : Option Parts → List ℕ → Option Literal → Type 0
-ReadsLiteral reading whole None = reading ≡ None
-ReadsLiteral reading whole (Some l) = IsLiteral reading whole l
+abbrev pub ReadsDecimalLiteral : Option Parts → List ℕ → Option DecimalLiteral → Type 0
+ReadsDecimalLiteral reading whole None = reading ≡ None
+ReadsDecimalLiteral reading whole (Some l) = IsDecimalLiteral reading whole l

@@ -15,7 +15,7 @@ use Rattle.json5_text.specs.declared.strings_and_names.Kind.{Kind}
 use Rattle.json5_text.specs.declared.strings_and_names.Kind.TheVariants as kind
 use Rattle.json5_text.specs.declared.strings_and_names.Stop.{Stop}
 use Rattle.json5_text.specs.declared.strings_and_names.Stop.TheVariants as stop
-use Rattle.json5_text.specs.declared.strings_and_names.Step.{Step}
+use Rattle.json5_text.specs.declared.strings_and_names.EscapeStep.{EscapeStep}
 use Rattle.json5_text.specs.Outcome.{outcome}
 use Rattle.json5_text.specs.RefusalOutcomes.{Refuses}
 use Rattle.json5_text.specs.Scan.{AtEscape, in_list}
@@ -133,13 +133,13 @@ AnswersRun k whole (Ok p) = IsRun k whole p.0.now p.1
 AnswersRun k whole (Err e) = RefusesByCode e (text_at k (chars whole))
 
 -- the escape in front spells this, and the run after it ends there
-pub record IsEscapeStep (k : Kind) (escape after : List ℕ) (step : Step) : Type 0 where
+pub record IsEscapeStep (k : Kind) (escape after : List ℕ) (step : EscapeStep) : Type 0 where
   pub goes_on : ReadsUpTo (text_at k (chars escape)) (in_list step.spelled ++ chars step.run.now) false step.stop
   pub left : left_in step.stop ≤ length (chars after)
   pub text : IsUtf8 step.run.now
 
 -- the escape in front and the run after it; or the fault
-abbrev pub AnswersStep : Kind → List ℕ → List ℕ → Result Step Refusal → Type 0
+abbrev pub AnswersStep : Kind → List ℕ → List ℕ → Result EscapeStep Refusal → Type 0
 AnswersStep k escape after (Ok step) = IsEscapeStep k escape after step
 AnswersStep k escape after (Err e) = RefusesByFault e (text_at k (chars escape))
 

@@ -8,7 +8,7 @@ use Rattle.json5_grammar.specs.Language.Strings.{Str}
 use Rattle.json5_grammar.specs.Language.Trees.{text}
 use Rattle.json5_grammar.specs.Language.Values.{Reads}
 use Rattle.json5_text.specs.declared.short_texts.Span.{Span}
-use Rattle.json5_text.specs.declared.short_texts.FoundText.{FoundText}
+use Rattle.json5_text.specs.declared.short_texts.TextBounds.{TextBounds}
 use Rattle.json5_text.specs.Cursor.{Cursor}
 use Rattle.json5_text.specs.TextTokens.{IsSliceAt}
 use Rattle.json5_text.specs.Outcome.{bytes_in}
@@ -58,7 +58,7 @@ abbrev pub IsEscapeFreeKey : List ℕ → List ℕ → List ℕ → Type 0
 IsEscapeFreeKey s u r = Key s r u true
 
 -- such a token is in front of x, and so many bytes follow it
-pub record FindsEscapeFree (IsToken : List ℕ → List ℕ → List ℕ → Type 0) (x : List ℕ) (found : FoundText) : Type 0 where
+pub record FindsEscapeFree (IsToken : List ℕ → List ℕ → List ℕ → Type 0) (x : List ℕ) (found : TextBounds) : Type 0 where
   pub token : List ℕ
   pub spelled : List ℕ
   pub rest : List ℕ
@@ -72,5 +72,5 @@ abbrev pub HasSolid : List ℕ → Type 0
 HasSolid x = (c : ℕ) × (r : List ℕ) × (x ≡ c ∷ r) × (is_solid c ≡ true)
 
 -- such a token is in front, which begins with no blank
-abbrev pub FindsFirst : (List ℕ → List ℕ → List ℕ → Type 0) → List ℕ → FoundText → Type 0
+abbrev pub FindsFirst : (List ℕ → List ℕ → List ℕ → Type 0) → List ℕ → TextBounds → Type 0
 FindsFirst IsToken x found = FindsEscapeFree IsToken x found × HasSolid x

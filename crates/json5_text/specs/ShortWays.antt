@@ -10,8 +10,8 @@ use Rattle.json5_grammar.specs.Model.ReadBlanks.{skip, between}
 use Rattle.json5_grammar.specs.Model.ReadNumbers as model
 use Rattle.json5_text.specs.declared.short_ways.ShortStep.{ShortStep}
 use Rattle.json5_text.specs.declared.short_ways.ShortStep.TheVariants as short
-use Rattle.json5_text.specs.declared.short_ways.ShortWhole.{ShortWhole}
-use Rattle.json5_text.specs.declared.short_ways.Step.{Step}
+use Rattle.json5_text.specs.declared.short_ways.SpacedWhole.{SpacedWhole}
+use Rattle.json5_text.specs.declared.short_ways.EntryStep.{EntryStep}
 use Rattle.json5_text.specs.TokenResults.{GivesValue}
 use Rattle.json5_text.specs.Cursor.{Cursor}
 use Rattle.json5_text.specs.Outcome.{bytes_in}
@@ -44,17 +44,17 @@ abbrev pub TakesShortDecimal : Cursor → Cursor → Option Decimal → Type 0
 TakesShortDecimal old new result = MatchOption result (new ≡ old) (λ d. TookNumber old new (decimal d))
 
 -- the number is read in front and leaves this rest; it has at most 19 digits
-pub record IsShortWhole (text : List ℕ) (number : ℤ) (rest : List ℕ) : Type 0 where
+pub record IsWholeOfFewDigits (text : List ℕ) (number : ℤ) (rest : List ℕ) : Type 0 where
   pub gives : GivesValue (model.number (chars text)) (whole number) rest
   pub low : neg_ℤ (pos (10 ^ 19)) ≤ℤ number
   pub high : number ≤ℤ pos (10 ^ 19)
 
 -- the number is read after blanks, and so many bytes follow it
-pub record GivesSpaced (text : List ℕ) (found : ShortWhole) : Type 0 where
+pub record GivesSpaced (text : List ℕ) (found : SpacedWhole) : Type 0 where
   pub spaced : List ℕ
   pub rest : List ℕ
   pub passed : skip between (chars text) ≡ skip between (chars spaced)
-  pub short : IsShortWhole spaced found.number rest
+  pub short : IsWholeOfFewDigits spaced found.number rest
   pub counted : found.left ≡ length rest
 
 -- ---- a step to the next element or member
@@ -86,12 +86,12 @@ pub record Stepped (closing : ℕ) (comma_due at_closing : Bool) (old new : Curs
 
 -- a step to an element or a member, or to the closing sign, is taken, or nothing
 abbrev pub TakesShortStep : ℕ → Bool → Cursor → Cursor → ShortStep → Type 0
-TakesShortStep closing comma_due old new short.Member = Stepped closing comma_due false old new
+TakesShortStep closing comma_due old new short.Entry = Stepped closing comma_due false old new
 TakesShortStep closing comma_due old new short.Closing = Stepped closing comma_due true old new
 TakesShortStep closing comma_due old new short.Other = new ≡ old
 
 -- a step is found in front, and so many bytes are left after it
-pub record FindsStep (closing : ℕ) (comma_due : Bool) (text : List ℕ) (found : Step) : Type 0 where
+pub record FindsStep (closing : ℕ) (comma_due : Bool) (text : List ℕ) (found : EntryStep) : Type 0 where
   pub passed : List ℕ
   pub rest : List ℕ
   pub split : chars text ≡ passed ++ chars rest

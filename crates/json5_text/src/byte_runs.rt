@@ -6,7 +6,7 @@ ghost use Rattle.std.specs.List.{prefix_len};
 ghost use Rattle.std.specs.Simd.Lanes.{mask_l};
 ghost use Rattle.memchr.specs.Find.{is_byte, is_byte3};
 ghost use Rattle.json5_grammar.specs.Language.Strings.{is_raw};
-ghost use Rattle.json5_text.specs.ByteRuns.{ends_raw, is_ascii_blank, is_ascii_start, is_ascii_part, is_plain_ascii, IsAsciiName, is_in_line, is_no_star, lengthens_digits, SpellsFront, IsUnpadded, IsShort, BeginsSolid};
+ghost use Rattle.json5_text.specs.ByteRuns.{ends_raw, is_ascii_blank, is_ascii_start, is_ascii_part, is_plain_ascii, IsAsciiName, is_in_line, is_no_star, lengthens_digits, SpellsFront, IsUnpadded, SpellsFewDigits, BeginsSolid};
 
 use json5_types::digit_runs::is_digit;
 use memchr::{memchr, memchr3};
@@ -209,7 +209,7 @@ pub(crate) fn front_digits(bytes: &[u8]) -> FewDigits
 
 /// Whether the byte at this index, if there is one, may continue a number after its digits.
 #[inline(always)]
-pub(crate) fn goes_on(bytes: &[u8], place: usize) -> bool
+pub(crate) fn number_goes_on(bytes: &[u8], place: usize) -> bool
     ensures { result ≡ false → NotBegun lengthens_digits (drop place bytes.now) }
 {
     place < bytes.len() && lengthens_digits(bytes[place])
@@ -227,15 +227,15 @@ fn is_padded(bytes: &[u8], len: usize) -> bool
 /// The number that the few digits in front spell, and what follows it. No zero comes before further digits, and nothing that
 /// may continue a number comes after them.
 #[inline(always)]
-pub(crate) fn short_digits(text: &str) -> Option<(u64, &str)>
-    ensures { IfSome result (λ p. IsShort text.now p.0 p.1.now) }
+pub(crate) fn few_digits(text: &str) -> Option<(u64, &str)>
+    ensures { IfSome result (λ p. SpellsFewDigits text.now p.0 p.1.now) }
 {
     let bytes = text.as_bytes();
     let found = front_digits(bytes);
     if found.len == 0 {
         return None;
     }
-    if goes_on(bytes, found.len) {
+    if number_goes_on(bytes, found.len) {
         return None;
     }
     if is_padded(bytes, found.len) {

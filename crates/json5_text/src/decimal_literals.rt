@@ -5,7 +5,7 @@ ghost use Rattle.std.specs.Str.{IsUtf8, chars};
 ghost use Rattle.json5_grammar.specs.Language.Characters.{is_digit, Each};
 ghost use Rattle.json5_grammar.specs.Language.Numbers as numbers;
 ghost use Rattle.json5_grammar.specs.Model.ReadNumbers as model;
-ghost use Rattle.json5_text.specs.NumberParts.{begun, run_of, after_sign, digits_of, ReadsTail, IsLiteral, ReadsLiteral};
+ghost use Rattle.json5_text.specs.NumberParts.{begun, run_of, split_sign, digits_of, ReadsTail, IsDecimalLiteral, ReadsDecimalLiteral};
 ghost use Rattle.json5_types.specs.DigitRuns.{Gathers};
 
 use crate::first_char::front;
@@ -28,7 +28,7 @@ struct Tail<'t> {
 
 /// A decimal literal without its sign: the digits before the point, those after it, and the exponent; and what follows the literal.
 #[derive(Clone, Copy)]
-pub(crate) struct Literal<'t> {
+pub(crate) struct DecimalLiteral<'t> {
     pub(crate) before: &'t str,
     pub(crate) after: Option<&'t str>,
     pub(crate) exponent: Option<Exponent<'t>>,
@@ -37,8 +37,8 @@ pub(crate) struct Literal<'t> {
 
 /// Whether a minus is in front, and what follows the sign in front, if there is one (JSON5 section 6).
 #[inline(always)]
-pub(crate) fn after_sign(text: &str) -> (bool, &str)
-    ensures sign { after_sign (chars text.now) ≡ (result.0, chars result.1.now) }
+pub(crate) fn split_sign(text: &str) -> (bool, &str)
+    ensures sign { split_sign (chars text.now) ≡ (result.0, chars result.1.now) }
     ensures text { IsUtf8 result.1.now }
 {
     match front(text) {
@@ -51,7 +51,7 @@ pub(crate) fn after_sign(text: &str) -> (bool, &str)
 /// Whether a decimal run begins or continues in front: the characters that a decimal literal may have (ECMAScript 5.1 section
 /// 7.8.3).
 #[inline(always)]
-fn goes_on(text: &str) -> bool
+fn run_goes_on(text: &str) -> bool
     ensures { result ≡ begun numbers.in_run (chars text.now) }
 {
     matches!(
@@ -69,7 +69,7 @@ fn read_exponent_digits(negative: bool, text: &str) -> Option<Tail>
     if digits.is_empty() {
         return None;
     }
-    if goes_on(rest) {
+    if run_goes_on(rest) {
         return None;
     }
     Some(Tail {
@@ -84,7 +84,7 @@ fn read_exponent_digits(negative: bool, text: &str) -> Option<Tail>
 fn read_exponent(text: &str) -> Option<Tail>
     ensures { ReadsTail (model.exponent_at (run_of (chars text.now))) text.now result }
 {
-    if !goes_on(text) {
+    if !run_goes_on(text) {
         return Some(Tail {
             exponent: None,
             rest: text,
@@ -93,7 +93,7 @@ fn read_exponent(text: &str) -> Option<Tail>
     let Some(('e' | 'E', rest)) = front(text) else {
         return None;
     };
-    let (negative, digits) = after_sign(rest);
+    let (negative, digits) = split_sign(rest);
     read_exponent_digits(negative, digits)
 }
 
@@ -107,15 +107,15 @@ pub(crate) fn is_integer(digits: &str) -> bool
 
 /// The literal of these digits and of an exponent, which ends the decimal run (ECMAScript 5.1 section 7.8.3).
 #[inline(always)]
-fn read_without_point<'t>(before: &'t str, text: &'t str) -> Option<Literal<'t>>
+fn read_without_point<'t>(before: &'t str, text: &'t str) -> Option<DecimalLiteral<'t>>
     requires { Each is_digit before.now }
-    ensures { ReadsLiteral (model.no_point before.now (run_of (chars text.now))) text.now result }
+    ensures { ReadsDecimalLiteral (model.no_point before.now (run_of (chars text.now))) text.now result }
 {
     if !is_integer(before) {
         return None;
     }
     let tail = read_exponent(text)?;
-    Some(Literal {
+    Some(DecimalLiteral {
         before,
         after: None,
         exponent: tail.exponent,
@@ -133,16 +133,16 @@ fn has_digits(before: &str, after: &str) -> bool
 /// The literal of these digits before and after a point, and of an exponent, which ends the decimal run (ECMAScript 5.1 section
 /// 7.8.3).
 #[inline(always)]
-fn read_with_point<'t>(before: &'t str, after: &'t str, text: &'t str) -> Option<Literal<'t>>
+fn read_with_point<'t>(before: &'t str, after: &'t str, text: &'t str) -> Option<DecimalLiteral<'t>>
     requires before { Each is_digit before.now }
     requires after { Each is_digit after.now }
-    ensures { ReadsLiteral (model.at_point before.now after.now (run_of (chars text.now))) text.now result }
+    ensures { ReadsDecimalLiteral (model.at_point before.now after.now (run_of (chars text.now))) text.now result }
 {
     if !has_digits(before, after) {
         return None;
     }
     let tail = read_exponent(text)?;
-    Some(Literal {
+    Some(DecimalLiteral {
         before,
         after: Some(after),
         exponent: tail.exponent,
@@ -151,8 +151,8 @@ fn read_with_point<'t>(before: &'t str, after: &'t str, text: &'t str) -> Option
 }
 
 /// The literal that is all of the decimal run in front (ECMAScript 5.1 section 7.8.3).
-pub(crate) fn read_literal(text: &str) -> Option<Literal>
-    ensures { ReadsLiteral (model.literal_at (run_of (chars text.now))) text.now result }
+pub(crate) fn read_decimal_literal(text: &str) -> Option<DecimalLiteral>
+    ensures { ReadsDecimalLiteral (model.literal_at (run_of (chars text.now))) text.now result }
 {
     let (before, rest) = split_digits(text);
     let Some(('.', digits)) = front(rest) else {
@@ -165,8 +165,11 @@ pub(crate) fn read_literal(text: &str) -> Option<Literal>
 /// The literal that is all of the decimal run in front, whose digits before the exponent are gathered; None too if there is no
 /// room for them.
 #[inline(always)]
-pub(crate) fn gather_literal<'t>(digits: &mut InlineDigits, text: &'t str) -> Option<Literal<'t>>
-    ensures literal { IfSome result (IsLiteral (model.literal_at (run_of (chars text.now))) text.now) }
+pub(crate) fn gather_decimal_literal<'t>(
+    digits: &mut InlineDigits,
+    text: &'t str,
+) -> Option<DecimalLiteral<'t>>
+    ensures literal { IfSome result (IsDecimalLiteral (model.literal_at (run_of (chars text.now))) text.now) }
     ensures gathered { IfSome result (λ literal. Gathers digits.old digits.new (digits_of literal)) }
 {
     let (before, rest) = digits.take_digits(text)?;

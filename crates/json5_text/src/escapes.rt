@@ -95,7 +95,7 @@ fn nul_escape<'t>(escape: &str, text: &'t str) -> Result<(Option<char>, &'t str)
 fn byte_escape<'t>(escape: &str, text: &'t str) -> Result<(Option<char>, &'t str), Refusal>
     ensures { AnswersAs in_list (and_then (hex 2 0 (chars escape.now) (chars text.now)) one_char) result }
 {
-    let (value, rest) = hexadecimal(2, escape, text)?;
+    let (value, rest) = read_hex_digits(2, escape, text)?;
     Ok((Some(char::from(value as u8)), rest))
 }
 
@@ -113,7 +113,7 @@ fn skip_line_feed(text: &str) -> &str
 pub(crate) fn unicode_escape<'t>(escape: &str, text: &'t str) -> Result<(char, &'t str), Refusal>
     ensures { ReturnsReading (unicode_at (chars escape.now) (chars text.now)) result }
 {
-    let (unit, rest) = hexadecimal(4, escape, text)?;
+    let (unit, rest) = read_hex_digits(4, escape, text)?;
     match char::from_u32(unit) {
         Some(c) => Ok((c, rest)),
         None => second_escape(escape, unit, rest),
@@ -127,7 +127,7 @@ fn second_escape<'t>(escape: &str, unit: u32, text: &'t str) -> Result<(char, &'
 {
     let ends = ErrorCode::EofParsingEscapeSequence;
     let digits = skip_word("\\u", text, ends, ErrorCode::InvalidEscapeSequence)?;
-    let (second, rest) = hexadecimal(4, escape, digits)?;
+    let (second, rest) = read_hex_digits(4, escape, digits)?;
     match pair(unit, second) {
         Some(c) => Ok((c, rest)),
         None => Err(Refusal::UnpairedSurrogate(unit as u16, escape.len())),
@@ -145,7 +145,7 @@ fn pair(high: u32, low: u32) -> Option<char>
 }
 
 /// The value of so many hexadecimal digits, and what follows them.
-fn hexadecimal<'t>(count: u32, escape: &str, text: &'t str) -> Result<(u32, &'t str), Refusal>
+fn read_hex_digits<'t>(count: u32, escape: &str, text: &'t str) -> Result<(u32, &'t str), Refusal>
     requires { count ≤ 4 }
     ensures read { ReturnsReading (hex count 0 (chars escape.now) (chars text.now)) result }
     ensures bounded { IfOk result (λ p. p.0 < 16 ^ count) }

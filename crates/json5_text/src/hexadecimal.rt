@@ -35,7 +35,7 @@ fn hexadecimal_digits(first: u32, text: &str) -> Result<(u128, &str), &str>
 }
 
 /// Reads what follows `0x`; `start` is the input from the number's start (ECMAScript 5.1 section 7.8.3).
-pub(crate) fn hexadecimal<'t>(
+pub(crate) fn read_hex_integer<'t>(
     start: &str,
     negative: bool,
     text: &'t str,

@@ -34,14 +34,14 @@ pub(crate) fn skip_name(text: &str) -> Result<&str, Refusal>
 
 /// The character that an escape spells, if a name may have it there, and what follows the escape (ECMAScript 5.1 section
 /// 7.6).
-pub(crate) fn read_item<'t>(
+pub(crate) fn read_name_item<'t>(
     is_first: bool,
     escape: &str,
     after: &'t str,
 ) -> Result<(Option<char>, &'t str), Refusal>
     ensures { AnswersAs in_list (item_of_name is_first (chars escape.now) (chars after.now)) result }
 {
-    let (c, rest) = read_escape(escape, after)?;
+    let (c, rest) = read_name_escape(escape, after)?;
     if !fits(is_first, c) {
         return Err(Refusal::TokenError {
             code: ErrorCode::ExpectedIdentifier,
@@ -63,7 +63,7 @@ fn fits(is_first: bool, c: char) -> bool
 }
 
 /// The character that a name's escape spells, and what follows the escape (ECMAScript 5.1 section 7.6).
-fn read_escape<'t>(escape: &str, after: &'t str) -> Result<(char, &'t str), Refusal>
+fn read_name_escape<'t>(escape: &str, after: &'t str) -> Result<(char, &'t str), Refusal>
     ensures { ReturnsReading (name_escape (chars escape.now) (chars after.now)) result }
 {
     let Some((c, digits)) = front(after) else {

@@ -11,7 +11,7 @@ ghost use Rattle.json5_text.specs.NumberParts.{scanned_of, parts_of, signed_limi
 ghost use Rattle.json5_grammar.specs.Written.NumberText.{IsNormal};
 ghost use Rattle.json5_types.specs.Exponents.{IsSmallExponent};
 
-use crate::decimal_literals::{Exponent, Literal};
+use crate::decimal_literals::{DecimalLiteral, Exponent};
 use crate::digit_values::{EXPONENT_LIMIT, decimal_value, limited_value};
 use crate::refusal::Refusal;
 use json5_grammar::error_code::ErrorCode;
@@ -66,7 +66,7 @@ fn written_exponent(exponent: &Exponent) -> i128
 }
 
 /// The literal's exponent, 0 if it has none, lowered by the count of digits after the point.
-fn lowered_exponent(literal: &Literal, places: usize) -> i128
+fn lowered_exponent(literal: &DecimalLiteral, places: usize) -> i128
     requires { IfSome literal.now.exponent HasExponentDigits }
     ensures value { result ≡ limited_exponent EXPONENT_LIMIT literal.now.exponent -ℤ pos places }
     ensures small { IsSmallExponent result }
@@ -79,7 +79,7 @@ fn lowered_exponent(literal: &Literal, places: usize) -> i128
 }
 
 /// The whole number that a literal without point and exponent means, if it is in range.
-fn whole_number(negative: bool, literal: &Literal) -> Option<Whole>
+fn whole_number(negative: bool, literal: &DecimalLiteral) -> Option<Whole>
     requires { Each is_digit literal.now.before.now }
     ensures whole { IsSome result ↔ (is_whole_literal negative literal.now ≡ true) }
     ensures value { IfSome result (λ z. z ≡ numbers.signed negative (numbers.spelled 10 0 literal.now.before.now)) }
@@ -92,7 +92,10 @@ fn whole_number(negative: bool, literal: &Literal) -> Option<Whole>
 }
 
 /// The decimal that a literal means if it means no whole number in range; None if its exponent is out of range.
-pub(crate) fn finite_decimal<'t>(negative: bool, literal: &Literal<'t>) -> Option<DecimalRef<'t>>
+pub(crate) fn finite_decimal<'t>(
+    negative: bool,
+    literal: &DecimalLiteral<'t>,
+) -> Option<DecimalRef<'t>>
     requires digits { HasDigits literal.now }
     requires other { is_whole_literal negative literal.now ≡ false }
     ensures { MeansDecimal negative literal.now result }
@@ -105,7 +108,7 @@ pub(crate) fn finite_decimal<'t>(negative: bool, literal: &Literal<'t>) -> Optio
 /// The exponent of the decimal that a literal of these digits means if it means no whole number in range, once the zeros are off
 /// their end; None if it is out of range.
 #[inline(always)]
-pub(crate) fn few_exponent(literal: &Literal, digits: &mut InlineDigits) -> Option<i16>
+pub(crate) fn few_exponent(literal: &DecimalLiteral, digits: &mut InlineDigits) -> Option<i16>
     requires parts { HasDigits literal.now }
     requires gathered { digits.old ≡ numbers.without_front_zeros (digits_of literal.now) }
     ensures means { IfSome result (λ exponent. MeansFinite literal.now digits.new exponent) }
@@ -119,7 +122,7 @@ pub(crate) fn few_exponent(literal: &Literal, digits: &mut InlineDigits) -> Opti
 pub(crate) fn judge<'t>(
     start: &str,
     negative: bool,
-    literal: &Literal<'t>,
+    literal: &DecimalLiteral<'t>,
 ) -> Result<Scanned<'t>, Refusal>
     requires { HasDigits literal.now }
     ensures { (rest : List ℕ) → JudgesNumber (model.if_literal (chars start.now) negative rest (Some (parts_of literal.now))) rest result }

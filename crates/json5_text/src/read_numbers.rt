@@ -11,10 +11,10 @@ ghost use Rattle.json5_text.specs.TokenResults.{GivesValue, AnswersAs, AnswersNu
 ghost use Rattle.json5_types.specs.NumberMeanings.{number_of};
 ghost use Rattle.json5_text.specs.NumberParts.{scanned_of};
 
-use crate::byte_runs::{begins_minus, short_digits};
-use crate::decimal_literals::{after_sign, read_literal};
+use crate::byte_runs::{begins_minus, few_digits};
+use crate::decimal_literals::{read_decimal_literal, split_sign};
 use crate::first_char::front;
-use crate::hexadecimal::hexadecimal;
+use crate::hexadecimal::read_hex_integer;
 use crate::number_slices::{Scanned, judge};
 use crate::refusal::Refusal;
 use crate::words::skip_word;
@@ -24,14 +24,14 @@ use json5_types::whole::Whole;
 use std::alloc::Global;
 
 /// The decimal run in front, which begins a number, and what follows it.
-fn decimal_run<'t>(
+fn read_decimal_run<'t>(
     start: &str,
     negative: bool,
     text: &'t str,
 ) -> Result<(Scanned<'t>, &'t str), Refusal>
     ensures { AnswersAs scanned_of (model.decimal_run (chars start.now) negative (chars text.now)) result }
 {
-    let Some(literal) = read_literal(text) else {
+    let Some(literal) = read_decimal_literal(text) else {
         return Err(Refusal::InvalidNumber(start.len()));
     };
     let number = judge(start, negative, &literal)?;
@@ -40,7 +40,7 @@ fn decimal_run<'t>(
 
 /// What begins with `0`: a hexadecimal number, a decimal literal or zero (ECMAScript 5.1 section 7.8.3); `rest` is what follows
 /// the `0`.
-fn after_zero<'t>(
+fn read_after_zero<'t>(
     start: &str,
     negative: bool,
     text: &'t str,
@@ -58,14 +58,14 @@ fn after_zero<'t>(
             code: ErrorCode::LeadingZero,
             remaining: Some(start.len()),
         }),
-        'x' | 'X' => hexadecimal(start, negative, after),
-        '.' | 'e' | 'E' => decimal_run(start, negative, text),
+        'x' | 'X' => read_hex_integer(start, negative, after),
+        '.' | 'e' | 'E' => read_decimal_run(start, negative, text),
         _ => Ok((Scanned::Whole(Whole::from_u128(0)), rest)),
     }
 }
 
 /// The number that is a word, `Infinity` or `NaN` (JSON5 section 6), and what follows the word's other letters.
-fn word<'t>(
+fn read_number_word<'t>(
     number: Scanned<'t>,
     letters: &str,
     text: &'t str,
@@ -82,7 +82,7 @@ fn word<'t>(
 }
 
 /// A number without its sign; `start` is the input from the sign on, if there is one (JSON5 section 6).
-fn unsigned<'t>(
+fn read_unsigned<'t>(
     start: &str,
     negative: bool,
     text: &'t str,
@@ -96,10 +96,10 @@ fn unsigned<'t>(
         });
     };
     match first {
-        'I' => word(Scanned::Infinite(negative), "nfinity", rest),
-        'N' => word(Scanned::NotANumber(negative), "aN", rest),
-        '0' => after_zero(start, negative, text, rest),
-        '1'..='9' | '.' => decimal_run(start, negative, text),
+        'I' => read_number_word(Scanned::Infinite(negative), "nfinity", rest),
+        'N' => read_number_word(Scanned::NotANumber(negative), "aN", rest),
+        '0' => read_after_zero(start, negative, text, rest),
+        '1'..='9' | '.' => read_decimal_run(start, negative, text),
         _ => Err(Refusal::TokenError {
             code: ErrorCode::ExpectedNumber,
             remaining: Some(text.len()),
@@ -111,29 +111,29 @@ fn unsigned<'t>(
 fn scan(text: &str) -> Result<(Scanned<'_>, &str), Refusal>
     ensures { AnswersAs scanned_of (model.number (chars text.now)) result }
 {
-    let (negative, rest) = after_sign(text);
-    unsigned(text, negative, rest)
+    let (negative, rest) = split_sign(text);
+    read_unsigned(text, negative, rest)
 }
 
 /// The number in front, if it is a whole one of few digits, and what follows it.
 #[inline(always)]
-fn short_whole(text: &str) -> Option<(Whole, &str)>
+fn whole_of_few_digits(text: &str) -> Option<(Whole, &str)>
     ensures { IfSome result (λ p. GivesValue (model.number (chars text.now)) (numbers.whole p.0) p.1.now) }
 {
     if begins_minus(text.as_bytes()) {
-        let (magnitude, rest) = short_digits(text.split_at(1).1)?;
+        let (magnitude, rest) = few_digits(text.split_at(1).1)?;
         let whole = Whole::from_parts(true, u128::from(magnitude))?;
         return Some((whole, rest));
     }
-    let (magnitude, rest) = short_digits(text)?;
+    let (magnitude, rest) = few_digits(text)?;
     Some((Whole::from_u128(u128::from(magnitude)), rest))
 }
 
 /// The number in front, and what follows it (JSON5 section 6). Whole numbers, infinity and not-a-number take no memory.
-pub(crate) fn number(alloc: Global, text: &str) -> Result<(Number, &str), Refusal>
+pub(crate) fn read_number(alloc: Global, text: &str) -> Result<(Number, &str), Refusal>
     ensures { AnswersNumber number_of (model.number (chars text.now)) result }
 {
-    if let Some((whole, rest)) = short_whole(text) {
+    if let Some((whole, rest)) = whole_of_few_digits(text) {
         return Ok((Number::Whole(whole), rest));
     }
     let (scanned, rest) = scan(text)?;

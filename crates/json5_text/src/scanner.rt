@@ -13,7 +13,7 @@ use crate::first_char::front;
 use crate::input::Input;
 use crate::keys::read_key;
 use crate::names::skip_name;
-use crate::read_numbers::{number, skip_number};
+use crate::read_numbers::{read_number, skip_number};
 use crate::strings::{read_string_owned, read_string_token, skip_string};
 use crate::text_token::TextToken;
 use crate::words::skip_word;
@@ -195,7 +195,10 @@ impl<I: Input> Scanner<I> {
     pub fn number(&mut self) -> Result<Number>
         ensures { TakesNumber self.old self.new result }
     {
-        take!(self, number(self.alloc, self.rest(self.input.as_text())))
+        take!(
+            self,
+            read_number(self.alloc, self.rest(self.input.as_text()))
+        )
     }
 
     /// Takes a string and returns its text, escapes replaced, as a `String` (JSON5 section 5, ECMAScript 5.1 section

@@ -11,7 +11,7 @@ ghost use Rattle.json5_text.specs.NumberParts.{IsAtRun, is_whole_literal};
 ghost use Rattle.json5_text.specs.ShortWays.{TakesShortDecimal};
 
 use crate::blanks::skip_ascii;
-use crate::decimal_literals::{after_sign, gather_literal};
+use crate::decimal_literals::{gather_decimal_literal, split_sign};
 use crate::first_char::front;
 use crate::input::Input;
 use crate::number_slices::few_exponent;
@@ -39,11 +39,11 @@ fn front_decimal<'t>(digits: &mut InlineDigits, text: &'t str) -> Option<(bool, 
     ensures read { IfSome result (λ p. GivesValue (model.number (chars text.now)) (numbers.decimal (numbers.finite p.0 digits.new p.1)) p.2.now) }
     ensures normal { IfSome result (λ p. IsNormal digits.new p.1) }
 {
-    let (negative, body) = after_sign(text);
+    let (negative, body) = split_sign(text);
     if !begins_run(body) {
         return None;
     }
-    let literal = gather_literal(digits, body)?;
+    let literal = gather_decimal_literal(digits, body)?;
     if literal.after.is_none() && literal.exponent.is_none() {
         return None;
     }

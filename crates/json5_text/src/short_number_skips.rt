@@ -7,7 +7,7 @@ ghost use Rattle.json5_grammar.specs.Model.ReadNumbers as model;
 ghost use Rattle.json5_text.specs.ShortNumberSkips.{FollowsSign, FollowsMantissa, FollowsPower, FollowsExponent, TakesShortNumber};
 ghost use Rattle.json5_text.specs.TokenResults.{GivesRest};
 
-use crate::byte_runs::goes_on;
+use crate::byte_runs::number_goes_on;
 use crate::decimal_literals::is_integer;
 use crate::input::Input;
 use crate::scanner::Scanner;
@@ -19,7 +19,7 @@ const FEW: usize = 1000;
 
 /// What follows the sign in front, if there is one.
 #[inline(always)]
-fn after_sign(text: &str) -> &str
+fn skip_sign(text: &str) -> &str
     ensures { FollowsSign text.now result.now }
 {
     if is_in_front(b'-', text) {
@@ -55,7 +55,7 @@ fn after_mantissa(text: &str) -> Option<&str>
 fn after_exponent_digits(text: &str) -> Option<&str>
     ensures { IfSome result (λ rest. FollowsPower text.now rest.now) }
 {
-    let (digits, rest) = split_digits(after_sign(text));
+    let (digits, rest) = split_digits(skip_sign(text));
     if digits.is_empty() || digits.len() > 4 {
         return None;
     }
@@ -81,8 +81,8 @@ fn after_exponent(text: &str) -> Option<&str>
 fn after_number(text: &str) -> Option<&str>
     ensures { IfSome result (λ rest. GivesRest (model.number (chars text.now)) rest.now) }
 {
-    let rest = after_exponent(after_mantissa(after_sign(text))?)?;
-    if goes_on(rest.as_bytes(), 0) {
+    let rest = after_exponent(after_mantissa(skip_sign(text))?)?;
+    if number_goes_on(rest.as_bytes(), 0) {
         return None;
     }
     Some(rest)

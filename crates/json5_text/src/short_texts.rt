@@ -24,7 +24,7 @@ pub struct Span {
 
 /// The body of a string or a key in front: how many bytes are left where it begins, where it ends, and after the whole token.
 #[derive(Clone, Copy)]
-struct FoundText {
+struct TextBounds {
     from: usize,
     to: usize,
     left: usize,
@@ -46,14 +46,14 @@ pub(crate) fn front_quote(text: &str) -> Option<Quote>
 
 /// The string without an escape whose first quote the body follows.
 #[inline(always)]
-fn quoted(quote: Quote, body: &str) -> Option<FoundText>
+fn quoted(quote: Quote, body: &str) -> Option<TextBounds>
     ensures { IfSome result (FindsEscapeFree IsEscapeFreeString (quote_of quote ∷ chars body.now)) }
 {
     let rest = skip_raw(quote, body);
     if !is_in_front(quote.byte(), rest) {
         return None;
     }
-    Some(FoundText {
+    Some(TextBounds {
         from: body.len(),
         to: rest.len(),
         left: rest.len() - 1,
@@ -62,7 +62,7 @@ fn quoted(quote: Quote, body: &str) -> Option<FoundText>
 
 /// The string without an escape in front.
 #[inline(always)]
-fn front_string(text: &str) -> Option<FoundText>
+fn front_string(text: &str) -> Option<TextBounds>
     ensures { IfSome result (FindsFirst IsEscapeFreeString (chars text.now)) }
 {
     let quote = front_quote(text)?;
@@ -71,7 +71,7 @@ fn front_string(text: &str) -> Option<FoundText>
 
 /// The key without an escape in front: a string, or a name of ASCII characters that an ASCII character follows.
 #[inline(always)]
-fn front_key(text: &str) -> Option<FoundText>
+fn front_key(text: &str) -> Option<TextBounds>
     ensures { IfSome result (FindsFirst IsEscapeFreeKey (chars text.now)) }
 {
     if let Some(quote) = front_quote(text) {
@@ -79,7 +79,7 @@ fn front_key(text: &str) -> Option<FoundText>
     }
     let len = ascii_name_len(text.as_bytes())?;
     let left = text.len() - len;
-    Some(FoundText {
+    Some(TextBounds {
         from: text.len(),
         to: left,
         left,

@@ -2,10 +2,10 @@
 //! holds no fault. When they return None they take nothing, and the scanner's other calls say what is there.
 
 ghost use Rattle.std.specs.Prelude.{◌<◌, true, false, IfSome};
-ghost use Rattle.json5_text.specs.ShortWays.{FollowsBlanks, IsShortWhole, GivesSpaced, TakesShortWhole, IsInFront, FindsStep, TakesShortStep, FindsSign, TakesShortSign};
+ghost use Rattle.json5_text.specs.ShortWays.{FollowsBlanks, IsWholeOfFewDigits, GivesSpaced, TakesShortWhole, IsInFront, FindsStep, TakesShortStep, FindsSign, TakesShortSign};
 
 use crate::blanks::{skip_ascii, skip_blank};
-use crate::byte_runs::{begins_minus, begins_solid, short_digits};
+use crate::byte_runs::{begins_minus, begins_solid, few_digits};
 use crate::input::Input;
 use crate::scanner::Scanner;
 
@@ -48,7 +48,7 @@ fn skip_to_comma(text: &str) -> Option<&str>
 
 /// A whole number of few digits, and how many bytes follow it.
 #[derive(Clone, Copy)]
-struct ShortWhole {
+struct SpacedWhole {
     number: i128,
     left: usize,
 }
@@ -56,33 +56,33 @@ struct ShortWhole {
 /// The whole number in front, if it has few digits, and what follows it.
 #[inline(always)]
 fn front_whole(text: &str) -> Option<(i128, &str)>
-    ensures { IfSome result (λ p. IsShortWhole text.now p.0 p.1.now) }
+    ensures { IfSome result (λ p. IsWholeOfFewDigits text.now p.0 p.1.now) }
 {
     if begins_minus(text.as_bytes()) {
-        let (magnitude, rest) = short_digits(text.split_at(1).1)?;
+        let (magnitude, rest) = few_digits(text.split_at(1).1)?;
         return Some((-i128::from(magnitude), rest));
     }
-    let (magnitude, rest) = short_digits(text)?;
+    let (magnitude, rest) = few_digits(text)?;
     Some((i128::from(magnitude), rest))
 }
 
 /// The whole number after ASCII blanks, if it has few digits.
 #[inline(always)]
-fn spaced_whole(text: &str) -> Option<ShortWhole>
+fn spaced_whole(text: &str) -> Option<SpacedWhole>
     ensures { IfSome result (GivesSpaced text.now) }
 {
     let (number, rest) = front_whole(skip_ascii(text))?;
-    Some(ShortWhole {
+    Some(SpacedWhole {
         number,
         left: rest.len(),
     })
 }
 
-/// What a step to the next member of an array or an object came to.
+/// What a step to the next entry, an element or a member, came to.
 #[derive(Clone, Copy)]
 pub enum ShortStep {
-    /// A member may begin here.
-    Member,
+    /// An element or a member may begin here.
+    Entry,
     /// The closing bracket is next.
     Closing,
     /// Anything else is in front, and nothing was taken.
@@ -91,7 +91,7 @@ pub enum ShortStep {
 
 /// A step, and how many bytes are left after it.
 #[derive(Clone, Copy)]
-struct Step {
+struct EntryStep {
     at_closing: bool,
     left: usize,
 }
@@ -108,12 +108,12 @@ pub(crate) fn is_in_front(sign: u8, text: &str) -> bool
 
 /// A step where no comma is due.
 #[inline(always)]
-fn entry_step(closing: u8, text: &str) -> Option<Step>
+fn entry_step(closing: u8, text: &str) -> Option<EntryStep>
     requires { closing < 128 }
     ensures { IfSome result (FindsStep closing false text.now) }
 {
     let solid = skip_to_solid(text)?;
-    Some(Step {
+    Some(EntryStep {
         at_closing: is_in_front(closing, solid),
         left: solid.len(),
     })
@@ -121,13 +121,13 @@ fn entry_step(closing: u8, text: &str) -> Option<Step>
 
 /// A step where a comma is due.
 #[inline(always)]
-fn comma_step(closing: u8, text: &str) -> Option<Step>
+fn comma_step(closing: u8, text: &str) -> Option<EntryStep>
     requires { closing < 128 }
     ensures { IfSome result (FindsStep closing true text.now) }
 {
     let solid = skip_to_comma(text)?;
     if is_in_front(closing, solid) {
-        return Some(Step {
+        return Some(EntryStep {
             at_closing: true,
             left: solid.len(),
         });
@@ -140,7 +140,7 @@ fn comma_step(closing: u8, text: &str) -> Option<Step>
 
 /// A step, if the closing sign is an ASCII character.
 #[inline(always)]
-fn find_step(closing: u8, comma_due: bool, text: &str) -> Option<Step>
+fn find_step(closing: u8, comma_due: bool, text: &str) -> Option<EntryStep>
     ensures { IfSome result (FindsStep closing comma_due text.now) }
 {
     if closing >= 128 {
@@ -155,7 +155,7 @@ fn find_step(closing: u8, comma_due: bool, text: &str) -> Option<Step>
 
 /// How many bytes follow ASCII blanks and the sign, if the sign is an ASCII character.
 #[inline(always)]
-fn after_sign(sign: u8, text: &str) -> Option<usize>
+fn left_after_sign(sign: u8, text: &str) -> Option<usize>
     ensures { IfSome result (FindsSign sign text.now) }
 {
     if sign >= 128 {
@@ -183,7 +183,7 @@ impl<I: Input> Scanner<I> {
         Some(found.number)
     }
 
-    /// Takes ASCII blanks up to the next member of an array or an object, and before it the comma where one is due. The closing
+    /// Takes ASCII blanks up to the next element or member, and before it the comma where one is due. The closing
     /// bracket stays unread. Returns `Other` where anything else is in front, and takes nothing then.
     #[inline(always)]
     pub fn short_step(&mut self, closing: u8, comma_due: bool) -> ShortStep
@@ -196,7 +196,7 @@ impl<I: Input> Scanner<I> {
         if step.at_closing {
             ShortStep::Closing
         } else {
-            ShortStep::Member
+            ShortStep::Entry
         }
     }
 
@@ -205,7 +205,7 @@ impl<I: Input> Scanner<I> {
     pub fn short_sign(&mut self, sign: u8) -> bool
         ensures { TakesShortSign sign self.old self.new result }
     {
-        let Some(left) = after_sign(sign, self.rest(self.input.as_text())) else {
+        let Some(left) = left_after_sign(sign, self.rest(self.input.as_text())) else {
             return false;
         };
         self.set_remaining(left);

@@ -91,7 +91,7 @@ enum Stop<'t> {
 
 /// An escape and the run after it.
 #[derive(Clone, Copy)]
-struct Step<'t> {
+struct EscapeStep<'t> {
     /// What the escape spells.
     spelled: Option<char>,
     run: &'t str,
@@ -280,13 +280,13 @@ fn push_spelled(text: &mut String, spelled: Option<char>) -> Result<(), AllocErr
 
 /// The escape in front and the run after it.
 #[inline(never)]
-fn read_step<'t>(kind: Kind, escape: &str, after: &'t str) -> Result<Step<'t>, Refusal>
+fn read_step<'t>(kind: Kind, escape: &str, after: &'t str) -> Result<EscapeStep<'t>, Refusal>
     requires { AtEscape escape.now after.now }
     ensures { AnswersStep kind escape.now after.now result }
 {
     let (spelled, rest) = read_item(kind, escape, after)?;
     let (run, stop) = read_run(kind.rest(), rest)?;
-    Ok(Step { spelled, run, stop })
+    Ok(EscapeStep { spelled, run, stop })
 }
 
 /// What an escape spells, and what follows the escape.
@@ -298,8 +298,8 @@ fn read_item<'t>(
     ensures { AnswersAs in_list (item kind (chars escape.now) (chars after.now)) result }
 {
     match kind {
-        Kind::Name => names::read_item(true, escape, after),
-        Kind::NameRest => names::read_item(false, escape, after),
+        Kind::Name => names::read_name_item(true, escape, after),
+        Kind::NameRest => names::read_name_item(false, escape, after),
         Kind::String(_) => read_escape(escape, after),
     }
 }

@@ -12,7 +12,7 @@ use Rattle.json5_types.specs.declared.error.Error.{Error}
 use Rattle.json5_types.specs.Errors.{code, kind_of, error_position}
 use Rattle.json5_text.specs.Cursor.{Cursor}
 use Rattle.json5_value.specs.Entries.{entry_front, entry_start, next_entry}
-use Rattle.json5_value.specs.ShortWays.{name_at}
+use Rattle.json5_value.specs.ShortWays.{key_and_colon}
 use Rattle.json5_value.specs.ModelSteps.{SameText, RefusesRead, Gave, Steps}
 use Rattle.json5_value.proofs.EntrySteps.{start_or_end}
 use Rattle.json5_value.proofs.ModelSteps.{none_next, some_next, blames_made, then_step, first_step_refused, same_step, took_step, refused_step, took_nothing}
@@ -80,7 +80,7 @@ pub element_reached : (k : BracketKind) (comma_due goes : Bool) (old mid : Curso
 element_reached k comma_due goes old mid e is g = next_found k of_array comma_due goes old mid mid (Ok true) e is g (took_step mid mid (got true mid.unread) true [] refl (took_nothing mid mid refl))
 
 -- a member is a key, a colon and its value
-pub head_named : (y : List ℕ) → member_head y ≡ and_then (name_at y) (λ u z. got true z)
+pub head_named : (y : List ℕ) → member_head y ≡ and_then (key_and_colon y) (λ u z. got true z)
 head_named y = by_key (key y)
   where
     by_key : (m : Read (List ℕ × Bool)) → and_then m (λ a r. and_then (colon_after r) (λ u y. got true y)) ≡ and_then (and_then (forget m) (λ u r. colon_after r)) (λ u z. got true z)
@@ -88,17 +88,17 @@ head_named y = by_key (key y)
     by_key (bad e p) = refl
 
 module _ (k : BracketKind) (comma_due goes : Bool) (old mid : Cursor) (e : k ≡ of_object) (is : goes ≡ true) (g : Gave (next_entry k comma_due old.unread) goes old mid) where
-  of_member : (new : Cursor) (result : Result Bool Error) → Steps (and_then (name_at mid.unread) (λ u y. got true y)) mid new result → Steps (next_value k comma_due old.unread) old new result
+  of_member : (new : Cursor) (result : Result Bool Error) → Steps (and_then (key_and_colon mid.unread) (λ u y. got true y)) mid new result → Steps (next_value k comma_due old.unread) old new result
   of_member new result s = next_found k of_object comma_due goes old mid new result e is g (same_step mid new (member_head mid.unread) _ result (head_named mid.unread) s)
 
   -- its name is refused
-  pub name_refused : (new : Cursor) (own : Error) → RefusesRead mid.input (name_at mid.unread) own → SameText mid new → Steps (next_value k comma_due old.unread) old new (Err own)
-  name_refused new own b f = of_member new (Err own) (first_step_refused mid new (name_at mid.unread) (λ u y. got true y) own b f)
+  pub name_refused : (new : Cursor) (own : Error) → RefusesRead mid.input (key_and_colon mid.unread) own → SameText mid new → Steps (next_value k comma_due old.unread) old new (Err own)
+  name_refused new own b f = of_member new (Err own) (first_step_refused mid new (key_and_colon mid.unread) (λ u y. got true y) own b f)
 
   -- its value is next
-  pub member_reached : (new : Cursor) (u : Unit {0}) → Gave (name_at mid.unread) u mid new → Steps (next_value k comma_due old.unread) old new (Ok true)
+  pub member_reached : (new : Cursor) (u : Unit {0}) → Gave (key_and_colon mid.unread) u mid new → Steps (next_value k comma_due old.unread) old new (Ok true)
   member_reached new u name =
-      of_member new (Ok true) (took_step mid new (and_then (name_at mid.unread) (λ u y. got true y)) true name.taken (ap (λ m. and_then m (λ u y. got true y)) name.reads) name.took)
+      of_member new (Ok true) (took_step mid new (and_then (key_and_colon mid.unread) (λ u y. got true y)) true name.taken (ap (λ m. and_then m (λ u y. got true y)) name.reads) name.took)
 
 -- ---- keys
 

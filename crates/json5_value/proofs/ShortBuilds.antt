@@ -14,14 +14,14 @@ use Rattle.json5_types.specs.ValueMeanings.{Datum}
 use Rattle.json5_types.proofs.ValuesCompared.{view-Array, view-Object}
 use Rattle.json5_value.specs.declared.unfinished.Unfinished.{Unfinished}
 use Rattle.json5_value.specs.declared.unfinished.Unfinished.TheVariants as unfinished
-use Rattle.json5_value.specs.declared.short_ways.NameLeft.{NameLeft}
+use Rattle.json5_value.specs.declared.short_ways.BeforeValue.{BeforeValue}
 use Rattle.json5_value.specs.declared.short_members.ShortMembers.TheVariants as members_reached
 use Rattle.json5_value.specs.declared.short_values.ShortElements.TheVariants as reached
 use Rattle.json5_value.specs.BuildSteps.{array_at, members_before, object_at, start_of, value_in, BuildingInside, TurnsBuildingInside}
 use Rattle.json5_value.specs.OwnedReads.{OwnsText}
 use Rattle.json5_value.specs.Offsets.{StartsAfter, PositionedAt}
-use Rattle.json5_value.specs.ShortWays.{name_left}
-use Rattle.json5_value.specs.ShortMembers.{TakesMembers, TurnsBuildingNamed, member_left}
+use Rattle.json5_value.specs.ShortWays.{before_value}
+use Rattle.json5_value.specs.ShortMembers.{TakesMembers, TurnsBuildingMember, member_left}
 use Rattle.json5_value.specs.ShortValues.{Leaves, TakesElements}
 use Rattle.json5_value.specs.ModelSteps.{SameText, RefusesRead, Gave}
 use Rattle.json5_value.proofs.BuildRests.{member_and_rest}
@@ -67,26 +67,26 @@ module _ (before : List (String Global × Value)) (members : Vec (String Global 
   pub members_end : TakesMembers comma_due before members.items old mid members_reached.Closed → TurnsBuildingInside (object_at before comma_due old) at comma_due fs fs old mid (Ok (Some (value.Object members)))
   members_end (l, less) = turn_closed (object_at before comma_due old) at comma_due fs old mid (value.Object members) l.taken l.took (λ d. l.reads d ∙ ap (λ x. got x mid.unread) (sym (view-Object members))) less
 
-  pub member_next : (after : List Unfinished) (new : Cursor) (span : Span) (left : NameLeft) (result : Result (Option Value) Error) → TakesMembers comma_due before members.items old mid (members_reached.Named span left)
-      → TurnsBuildingNamed members.items at span left fs after mid new result → TurnsBuildingInside (object_at before comma_due old) at comma_due fs after old new result
+  pub member_next : (after : List Unfinished) (new : Cursor) (span : Span) (left : BeforeValue) (result : Result (Option Value) Error) → TakesMembers comma_due before members.items old mid (members_reached.KeyTaken span left)
+      → TurnsBuildingMember members.items at span left fs after mid new result → TurnsBuildingInside (object_at before comma_due old) at comma_due fs after old new result
   member_next after new span left result (key, is_key, both) k =
       turn_left (object_at before comma_due old) (member_left members.items key left mid) at comma_due false fs after old mid new both.0 (λ e. inr (both.1 e)) result (k key is_key)
 
--- ---- a member of whose name something is left
+-- ---- a member before whose value something is left
 
-module _ (members : Vec (String Global × Value) Global) (at : ℕ) (span : Span) (left : NameLeft) (fs : List Unfinished) (old new : Cursor) where
-  pub key_lost : (e : Error) → LacksMemory e → SameText old new → TurnsBuildingNamed members.items at span left fs fs old new (Err e)
+module _ (members : Vec (String Global × Value) Global) (at : ℕ) (span : Span) (left : BeforeValue) (fs : List Unfinished) (old new : Cursor) where
+  pub key_lost : (e : Error) → LacksMemory e → SameText old new → TurnsBuildingMember members.items at span left fs fs old new (Err e)
   key_lost e lacks same key is_key = turn_lacks_memory (member_left members.items key left old) at false fs old fs new e lacks.kind same
 
-  pub name_refused : (own e : Error) → RefusesRead old.input (name_left left old.unread) own → SameText old new → PositionedAt (StartsAfter new.input at) own e → TurnsBuildingNamed members.items at span left fs fs old new (Err e)
+  pub name_refused : (own e : Error) → RefusesRead old.input (before_value left old.unread) own → SameText old new → PositionedAt (StartsAfter new.input at) own e → TurnsBuildingMember members.items at span left fs fs old new (Err e)
   name_refused own e b same k key is_key =
       turn_refused (member_left members.items key left old) at false fs old fs new own e
-      (inr (λ d. blames_as old.input old.input (name_left left old.unread) (member_left members.items key left old d) own refl (λ c p is. ap (λ m. and_then m (λ u y. member_and_rest (members_before members.items) d key y)) is) b)) same k
+      (inr (λ d. blames_as old.input old.input (before_value left old.unread) (member_left members.items key left old d) own refl (λ c p is. ap (λ m. and_then m (λ u y. member_and_rest (members_before members.items) d key y)) is) b)) same k
 
-  pub name_lost : (after : List Unfinished) (e : Error) → IsOutOfMemory e → SameText old new → TurnsBuildingNamed members.items at span left fs after old new (Err e)
+  pub name_lost : (after : List Unfinished) (e : Error) → IsOutOfMemory e → SameText old new → TurnsBuildingMember members.items at span left fs after old new (Err e)
   name_lost after e memory same key is_key = turn_lacks_memory (member_left members.items key left old) at false fs old after new e memory same
 
-  pub member_entered : (after : List Unfinished) (text : String Global) (u : Unit {0}) → OwnsText old.input span (Ok text) → Gave (name_left left old.unread) u old new → after ≡ fs ++ unfinished.Object at members text ∷ [] → TurnsBuildingNamed members.items at span left fs after old new (Ok None)
+  pub member_entered : (after : List Unfinished) (text : String Global) (u : Unit {0}) → OwnsText old.input span (Ok text) → Gave (before_value left old.unread) u old new → after ≡ fs ++ unfinished.Object at members text ∷ [] → TurnsBuildingMember members.items at span left fs after old new (Ok None)
   member_entered after text u owns g grown key is_key =
       let named : key ≡ chars (string_bytes text) = sym is_key.same ∙ ap chars (sym (owns key is_key.there)) in
       turn_goes (member_left members.items key left old) at false fs old after (unfinished.Object at members text) new g.taken refl g.took

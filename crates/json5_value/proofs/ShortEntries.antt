@@ -41,21 +41,21 @@ use Rattle.json5_text.specs.ShortNumberSkips.{TakesShortNumber}
 use Rattle.json5_text.specs.ShortWords.{TakesShortWord}
 use Rattle.json5_text.specs.ShortTexts.{TakesShortKey, TakesShortString, IsTextAt}
 use Rattle.json5_text.specs.TextTokens.{IsSliceAt}
-use Rattle.json5_value.specs.declared.brackets.Brackets.{Brackets}
+use Rattle.json5_value.specs.declared.brackets.BracketPair.{BracketPair}
 use Rattle.json5_value.specs.declared.brackets.BracketKind.{BracketKind as OwnKind}
 use Rattle.json5_value.specs.declared.brackets.BracketKind.TheVariants as kind
 use Rattle.json5_value.specs.declared.kinds.Literal.{Literal}
 use Rattle.json5_value.specs.declared.kinds.ValueKind.{ValueKind}
 use Rattle.json5_value.specs.declared.kinds.ValueKind.TheVariants as kinds
-use Rattle.json5_value.specs.declared.short_ways.NameLeft.{NameLeft}
-use Rattle.json5_value.specs.declared.short_ways.NameLeft.TheVariants as names
+use Rattle.json5_value.specs.declared.short_ways.BeforeValue.{BeforeValue}
+use Rattle.json5_value.specs.declared.short_ways.BeforeValue.TheVariants as names
 use Rattle.json5_value.specs.declared.short_ways.ShortEntry.TheVariants as entry
 use Rattle.json5_value.specs.Brackets.{bracket_of, brackets_of}
 use Rattle.json5_value.specs.Entries.{entry_front, entry_start, next_entry}
 use Rattle.json5_value.specs.Kinds.{kind_at, word_of}
 use Rattle.json5_value.specs.OwnedReads.{Keeps, IsOfTree, tree_at}
 use Rattle.json5_value.specs.Opening.{AtKind}
-use Rattle.json5_value.specs.ShortWays.{EntersShort, ReachesMember, PassesShort, PassesTo, name_at, name_left}
+use Rattle.json5_value.specs.ShortWays.{EntersShort, ReachesMember, PassesShort, PassesTo, key_and_colon, before_value}
 use Rattle.json5_value.specs.ModelSteps.{Gave}
 use Rattle.json5_value.proofs.BuildScalars.{scalar_taken, text_taken}
 use Rattle.json5_value.proofs.EntrySteps.{separator_is, front_closes, front_goes, closes_here, start_or_end}
@@ -126,8 +126,8 @@ blanks_passed b old mid new colon s =
     }
 
 -- no sign is in front
-pub colon_left : (reading : List ℕ → Read (Unit {0})) (left : NameLeft) (old new : Cursor) → reading old.unread ≡ name_left left old.unread → new ≡ old → PassesTo (reading old.unread) left old new
-colon_left reading left old new is same = record { reads = is ∙ ap (λ (s : Cursor). name_left left s.unread) (sym same); taken = []; took = took_nothing old new same }
+pub colon_left : (reading : List ℕ → Read (Unit {0})) (left : BeforeValue) (old new : Cursor) → reading old.unread ≡ before_value left old.unread → new ≡ old → PassesTo (reading old.unread) left old new
+colon_left reading left old new is same = record { reads = is ∙ ap (λ (s : Cursor). before_value left s.unread) (sym same); taken = []; took = took_nothing old new same }
 
 pub blanks_left : (old mid new : Cursor) → TakesShortSign 58 old mid true → new ≡ mid → PassesTo (colon_after old.unread) names.Blanks old new
 blanks_left old mid new colon same =
@@ -139,7 +139,7 @@ blanks_left old mid new colon same =
     }
 
 pub nothing_left : (old mid new : Cursor) (step : ShortStep) → TakesShortSign 58 old mid true → (step ≡ steps.Other → ⊥) → TakesShortStep 125 false mid new step → PassesTo (colon_after old.unread) names.Nothing old new
-nothing_left old mid new steps.Member colon other s = blanks_passed false old mid new colon s
+nothing_left old mid new steps.Entry colon other s = blanks_passed false old mid new colon s
 nothing_left old mid new steps.Closing colon other s = blanks_passed true old mid new colon s
 nothing_left old mid new steps.Other colon other s = absurd (other refl)
 
@@ -147,7 +147,7 @@ nothing_left old mid new steps.Other colon other s = absurd (other refl)
 pub key_spelled : (x u r : List ℕ) → Solid x → (k : ReadsKey x u true r) → x ≡ k.spelling ++ r
 key_spelled x u r solid k = (one_gap k.front (k.spelling ++ r) [] x (blanks.Gap.blanks k.blank) (key_solid r (key_head k.key)) (blanks.Gap.blanks blanks.Blanks.empty) solid (sym k.split)).1
 
-pub name_passed : (old mid new : Cursor) (o : Option Span) (none : Bool) (left : NameLeft) → Solid old.unread → TakesShortKey old mid o → is_some o ≡ not none → none ≡ false → PassesTo (colon_after mid.unread) left mid new → PassesTo (name_at old.unread) left old new
+pub name_passed : (old mid new : Cursor) (o : Option Span) (none : Bool) (left : BeforeValue) → Solid old.unread → TakesShortKey old mid o → is_some o ≡ not none → none ≡ false → PassesTo (colon_after mid.unread) left mid new → PassesTo (key_and_colon old.unread) left old new
 name_passed old mid new None none left solid k some is p = absurd (cc)
 name_passed old mid new (Some span) none left solid k some is p =
     let split = key_spelled old.unread k.spelled mid.unread solid k.read in
@@ -159,19 +159,19 @@ name_passed old mid new (Some span) none left solid k some is p =
 
 -- ---- entries
 
-pub entry_gave : (k : OwnKind) (b : Brackets) (comma_due : Bool) (old new : Cursor) → b ≡ brackets_of k → Stepped b.closing comma_due false old new → Gave (next_entry (bracket_of k) comma_due old.unread) true old new
+pub entry_gave : (k : OwnKind) (b : BracketPair) (comma_due : Bool) (old new : Cursor) → b ≡ brackets_of k → Stepped b.closing comma_due false old new → Gave (next_entry (bracket_of k) comma_due old.unread) true old new
 entry_gave k b comma_due old new e s =
     let (reads, (taken, split)) = goes_read (bracket_of k) comma_due old.unread new.unread s.step.0 (subst (λ c. NotBegun (λ d. d == c) new.unread) (closing_is k b e) s.step.1) in
     record { reads = reads; taken = taken; took = record { split = split; same = s.same } }
 
-pub element_entered : (k : OwnKind) (b : Brackets) (comma_due : Bool) (old new : Cursor) → b ≡ brackets_of k → k ≡ kind.Array → Stepped b.closing comma_due false old new → EntersShort k comma_due old new entry.Value
+pub element_entered : (k : OwnKind) (b : BracketPair) (comma_due : Bool) (old new : Cursor) → b ≡ brackets_of k → k ≡ kind.Array → Stepped b.closing comma_due false old new → EntersShort k comma_due old new entry.Value
 element_entered k b comma_due old new e is s = (element_reached (bracket_of k) comma_due true old new (ap bracket_of is) refl (entry_gave k b comma_due old new e s)).given
 
-object_head : (k : OwnKind) (y : List ℕ) → k ≡ kind.Object → head_of (bracket_of k) y ≡ and_then (name_at y) (λ u z. got true z)
+object_head : (k : OwnKind) (y : List ℕ) → k ≡ kind.Object → head_of (bracket_of k) y ≡ and_then (key_and_colon y) (λ u z. got true z)
 object_head kind.Array y e = absurd (cc)
 object_head kind.Object y e = head_named y
 
-pub member_entered : (k : OwnKind) (b : Brackets) (comma_due : Bool) (left : NameLeft) (old mid new : Cursor) → b ≡ brackets_of k → k ≡ kind.Object → Stepped b.closing comma_due false old mid → PassesTo (name_at mid.unread) left mid new → ReachesMember k comma_due left old new
+pub member_entered : (k : OwnKind) (b : BracketPair) (comma_due : Bool) (left : BeforeValue) (old mid new : Cursor) → b ≡ brackets_of k → k ≡ kind.Object → Stepped b.closing comma_due false old mid → PassesTo (key_and_colon mid.unread) left mid new → ReachesMember k comma_due left old new
 member_entered k b comma_due left old mid new e is s p =
     let g = entry_gave k b comma_due old mid e s in
     record {
@@ -181,15 +181,15 @@ member_entered k b comma_due left old mid new e is s p =
       shorter = λ d. (let l = entry_shorter (bracket_of k) comma_due true old.unread mid.unread g.reads d in omega (arith, l, ap length p.took.split, length-append p.taken new.unread));
     }
 
-pub named_entered : (k : OwnKind) (comma_due : Bool) (left : NameLeft) (old new : Cursor) → left ≡ names.Nothing → ReachesMember k comma_due left old new → EntersShort k comma_due old new entry.Value
-named_entered k comma_due left old new is m = record { reads = m.reads ∙ ap (λ l. and_then (name_left l new.unread) (λ u z. got true z)) is; taken = m.taken; took = m.took }
+pub named_entered : (k : OwnKind) (comma_due : Bool) (left : BeforeValue) (old new : Cursor) → left ≡ names.Nothing → ReachesMember k comma_due left old new → EntersShort k comma_due old new entry.Value
+named_entered k comma_due left old new is m = record { reads = m.reads ∙ ap (λ l. and_then (before_value l new.unread) (λ u z. got true z)) is; taken = m.taken; took = m.took }
 
 -- the sign is next, so it is taken
 pub sign_eaten : (c : ℕ) (r : List ℕ) (mid new : Cursor) (b : Bool) → mid.unread ≡ c ∷ r → (b ≡ true → Took mid (c ∷ []) new) → (b ≡ false → (new ≡ mid) × NotBegun (λ d. d == c) mid.unread) → Took mid (c ∷ []) new
 sign_eaten c r mid new true at taken kept = taken refl
 sign_eaten c r mid new false at taken kept = absurd (both_ways (c == c) (subst (NotBegun (λ d. d == c)) at (kept refl).1) (same_char c))
 
-pub closing_gave : (k : OwnKind) (b : Brackets) (comma_due : Bool) (old mid new : Cursor) (ate : Bool) → b ≡ brackets_of k → Stepped b.closing comma_due true old mid
+pub closing_gave : (k : OwnKind) (b : BracketPair) (comma_due : Bool) (old mid new : Cursor) (ate : Bool) → b ≡ brackets_of k → Stepped b.closing comma_due true old mid
     → (ate ≡ true → Took mid (b.closing ∷ []) new) → (ate ≡ false → (new ≡ mid) × NotBegun (λ d. d == b.closing) mid.unread) → Gave (next_entry (bracket_of k) comma_due old.unread) false old new
 closing_gave k b comma_due old mid new ate e s taken kept =
     let (r, end, at) = s.step in
@@ -198,7 +198,7 @@ closing_gave k b comma_due old mid new ate e s taken kept =
     let (reads, (text, split)) = ends_read (bracket_of k) comma_due old.unread new.unread (subst (λ c. IsEnd c comma_due old.unread new.unread) (closing_is k b e) (subst (IsEnd b.closing comma_due old.unread) same end)) in
     record { reads = reads; taken = text; took = record { split = split; same = took.same ∙ s.same } }
 
-pub entry_closed : (k : OwnKind) (b : Brackets) (comma_due : Bool) (old mid new : Cursor) (ate : Bool) → b ≡ brackets_of k → Stepped b.closing comma_due true old mid
+pub entry_closed : (k : OwnKind) (b : BracketPair) (comma_due : Bool) (old mid new : Cursor) (ate : Bool) → b ≡ brackets_of k → Stepped b.closing comma_due true old mid
     → (ate ≡ true → Took mid (b.closing ∷ []) new) → (ate ≡ false → (new ≡ mid) × NotBegun (λ d. d == b.closing) mid.unread) → EntersShort k comma_due old new entry.Closed
 entry_closed k b comma_due old mid new ate e s taken kept = (next_closed (bracket_of k) comma_due false old new refl (closing_gave k b comma_due old mid new ate e s taken kept)).given
 

@@ -20,15 +20,15 @@ use Rattle.json5_text.specs.TextTokens.{IsSliceAt}
 use Rattle.json5_types.specs.ValueMeanings.{Datum, object, field, fields_view, value_of}
 use Rattle.json5_text.proofs.UnicodeScalars.{key_scalars}
 use Rattle.json5_value.specs.declared.brackets.BracketKind.TheVariants as kind
-use Rattle.json5_value.specs.declared.short_ways.NameLeft.{NameLeft}
-use Rattle.json5_value.specs.declared.short_ways.NameLeft.TheVariants as names
+use Rattle.json5_value.specs.declared.short_ways.BeforeValue.{BeforeValue}
+use Rattle.json5_value.specs.declared.short_ways.BeforeValue.TheVariants as names
 use Rattle.json5_value.specs.declared.short_members.ShortMembers.TheVariants as reached
 use Rattle.json5_value.specs.Brackets.{brackets_of}
 use Rattle.json5_value.specs.BuildSteps.{members_before, object_with, object_at}
 use Rattle.json5_value.specs.Entries.{next_entry}
 use Rattle.json5_value.specs.OwnedReads.{datum_at, next_key}
-use Rattle.json5_value.specs.ShortWays.{PassesTo, name_left}
-use Rattle.json5_value.specs.ShortMembers.{AddsMember, NamesMember, ReachesKey, TakesMembers, member_left}
+use Rattle.json5_value.specs.ShortWays.{PassesTo, before_value}
+use Rattle.json5_value.specs.ShortMembers.{AddsMember, TookKeyOfMember, ReachesKey, TakesMembers, member_left}
 use Rattle.json5_value.specs.ShortValues.{LeavesLess}
 use Rattle.json5_value.specs.ModelSteps.{IsInside, SameText, Gave}
 use Rattle.json5_value.proofs.BuildKeys.{key_and_colon, key_or_end, next_is, key_shorter, next_solid}
@@ -60,7 +60,7 @@ module _ (comma_due : Bool) (old mid : Cursor) (s : Stepped 125 comma_due false 
     shorter = nearer;
   })
 
-  pub key_named : (last new : Cursor) (span : Span) (left : NameLeft) → all_scalars mid.unread ≡ true → TakesShortKey mid last (Some span) → PassesTo (colon_after last.unread) left last new → NamesMember comma_due span left old new
+  pub key_named : (last new : Cursor) (span : Span) (left : BeforeValue) → all_scalars mid.unread ≡ true → TakesShortKey mid last (Some span) → PassesTo (colon_after last.unread) left last new → TookKeyOfMember comma_due span left old new
   key_named last new span left scalars k p =
       let split = key_spelled mid.unread k.spelled last.unread (next_solid comma_due true old.unread mid.unread reaches.reads refl) k.read in
       record {
@@ -80,7 +80,7 @@ brace_taken comma_due ate old mid new s taken kept =
     let g = closing_gave kind.Object (brackets_of kind.Object) comma_due old mid new ate refl s taken kept in
     gave_text old new (next_key comma_due old.unread) None g.taken (next_is comma_due old.unread ∙ ap (λ m. and_then m key_or_end) g.reads) g.took
 
-pub named_ready : (comma_due : Bool) (old new : Cursor) (span : Span) (left : NameLeft) → IsInside old → NamesMember comma_due span left old new → IsInside new
+pub named_ready : (comma_due : Bool) (old new : Cursor) (span : Span) (left : BeforeValue) → IsInside old → TookKeyOfMember comma_due span left old new → IsInside new
 named_ready comma_due old new span left ready k = ready_after old new k.taken ready k.took
 
 -- a member was added, or memory ran out
@@ -105,14 +105,14 @@ module _ (b : Bool) (before : List (String Global × Value)) (start : Cursor) (f
   leaves_less : (n : ℕ → Read Datum) (mid : Cursor) (s : List ℕ) → ((d : ℕ) → object_at before b start d ≡ n d) → Took now s mid → (comma_due ≡ true → length mid.unread < length now.unread) → LeavesLess b (object_at before b start) n start mid
   leaves_less n mid s reads took shorter = (record { reads = reads; taken = p.leaves.taken ++ s; took = took_both start now mid p.leaves.taken s p.leaves.took took }, less mid shorter)
 
-  named : (span : Span) (left : NameLeft) (mid : Cursor) → (k : NamesMember comma_due span left now mid) → LeavesLess b (object_at before b start) (member_left fs k.key left mid) start mid
+  named : (span : Span) (left : BeforeValue) (mid : Cursor) → (k : TookKeyOfMember comma_due span left now mid) → LeavesLess b (object_at before b start) (member_left fs k.key left mid) start mid
   named span left mid k =
       leaves_less (member_left fs k.key left mid) mid k.taken
-      (λ d. turned d ∙ ap (λ m. and_then m (object_turn (members_before fs) d)) k.reads ∙ then_turn (members_before fs) d k.key (name_left left mid.unread)) k.took k.shorter
+      (λ d. turned d ∙ ap (λ m. and_then m (object_turn (members_before fs) d)) k.reads ∙ then_turn (members_before fs) d k.key (before_value left mid.unread)) k.took k.shorter
 
   -- something of a name is left, or a value is in front that has no short way
-  pub member_stays : (span : Span) (left : NameLeft) (mid new : Cursor) → NamesMember comma_due span left now mid → new ≡ mid → TakesMembers b before fs start new (reached.Named span left)
-  member_stays span left mid new k same = subst (λ (s : Cursor). TakesMembers b before fs start s (reached.Named span left)) (sym same) (k.key, k.is_key, named span left mid k)
+  pub member_stays : (span : Span) (left : BeforeValue) (mid new : Cursor) → TookKeyOfMember comma_due span left now mid → new ≡ mid → TakesMembers b before fs start new (reached.KeyTaken span left)
+  member_stays span left mid new k same = subst (λ (s : Cursor). TakesMembers b before fs start s (reached.KeyTaken span left)) (sym same) (k.key, k.is_key, named span left mid k)
 
   pub key_stays : (mid : Cursor) → ReachesKey comma_due now mid → TakesMembers b before fs start mid (reached.Within false)
   key_stays mid k =
@@ -128,10 +128,10 @@ module _ (b : Bool) (before : List (String Global × Value)) (start : Cursor) (f
   pub object_stays : (new : Cursor) → new ≡ now → TakesMembers b before fs start new (reached.Within comma_due)
   object_stays new same = subst (λ (s : Cursor). TakesMembers b before fs start s (reached.Within comma_due)) (sym same) (p.leaves, λ is. inl (p.due is))
 
-  pub memory_lost : (span : Span) (left : NameLeft) (mid new : Cursor) → NamesMember comma_due span left now mid → SameText mid new → SameText start new
+  pub memory_lost : (span : Span) (left : BeforeValue) (mid new : Cursor) → TookKeyOfMember comma_due span left now mid → SameText mid new → SameText start new
   memory_lost span left mid new k same = same ∙ k.took.same ∙ p.leaves.took.same
 
-  module _ (span : Span) (left : NameLeft) (mid new : Cursor) (v : Value) (k : NamesMember comma_due span left now mid) (value : (room : ℕ) → Gave (datum_at room mid) (value_of v) mid new) where
+  module _ (span : Span) (left : BeforeValue) (mid new : Cursor) (v : Value) (k : TookKeyOfMember comma_due span left now mid) (value : (room : ℕ) → Gave (datum_at room mid) (value_of v) mid new) where
     pub member_taken : (text : String Global) (gs : List (String Global × Value)) → left ≡ names.Nothing → IsTextAt new.input span (string_bytes text) → gs ≡ fs ++ (text, v) ∷ [] → Passes (object_at before b start) (object_at gs true new) b true start new
     member_taken text gs none is grown =
         let l = named span left mid k in

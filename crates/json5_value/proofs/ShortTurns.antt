@@ -9,14 +9,14 @@ use Rattle.std.proofs.lemmas.Bool.{both_ways}
 use Rattle.json5_types.specs.declared.error.Error.{Error}
 use Rattle.json5_text.specs.Cursor.{Cursor}
 use Rattle.json5_value.specs.declared.brackets.OpenBracket.{OpenBracket}
-use Rattle.json5_value.specs.declared.short_ways.NameLeft.{NameLeft}
+use Rattle.json5_value.specs.declared.short_ways.BeforeValue.{BeforeValue}
 use Rattle.json5_value.specs.declared.skip.ShortTurn.{ShortTurn}
 use Rattle.json5_value.specs.declared.skip.ShortTurn.TheVariants as short
 use Rattle.json5_value.specs.Brackets.{bracket_of}
 use Rattle.json5_value.specs.Nesting.{Within}
 use Rattle.json5_value.specs.Opening.{OpenedAt}
 use Rattle.json5_value.specs.Offsets.{StartsAfter, PositionedAt}
-use Rattle.json5_value.specs.ShortWays.{ReachesMember, PassesShort, name_left, member_left, SkippingMember, TurnsMember, Advanced, TurnsShort, ResumesShort}
+use Rattle.json5_value.specs.ShortWays.{ReachesMember, PassesShort, before_value, member_left, SkippingMember, TurnsMember, Advanced, TurnsShort, ResumesShort}
 use Rattle.json5_value.specs.SkipSteps.{start_of, rest_in, rest_at, Skipping, SkippingInside, SkipsValue}
 use Rattle.json5_value.specs.ModelSteps.{IsInside, SameText, RefusesRead, Gave, value_at}
 use Rattle.json5_value.proofs.Nesting.{value_reached, inside_blamed, moved}
@@ -30,29 +30,29 @@ then_turn : (k : BracketKind) (d : ℕ) (m : Read (Unit {0})) → and_then (and_
 then_turn k d (got u y) = refl
 then_turn k d (bad e p) = refl
 
-module _ (room : ℕ) (w : Read (Unit {0})) (bs : List OpenBracket) (f : OpenBracket) (left : NameLeft) (q : List ℕ) where
+module _ (room : ℕ) (w : Read (Unit {0})) (bs : List OpenBracket) (f : OpenBracket) (left : BeforeValue) (q : List ℕ) where
   -- a member was reached
   pub member_reached : (comma_due : Bool) (old new : Cursor) → ReachesMember f.kind comma_due left old new → SkippingInside room w bs f comma_due q old → SkippingMember room w bs f left q new
   member_reached comma_due old new m h =
       let k : BracketKind = bracket_of f.kind in
       let deep : ℕ = room - length bs - 1 in
       moved start_of rest_in room old w (rest_at room bs f comma_due old) bs f.start q h new (member_left room bs f left new) m.taken m.took
-      (rest_step k comma_due deep old.unread ∙ ap (λ n. and_then n (turn k deep)) m.reads ∙ then_turn k deep (name_left left new.unread))
+      (rest_step k comma_due deep old.unread ∙ ap (λ n. and_then n (turn k deep)) m.reads ∙ then_turn k deep (before_value left new.unread))
 
   -- its value was reached
-  pub named : (old new : Cursor) → Gave (name_left left old.unread) tt old new → SkippingMember room w bs f left q old → Skipping room w (bs ++ f ∷ []) true new
+  pub named : (old new : Cursor) → Gave (before_value left old.unread) tt old new → SkippingMember room w bs f left q old → Skipping room w (bs ++ f ∷ []) true new
   named old new g h =
       subst (λ d. Within start_of rest_in room w (bs ++ f ∷ []) (value_at d new) new) (sym (room_within room bs f))
       (value_reached start_of rest_in room old w (member_left room bs f left old) bs f.start q h f new (value_at (room - length bs - 1) new) g.taken refl g.took
       (ap (λ m. and_then m (λ u y. value_and_rest (bracket_of f.kind) (room - length bs - 1) y)) g.reads))
 
   -- its name is refused
-  pub not_named : (old new : Cursor) (own e : Error) → RefusesRead old.input (name_left left old.unread) own → SameText old new → PositionedAt (StartsAfter new.input f.start) own e → SkippingMember room w bs f left q old → RefusesRead old.input w e
+  pub not_named : (old new : Cursor) (own e : Error) → RefusesRead old.input (before_value left old.unread) own → SameText old new → PositionedAt (StartsAfter new.input f.start) own e → SkippingMember room w bs f left q old → RefusesRead old.input w e
   not_named old new own e b same k h =
       inside_blamed start_of rest_in room old w (member_left room bs f left old) bs f.start q h new.input own e
-      (blames_as old.input old.input (name_left left old.unread) (member_left room bs f left old) own refl (λ c p is. ap (λ m. and_then m (λ u y. value_and_rest (bracket_of f.kind) (room - length bs - 1) y)) is) b) k same
+      (blames_as old.input old.input (before_value left old.unread) (member_left room bs f left old) own refl (λ c p is. ap (λ m. and_then m (λ u y. value_and_rest (bracket_of f.kind) (room - length bs - 1) y)) is) b) k same
 
-pub member_goes : (left : NameLeft) (f : OpenBracket) (bs after : List OpenBracket) (old new : Cursor) (u : Unit {0}) → Gave (name_left left old.unread) u old new → after ≡ bs ++ f ∷ [] → TurnsMember left f bs after old new (Ok true)
+pub member_goes : (left : BeforeValue) (f : OpenBracket) (bs after : List OpenBracket) (old new : Cursor) (u : Unit {0}) → Gave (before_value left old.unread) u old new → after ≡ bs ++ f ∷ [] → TurnsMember left f bs after old new (Ok true)
 member_goes left f bs after old new u g grown = record {
   goes = λ room w q h. subst (λ z. Skipping room w z true new) (sym grown) (named room w bs f left q old new g h);
   refused = tt;
@@ -60,7 +60,7 @@ member_goes left f bs after old new u g grown = record {
   no_longer = no_more_left old new g.taken g.took;
 }
 
-pub member_refused : (left : NameLeft) (f : OpenBracket) (bs after : List OpenBracket) (old new : Cursor) (own e : Error) → RefusesRead old.input (name_left left old.unread) own → SameText old new → PositionedAt (StartsAfter new.input f.start) own e → TurnsMember left f bs after old new (Err e)
+pub member_refused : (left : BeforeValue) (f : OpenBracket) (bs after : List OpenBracket) (old new : Cursor) (own e : Error) → RefusesRead old.input (before_value left old.unread) own → SameText old new → PositionedAt (StartsAfter new.input f.start) own e → TurnsMember left f bs after old new (Err e)
 member_refused left f bs after old new own e b same k = record {
   goes = tt;
   refused = λ room w q h. not_named room w bs f left q old new own e b same k h;
@@ -108,7 +108,7 @@ module _ (room : ℕ) (f g : OpenBracket) (bs cs : List OpenBracket) (was_due is
       by_due false is e = let k = p.opened e is in let l = r.no_longer in strictly t start new (omega (arith, k, l))
 
   -- a member was reached
-  pub member_left_to : (left : NameLeft) (new : Cursor) → ReachesMember g.kind is_due left now new → ResumesShort room f was_due bs cs start new (short.Member g left)
+  pub member_left_to : (left : BeforeValue) (new : Cursor) → ReachesMember g.kind is_due left now new → ResumesShort room f was_due bs cs start new (short.Member g left)
   member_left_to left new m = resumed_from cs new (short.Member g left) (record {
     goes = λ w q h. (q, member_reached room w cs g left q is_due now new m h);
     same_text = m.took.same;

@@ -15,7 +15,7 @@ use Rattle.json5_grammar.proofs.Refusals.{Refuses}
 use Rattle.json5_types.specs.declared.error.Error.{Error}
 use Rattle.json5_text.specs.Cursor.{Cursor, Refused}
 use Rattle.json5_types.specs.Errors.{code, kind_of, error_position}
-use Rattle.json5_value.specs.declared.brackets.Brackets.{Brackets}
+use Rattle.json5_value.specs.declared.brackets.BracketPair.{BracketPair}
 use Rattle.json5_value.specs.declared.brackets.BracketKind.{BracketKind as OwnKind}
 use Rattle.json5_value.specs.declared.brackets.BracketKind.TheVariants as kind
 use Rattle.json5_value.specs.Brackets.{bracket_of, brackets_of}
@@ -50,17 +50,17 @@ refused_char {ends = ends} {differs = differs} s e next c p peeked is kind place
 
 -- ---- signs
 
-pub opening_is : (k : OwnKind) (b : Brackets) → b ≡ brackets_of k → b.opening ≡ opening (bracket_of k)
-opening_is kind.Array b e = ap (λ (b : Brackets). b.opening) e
-opening_is kind.Object b e = ap (λ (b : Brackets). b.opening) e
+pub opening_is : (k : OwnKind) (b : BracketPair) → b ≡ brackets_of k → b.opening ≡ opening (bracket_of k)
+opening_is kind.Array b e = ap (λ (b : BracketPair). b.opening) e
+opening_is kind.Object b e = ap (λ (b : BracketPair). b.opening) e
 
-pub closing_is : (k : OwnKind) (b : Brackets) → b ≡ brackets_of k → b.closing ≡ closing (bracket_of k)
-closing_is kind.Array b e = ap (λ (b : Brackets). b.closing) e
-closing_is kind.Object b e = ap (λ (b : Brackets). b.closing) e
+pub closing_is : (k : OwnKind) (b : BracketPair) → b ≡ brackets_of k → b.closing ≡ closing (bracket_of k)
+closing_is kind.Array b e = ap (λ (b : BracketPair). b.closing) e
+closing_is kind.Object b e = ap (λ (b : BracketPair). b.closing) e
 
-pub ends_is : (k : OwnKind) (b : Brackets) → b ≡ brackets_of k → b.ends ≡ eof_in (bracket_of k)
-ends_is kind.Array b e = ap (λ (b : Brackets). b.ends) e
-ends_is kind.Object b e = ap (λ (b : Brackets). b.ends) e
+pub ends_is : (k : OwnKind) (b : BracketPair) → b ≡ brackets_of k → b.ends ≡ eof_in (bracket_of k)
+ends_is kind.Array b e = ap (λ (b : BracketPair). b.ends) e
+ends_is kind.Object b e = ap (λ (b : BracketPair). b.ends) e
 
 unexpected_lacks : {ends differs : ErrorCode} → ends ≢ codes.Failed → differs ≢ codes.Failed → Lacks (Unexpected ends differs)
 unexpected_lacks a b x reason place at_end e = a cc

@@ -11,7 +11,7 @@ use Rattle.json5_text.specs.Cursor.{Cursor, Took}
 use Rattle.json5_text.specs.ShortTexts.{IsTextAt}
 use Rattle.json5_text.specs.TextTokens.{IsSliceAt}
 use Rattle.json5_types.specs.ValueMeanings.{Datum, object, field, fields_view}
-use Rattle.json5_value.specs.declared.short_ways.NameLeft.{NameLeft}
+use Rattle.json5_value.specs.declared.short_ways.BeforeValue.{BeforeValue}
 use Rattle.json5_value.specs.declared.short_members.ShortMember.{ShortMember}
 use Rattle.json5_value.specs.declared.short_members.ShortMember.TheVariants as entered
 use Rattle.json5_value.specs.declared.short_members.ShortMembers.{ShortMembers}
@@ -20,7 +20,7 @@ use Rattle.json5_types.specs.declared.error.Error.{Error}
 use Rattle.json5_value.specs.declared.unfinished.Unfinished.{Unfinished}
 use Rattle.json5_value.specs.BuildSteps.{TurnsBuildingInside, members_before, object_with, object_at}
 use Rattle.json5_value.specs.OwnedReads.{as_datum, next_key}
-use Rattle.json5_value.specs.ShortWays.{name_left}
+use Rattle.json5_value.specs.ShortWays.{before_value}
 use Rattle.json5_value.specs.ShortValues.{Leaves, LeavesLess}
 use Rattle.json5_value.specs.ModelSteps.{SameText, Gave}
 
@@ -31,12 +31,12 @@ pub record IsKeyAt (input : List ℕ) (span : Span) (key : List ℕ) : Type 0 wh
 
 -- ---- one member
 
--- the key, and what is left of the name before it is read
-abbrev pub key_left : List ℕ → NameLeft → List ℕ → Read (Option (List ℕ × Bool))
-key_left key left x = and_then (name_left left x) (λ u y. got (Some (key, true)) y)
+-- the key, and what is left before the value is read
+abbrev pub key_left : List ℕ → BeforeValue → List ℕ → Read (Option (List ℕ × Bool))
+key_left key left x = and_then (before_value left x) (λ u y. got (Some (key, true)) y)
 
--- a member was reached, its key was taken, and this is left of its name
-pub record NamesMember (comma_due : Bool) (span : Span) (left : NameLeft) (old new : Cursor) : Type 0 where
+-- a member was reached, its key was taken, and this is left before its value
+pub record TookKeyOfMember (comma_due : Bool) (span : Span) (left : BeforeValue) (old new : Cursor) : Type 0 where
   pub key : List ℕ
   pub is_key : IsKeyAt new.input span key
   pub reads : next_key comma_due old.unread ≡ key_left key left new.unread
@@ -53,7 +53,7 @@ pub record ReachesKey (comma_due : Bool) (old new : Cursor) : Type 0 where
 
 -- the next member was reached, or the closing brace was taken, or nothing was
 abbrev pub EntersMember : Bool → Cursor → Cursor → ShortMember → Type 0
-EntersMember comma_due old new (entered.Named span left) = NamesMember comma_due span left old new
+EntersMember comma_due old new (entered.KeyTaken span left) = TookKeyOfMember comma_due span left old new
 EntersMember comma_due old new entered.Key = ReachesKey comma_due old new
 EntersMember comma_due old new entered.Closed = Gave (next_key comma_due old.unread) None old new
 EntersMember comma_due old new entered.Other = new ≡ old
@@ -65,14 +65,14 @@ AddsMember input span v before after false = Unit {0}
 
 -- ---- members
 
--- what is left of an object of these members, from what is left of the name of a member with this key on
-abbrev pub member_left : List (String Global × Value) → List ℕ → NameLeft → Cursor → ℕ → Read Datum
+-- what is left of an object of these members, from what is left before the value of a member with this key on
+abbrev pub member_left : List (String Global × Value) → List ℕ → BeforeValue → Cursor → ℕ → Read Datum
 member_left fs key left now d =
-    and_then (name_left left now.unread) (λ u y. and_then (as_datum (read d y)) (λ x z. object_with (λ xs. members_before fs (field key x xs)) (pairs_after d z)))
+    and_then (before_value left now.unread) (λ u y. and_then (as_datum (read d y)) (λ x z. object_with (λ xs. members_before fs (field key x xs)) (pairs_after d z)))
 
 -- what is left of an object after more members, or memory ran out
 abbrev pub LeavesMembers : Bool → (ℕ → Read Datum) → List (String Global × Value) → Cursor → Cursor → ShortMembers → Type 0
-LeavesMembers comma_due m fs old new (reached.Named span left) = (key : List ℕ) × IsKeyAt new.input span key × LeavesLess comma_due m (member_left fs key left new) old new
+LeavesMembers comma_due m fs old new (reached.KeyTaken span left) = (key : List ℕ) × IsKeyAt new.input span key × LeavesLess comma_due m (member_left fs key left new) old new
 LeavesMembers comma_due m fs old new reached.Closed = LeavesLess comma_due m (λ d. got (object (fields_view fs)) new.unread) old new
 LeavesMembers comma_due m fs old new (reached.Within due) = Leaves m (object_at fs due new) old new × (comma_due ≡ true → (due ≡ true) ⊎ (length new.unread < length old.unread))
 LeavesMembers comma_due m fs old new reached.NoMemory = SameText old new
@@ -81,7 +81,7 @@ LeavesMembers comma_due m fs old new reached.NoMemory = SameText old new
 abbrev pub TakesMembers : Bool → List (String Global × Value) → List (String Global × Value) → Cursor → Cursor → ShortMembers → Type 0
 TakesMembers comma_due before after old new result = LeavesMembers comma_due (object_at before comma_due old) after old new result
 
--- a turn within an object of these members that goes on with this name
-abbrev pub TurnsBuildingNamed : List (String Global × Value) → ℕ → Span → NameLeft → List Unfinished → List Unfinished → Cursor → Cursor → Result (Option Value) Error → Type 0
-TurnsBuildingNamed fs start span left stack after old new result =
+-- a turn within an object of these members that goes on with the value of this key
+abbrev pub TurnsBuildingMember : List (String Global × Value) → ℕ → Span → BeforeValue → List Unfinished → List Unfinished → Cursor → Cursor → Result (Option Value) Error → Type 0
+TurnsBuildingMember fs start span left stack after old new result =
     (key : List ℕ) → IsKeyAt old.input span key → TurnsBuildingInside (member_left fs key left old) start false stack after old new result

@@ -26,7 +26,7 @@ KeepsShort old new short.NoMemory = SameText old new
 
 -- the next element was reached, or the closing bracket was taken, or nothing was
 abbrev pub EntersElement : Bool → Cursor → Cursor → ShortStep → Type 0
-EntersElement comma_due old new step.Member = Gave (next_value of_array comma_due old.unread) true old new
+EntersElement comma_due old new step.Entry = Gave (next_value of_array comma_due old.unread) true old new
 EntersElement comma_due old new step.Closing = Gave (next_value of_array comma_due old.unread) false old new
 EntersElement comma_due old new step.Other = new ≡ old
 

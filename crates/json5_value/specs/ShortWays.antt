@@ -8,8 +8,8 @@ use Rattle.json5_types.specs.declared.error.Error.{Error}
 use Rattle.json5_text.specs.Cursor.{Cursor, Took}
 use Rattle.json5_value.specs.declared.brackets.BracketKind.{BracketKind}
 use Rattle.json5_value.specs.declared.brackets.OpenBracket.{OpenBracket}
-use Rattle.json5_value.specs.declared.short_ways.NameLeft.{NameLeft}
-use Rattle.json5_value.specs.declared.short_ways.NameLeft.TheVariants as names
+use Rattle.json5_value.specs.declared.short_ways.BeforeValue.{BeforeValue}
+use Rattle.json5_value.specs.declared.short_ways.BeforeValue.TheVariants as begins
 use Rattle.json5_value.specs.declared.short_ways.ShortEntry.{ShortEntry}
 use Rattle.json5_value.specs.declared.short_ways.ShortEntry.TheVariants as entry
 use Rattle.json5_value.specs.declared.skip.ShortBegin.{ShortBegin}
@@ -22,30 +22,30 @@ use Rattle.json5_value.specs.Opening.{OpenedAt}
 use Rattle.json5_value.specs.SkipSteps.{start_of, rest_in, Skipping, SkippingInside}
 use Rattle.json5_value.specs.ModelSteps.{SameText, RefusesRead, Gave, value_at}
 
--- ---- names
+-- ---- what is before the value of a member
 
 -- a key, blanks, a colon and blanks
-abbrev pub name_at : List ℕ → Read (Unit {0})
-name_at x = and_then (forget (key x)) (λ u r. colon_after r)
+abbrev pub key_and_colon : List ℕ → Read (Unit {0})
+key_and_colon x = and_then (forget (key x)) (λ u r. colon_after r)
 
 -- what is left of them
-abbrev pub name_left : NameLeft → List ℕ → Read (Unit {0})
-name_left names.Key x = name_at x
-name_left names.Colon x = colon_after x
-name_left names.Blanks x = skip between x
-name_left names.Nothing x = got tt x
+abbrev pub before_value : BeforeValue → List ℕ → Read (Unit {0})
+before_value begins.Key x = key_and_colon x
+before_value begins.Colon x = colon_after x
+before_value begins.Blanks x = skip between x
+before_value begins.Nothing x = got tt x
 
 -- so much was taken that this is left of the reading
-pub record PassesTo (reading : Read (Unit {0})) (left : NameLeft) (old new : Cursor) : Type 0 where
-  pub reads : reading ≡ name_left left new.unread
+pub record PassesTo (reading : Read (Unit {0})) (left : BeforeValue) (old new : Cursor) : Type 0 where
+  pub reads : reading ≡ before_value left new.unread
   pub taken : List ℕ
   pub took : Took old taken new
 
 -- ---- entries and values
 
--- a member was reached, and this is left of its name
-pub record ReachesMember (k : BracketKind) (comma_due : Bool) (left : NameLeft) (old new : Cursor) : Type 0 where
-  pub reads : next_value (bracket_of k) comma_due old.unread ≡ and_then (name_left left new.unread) (λ u y. got true y)
+-- a member was reached, and this is left before its value
+pub record ReachesMember (k : BracketKind) (comma_due : Bool) (left : BeforeValue) (old new : Cursor) : Type 0 where
+  pub reads : next_value (bracket_of k) comma_due old.unread ≡ and_then (before_value left new.unread) (λ u y. got true y)
   pub taken : List ℕ
   pub took : Took old taken new
   pub shorter : comma_due ≡ true → length new.unread < length old.unread
@@ -64,16 +64,16 @@ PassesShort old new false = new ≡ old
 
 -- ---- members
 
--- what is left of an object within these, from what is left of the name of a member on
-abbrev pub member_left : ℕ → List OpenBracket → OpenBracket → NameLeft → Cursor → Read (Unit {0})
-member_left room brackets bracket left now = and_then (name_left left now.unread) (λ u y. value_and_rest (bracket_of bracket.kind) (room - length brackets - 1) y)
+-- what is left of an object within these, from what is left before the value of a member on
+abbrev pub member_left : ℕ → List OpenBracket → OpenBracket → BeforeValue → Cursor → Read (Unit {0})
+member_left room brackets bracket left now = and_then (before_value left now.unread) (λ u y. value_and_rest (bracket_of bracket.kind) (room - length brackets - 1) y)
 
 -- these are open, and an object within them, which was opened before q, continues with a member
-abbrev pub SkippingMember : ℕ → Read (Unit {0}) → List OpenBracket → OpenBracket → NameLeft → List ℕ → Cursor → Type 0
+abbrev pub SkippingMember : ℕ → Read (Unit {0}) → List OpenBracket → OpenBracket → BeforeValue → List ℕ → Cursor → Type 0
 SkippingMember room w brackets bracket left q now = WithinInner start_of rest_in room w brackets bracket.start (member_left room brackets bracket left now) q now
 
 -- the value of the member is next, and its object is open; or what is refused makes a fault of the whole
-pub record TurnsMember (left : NameLeft) (bracket : OpenBracket) (brackets after : List OpenBracket) (old new : Cursor) (result : Result Bool Error) : Type 0 where
+pub record TurnsMember (left : BeforeValue) (bracket : OpenBracket) (brackets after : List OpenBracket) (old new : Cursor) (result : Result Bool Error) : Type 0 where
   pub goes : IfOk result (λ at_value. (room : ℕ) (w : Read (Unit {0})) (q : List ℕ) → SkippingMember room w brackets bracket left q old → Skipping room w after at_value new)
   pub refused : IfErr result (λ e. (room : ℕ) (w : Read (Unit {0})) (q : List ℕ) → SkippingMember room w brackets bracket left q old → RefusesRead old.input w e)
   pub same_text : SameText old new

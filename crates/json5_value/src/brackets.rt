@@ -18,9 +18,9 @@ pub enum BracketKind {
     Object,
 }
 
-/// The brackets of a kind, and the codes of what is refused at them.
+/// The pair of brackets of a kind, and the codes of what is refused at them.
 #[derive(Clone, Copy, Drop)]
-pub struct Brackets {
+pub struct BracketPair {
     /// The opening bracket.
     pub opening: char,
     /// The closing bracket.
@@ -36,18 +36,18 @@ pub struct Brackets {
 impl BracketKind {
     /// Returns the brackets of this kind and their codes.
     #[inline(always)]
-    pub fn brackets(self) -> Brackets
+    pub fn brackets(self) -> BracketPair
         ensures { result ≡ brackets_of self }
     {
         match self {
-            BracketKind::Array => Brackets {
+            BracketKind::Array => BracketPair {
                 opening: '[',
                 closing: ']',
                 ends: ErrorCode::EofParsingArray,
                 not_opened: ErrorCode::ExpectedOpeningBracket,
                 not_closed: ErrorCode::ExpectedClosingBracket,
             },
-            BracketKind::Object => Brackets {
+            BracketKind::Object => BracketPair {
                 opening: '{',
                 closing: '}',
                 ends: ErrorCode::EofParsingObject,

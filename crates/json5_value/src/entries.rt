@@ -4,12 +4,12 @@ ghost use Rattle.json5_grammar.specs.Model.ReadSteps.{forget, colon_after, next_
 ghost use Rattle.json5_grammar.specs.Model.ReadTexts.{key};
 ghost use Rattle.json5_value.specs.Brackets.{bracket_of};
 ghost use Rattle.json5_value.specs.Entries.{due_comma, next_entry};
-ghost use Rattle.json5_value.specs.ShortWays.{name_left};
+ghost use Rattle.json5_value.specs.ShortWays.{before_value};
 ghost use Rattle.json5_value.specs.ModelSteps.{IsInside, Steps};
 
 use crate::brackets::BracketKind;
 use crate::faults::unexpected_here;
-use crate::short_ways::NameLeft;
+use crate::short_ways::BeforeValue;
 use json5_text::input::Input;
 use json5_text::scanner::Scanner;
 use json5_text::strings::is_quote;
@@ -46,20 +46,20 @@ pub(crate) fn skip_colon<I: Input>(scanner: &mut Scanner<I>) -> Result<()>
     scanner.skip_blank()
 }
 
-/// Passes over what is left of the name of a member: its key, and blanks, a colon and blanks.
+/// Passes over what is left before the value of a member: its key, and blanks, a colon and blanks.
 #[inline(never)]
-pub(crate) fn skip_name<I: Input>(scanner: &mut Scanner<I>, left: NameLeft) -> Result<()>
+pub(crate) fn skip_before_value<I: Input>(scanner: &mut Scanner<I>, left: BeforeValue) -> Result<()>
     requires { IsInside scanner.old }
-    ensures { Steps (name_left left scanner.old.unread) scanner.old scanner.new result }
+    ensures { Steps (before_value left scanner.old.unread) scanner.old scanner.new result }
 {
     match left {
-        NameLeft::Key => {
+        BeforeValue::Key => {
             skip_key(scanner)?;
             skip_colon(scanner)
         }
-        NameLeft::Colon => skip_colon(scanner),
-        NameLeft::Blanks => scanner.skip_blank(),
-        NameLeft::Nothing => Ok(()),
+        BeforeValue::Colon => skip_colon(scanner),
+        BeforeValue::Blanks => scanner.skip_blank(),
+        BeforeValue::Nothing => Ok(()),
     }
 }
 
@@ -119,7 +119,7 @@ pub(crate) fn skip_to_value<I: Input>(
     match kind {
         BracketKind::Array => Ok(true),
         BracketKind::Object => {
-            skip_name(scanner, NameLeft::Key)?;
+            skip_before_value(scanner, BeforeValue::Key)?;
             Ok(true)
         }
     }

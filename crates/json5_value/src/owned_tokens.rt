@@ -46,7 +46,7 @@ pub(crate) fn own_text<I: Input>(scanner: &Scanner<I>, span: Span) -> Result<Str
 }
 
 /// Takes the key in front, whatever it is, and returns a copy of its text.
-fn read_key<I: Input>(scanner: &mut Scanner<I>) -> Result<String>
+fn read_owned_key<I: Input>(scanner: &mut Scanner<I>) -> Result<String>
     requires { IsInside scanner.old }
     ensures { Keeps IsKeyText (key scanner.old.unread) scanner.old scanner.new result }
 {
@@ -71,7 +71,7 @@ pub(crate) fn next_member_key<I: Input>(
     if !more {
         return Ok(None);
     }
-    let key = read_key(scanner)?;
+    let key = read_owned_key(scanner)?;
     skip_colon(scanner)?;
     Ok(Some(key))
 }

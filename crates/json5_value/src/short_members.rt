@@ -6,7 +6,7 @@ ghost use Rattle.json5_value.specs.ModelSteps.{IsInside};
 
 use crate::growth::add_entry;
 use crate::short_values::{ShortValue, short_value};
-use crate::short_ways::{NameLeft, short_colon};
+use crate::short_ways::{BeforeValue, short_colon};
 use json5_text::input::Input;
 use json5_text::scanner::Scanner;
 use json5_text::short_texts::Span;
@@ -16,8 +16,8 @@ use json5_types::value::Value;
 /// What a short way to the value of a member came to.
 #[derive(Clone, Copy)]
 enum ShortMember {
-    /// The member's key was taken, and this is left of its name.
-    Named { key: Span, left: NameLeft },
+    /// The member's key was taken, and this is left before its value.
+    KeyTaken { key: Span, left: BeforeValue },
     /// A key is next that has no short way.
     Key,
     /// The closing brace was taken.
@@ -29,8 +29,8 @@ enum ShortMember {
 /// How far a short way through the members of an object went.
 #[derive(Clone, Copy)]
 pub(crate) enum ShortMembers {
-    /// A member's key was taken, and this is left of its name.
-    Named { key: Span, left: NameLeft },
+    /// A member's key was taken, and this is left before its value.
+    KeyTaken { key: Span, left: BeforeValue },
     /// The closing brace was taken.
     Closed,
     /// The object goes on the longer way, after a comma if one is due.
@@ -45,7 +45,7 @@ fn short_member<I: Input>(scanner: &mut Scanner<I>, comma_due: bool) -> ShortMem
     ensures { EntersMember comma_due scanner.old scanner.new result }
 {
     match scanner.short_step(b'}', comma_due) {
-        ShortStep::Member => {}
+        ShortStep::Entry => {}
         ShortStep::Closing => {
             let _ = scanner.eat('}');
             return ShortMember::Closed;
@@ -58,7 +58,7 @@ fn short_member<I: Input>(scanner: &mut Scanner<I>, comma_due: bool) -> ShortMem
         return ShortMember::Key;
     };
     let left = short_colon(scanner);
-    ShortMember::Named { key, left }
+    ShortMember::KeyTaken { key, left }
 }
 
 /// Adds a member whose key has the text at the span, and says whether there was memory for it.
@@ -90,14 +90,14 @@ pub(crate) fn short_members<I: Input>(
     let mut due = comma_due;
     loop {
         let (key, left) = match short_member(scanner, due) {
-            ShortMember::Named { key, left } => (key, left),
+            ShortMember::KeyTaken { key, left } => (key, left),
             ShortMember::Key => return ShortMembers::Within { comma_due: false },
             ShortMember::Closed => return ShortMembers::Closed,
             ShortMember::Other => return ShortMembers::Within { comma_due: due },
         };
         match left {
-            NameLeft::Nothing => {}
-            _ => return ShortMembers::Named { key, left },
+            BeforeValue::Nothing => {}
+            _ => return ShortMembers::KeyTaken { key, left },
         }
         match short_value(scanner) {
             ShortValue::Value(value) => {
@@ -105,7 +105,7 @@ pub(crate) fn short_members<I: Input>(
                     return ShortMembers::NoMemory;
                 }
             }
-            ShortValue::Other => return ShortMembers::Named { key, left },
+            ShortValue::Other => return ShortMembers::KeyTaken { key, left },
             ShortValue::NoMemory => return ShortMembers::NoMemory,
         }
         due = true;

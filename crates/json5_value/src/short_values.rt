@@ -130,7 +130,7 @@ fn short_element<I: Input>(scanner: &mut Scanner<I>, comma_due: bool) -> ShortSt
     ensures { EntersElement comma_due scanner.old scanner.new result }
 {
     match scanner.short_step(b']', comma_due) {
-        ShortStep::Member => ShortStep::Member,
+        ShortStep::Entry => ShortStep::Entry,
         ShortStep::Closing => {
             let _ = scanner.eat(']');
             ShortStep::Closing
@@ -152,7 +152,7 @@ pub(crate) fn short_elements<I: Input>(
     let mut due = comma_due;
     loop {
         match short_element(scanner, due) {
-            ShortStep::Member => {}
+            ShortStep::Entry => {}
             ShortStep::Closing => return ShortElements::Closed,
             ShortStep::Other => return ShortElements::Within { comma_due: due },
         }

@@ -5,7 +5,7 @@ ghost use Rattle.json5_grammar.specs.Language.Blanks.{Solid};
 ghost use Rattle.json5_grammar.specs.Model.ReadSteps.{colon_after};
 ghost use Rattle.json5_text.specs.ShortWords.{TakesShortWord};
 ghost use Rattle.json5_value.specs.Kinds.{word_of};
-ghost use Rattle.json5_value.specs.ShortWays.{EntersShort, PassesShort, PassesTo, name_at};
+ghost use Rattle.json5_value.specs.ShortWays.{EntersShort, PassesShort, PassesTo, key_and_colon};
 ghost use Rattle.json5_value.specs.ModelSteps.{IsInside};
 
 use crate::brackets::BracketKind;
@@ -14,10 +14,10 @@ use json5_text::input::Input;
 use json5_text::scanner::Scanner;
 use json5_text::short_ways::ShortStep;
 
-/// What is left to pass over of the name of a member: its key, a colon and the blanks round it.
+/// What is left to pass over before the value of a member: its key, a colon and the blanks round it.
 #[derive(Clone, Copy)]
-pub(crate) enum NameLeft {
-    /// The whole name.
+pub(crate) enum BeforeValue {
+    /// The key, and all that follows it.
     Key,
     /// The colon and the blanks round it.
     Colon,
@@ -32,8 +32,8 @@ pub(crate) enum NameLeft {
 pub(crate) enum ShortEntry {
     /// The value is next.
     Value,
-    /// A member was reached, and this is left of its name.
-    Member(NameLeft),
+    /// A member was reached, and this is left before its value.
+    Member(BeforeValue),
     /// The closing bracket was taken.
     Closed,
     /// Nothing was taken.
@@ -42,32 +42,32 @@ pub(crate) enum ShortEntry {
 
 /// Passes over blanks, a colon and blanks, as far as no fault is possible.
 #[inline(always)]
-pub(crate) fn short_colon<I: Input>(scanner: &mut Scanner<I>) -> NameLeft
+pub(crate) fn short_colon<I: Input>(scanner: &mut Scanner<I>) -> BeforeValue
     ensures { PassesTo (colon_after scanner.old.unread) result scanner.old scanner.new }
 {
     if !scanner.short_sign(b':') {
-        return NameLeft::Colon;
+        return BeforeValue::Colon;
     }
     match scanner.short_step(b'}', false) {
-        ShortStep::Other => NameLeft::Blanks,
-        _ => NameLeft::Nothing,
+        ShortStep::Other => BeforeValue::Blanks,
+        _ => BeforeValue::Nothing,
     }
 }
 
-/// Passes over the name of the member in front, as far as no fault is possible.
+/// Passes over the key of the member in front and its colon, as far as no fault is possible.
 #[inline(always)]
-fn short_name<I: Input>(scanner: &mut Scanner<I>) -> NameLeft
+fn short_key_and_colon<I: Input>(scanner: &mut Scanner<I>) -> BeforeValue
     requires { Solid scanner.old.unread }
-    ensures { PassesTo (name_at scanner.old.unread) result scanner.old scanner.new }
+    ensures { PassesTo (key_and_colon scanner.old.unread) result scanner.old scanner.new }
 {
     if scanner.short_key().is_none() {
-        return NameLeft::Key;
+        return BeforeValue::Key;
     }
     short_colon(scanner)
 }
 
-/// Goes to the value of the next entry, after a comma if one is due, or past the closing bracket. Stops in the name of a
-/// member if a fault may be there.
+/// Goes to the value of the next entry, after a comma if one is due, or past the closing bracket. Stops before the
+/// value of a member if a fault may be there.
 #[inline(always)]
 pub(crate) fn short_entry<I: Input>(
     scanner: &mut Scanner<I>,
@@ -83,10 +83,10 @@ pub(crate) fn short_entry<I: Input>(
             let _ = scanner.eat(closing);
             ShortEntry::Closed
         }
-        ShortStep::Member => match kind {
+        ShortStep::Entry => match kind {
             BracketKind::Array => ShortEntry::Value,
-            BracketKind::Object => match short_name(scanner) {
-                NameLeft::Nothing => ShortEntry::Value,
+            BracketKind::Object => match short_key_and_colon(scanner) {
+                BeforeValue::Nothing => ShortEntry::Value,
                 left => ShortEntry::Member(left),
             },
         },

@@ -8,10 +8,10 @@ ghost use Rattle.json5_value.specs.ShortWays.{BeginsShort, TurnsMember, ResumesS
 ghost use Rattle.json5_value.specs.SkipSteps.{SkipsOrOpens, TurnsSkipping, TurnsSkippingInside, PositionedWithin, SkipsValue};
 
 use crate::brackets::{OpenBracket, kind_opened, open_bracket};
-use crate::entries::{skip_name, skip_to_value};
+use crate::entries::{skip_before_value, skip_to_value};
 use crate::faults::{fault_here, with_position_at};
 use crate::kinds::{ValueKind, kind_at, skip_literal};
-use crate::short_ways::{NameLeft, ShortEntry, short_entry, short_scalar};
+use crate::short_ways::{BeforeValue, ShortEntry, short_entry, short_scalar};
 use arrayvec::ArrayVec;
 use json5_text::input::Input;
 use json5_text::scanner::Scanner;
@@ -94,7 +94,7 @@ fn resume_bracket<I: Input>(
 
 /// Begins the value in front within the open brackets, and returns whether a value is next.
 #[inline(never)]
-fn begin_value<I: Input>(
+fn begin_skipping<I: Input>(
     scanner: &mut Scanner<I>,
     room: usize,
     brackets: &mut OpenBrackets,
@@ -115,20 +115,20 @@ fn begin_value<I: Input>(
     resume_bracket(scanner, brackets, bracket, false)
 }
 
-/// Continues a member that was reached and whose object isn't among the open ones: passes over what is left of its name, and pushes the
-/// object.
+/// Continues a member that was reached and whose object isn't among the open ones: passes over what is left before its value, and pushes
+/// the object.
 #[inline(never)]
 fn resume_member<I: Input>(
     scanner: &mut Scanner<I>,
     brackets: &mut OpenBrackets,
     bracket: OpenBracket,
-    left: NameLeft,
+    left: BeforeValue,
 ) -> Result<bool>
     requires ready { IsInside scanner.old }
     requires place { length brackets.old.items < 128 }
     ensures { TurnsMember left bracket brackets.old.items brackets.new.items scanner.old scanner.new result }
 {
-    match skip_name(scanner, left) {
+    match skip_before_value(scanner, left) {
         Ok(()) => {
             brackets.push(bracket);
             Ok(true)
@@ -149,10 +149,10 @@ enum ShortTurn {
         bracket: OpenBracket,
         comma_due: bool,
     },
-    /// The object isn't among the open ones, and this is left of its member's name.
+    /// The object isn't among the open ones, and this is left before its member's value.
     Member {
         bracket: OpenBracket,
-        left: NameLeft,
+        left: BeforeValue,
     },
     /// The value that was to be passed over has ended.
     Whole,
@@ -277,7 +277,7 @@ fn skip_in_turns<I: Input>(scanner: &mut Scanner<I>, room: usize) -> Result<()>
     loop {
         at_value = match short_turn(scanner, room, &mut brackets, at_value) {
             ShortTurn::Ended => false,
-            ShortTurn::Begins => begin_value(scanner, room, &mut brackets)?,
+            ShortTurn::Begins => begin_skipping(scanner, room, &mut brackets)?,
             ShortTurn::Within { bracket, comma_due } => {
                 resume_bracket(scanner, &mut brackets, bracket, comma_due)?
             }

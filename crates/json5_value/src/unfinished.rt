@@ -2,17 +2,17 @@
 
 ghost use Rattle.std.specs.Prelude.{◌≡◌, true};
 ghost use Rattle.json5_value.specs.BuildSteps.{TurnsBuildingInside, array_at, object_at, start_of, value_in_at};
-ghost use Rattle.json5_value.specs.ShortMembers.{TurnsBuildingNamed};
+ghost use Rattle.json5_value.specs.ShortMembers.{TurnsBuildingMember};
 ghost use Rattle.json5_value.specs.ModelSteps.{IsInside};
 
 use crate::brackets::BracketKind;
-use crate::entries::{skip_name, skip_to_value};
+use crate::entries::{skip_before_value, skip_to_value};
 use crate::faults::with_position_at;
 use crate::growth::add_entry;
 use crate::owned_tokens::{next_member_key, own_text};
 use crate::short_members::{ShortMembers, short_members};
 use crate::short_values::{ShortElements, short_elements};
-use crate::short_ways::NameLeft;
+use crate::short_ways::BeforeValue;
 use json5_text::input::Input;
 use json5_text::scanner::Scanner;
 use json5_text::short_texts::Span;
@@ -114,7 +114,7 @@ pub(crate) fn resume_object<I: Input>(
 {
     let mut members = members;
     match short_members(scanner, &mut members, comma_due) {
-        ShortMembers::Named { key, left } => {
+        ShortMembers::KeyTaken { key, left } => {
             enter_member(scanner, stack, start, members, key, left)
         }
         ShortMembers::Closed => Ok(Some(Value::Object(members))),
@@ -154,20 +154,20 @@ fn resume_object_slowly<I: Input>(
     }
 }
 
-/// Goes to the value of a member, of whose name this is left, and pushes the object.
+/// Goes to the value of a member, before which this is left, and pushes the object.
 fn enter_member<I: Input>(
     scanner: &mut Scanner<I>,
     stack: &mut Vec<Unfinished>,
     start: usize,
     members: Vec<(String, Value)>,
     key: Span,
-    left: NameLeft,
+    left: BeforeValue,
 ) -> Result<Option<Value>>
     requires { IsInside scanner.old }
-    ensures { TurnsBuildingNamed members.items start key left stack.old.items stack.new.items scanner.old scanner.new result }
+    ensures { TurnsBuildingMember members.items start key left stack.old.items stack.new.items scanner.old scanner.new result }
 {
     let key = own_text(scanner, key)?;
-    if let Err(e) = skip_name(scanner, left) {
+    if let Err(e) = skip_before_value(scanner, left) {
         return Err(with_position_at(scanner, start, e));
     }
     let object = Unfinished::Object {

@@ -29,7 +29,7 @@ use Rattle.json5_value.specs.declared.kinds.Literal.TheVariants as literal
 use Rattle.json5_value.specs.Kinds.{word_of}
 use Rattle.json5_value.specs.declared.brackets.OpenBracket.{OpenBracket}
 use Rattle.json5_value.specs.Brackets.{bracket_of, brackets_of}
-use Rattle.json5_value.specs.declared.brackets.Brackets.{Brackets}
+use Rattle.json5_value.specs.declared.brackets.BracketPair.{BracketPair}
 use Rattle.json5_value.specs.declared.brackets.BracketKind.{BracketKind as Kind}
 use Rattle.json5_value.specs.declared.brackets.BracketKind.TheVariants as kind
 use Rattle.json5_walk.specs.declared.next.Next.{Next}
@@ -234,10 +234,10 @@ module _ {old : Walked} {y : List ℕ} where
 pub sign_front : {x y : List ℕ} (c : ℕ) → x ≡ (c ∷ []) ++ y → IsSign c x y
 sign_front c e = record { front = []; split = e; blank = Blanks.empty }
 
-pub opening_front : {x y : List ℕ} (k : Kind) (p : Brackets) → p ≡ brackets_of k → x ≡ (p.opening ∷ []) ++ y → IsSign (brackets_of k).opening x y
+pub opening_front : {x y : List ℕ} (k : Kind) (p : BracketPair) → p ≡ brackets_of k → x ≡ (p.opening ∷ []) ++ y → IsSign (brackets_of k).opening x y
 opening_front k p is e = sign_front (brackets_of k).opening (rw is at e)
 
-pub closing_front : {x y : List ℕ} (k : Kind) (p : Brackets) → p ≡ brackets_of k → x ≡ (p.closing ∷ []) ++ y → IsSign (brackets_of k).closing x y
+pub closing_front : {x y : List ℕ} (k : Kind) (p : BracketPair) → p ≡ brackets_of k → x ≡ (p.closing ∷ []) ++ y → IsSign (brackets_of k).closing x y
 closing_front k p is e = sign_front (brackets_of k).closing (rw is at e)
 
 pub key_front : {x y u : List ℕ} {e : Bool} (s : List ℕ) → x ≡ s ++ y → Key s y u e → ReadsKey x u e y

@@ -26,7 +26,7 @@ use Rattle.json5_types.specs.declared.error.Error.{Error}
 use Rattle.json5_value.specs.ModelSteps.{RefusesRead, value_at}
 use Rattle.json5_grammar.specs.Faults.Fronts.{BracketKind}
 use Rattle.json5_value.specs.Brackets.{bracket_of, brackets_of}
-use Rattle.json5_value.specs.declared.brackets.Brackets.{Brackets}
+use Rattle.json5_value.specs.declared.brackets.BracketPair.{BracketPair}
 use Rattle.json5_value.specs.declared.brackets.BracketKind.{BracketKind as Kind}
 use Rattle.json5_value.specs.declared.brackets.BracketKind.TheVariants as kind
 use Rattle.json5_walk.specs.declared.next.Next.{Next}
@@ -214,10 +214,10 @@ module _ {kinds : List BracketKind} (n : Next) (unread : List ℕ) where
       let clash : true ≡ false = m ∙ ap (λ z. may_close z n) (sym same) ∙ sym not in
       absurd (cc)
 
-  pub other_closing : (b : Kind) (p : List BracketKind) (signs : Brackets) → kinds ≡ bracket_of b ∷ p → signs ≡ brackets_of b → NotBegun (λ c. c == signs.closing) unread → (k : Kind) (o : List BracketKind) → kinds ≡ bracket_of k ∷ o → true ≡ may_close k n → NotBegun (λ c. c == (brackets_of k).closing) unread
+  pub other_closing : (b : Kind) (p : List BracketKind) (signs : BracketPair) → kinds ≡ bracket_of b ∷ p → signs ≡ brackets_of b → NotBegun (λ c. c == signs.closing) unread → (k : Kind) (o : List BracketKind) → kinds ≡ bracket_of k ∷ o → true ≡ may_close k n → NotBegun (λ c. c == (brackets_of k).closing) unread
   other_closing b p signs h is begun k o e m =
       let same = innermost_is k b o p e h in
-      subst (λ z. NotBegun (λ c. c == (brackets_of z).closing) unread) same (subst (λ (z : Brackets). NotBegun (λ c. c == z.closing) unread) is begun)
+      subst (λ z. NotBegun (λ c. c == (brackets_of z).closing) unread) same (subst (λ (z : BracketPair). NotBegun (λ c. c == z.closing) unread) is begun)
 
 pub if_none : {T : Type 0} {X : Type 0} (r : Option T) → X → IfNone r X
 if_none None x = x

@@ -5,7 +5,7 @@ ghost use Rattle.std.specs.Borrow.{sem};
 ghost use Rattle.std.specs.Str.{chars};
 ghost use Rattle.json5_grammar.specs.Language.Characters.{left_bracket, left_brace};
 
-use crate::stage::Stage;
+use crate::stage::CollectionStage;
 use crate::{SerializeCollection, Serializer};
 use json5_types::error::Result;
 use json5_write::brackets::Brackets;
@@ -36,7 +36,7 @@ impl<W: Write + Drop> Serializer<W> {
         Ok(SerializeCollection {
             ser: self,
             brackets: Brackets::Square,
-            stage: Stage::Empty,
+            stage: CollectionStage::Empty,
             in_variant: false,
             failed: false,
         })
@@ -101,7 +101,7 @@ impl<W: Write + Drop> Serializer<W> {
         Ok(SerializeCollection {
             ser: self,
             brackets: Brackets::Curly,
-            stage: Stage::Empty,
+            stage: CollectionStage::Empty,
             in_variant: false,
             failed: false,
         })
@@ -158,7 +158,7 @@ impl<W: Write + Drop> Serializer<W> {
         Ok(SerializeCollection {
             ser: self,
             brackets: Brackets::Square,
-            stage: Stage::Empty,
+            stage: CollectionStage::Empty,
             in_variant: true,
             failed: false,
         })
@@ -192,7 +192,7 @@ impl<W: Write + Drop> Serializer<W> {
         Ok(SerializeCollection {
             ser: self,
             brackets: Brackets::Curly,
-            stage: Stage::Empty,
+            stage: CollectionStage::Empty,
             in_variant: true,
             failed: false,
         })

@@ -17,7 +17,7 @@ use std::io::Write;
 
 impl<W: Write + Drop> Serializer<W> {
     /// A key on a line of its own.
-    pub(crate) fn key<K: SerializeKey>(&mut self, key: &K) -> Result<()>
+    pub(crate) fn write_key<K: SerializeKey>(&mut self, key: &K) -> Result<()>
         ensures { Writes (key_part self.old.depth (K.as_key key.now)) self.old result self.new }
     {
         self.start_line(false)?;
@@ -25,18 +25,22 @@ impl<W: Write + Drop> Serializer<W> {
     }
 
     /// A key, and its value.
-    pub(crate) fn entry<K: SerializeKey, T: Serialize>(&mut self, key: &K, value: &T) -> Result<()>
+    pub(crate) fn write_entry<K: SerializeKey, T: Serialize>(
+        &mut self,
+        key: &K,
+        value: &T,
+    ) -> Result<()>
         ensures { Writes (entry_out self.old.limit self.old.depth (K.as_key key.now) (T.tree value.now)) self.old result self.new }
     {
-        let written = self.key(key);
+        let written = self.write_key(key);
         if written.is_err() {
             return written;
         }
-        self.value(value)
+        self.write_value(value)
     }
 
     /// The name of a field on a line of its own.
-    fn field_name(&mut self, name: &str) -> Put
+    fn put_field_key(&mut self, name: &str) -> Put
         ensures { Puts (key_part self.old.depth (named (chars name.now))) self.old result self.new }
     {
         self.start_line(false)?;
@@ -44,11 +48,11 @@ impl<W: Write + Drop> Serializer<W> {
     }
 
     /// The name of a field, and its value.
-    pub(crate) fn field<T: Serialize>(&mut self, name: &str, value: &T) -> Result<()>
+    pub(crate) fn write_field<T: Serialize>(&mut self, name: &str, value: &T) -> Result<()>
         ensures { Writes (entry_out self.old.limit self.old.depth (named (chars name.now)) (T.tree value.now)) self.old result self.new }
     {
-        self.field_name(name)?;
-        self.value(value)
+        self.put_field_key(name)?;
+        self.write_value(value)
     }
 
     /// Opens the object of a variant, and what the variant holds.
@@ -57,14 +61,14 @@ impl<W: Write + Drop> Serializer<W> {
         ensures deeper { OnOk result (self.new.depth ≡ self.old.depth + 1 + 1) }
     {
         self.open_brackets(Brackets::Curly)?;
-        self.key(&variant)?;
+        self.write_key(&variant)?;
         self.put(": ")?;
         self.open_brackets(brackets)?;
         Ok(())
     }
 
     /// The line of a member, without the comma after it.
-    pub(crate) fn member_line<K: SerializeKey, T: Serialize>(
+    pub(crate) fn write_member_line<K: SerializeKey, T: Serialize>(
         &mut self,
         comma_due: bool,
         key: &K,
@@ -82,7 +86,7 @@ impl<W: Write + Drop> Serializer<W> {
     }
 
     /// The value after a key.
-    pub(crate) fn value<T: Serialize>(&mut self, value: &T) -> Result<()>
+    pub(crate) fn write_value<T: Serialize>(&mut self, value: &T) -> Result<()>
         ensures { Writes (value_part (out self.old.limit (T.tree value.now) self.old.depth)) self.old result self.new }
     {
         self.put_piece(": ")?;

@@ -11,12 +11,12 @@ use json5_types::error::Result;
 use std::io::Write;
 
 impl<W: Write + Drop> Serializer<W> {
-    fn put_digits<I: Integer>(&mut self, value: I) -> Result<()>
+    fn write_integer_key<I: Integer>(&mut self, value: I) -> Result<()>
         ensures { WritesKey (named (I.text value)) self.old result self.new }
     {
         let mut buffer = Buffer::new();
         let digits = buffer.format(value);
-        self.put_name(digits)
+        self.write_text_key(digits)
     }
 }
 
@@ -36,7 +36,7 @@ impl<W: Write + Drop> MapKey<'_, W> {
         ensures { WritesKey (⟦<u8 as SerializeKey>⟧.as_key value) (serializer_of_key self.entry) result self.exit.0.now }
     {
         let MapKey { ser } = self;
-        ser.put_digits(value)
+        ser.write_integer_key(value)
     }
 
     /// Writes the decimal digits as a key.
@@ -52,7 +52,7 @@ impl<W: Write + Drop> MapKey<'_, W> {
         ensures { WritesKey (⟦<u16 as SerializeKey>⟧.as_key value) (serializer_of_key self.entry) result self.exit.0.now }
     {
         let MapKey { ser } = self;
-        ser.put_digits(value)
+        ser.write_integer_key(value)
     }
 
     /// Writes the decimal digits as a key.
@@ -68,7 +68,7 @@ impl<W: Write + Drop> MapKey<'_, W> {
         ensures { WritesKey (⟦<u32 as SerializeKey>⟧.as_key value) (serializer_of_key self.entry) result self.exit.0.now }
     {
         let MapKey { ser } = self;
-        ser.put_digits(value)
+        ser.write_integer_key(value)
     }
 
     /// Writes the decimal digits as a key.
@@ -84,7 +84,7 @@ impl<W: Write + Drop> MapKey<'_, W> {
         ensures { WritesKey (⟦<u64 as SerializeKey>⟧.as_key value) (serializer_of_key self.entry) result self.exit.0.now }
     {
         let MapKey { ser } = self;
-        ser.put_digits(value)
+        ser.write_integer_key(value)
     }
 
     /// Writes the decimal digits as a key.
@@ -100,7 +100,7 @@ impl<W: Write + Drop> MapKey<'_, W> {
         ensures { WritesKey (⟦<u128 as SerializeKey>⟧.as_key value) (serializer_of_key self.entry) result self.exit.0.now }
     {
         let MapKey { ser } = self;
-        ser.put_digits(value)
+        ser.write_integer_key(value)
     }
 
     /// Writes the decimal digits as a key, after a minus where the number is negative: `"-1"`.
@@ -116,7 +116,7 @@ impl<W: Write + Drop> MapKey<'_, W> {
         ensures { WritesKey (⟦<i8 as SerializeKey>⟧.as_key value) (serializer_of_key self.entry) result self.exit.0.now }
     {
         let MapKey { ser } = self;
-        ser.put_digits(value)
+        ser.write_integer_key(value)
     }
 
     /// Writes the decimal digits as a key, after a minus where the number is negative.
@@ -132,7 +132,7 @@ impl<W: Write + Drop> MapKey<'_, W> {
         ensures { WritesKey (⟦<i16 as SerializeKey>⟧.as_key value) (serializer_of_key self.entry) result self.exit.0.now }
     {
         let MapKey { ser } = self;
-        ser.put_digits(value)
+        ser.write_integer_key(value)
     }
 
     /// Writes the decimal digits as a key, after a minus where the number is negative.
@@ -148,7 +148,7 @@ impl<W: Write + Drop> MapKey<'_, W> {
         ensures { WritesKey (⟦<i32 as SerializeKey>⟧.as_key value) (serializer_of_key self.entry) result self.exit.0.now }
     {
         let MapKey { ser } = self;
-        ser.put_digits(value)
+        ser.write_integer_key(value)
     }
 
     /// Writes the decimal digits as a key, after a minus where the number is negative.
@@ -164,7 +164,7 @@ impl<W: Write + Drop> MapKey<'_, W> {
         ensures { WritesKey (⟦<i64 as SerializeKey>⟧.as_key value) (serializer_of_key self.entry) result self.exit.0.now }
     {
         let MapKey { ser } = self;
-        ser.put_digits(value)
+        ser.write_integer_key(value)
     }
 
     /// Writes the decimal digits as a key, after a minus where the number is negative.
@@ -180,7 +180,7 @@ impl<W: Write + Drop> MapKey<'_, W> {
         ensures { WritesKey (⟦<i128 as SerializeKey>⟧.as_key value) (serializer_of_key self.entry) result self.exit.0.now }
     {
         let MapKey { ser } = self;
-        ser.put_digits(value)
+        ser.write_integer_key(value)
     }
 
     /// Writes the text that `serialize_decimal` of a serializer writes, as a key: `Infinity` and `NaN` bare, any other between
@@ -198,6 +198,6 @@ impl<W: Write + Drop> MapKey<'_, W> {
         ensures { WritesKey (named (decimal_text value.now)) (serializer_of_key self.entry) result self.exit.0.now }
     {
         let MapKey { ser } = self;
-        ser.put_decimal_name(value)
+        ser.write_decimal_key(value)
     }
 }

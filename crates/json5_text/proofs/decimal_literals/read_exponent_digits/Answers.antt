@@ -11,15 +11,15 @@ returns-then-is_empty c =
     let x = chars c.args.text.now in
     exponent_no_digit c.args.negative (run_of x) _ (front_is x _ c.split_digits.ensures.front) (is_none _ _ c.is_empty.ensures c.if-is_empty.true)
 
-pub returns-then-goes_on : goal.returns-then-goes_on
-returns-then-goes_on c =
+pub returns-then-run_goes_on : goal.returns-then-run_goes_on
+returns-then-run_goes_on c =
     let x = chars c.args.text.now in
-    exponent_more c.args.negative (run_of x) (more_follows x _ c.split_digits.ensures.rest (sym c.goes_on.ensures ∙ c.if-goes_on.true))
+    exponent_more c.args.negative (run_of x) (more_follows x _ c.split_digits.ensures.rest (sym c.run_goes_on.ensures ∙ c.if-run_goes_on.true))
 
 pub returns : goal.returns
 returns c =
     let x = chars c.args.text.now in
-    let none = sym c.goes_on.ensures ∙ c.if-goes_on.false in
+    let none = sym c.run_goes_on.ensures ∙ c.if-run_goes_on.false in
     record {
       read = exponent_found c.args.negative (run_of x) _ (front_is x _ c.split_digits.ensures.front) (is_some _ _ c.is_empty.ensures c.if-is_empty.false) (none_follows x _ c.split_digits.ensures.rest none);
       digits = c.split_digits.ensures.digits;

@@ -10,14 +10,14 @@ use Rattle.json5_text.proofs.short_decimals.front_decimal.Goals as goal
 pub returns-clause-read : goal.returns-clause-read
 returns-clause-read c =
     let x = chars c.args.text.now in
-    let negative = c.after_sign-negative.result.0 in
-    let y = chars c.after_sign-negative.result.1.now in
+    let negative = c.split_sign-negative.result.0 in
+    let y = chars c.split_sign-negative.result.1.now in
     let r = rest_of in_run y in
     let literal = c.in_ok-literal.ensures.literal in
     let digits = c.few_exponent.new.digits in
     let exponent = c.in_ok-exponent.exponent in
     record {
-      read = number_signed x y negative c.after_sign-negative.ensures.sign ∙ c.begins_run.ensures c.if-not-begins_run.false x negative ∙ ap (if_literal x negative r) literal.read
+      read = number_signed x y negative c.split_sign-negative.ensures.sign ∙ c.begins_run.ensures c.if-not-begins_run.false x negative ∙ ap (if_literal x negative r) literal.read
           ∙ c.in_ok-exponent.ensures.means negative (search rules) x r ∙ ap (got (decimal (finite negative digits exponent))) (sym literal.ends.follows)
           ∙ ap (λ e. got (decimal (finite negative digits e)) (chars c.in_ok-literal.literal.rest.now)) (sym (held exponent c.in_ok-exponent.ensures.normal.in_range));
       text = literal.ends.text;

@@ -1,6 +1,6 @@
 use Rattle.std.proofs.Common.{◌≡◌, ◌<◌, subst, length}
 use Rattle.std.specs.Prelude.{slice_index}
-use Rattle.json5_text.proofs.ShortWholes.{minus_cut, minus_front}
+use Rattle.json5_text.proofs.WholesOfFewDigits.{minus_cut, minus_front}
 use Rattle.json5_text.proofs.ShortWays.{bare_whole, minus_whole}
 use Rattle.json5_text.proofs.short_ways.front_whole.Goals as goal
 

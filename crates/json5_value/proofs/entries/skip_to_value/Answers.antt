@@ -13,19 +13,19 @@ returns-in_err-more g c =
 pub returns-then-not-more : goal.returns-then-not-more
 returns-then-not-more g c = next_closed (bracket_of c.args.kind) c.args.comma_due c.in_ok-more.more c.args.scanner.now c.skip_to_entry.new.scanner c.if-not-more.true c.in_ok-more.ensures.given
 
-pub skip_name-requires : goal.skip_name-requires
-skip_name-requires g c = ready_next c.args.scanner.now c.skip_to_entry.new.scanner c.requires c.in_ok-more.ensures.given
+pub skip_before_value-requires : goal.skip_before_value-requires
+skip_before_value-requires g c = ready_next c.args.scanner.now c.skip_to_entry.new.scanner c.requires c.in_ok-more.ensures.given
 
-pub returns-in_err-skip_name-in-Object : goal.returns-in_err-skip_name-in-Object
-returns-in_err-skip_name-in-Object g c =
-    let (y, is, from) = err_from_is_err_and c.from_residual-in_err-skip_name-in-Object.result c.from_residual-in_err-skip_name-in-Object.ensures.1 in
+pub returns-in_err-skip_before_value-in-Object : goal.returns-in_err-skip_before_value-in-Object
+returns-in_err-skip_before_value-in-Object g c =
+    let (y, is, from) = err_from_is_err_and c.from_residual-in_err-skip_before_value-in-Object.result c.from_residual-in_err-skip_before_value-in-Object.ensures.1 in
     rw (is, from) (name_refused (bracket_of c.args.kind) c.args.comma_due c.in_ok-more.more c.args.scanner.now c.skip_to_entry.new.scanner (ap bracket_of c.in-Object.is) c.if-not-more.false c.in_ok-more.ensures.given
-    c.skip_name.new.scanner c.in_err-skip_name-in-Object.field-0.0 c.in_err-skip_name-in-Object.ensures.refused c.in_err-skip_name-in-Object.ensures.same_text)
+    c.skip_before_value.new.scanner c.in_err-skip_before_value-in-Object.field-0.0 c.in_err-skip_before_value-in-Object.ensures.refused c.in_err-skip_before_value-in-Object.ensures.same_text)
 
 pub returns-in-Array : goal.returns-in-Array
 returns-in-Array g c = element_reached (bracket_of c.args.kind) c.args.comma_due c.in_ok-more.more c.args.scanner.now c.skip_to_entry.new.scanner (ap bracket_of c.in-Array.is) c.if-not-more.false c.in_ok-more.ensures.given
 
-pub returns-in_ok-skip_name-in-Object : goal.returns-in_ok-skip_name-in-Object
-returns-in_ok-skip_name-in-Object g c =
+pub returns-in_ok-skip_before_value-in-Object : goal.returns-in_ok-skip_before_value-in-Object
+returns-in_ok-skip_before_value-in-Object g c =
     member_reached (bracket_of c.args.kind) c.args.comma_due c.in_ok-more.more c.args.scanner.now c.skip_to_entry.new.scanner (ap bracket_of c.in-Object.is) c.if-not-more.false c.in_ok-more.ensures.given
-    c.skip_name.new.scanner tt c.in_ok-skip_name-in-Object.ensures.given
+    c.skip_before_value.new.scanner tt c.in_ok-skip_before_value-in-Object.ensures.given

@@ -8,13 +8,13 @@ returns-in-Closed g c = members_end c.args.members.items c.short_members.new.mem
 
 pub enter_member-requires : goal.enter_member-requires
 enter_member-requires g c =
-    let (key, is_key, both) = rw c.in-Named.is at c.short_members.ensures in
+    let (key, is_key, both) = rw c.in-KeyTaken.is at c.short_members.ensures in
     ready_after c.args.scanner.now c.short_members.new.scanner both.0.taken c.requires both.0.took
 
-pub returns-in-Named : goal.returns-in-Named
-returns-in-Named g c =
-    member_next c.args.members.items c.short_members.new.members c.args.start c.args.comma_due c.args.stack.now.items c.args.scanner.now c.short_members.new.scanner c.enter_member.new.stack.items c.enter_member.new.scanner c.in-Named.key c.in-Named.left c.enter_member.result
-    (rw c.in-Named.is at c.short_members.ensures) c.enter_member.ensures
+pub returns-in-KeyTaken : goal.returns-in-KeyTaken
+returns-in-KeyTaken g c =
+    member_next c.args.members.items c.short_members.new.members c.args.start c.args.comma_due c.args.stack.now.items c.args.scanner.now c.short_members.new.scanner c.enter_member.new.stack.items c.enter_member.new.scanner c.in-KeyTaken.key c.in-KeyTaken.left c.enter_member.result
+    (rw c.in-KeyTaken.is at c.short_members.ensures) c.enter_member.ensures
 
 pub resume_object_slowly-requires : goal.resume_object_slowly-requires
 resume_object_slowly-requires g c = let (l, due) = rw c.in-Within.is at c.short_members.ensures in ready_after c.args.scanner.now c.short_members.new.scanner l.taken c.requires l.took

@@ -8,10 +8,10 @@ use Rattle.json5_de.proofs.de.Deserializer.deserialize_variant.Goals as goal
 pub returns-in_err-string : goal.returns-in_err-string
 returns-in_err-string g c =
     let (y, is, from) = err_from_is_err_and c.from_residual.result c.from_residual.ensures.1 in
-    rw (is, from) (no_string None (λ e. absurd (cc)) (index_of (names_bytes c.args.variants.now)) escape_free_text (λ n. n) c.args.self.now c.found_string.new.self c.in_err-string.field-0.0 (λ t escape_free. escape_free)
+    rw (is, from) (no_string None (λ e. absurd (cc)) (index_of (names_bytes c.args.variants.now)) escape_free_text (λ n. n) c.args.self.now c.find_string.new.self c.in_err-string.field-0.0 (λ t escape_free. escape_free)
     c.in_err-string.ensures.refused c.in_err-string.ensures.complete c.in_err-string.ensures.failed c.in_err-string.ensures.before)
 
 pub returns : goal.returns
 returns g c =
-    string_judged false None (λ e. absurd (cc)) (index_of (names_bytes c.args.variants.now)) escape_free_text (λ n. n) c.args.self.now c.found_string.new.self c.variant_of.new.self c.in_ok-string.string c.variant_of.result (λ may. absurd (cc))
+    string_judged false None (λ e. absurd (cc)) (index_of (names_bytes c.args.variants.now)) escape_free_text (λ n. n) c.args.self.now c.find_string.new.self c.variant_of.new.self c.in_ok-string.string c.variant_of.result (λ may. absurd (cc))
     c.in_ok-string.ensures.taken c.variant_of.ensures

@@ -27,12 +27,12 @@ returns-then-at_text-clause-names g c = text_named (names_bytes c.args.variants.
 pub returns-in_err-variant-2-clause-names : goal.returns-in_err-variant-2-clause-names
 returns-in_err-variant-2-clause-names g c =
     let (y, is, from) = err_from_is_err_and c.from_residual-in_err-variant-2.result c.from_residual-in_err-variant-2.ensures.1 in
-    rw (is, from) (object_unnamed (names_bytes c.args.variants.now) c.args.self.now c.skip_blank.new.self c.in_ok-skip_blank.ensures.passed c.offset-start.result c.offset-start.ensures.counted (named_state_of c.keyed_variant.new.self)
-    c.keyed_variant.new.self c.in_err-variant-2.field-0.0 (c.if-at_object.ensures.found refl) c.in_err-variant-2.ensures)
+    rw (is, from) (object_unnamed (names_bytes c.args.variants.now) c.args.self.now c.skip_blank.new.self c.in_ok-skip_blank.ensures.passed c.offset-start.result c.offset-start.ensures.counted (named_state_of c.read_keyed_variant.new.self)
+    c.read_keyed_variant.new.self c.in_err-variant-2.field-0.0 (c.if-at_object.ensures.found refl) c.in_err-variant-2.ensures)
 
 pub returns-then-at_object-clause-names : goal.returns-then-at_object-clause-names
-returns-then-at_object-clause-names g c = object_named (names_bytes c.args.variants.now) c.args.self.now c.skip_blank.new.self c.in_ok-skip_blank.ensures.passed c.offset-start.result c.offset-start.ensures.counted (named_state_of c.keyed_variant.new.self)
-    c.keyed_variant.new.self _ c.in_ok-variant-2.variant (c.if-at_object.ensures.found refl) refl c.in_ok-variant-2.ensures
+returns-then-at_object-clause-names g c = object_named (names_bytes c.args.variants.now) c.args.self.now c.skip_blank.new.self c.in_ok-skip_blank.ensures.passed c.offset-start.result c.offset-start.ensures.counted (named_state_of c.read_keyed_variant.new.self)
+    c.read_keyed_variant.new.self _ c.in_ok-variant-2.variant (c.if-at_object.ensures.found refl) refl c.in_ok-variant-2.ensures
 
 pub returns-clause-names : goal.returns-clause-names
 returns-clause-names g c = no_name_begun (names_bytes c.args.variants.now) (named_state_of c.fail_unexpected.new.self) c.args.self.now c.skip_blank.new.self c.in_ok-skip_blank.ensures.passed c.fail_unexpected.result (c.if-at_text.ensures.other refl) (c.if-at_object.ensures.other refl) c.fail_unexpected.ensures.fault

@@ -1,6 +1,6 @@
 use Rattle.std.proofs.Common.{true, ap, subst, arith}
 use Rattle.json5_text.specs.ShortWays.{TakesShortSign}
-use Rattle.json5_value.specs.declared.brackets.Brackets.{Brackets}
+use Rattle.json5_value.specs.declared.brackets.BracketPair.{BracketPair}
 use Rattle.json5_de.proofs.ShortBrackets.{short_open}
 use Rattle.json5_de.proofs.de.Deserializer.short_open.Goals as goal
 
@@ -8,4 +8,4 @@ pub returns : goal.returns
 returns g c =
     let room = c.if-self-ge128.false in
     rw c.saturating_sub.ensures (short_open c.args.kind c.self.inside.scanner c.short_sign.new.self c.self.inside.level c.offset.result c.self.inside.failed c.args.self.now c.self.view_is c.if-self.false (omega (arith, room)) c.offset.ensures.counted
-    (subst (λ n. TakesShortSign n c.self.inside.scanner c.short_sign.new.self true) (ap (λ (b : Brackets). b.opening) c.brackets.ensures) c.if-not-short_sign.ensures))
+    (subst (λ n. TakesShortSign n c.self.inside.scanner c.short_sign.new.self true) (ap (λ (b : BracketPair). b.opening) c.brackets.ensures) c.if-not-short_sign.ensures))

@@ -33,5 +33,5 @@ pub returns-in-Owned : goal.returns-in-Owned
 returns-in-Owned g c =
     let (s, u, escape_free, took, str, borrowed, bytes) = c.in_ok-text.ensures.taken in
     let none : if_escape_free u escape_free ≡ None = ap (if_escape_free u) (sym borrowed ∙ ap is_borrowed c.in-Owned.is) in
-    not_text if_escape_free every_tree (λ t. t.now) c.args.self.now c.skip_blank.new.self c.text.new.self c.mismatch.new.self c.mismatch.result c.offset-start.result s u escape_free
-    c.in_ok-skip_blank.ensures.passed took str none c.offset-start.ensures.counted c.mismatch.ensures.refused c.mismatch.ensures.failed
+    not_text if_escape_free every_tree (λ t. t.now) c.args.self.now c.skip_blank.new.self c.text.new.self c.refuse_mismatch.new.self c.refuse_mismatch.result c.offset-start.result s u escape_free
+    c.in_ok-skip_blank.ensures.passed took str none c.offset-start.ensures.counted c.refuse_mismatch.ensures.refused c.refuse_mismatch.ensures.failed

@@ -5,4 +5,4 @@ use Rattle.json5_ser.specs.WrittenKeys.{WritesKey}
 use Rattle.json5_ser.proofs.key.MapKey.serialize_bool.Goals as goal
 
 pub returns : goal.returns
-returns g c = subst (λ u. WritesKey (named u) (serializer_of_key c.args.self) c.put_name.result c.put_name.new.self) c.bool_name.ensures c.put_name.ensures
+returns g c = subst (λ u. WritesKey (named u) (serializer_of_key c.args.self) c.write_text_key.result c.write_text_key.new.self) c.bool_name.ensures c.write_text_key.ensures

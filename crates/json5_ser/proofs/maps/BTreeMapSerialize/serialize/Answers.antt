@@ -19,12 +19,12 @@ loop-key-init g c =
 pub returns-then-is_err : goal.returns-then-is_err
 returns-then-is_err g c =
     let next = fields_as c.loop-key.comma_due (ap (fields_of g.K.SerializeKey.as_key g.V.Serialize.tree) c.in-Some.ensures.steps) c.loop-key.invariant.left in
-    member_line_returned _ _ _ _ _ c.loop-key.comma_due next c.member_line-written.ensures (sym c.if-is_err.ensures.value)
+    member_line_returned _ _ _ _ _ c.loop-key.comma_due next c.write_member_line-written.ensures (sym c.if-is_err.ensures.value)
 
 pub loop-key-preserved : goal.loop-key-preserved
 loop-key-preserved g c =
     let next = fields_as c.loop-key.comma_due (ap (fields_of g.K.SerializeKey.as_key g.V.Serialize.tree) c.in-Some.ensures.steps) c.loop-key.invariant.left in
-    record { left = member_line_on _ _ _ c.loop-key.comma_due next (wrote_whole _ _ _ _ (sym c.if-is_err.ensures.value) c.member_line-written.ensures) }
+    record { left = member_line_on _ _ _ c.loop-key.comma_due next (wrote_whole _ _ _ _ (sym c.if-is_err.ensures.value) c.write_member_line-written.ensures) }
 
 pub returns : goal.returns
 returns g c =

@@ -1,0 +1,24 @@
+use Rattle.std.proofs.Common.{◌≡◌, Bool, true, false, refl}
+use Rattle.json5_de.specs.FieldKeys.{field_key_text}
+use Rattle.std.specs.Prelude.{is_some}
+use Rattle.json5_de.specs.Convert.{every_text}
+use Rattle.json5_de.specs.KeyKinds.{RefusedAsKey, string_key}
+use Rattle.json5_de.specs.Lending.{blocking_map}
+use Rattle.json5_de.specs.ShortWays.{if_given}
+use Rattle.json5_de.proofs.ObjectCalls.{lent, key_given, key_refused}
+use Rattle.json5_de.proofs.map.MapAccess.read_next_field_key.Goals as goal
+
+given_is_some : {A : Type 0} (value : A) (given : Bool) → given ≡ is_some (if_given value given)
+given_is_some value true = refl
+given_is_some value false = refl
+
+pub returns-in-Ok-clause-key : goal.returns-in-Ok-clause-key
+returns-in-Ok-clause-key g c =
+    let k = rw (c.set_failed.ensures, c.is_comma_due.ensures) at c.in-Ok.ensures.key in
+    let new = blocking_map (lent c.args.self.now c.read_field_key.new.self) c.args.self.now.failed in
+    rw (c.with_key-self.ensures, c.set_failed-in-Ok.ensures) (key_given field_key_text every_text (RefusedAsKey string_key) c.args.self.now c.requires.no_key c.read_field_key.new.self new c.in-Ok.given (if_given c.read_field_key.new.field_key c.in-Ok.given) refl (given_is_some c.read_field_key.new.field_key c.in-Ok.given) k.steady.same_text k.sound)
+
+pub returns-in-Err-clause-key : goal.returns-in-Err-clause-key
+returns-in-Err-clause-key g c =
+    let k = rw (c.set_failed.ensures, c.is_comma_due.ensures) at c.in-Err.ensures.key in
+    key_refused field_key_text every_text (RefusedAsKey string_key) c.args.self.now c.requires.no_key c.read_field_key.new.self c.refused.new.self c.in-Err.e c.refused.result c.refused.ensures.blocks c.refused.ensures.placed k.cause k.steady k.complete k.closing

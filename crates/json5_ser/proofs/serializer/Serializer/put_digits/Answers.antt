@@ -1,9 +1,0 @@
-use Rattle.std.proofs.Common.{◌∙◌, subst}
-use Rattle.json5_write.specs.WrittenTrees.{named}
-use Rattle.json5_ser.specs.WrittenKeys.{WritesKey}
-use Rattle.json5_write.proofs.PiecesWritten.{chars_number}
-use Rattle.json5_ser.proofs.serializer.Serializer.put_digits.Goals as goal
-
-pub returns : goal.returns
-returns g c =
-    subst (λ u. WritesKey (named u) c.args.self.now c.put_name.result c.put_name.new.self) (chars_number _ c.format-digits.ensures.ascii ∙ c.format-digits.ensures.text) c.put_name.ensures
