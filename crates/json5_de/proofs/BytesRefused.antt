@@ -10,7 +10,7 @@ use Rattle.json5_types.specs.ByteBufs.{bytes_of}
 use Rattle.json5_types.specs.declared.byte_buf.ByteBuf.{ByteBuf}
 use Rattle.json5_types.specs.declared.error.Error.{Error}
 use Rattle.json5_types.specs.Errors.{LacksMemory}
-use Rattle.json5_de.specs.declared.found_text.FoundText.{FoundText}
+use Rattle.json5_de.specs.declared.de.tokens.FoundText.{FoundText}
 use Rattle.json5_de.specs.State.{State, GivesUp}
 use Rattle.json5_de.specs.ReaderSteps.{IsMismatchOf, IsUndecoded}
 use Rattle.json5_de.specs.Convert.{digits_bytes}

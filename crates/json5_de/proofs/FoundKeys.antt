@@ -23,7 +23,7 @@ use Rattle.json5_types.specs.declared.error.Error.{Error}
 use Rattle.json5_types.specs.Errors.{LacksMemory, code, custom, kind_of, error_position}
 use Rattle.json5_text.specs.Cursor.{Refused, Says, IsOutOfMemory}
 use Rattle.json5_text.specs.TokenFaults.{FaultyBlanks, FaultyKey}
-use Rattle.json5_de.specs.declared.found_text.FoundText.{FoundText}
+use Rattle.json5_de.specs.declared.de.tokens.FoundText.{FoundText}
 use Rattle.json5_de.specs.State.{State, GivesUp, cursor_of}
 use Rattle.json5_de.specs.DeserializeLaw.{StaysFailed, IsUnprompted}
 use Rattle.json5_de.specs.Convert.{index_of}

@@ -10,7 +10,7 @@ use Rattle.json5_grammar.specs.Language.Values.{is_text}
 use Rattle.json5_types.specs.declared.error.Error.{Error}
 use Rattle.json5_types.specs.Errors.{LacksMemory}
 use Rattle.json5_text.specs.TokenFaults.{FaultyString}
-use Rattle.json5_de.specs.declared.found_text.FoundText.{FoundText}
+use Rattle.json5_de.specs.declared.de.tokens.FoundText.{FoundText}
 use Rattle.json5_de.specs.State.{State, GivesUp}
 use Rattle.json5_de.specs.Convert.{as_text, every_text, one_character}
 use Rattle.json5_de.specs.Faults.{AfterBlanks, in_blanks, after_gap, RefusedByOrMemory, NotText, faulty_text}

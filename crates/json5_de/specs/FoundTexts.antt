@@ -11,7 +11,7 @@ use Rattle.json5_text.specs.Cursor.{IsOffset}
 use Rattle.json5_types.specs.Errors.{LacksMemory}
 use Rattle.json5_text.specs.TextTokens.{Spells, IsTextOf, IsCowOf}
 use Rattle.json5_text.specs.TokenFaults.{FaultyKey, FaultyString}
-use Rattle.json5_de.specs.declared.found_text.FoundText.{FoundText}
+use Rattle.json5_de.specs.declared.de.tokens.FoundText.{FoundText}
 use Rattle.json5_de.specs.State.{State, GivesUp}
 use Rattle.json5_de.specs.Convert.{as_text, every_text}
 use Rattle.json5_de.specs.Faults.{FaultRelation, RefusedByOrMemory}

@@ -23,7 +23,7 @@ use Rattle.json5_de.specs.Stages.{is_comma_due, is_pending}
 use Rattle.json5_de.specs.KeyPlaces.{KeyBegins, BeginsIfGiven}
 use Rattle.json5_de.specs.Enums.{EnumAccessState}
 use Rattle.json5_de.specs.declared.enums.EnumAccess.{EnumAccess}
-use Rattle.json5_de.specs.declared.variant_names.Named.{Named}
+use Rattle.json5_de.specs.declared.enums.Named.{Named}
 use Rattle.json5_de.specs.declared.key.MapKey.{MapKey}
 use Rattle.json5_de.specs.declared.map.MapAccess.{MapAccess}
 use Rattle.json5_de.specs.declared.seq.SeqAccess.{SeqAccess}

@@ -2,38 +2,35 @@
 
 ghost use Rattle.std.specs.Prelude.{◌≡◌, ◌≤◌, ◌<◌, ◌+◌, ◌-◌, Bool, true, false, IfOk, IfErr, OnOk};
 ghost use Rattle.std.specs.Str.{chars};
-ghost use Rattle.json5_text.specs.Cursor.{IsInput, Locates};
+ghost use Rattle.json5_text.specs.Cursor.{Locates};
 ghost use Rattle.json5_grammar.specs.Language.Documents.{max_depth};
 ghost use Rattle.json5_grammar.specs.declared.error_code.ErrorCode.TheVariants as codes;
-ghost use Rattle.json5_value.specs.OwnedReads.{OwnsKey, ReadsDatum};
-ghost use Rattle.json5_value.specs.Kinds.{word_of, ends_of, differs_of};
 ghost use Rattle.json5_value.specs.Offsets.{PositionedAt, StartsAfter};
-ghost use Rattle.json5_value.specs.SkipSteps.{SkipsValue};
-ghost use Rattle.json5_de.specs.State.{State, SameText, Calls, GivesUpWith, next, at_start};
+ghost use Rattle.json5_de.specs.State.{State, SameText, GivesUpWith, at_start};
 ghost use Rattle.json5_de.specs.Faults.{IsPositionless};
 ghost use Rattle.json5_de.specs.DeserializeLaw.{Gives, Completes, CompletesFree, Unprompted};
 ghost use Rattle.json5_de.specs.AccessCalls.{IsUnexpected};
-ghost use Rattle.json5_de.specs.ReaderSteps.{Eats, IsCount, IsMismatch};
-ghost use Rattle.json5_de.specs.FoundTexts.{SpellsText, SpellsCow};
-ghost use Rattle.json5_de.specs.TokenCalls as tokens;
-ghost use Rattle.json5_de.specs.TokenCalls.{PassesGap, Takes, TakesOwnString, PassesWord};
+ghost use Rattle.json5_de.specs.ReaderSteps.{IsMismatch};
 ghost use Rattle.json5_de.specs.WholeInputs.{ReadsEnd};
+ghost use Rattle.json5_de.specs.Refinement.{ReadsExactly};
+
+pub(crate) mod any;
+mod brackets;
+mod bytes;
+mod literals;
+mod numbers;
+mod option;
+mod strings;
+pub(crate) mod tokens;
 
 use crate::mismatch::Mismatch;
-use json5_text::input::{Borrows, Input};
+use json5_text::input::Input;
 use json5_text::scanner::Scanner;
-use json5_text::text_token::TextToken;
-use json5_types::cow_str::CowStr;
 use json5_types::error::{Error, Result};
 use json5_types::nesting::Limit;
-use json5_types::number::Number;
 use json5_types::value::Value;
 use json5_types::{ErrorCode, Position};
 use json5_value::faults::{fault_here, unexpected_here, with_position_at};
-use json5_value::kinds::{Literal, skip_literal};
-use json5_value::owned_tokens::key_owned;
-use json5_value::read::read_value;
-use json5_value::skip::skip_value;
 use std::alloc::Global;
 use std::marker::Model;
 
@@ -216,120 +213,6 @@ impl<I: Input> Deserializer<I> {
         Err(error)
     }
 
-    /// The input.
-    #[inline(always)]
-    pub(crate) fn input(&self) -> I
-        ensures { IsInput self.now.input (I.text result) }
-    {
-        self.scanner.input()
-    }
-
-    /// The next character.
-    #[inline(always)]
-    pub(crate) fn peek(&self) -> Option<char>
-        ensures { result ≡ next self.now }
-    {
-        self.scanner.peek()
-    }
-
-    /// Passes over blanks if no call was refused so far.
-    #[inline(always)]
-    pub(crate) fn skip_blank(&mut self) -> Result<()>
-        ensures { PassesGap self.old self.new result }
-    {
-        self.check_not_failed()?;
-        match self.scanner.skip_blank() {
-            Ok(()) => Ok(()),
-            Err(e) => self.refuse(e),
-        }
-    }
-
-    /// Takes the literal in front.
-    pub(crate) fn literal(&mut self, literal: Literal) -> Result<()>
-        ensures { PassesWord (word_of literal) (ends_of literal) (differs_of literal) self.old self.new result }
-    {
-        match skip_literal(&mut self.scanner, literal) {
-            Ok(()) => Ok(()),
-            Err(e) => self.refuse(e),
-        }
-    }
-
-    /// Takes the number in front.
-    pub(crate) fn number(&mut self) -> Result<Number>
-        ensures { Takes tokens.number_token self.old self.new result }
-    {
-        match self.scanner.number() {
-            Ok(number) => Ok(number),
-            Err(e) => self.refuse(e),
-        }
-    }
-
-    /// Takes the string in front, and returns an owned copy of its text.
-    pub(crate) fn string_owned(&mut self) -> Result<String>
-        ensures { TakesOwnString self.old self.new result }
-    {
-        // Goals below need what `offset` promises: what is unread is the end of the input.
-        let _offset = self.offset();
-        match self.scanner.string_owned() {
-            Ok(text) => Ok(text),
-            Err(e) => self.refuse(e),
-        }
-    }
-
-    /// Takes the string in front, to its token.
-    pub(crate) fn string_token(&mut self) -> Result<TextToken>
-        ensures { Takes tokens.text_token self.old self.new result }
-    {
-        match self.scanner.string_token() {
-            Ok(token) => Ok(token),
-            Err(e) => self.refuse(e),
-        }
-    }
-
-    /// Passes over the value in front.
-    pub(crate) fn skip_value(&mut self) -> Result<()>
-        ensures { Calls (SkipsValue (max_depth - self.old.level)) self.old self.new result }
-    {
-        match skip_value(&mut self.scanner, 128 - self.level) {
-            Ok(()) => Ok(()),
-            Err(e) => self.refuse(e),
-        }
-    }
-
-    /// Reads the value in front.
-    pub(crate) fn read_value(&mut self) -> Result<Value>
-        ensures { Calls (ReadsDatum (max_depth - self.old.level)) self.old self.new result }
-    {
-        match read_value(&mut self.scanner, 128 - self.level) {
-            Ok(value) => Ok(value),
-            Err(e) => self.refuse(e),
-        }
-    }
-
-    /// Takes the key in front.
-    pub(crate) fn key(&mut self) -> Result<TextToken>
-        ensures { Takes tokens.key_token self.old self.new result }
-    {
-        match self.scanner.key() {
-            Ok(key) => Ok(key),
-            Err(e) => self.refuse(e),
-        }
-    }
-
-    /// The text of a string or a key that was taken.
-    pub(crate) fn token_text<'t>(&'t self, token: &'t TextToken) -> &'t str
-        ensures { SpellsText self.now token.now result.now }
-    {
-        self.scanner.text_of(token)
-    }
-
-    /// An owned copy of the text of a key that was taken.
-    pub(crate) fn own_key_text(&self, key: TextToken) -> Result<String>
-        ensures { OwnsKey self.now.input key result }
-    {
-        key_owned(&self.scanner, key)
-    }
-
     /// Refuses what is next: `differs` at the character, or `ends` at the end, without a position.
     #[cold]
     #[inline(never)]
@@ -372,13 +255,6 @@ impl<I: Input> Deserializer<I> {
             return self.refuse(error);
         }
         Ok(())
-    }
-
-    /// The count of bytes before what is unread.
-    pub(crate) fn offset(&self) -> usize
-        ensures { IsCount self.now result }
-    {
-        self.scanner.offset()
     }
 
     /// The fault of a value that isn't of the type that is expected: a custom message, at the offset.
@@ -432,13 +308,6 @@ impl<I: Input> Deserializer<I> {
         self.level = self.level.saturating_sub(1);
     }
 
-    /// Takes the character if it is next, and returns whether it was.
-    pub(crate) fn eat(&mut self, c: char) -> bool
-        ensures { Eats c self.old self.new result }
-    {
-        self.scanner.eat(c)
-    }
-
     /// Returns the position of an offset in bytes, such as the `start` of a [`Spanned`](crate::Spanned): line and column,
     /// counted from 0. If no character begins at the offset, it is the position of the text's end.
     ///
@@ -453,22 +322,18 @@ impl<I: Input> Deserializer<I> {
     }
 }
 
-// What is borrowed from the input.
-impl<'de, I: Borrows<'de>> Deserializer<I> {
-    /// Takes the string in front, its text borrowed if it has no backslash.
-    pub(crate) fn text(&mut self) -> Result<CowStr<'de>>
-        ensures { Takes tokens.string_token self.old self.new result }
-    {
-        match self.scanner.string() {
-            Ok(text) => Ok(text),
-            Err(e) => self.refuse(e),
-        }
-    }
-
-    /// The text of a key that was taken, borrowed if no escape is used.
-    pub(crate) fn borrowed_key_text(&self, key: TextToken) -> CowStr<'de>
-        ensures { SpellsCow self.now key result }
-    {
-        self.scanner.borrowed_text_of(key)
-    }
+/// Reads one `T` from the front, as `T::deserialize` does. Its contract also fixes the result: if the value in front
+/// converts, it is Ok of what that value converts to, unless memory runs out.
+///
+/// ```text
+/// let (first, last) = read::<I, (u16, Spanned<u16>)>(de)?;
+/// ```
+///
+/// # Errors
+///
+/// Those of `T::deserialize`.
+pub fn read<I: Input, T: Deserialize<I>>(de: &mut Deserializer<I>) -> Result<T>
+    ensures { ReadsExactly T.content T.convert T.allocation_free T.refuses de.old de.new result }
+{
+    T::deserialize(de)
 }

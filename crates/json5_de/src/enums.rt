@@ -1,20 +1,29 @@
-//! Reading of enums: the content of a variant, after its name.
+//! Reading of enums: the name of a variant, and then its content.
 
-ghost use Rattle.std.specs.Prelude.{◌≡◌, true, false, Some, IfOk};
+ghost use Rattle.std.specs.Prelude.{◌≡◌, Some, IfOk, true, false, None};
 ghost use Rattle.std.specs.Borrow.{sem};
-ghost use Rattle.json5_de.specs.Convert.{names_bytes};
+ghost use Rattle.std.specs.List.{position};
+ghost use Rattle.std.specs.Str.{bytes_eq};
+ghost use Rattle.json5_de.specs.Convert.{names_bytes, index_of};
 ghost use Rattle.json5_value.specs.Brackets.{brackets_of};
-ghost use Rattle.json5_de.specs.TokenKinds.{RefusedAs, null_kind, every_tree};
-ghost use Rattle.json5_de.specs.Enums.{NamesVariant, ReadsVariant, ReadsInBrace, ClosesLast, ClosesContent, TakesContentOpening, OpensTuple, OpensStruct, content_of, unit_content, content_free};
+ghost use Rattle.json5_de.specs.TokenKinds.{RefusedAs, null_kind, every_tree, ReadsAs, variant_kind};
+ghost use Rattle.json5_de.specs.Enums.{NamesVariant, ReadsVariant, ReadsInBrace, ClosesContent, TakesContentOpening, OpensTuple, OpensStruct, content_of, unit_content, content_free, FirstCharIs, ReadsOnlyKey, ReadsKeyed, is_left_brace};
+ghost use Rattle.json5_grammar.specs.Language.Characters.{NotBegun};
+ghost use Rattle.json5_grammar.specs.Language.Strings.{is_quote};
+ghost use Rattle.json5_de.specs.State.{GivesUpIfErr};
+ghost use Rattle.json5_de.specs.FoundTexts.{JudgesText};
+ghost use Rattle.json5_de.specs.ReaderSteps.{IsMismatch};
 
+use crate::de::tokens::FoundText;
 use crate::de::{Deserialize, Deserializer};
 use crate::map::MapAccess;
 use crate::mismatch::Mismatch;
 use crate::seq::SeqAccess;
 use crate::stage::AccessStage;
-use crate::variant_names::Named;
 use json5_text::input::Input;
-use json5_types::error::Result;
+use json5_text::strings::is_quote;
+use json5_types::ErrorCode;
+use json5_types::error::{Error, Result};
 use json5_value::brackets::BracketKind;
 
 /// The variant of an enum: its name was read, and one of four calls reads its content. The caller chooses the call by
@@ -101,28 +110,6 @@ impl<I: Input> Deserializer<I> {
         Ok(EnumAccess { de: self, name })
     }
 
-    /// Takes a closing bracket, and before it the comma that may be there; a refusal is for good.
-    #[inline(always)]
-    pub(crate) fn close_or_fail(&mut self, kind: BracketKind, comma_due: bool) -> Result<()>
-        ensures { ClosesLast (brackets_of kind) comma_due self.old self.new result }
-    {
-        if self.short_close(kind) {
-            return Ok(());
-        }
-        self.close_slowly(kind, comma_due)
-    }
-
-    /// The same of anything in front.
-    #[inline(never)]
-    fn close_slowly(&mut self, kind: BracketKind, comma_due: bool) -> Result<()>
-        ensures { ClosesLast (brackets_of kind) comma_due self.old self.new result }
-    {
-        match self.close(kind, comma_due) {
-            Ok(()) => Ok(()),
-            Err(e) => self.refuse(e),
-        }
-    }
-
     /// Takes the closing bracket of a variant's content, and then the variant's brace, which begins at this offset. A fault of
     /// the bracket without a position gets that of the brace.
     pub(crate) fn close_content(
@@ -190,6 +177,124 @@ impl<I: Input> Deserializer<I> {
             return self.refuse_mismatch(name.start, &Mismatch::WithoutContent("newtype"));
         }
         self.in_brace(name.start)
+    }
+
+    /// Takes the only key of an object, one of the variants, and its colon.
+    fn read_only_key(&mut self, variants: &[&str]) -> Result<usize>
+        ensures { ReadsOnlyKey (names_bytes variants.now) self.old self.new result }
+    {
+        self.skip_blank()?;
+        if !self.at_key() {
+            return Err(self.fail_unexpected(
+                ErrorCode::EofParsingObject,
+                ErrorCode::ExpectedIdentifier,
+            ));
+        }
+        let key = self.find_key()?;
+        let variant = self.variant_of(&key, variants)?;
+        self.pass_colon()?;
+        Ok(variant)
+    }
+
+    /// Opens an object and takes its only key and the colon. After the brace a fault without a position gets that of the brace.
+    fn read_keyed_variant(&mut self, variants: &[&str]) -> Result<usize>
+        ensures { ReadsKeyed (names_bytes variants.now) self.old self.new result }
+    {
+        let start = self.open(BracketKind::Object)?;
+        match self.read_only_key(variants) {
+            Ok(variant) => Ok(variant),
+            Err(e) => Err(self.with_position_at(start, e)),
+        }
+    }
+
+    /// Whether a string is next.
+    fn at_text(&self) -> bool
+        ensures found { result ≡ true → FirstCharIs is_quote self.now.unread }
+        ensures other { result ≡ false → NotBegun is_quote self.now.unread }
+    {
+        match self.peek() {
+            Some(c) => is_quote(c),
+            None => false,
+        }
+    }
+
+    /// Whether an object is next.
+    fn at_object(&self) -> bool
+        ensures found { result ≡ true → FirstCharIs is_left_brace self.now.unread }
+        ensures other { result ≡ false → NotBegun is_left_brace self.now.unread }
+    {
+        match self.peek() {
+            Some(c) => c == '{',
+            None => false,
+        }
+    }
+
+    /// Reads the name of a variant, a string or the only key of an object.
+    #[doc(hidden)]
+    pub fn named(&mut self, variants: &[&str]) -> Result<Named>
+        ensures names { NamesVariant (names_bytes variants.now) (named_state_of self.new) self.old result }
+        ensures failed { GivesUpIfErr self.old self.new result }
+    {
+        self.skip_blank()?;
+        let start = self.offset();
+        if self.at_text() {
+            let variant = self.deserialize_variant(variants)?;
+            return Ok(Named {
+                start,
+                variant,
+                has_content: false,
+            });
+        }
+        if self.at_object() {
+            let variant = self.read_keyed_variant(variants)?;
+            return Ok(Named {
+                start,
+                variant,
+                has_content: true,
+            });
+        }
+        Err(self.fail_unexpected(
+            ErrorCode::EofParsingValue,
+            ErrorCode::ExpectedStringOrObject,
+        ))
+    }
+
+    /// Reads a string that is one of the variants, and returns its index among them, counted from 0; of equal names it is the
+    /// first. A string without an escape takes no memory.
+    ///
+    /// ```text
+    /// let levels = ["low", "middle", "high"];
+    /// let level = de.deserialize_variant(&levels)?;    // 2 for 'high'
+    /// ```
+    ///
+    /// # Errors
+    ///
+    /// - A custom fault that lists the variants, at the opening quote of any other string.
+    /// - The codes of every call that reads a string: see [`Deserializer`].
+    pub fn deserialize_variant(&mut self, variants: &[&str]) -> Result<usize>
+        ensures { ReadsAs (variant_kind (names_bytes variants.now)) (λ n. n) self.old self.new result }
+    {
+        let string = self.find_string()?;
+        self.variant_of(&string, variants)
+    }
+
+    /// The first index of a found text among the variants; if it is none of them, a custom fault at its start.
+    pub(crate) fn variant_of(&mut self, found: &FoundText, variants: &[&str]) -> Result<usize>
+        ensures { JudgesText false None (index_of (names_bytes variants.now)) (λ n. n) found.now self.old self.new result }
+    {
+        let name = self.token_text(&found.token);
+        let Some(place) = index_of(variants, name) else {
+            let error = self.unknown_variant(found, name, variants);
+            return self.refuse(error);
+        };
+        Ok(place)
+    }
+
+    /// The fault of a string that is none of the variants.
+    fn unknown_variant(&self, found: &FoundText, name: &str, variants: &[&str]) -> Error
+        ensures { IsMismatch self.now.input found.now.start result }
+    {
+        self.mismatch_at(found.start, &Mismatch::UnknownVariant(name, variants))
     }
 }
 
@@ -313,4 +418,23 @@ impl<'a, I: Input> EnumAccess<'a, I> {
             brace: Some(name.start),
         })
     }
+}
+
+/// The name of a variant that was read.
+#[doc(hidden)]
+#[derive(Drop)]
+pub struct Named {
+    /// The count of bytes before the string or the opening brace.
+    pub(crate) start: usize,
+    /// The first index of the name among the variants.
+    pub variant: usize,
+    /// Whether the name is a key, whose value is the content.
+    pub(crate) has_content: bool,
+}
+
+/// Returns the first index of the name among these, counted from 0.
+pub(crate) fn index_of(names: &[&str], name: &str) -> Option<usize>
+    ensures { result ≡ position (λ n. bytes_eq n.now name.now) names.now }
+{
+    names.iter().position(|other| *other == name)
 }

@@ -1,13 +1,14 @@
 //! Fields of a struct, which are read as the members of an object come.
 
 ghost use Rattle.std.specs.Prelude.{◌≡◌, true, false, Some, IfOk, OnOk, string_bytes};
+ghost use Rattle.std.specs.Str.{chars};
 ghost use Rattle.json5_grammar.specs.declared.error_code.ErrorCode.TheVariants as codes;
 ghost use Rattle.json5_types.specs.Errors.{code};
 ghost use Rattle.json5_de.specs.Convert.{every_text};
 ghost use Rattle.json5_de.specs.KeyKinds.{RefusedAsKey, string_key};
 ghost use Rattle.json5_de.specs.ObjectFaults.{ReadsKeyAtEntry, ReadsKeyOfMember};
 ghost use Rattle.json5_de.specs.DeserializeLaw.{IsUnprompted};
-ghost use Rattle.json5_de.specs.FieldKeys.{field_key_text};
+ghost use Rattle.json5_de.specs.FieldKeys.{field_key_text, StandsIn};
 ghost use Rattle.json5_de.specs.Fields.{FieldRead, FieldRequired, IsOwnAtBracket, RefusesHere};
 ghost use Rattle.json5_de.specs.Plans.{PassesMember, ReadsMembers};
 ghost use Rattle.json5_de.specs.ShortWays.{filled_if_given};
@@ -15,17 +16,20 @@ ghost use Rattle.json5_de.specs.KeyPlaces.{BeginsIfGiven};
 ghost use Rattle.json5_grammar.specs.Language.Blanks.{Solid};
 ghost use Rattle.json5_de.specs.StructFaults.{RefusesMembers};
 ghost use Rattle.json5_de.specs.Lending.{map_state_of, at_its_key, beginning_at, RefusesWithOwn, KeepsMap, KeyPending, NoKeyPending, TakesPendingKey, ReadsNextKey, IsItsKey};
+ghost use Rattle.json5_text.specs.ShortTexts.{IsTextAt};
 
-use crate::any::IgnoredAny;
+use crate::de::any::IgnoredAny;
 use crate::de::{Deserialize, Deserializer};
-use crate::field_keys::FieldKey;
 use crate::map::MapAccess;
 use json5_text::input::Input;
+use json5_text::short_texts::Span;
 use json5_text::short_ways::ShortStep;
 use json5_types::ErrorCode;
 use json5_types::error::{Error, Result};
 use json5_value::brackets::BracketKind;
+use std::alloc::Global;
 use std::fmt;
+use std::marker::Model;
 
 /// The fields of a struct, as far as they were read: what [`MapAccess::read_fields`] fills.
 ///
@@ -346,5 +350,68 @@ impl<'a, I: Input> MapAccess<'a, I> {
             fields.read(self, field_key.as_str())?;
         }
         Ok(())
+    }
+}
+
+/// The key of the member that was read last. If the short way took it, its text is compared where it stands in the input;
+/// otherwise it is owned.
+#[derive(Drop)]
+pub(crate) struct FieldKey<I: Input> {
+    input: I,
+    /// Where the key stands in the input. None if it is owned.
+    span: Option<Span>,
+    owned: String,
+}
+
+impl<I: Input> Model for FieldKey<I> {
+    ghost use Rattle.std.specs.Prelude.{ℕ, List};
+    ghost use Rattle.json5_de.specs.FieldKeys.{field_key_of, StandsIn};
+
+    ghost Value = { List ℕ };
+
+    ghost view = { λ n. field_key_of (I.text n.input) n.span n.owned };
+
+    ghost invariant = { λ n. StandsIn (I.text n.input) n.span };
+}
+
+impl<I: Input> FieldKey<I> {
+    /// No key yet.
+    pub(crate) fn new(alloc: Global, input: I) -> FieldKey<I> {
+        FieldKey {
+            input,
+            span: None,
+            owned: String::new(alloc),
+        }
+    }
+
+    /// Takes the part of the input at the span as the key.
+    #[inline(always)]
+    pub(crate) fn put(&mut self, input: I, span: Span)
+        requires { StandsIn (I.text input) (Some span) }
+        ensures { IsTextAt (chars (I.text input)) span self.new }
+    {
+        // The goal below needs that the input is UTF-8.
+        let _text = input.as_text();
+        self.input = input;
+        self.span = Some(span);
+    }
+
+    /// Takes this key.
+    pub(crate) fn put_owned(&mut self, key: String)
+        ensures { self.new ≡ string_bytes key }
+    {
+        self.span = None;
+        self.owned = key;
+    }
+
+    /// Its text.
+    #[inline(always)]
+    pub(crate) fn as_str(&self) -> &str
+        ensures { result.now ≡ self.now }
+    {
+        match self.span {
+            Some(span) => &self.input.as_text()[span.start..span.end],
+            None => self.owned.as_str(),
+        }
     }
 }

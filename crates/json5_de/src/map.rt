@@ -6,7 +6,7 @@ ghost use Rattle.json5_text.specs.Cursor.{Locates};
 ghost use Rattle.json5_de.specs.Arrays.{PositionedAtBracket};
 ghost use Rattle.json5_de.specs.DeserializeLaw.{answered};
 ghost use Rattle.json5_de.specs.Enums.{EndsObject};
-ghost use Rattle.json5_de.specs.ObjectFaults.{PassesColon, ReadsValueOfMember};
+ghost use Rattle.json5_de.specs.ObjectFaults.{ReadsValueOfMember};
 
 use crate::de::{Deserialize, Deserializer};
 use crate::key::DeserializeKey;
@@ -129,29 +129,6 @@ impl<I: Input> Deserializer<I> {
         self.deserialize_map()
     }
 
-    /// Takes the colon after a key.
-    #[inline(always)]
-    pub(crate) fn pass_colon(&mut self) -> Result<()>
-        ensures { PassesColon self.old self.new result }
-    {
-        if self.short_colon() {
-            return Ok(());
-        }
-        self.pass_colon_slowly()
-    }
-
-    /// The same after any blanks.
-    #[inline(never)]
-    fn pass_colon_slowly(&mut self) -> Result<()>
-        ensures { PassesColon self.old self.new result }
-    {
-        self.skip_blank()?;
-        if !self.eat(':') {
-            return Err(self.fail_unexpected(ErrorCode::EofParsingObject, ErrorCode::ExpectedColon));
-        }
-        Ok(())
-    }
-
     /// A colon and the value after a key.
     #[inline(always)]
     fn read_member_value<V: Deserialize<I>>(&mut self) -> Result<V>
@@ -159,31 +136,6 @@ impl<I: Input> Deserializer<I> {
     {
         self.pass_colon()?;
         V::deserialize(self)
-    }
-
-    /// The same as `pass_colon`; the error of a refusal is left in `fault`.
-    #[inline(always)]
-    fn take_colon(&mut self, fault: &mut Error) -> Option<()>
-        ensures { PassesColon self.old self.new (answered result fault.new) }
-    {
-        if self.short_colon() {
-            return Some(());
-        }
-        self.take_colon_slowly(fault)
-    }
-
-    /// The same after any blanks.
-    #[inline(never)]
-    fn take_colon_slowly(&mut self, fault: &mut Error) -> Option<()>
-        ensures { PassesColon self.old self.new (answered result fault.new) }
-    {
-        match self.pass_colon_slowly() {
-            Ok(()) => Some(()),
-            Err(error) => {
-                *fault = error;
-                None
-            }
-        }
     }
 
     /// The same as `read_member_value`; the error of a refusal is left in `fault`.

@@ -1,0 +1,11 @@
+use Rattle.json5_de.specs.Maps.{found_in}
+use Rattle.json5_de.proofs.MapsRead.{gives_map, completes_map, hashed_content}
+use Rattle.json5_de.proofs.impls.hash_map.HashMapDeserialize.deserialize.Goals as goal
+
+pub returns-clause-sound : goal.returns-clause-sound
+returns-clause-sound g c =
+    gives_map g.K.DeserializeKey.convert g.V.Deserialize.convert (λ ps test tells q. found_in (test (g.K.DeserializeKey.content q)) ps) c.args.de.now g.K.DeserializeKey.content g.V.Deserialize.content _ _
+    (λ m ps are. hashed_content g.K.DeserializeKey.content g.V.Deserialize.content g.K.PartialEq.eq m.entries ps are) c.gather.new.de c.gather.result c.gather.ensures.sound
+
+pub returns-clause-complete : goal.returns-clause-complete
+returns-clause-complete g c = completes_map g.K.DeserializeKey.convert g.V.Deserialize.convert (λ ps test tells q. found_in (test (g.K.DeserializeKey.content q)) ps) c.args.de.now c.gather.result c.gather.ensures.complete

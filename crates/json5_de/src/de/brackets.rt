@@ -1,0 +1,285 @@
+//! What is round the elements of an array and the members of an object: brackets, commas and colons (JSON5 sections 3 and 4).
+//! The short ways, `short_step` and its like, return small values, so that the caller's frame holds no fault. Where they find
+//! anything else than what they take, nothing has changed, and the other calls say what is there.
+
+ghost use Rattle.std.specs.Prelude.{◌≡◌, ◌==◌, false, true, ℕ, List, Some, slice_get, IfErr, OnOk, IsOk};
+ghost use Rattle.json5_grammar.specs.declared.error_code.ErrorCode.TheVariants as codes;
+ghost use Rattle.json5_grammar.specs.Language.Characters.{NotBegun};
+ghost use Rattle.json5_grammar.specs.Model.Collections.{IsEnd};
+ghost use Rattle.json5_de.specs.State.{SameText};
+ghost use Rattle.json5_de.specs.Faults.{RefusedBy};
+ghost use Rattle.json5_de.specs.DeserializeLaw.{AnswersFailed, answered};
+ghost use Rattle.json5_value.specs.Brackets.{brackets_of};
+ghost use Rattle.json5_de.specs.Enums.{ClosesLast};
+ghost use Rattle.json5_de.specs.ObjectFaults.{PassesColon};
+ghost use Rattle.json5_de.specs.ShortWays.{StepsShort, PassesShortColon, OpensShort, ClosesShort};
+
+use crate::de::Deserializer;
+use json5_text::input::Input;
+use json5_text::short_ways::ShortStep;
+use json5_types::ErrorCode;
+use json5_types::error::{Error, Result};
+use json5_value::brackets::BracketKind;
+
+impl<I: Input> Deserializer<I> {
+    ghost use Rattle.json5_de.specs.Arrays.{Closed, TakesOpening, NotClosed};
+    ghost use Rattle.json5_de.specs.AccessCalls.{TakesClosing, Advances};
+
+    /// Takes an opening bracket, and returns the count of bytes before it.
+    #[inline(always)]
+    pub(crate) fn open(&mut self, kind: BracketKind) -> Result<usize>
+        ensures { TakesOpening (brackets_of kind) self.old self.new result }
+    {
+        match self.short_open(kind) {
+            Some(start) => Ok(start),
+            None => self.open_slowly(kind),
+        }
+    }
+
+    /// The same of anything in front.
+    #[inline(never)]
+    fn open_slowly(&mut self, kind: BracketKind) -> Result<usize>
+        ensures { TakesOpening (brackets_of kind) self.old self.new result }
+    {
+        self.skip_blank()?;
+        let brackets = kind.brackets();
+        let start = self.offset();
+        if !self.eat(brackets.opening) {
+            return Err(self.fail_unexpected(brackets.ends, brackets.not_opened));
+        }
+        if !self.enter_bracket() {
+            let error = Error::new_at(self.position_of(start), ErrorCode::TooDeep);
+            return self.refuse(error);
+        }
+        Ok(start)
+    }
+
+    /// Whether the closing bracket is next.
+    fn at_closing(&self, kind: BracketKind) -> bool
+        ensures found { result ≡ true → slice_get self.now.unread 0 ≡ Some (brackets_of kind).closing }
+        ensures other { result ≡ false → NotBegun (λ c. c == (brackets_of kind).closing) self.now.unread }
+    {
+        self.peek() == Some(kind.brackets().closing)
+    }
+
+    /// Goes to the next element or member and returns true, or to the closing bracket and returns false.
+    #[inline(always)]
+    pub(crate) fn advance_to_entry(&mut self, kind: BracketKind, comma_due: bool) -> Result<bool>
+        ensures { Advances (brackets_of kind) comma_due self.old self.new result }
+    {
+        match self.short_step(kind, comma_due) {
+            ShortStep::Entry => Ok(true),
+            ShortStep::Closing => Ok(false),
+            ShortStep::Other => self.advance_slowly(kind, comma_due),
+        }
+    }
+
+    /// The same; the error of a refusal is left in `fault`.
+    #[inline(always)]
+    pub(crate) fn take_step(
+        &mut self,
+        kind: BracketKind,
+        comma_due: bool,
+        fault: &mut Error,
+    ) -> Option<bool>
+        ensures { Advances (brackets_of kind) comma_due self.old self.new (answered result fault.new) }
+    {
+        match self.short_step(kind, comma_due) {
+            ShortStep::Entry => Some(true),
+            ShortStep::Closing => Some(false),
+            ShortStep::Other => self.take_step_slowly(kind, comma_due, fault),
+        }
+    }
+
+    /// The same for anything in front, in the long way.
+    #[inline(never)]
+    fn take_step_slowly(
+        &mut self,
+        kind: BracketKind,
+        comma_due: bool,
+        fault: &mut Error,
+    ) -> Option<bool>
+        ensures { Advances (brackets_of kind) comma_due self.old self.new (answered result fault.new) }
+    {
+        match self.advance_slowly(kind, comma_due) {
+            Ok(more) => Some(more),
+            Err(error) => {
+                *fault = error;
+                None
+            }
+        }
+    }
+
+    /// The same for anything in front, in the long way.
+    #[inline(never)]
+    fn advance_slowly(&mut self, kind: BracketKind, comma_due: bool) -> Result<bool>
+        ensures { Advances (brackets_of kind) comma_due self.old self.new result }
+    {
+        self.skip_blank()?;
+        if self.at_closing(kind) {
+            return Ok(false);
+        }
+        if !comma_due {
+            return Ok(true);
+        }
+        if !self.eat(',') {
+            return Err(self.fail_unexpected(kind.brackets().ends, ErrorCode::ExpectedComma));
+        }
+        self.skip_blank()?;
+        Ok(!self.at_closing(kind))
+    }
+
+    /// Takes the closing bracket in front.
+    fn close_bracket(&mut self, kind: BracketKind) -> Result<()>
+        ensures { TakesClosing (brackets_of kind) self.old self.new result }
+    {
+        let brackets = kind.brackets();
+        if !self.eat(brackets.closing) {
+            return Err(self.fail_unexpected(brackets.ends, brackets.not_closed));
+        }
+        self.exit_bracket();
+        Ok(())
+    }
+
+    /// Takes a closing bracket, and before it the comma that may be there.
+    pub(crate) fn close(&mut self, kind: BracketKind, comma_due: bool) -> Result<()>
+        ensures closed { OnOk result (Closed (brackets_of kind) comma_due self.old self.new) }
+        ensures refused { IfErr result (RefusedBy (NotClosed (brackets_of kind) comma_due) self.old) }
+        ensures same_text { SameText self.old self.new }
+        ensures complete { (r : List ℕ) → self.old.failed ≡ false → IsEnd (brackets_of kind).closing comma_due self.old.unread r → IsOk result }
+        ensures before { AnswersFailed self.old result }
+    {
+        self.skip_blank()?;
+        if !comma_due {
+            return self.close_bracket(kind);
+        }
+        if !self.eat(',') {
+            return self.close_bracket(kind);
+        }
+        self.skip_blank()?;
+        self.close_bracket(kind)
+    }
+
+    /// Takes a closing bracket, and before it the comma that may be there; a refusal is for good.
+    #[inline(always)]
+    pub(crate) fn close_or_fail(&mut self, kind: BracketKind, comma_due: bool) -> Result<()>
+        ensures { ClosesLast (brackets_of kind) comma_due self.old self.new result }
+    {
+        if self.short_close(kind) {
+            return Ok(());
+        }
+        self.close_slowly(kind, comma_due)
+    }
+
+    /// The same of anything in front.
+    #[inline(never)]
+    fn close_slowly(&mut self, kind: BracketKind, comma_due: bool) -> Result<()>
+        ensures { ClosesLast (brackets_of kind) comma_due self.old self.new result }
+    {
+        match self.close(kind, comma_due) {
+            Ok(()) => Ok(()),
+            Err(e) => self.refuse(e),
+        }
+    }
+
+    /// Takes the colon after a key.
+    #[inline(always)]
+    pub(crate) fn pass_colon(&mut self) -> Result<()>
+        ensures { PassesColon self.old self.new result }
+    {
+        if self.short_colon() {
+            return Ok(());
+        }
+        self.pass_colon_slowly()
+    }
+
+    /// The same after any blanks.
+    #[inline(never)]
+    fn pass_colon_slowly(&mut self) -> Result<()>
+        ensures { PassesColon self.old self.new result }
+    {
+        self.skip_blank()?;
+        if !self.eat(':') {
+            return Err(self.fail_unexpected(ErrorCode::EofParsingObject, ErrorCode::ExpectedColon));
+        }
+        Ok(())
+    }
+
+    /// The same as `pass_colon`; the error of a refusal is left in `fault`.
+    #[inline(always)]
+    pub(crate) fn take_colon(&mut self, fault: &mut Error) -> Option<()>
+        ensures { PassesColon self.old self.new (answered result fault.new) }
+    {
+        if self.short_colon() {
+            return Some(());
+        }
+        self.take_colon_slowly(fault)
+    }
+
+    /// The same after any blanks.
+    #[inline(never)]
+    fn take_colon_slowly(&mut self, fault: &mut Error) -> Option<()>
+        ensures { PassesColon self.old self.new (answered result fault.new) }
+    {
+        match self.pass_colon_slowly() {
+            Ok(()) => Some(()),
+            Err(error) => {
+                *fault = error;
+                None
+            }
+        }
+    }
+
+    /// Goes to the next element or member or to the closing bracket, or nowhere.
+    #[inline(always)]
+    pub(crate) fn short_step(&mut self, kind: BracketKind, comma_due: bool) -> ShortStep
+        ensures { StepsShort (brackets_of kind) comma_due self.old self.new result }
+    {
+        if self.failed {
+            return ShortStep::Other;
+        }
+        self.scanner
+            .short_step(kind.brackets().closing as u8, comma_due)
+    }
+
+    /// Takes an opening bracket and returns the count of bytes before it, or returns None.
+    #[inline(always)]
+    pub(crate) fn short_open(&mut self, kind: BracketKind) -> Option<usize>
+        ensures { OpensShort (brackets_of kind) self.old self.new result }
+    {
+        if self.failed || self.level >= 128 {
+            return None;
+        }
+        if !self.scanner.short_sign(kind.brackets().opening as u8) {
+            return None;
+        }
+        self.level += 1;
+        Some(self.scanner.offset().saturating_sub(1))
+    }
+
+    /// Takes a closing bracket before which no comma is, and says whether it was there.
+    #[inline(always)]
+    pub(crate) fn short_close(&mut self, kind: BracketKind) -> bool
+        ensures { ClosesShort (brackets_of kind) self.old self.new result }
+    {
+        if self.failed {
+            return false;
+        }
+        if !self.scanner.short_sign(kind.brackets().closing as u8) {
+            return false;
+        }
+        self.level = self.level.saturating_sub(1);
+        true
+    }
+
+    /// Takes the colon after a key, and says whether it was there, after ASCII blanks.
+    #[inline(always)]
+    pub(crate) fn short_colon(&mut self) -> bool
+        ensures { PassesShortColon self.old self.new result }
+    {
+        if self.failed {
+            return false;
+        }
+        self.scanner.short_sign(b':')
+    }
+}

@@ -1,0 +1,318 @@
+//! Tokens: the calls of the scanner, whose refusal is for good, and the short ways of those that are read most.
+//!
+//! A short way returns a small value, so that the caller's frame holds no fault. Where it returns None, nothing has changed, and
+//! the other calls say what is there.
+
+ghost use Rattle.std.specs.Prelude.{◌≡◌, ◌-◌, ◌+◌, nat_abs, string_bytes, IfSome};
+ghost use Rattle.json5_text.specs.Cursor.{IsInput};
+ghost use Rattle.json5_grammar.specs.Language.Documents.{max_depth};
+ghost use Rattle.json5_value.specs.OwnedReads.{OwnsKey, ReadsDatum};
+ghost use Rattle.json5_value.specs.Kinds.{word_of, ends_of, differs_of};
+ghost use Rattle.json5_value.specs.SkipSteps.{SkipsValue};
+ghost use Rattle.json5_de.specs.State.{Calls, next};
+ghost use Rattle.json5_de.specs.ReaderSteps.{Eats, IsCount};
+ghost use Rattle.json5_de.specs.FoundTexts.{SpellsText, SpellsCow, FindsKey, FindsString};
+ghost use Rattle.json5_de.specs.TokenCalls as tokens;
+ghost use Rattle.json5_de.specs.TokenCalls.{PassesGap, Takes, TakesOwnString, PassesWord};
+ghost use Rattle.json5_de.specs.Convert.{IsUpTo, IsWithin};
+ghost use Rattle.json5_de.specs.TokenKinds.{natural_kind, integer_kind, decimal_kind, string_kind};
+ghost use Rattle.json5_de.specs.ShortWays.{ReadsShort, ReadsShortText, ReadsShortKey, ReadsEscapeFreeText, TakesEscapeFreeKey, OwnsTextAt, RunsOut};
+
+use crate::de::Deserializer;
+use json5_text::input::{Borrows, Input};
+use json5_text::short_texts::Span;
+use json5_text::text_token::TextToken;
+use json5_types::ErrorCode;
+use json5_types::cow_str::CowStr;
+use json5_types::decimal::Decimal;
+use json5_types::error::{Error, Result};
+use json5_types::number::Number;
+use json5_types::value::Value;
+use json5_value::kinds::{Literal, skip_literal};
+use json5_value::owned_tokens::key_owned;
+use json5_value::read::read_value;
+use json5_value::skip::skip_value;
+
+/// A string or a key that was taken, and its offset.
+#[derive(Drop)]
+pub(crate) struct FoundText {
+    /// The count of bytes before the string or key.
+    pub(crate) start: usize,
+    pub(crate) token: TextToken,
+}
+
+impl<I: Input> Deserializer<I> {
+    /// The input.
+    #[inline(always)]
+    pub(crate) fn input(&self) -> I
+        ensures { IsInput self.now.input (I.text result) }
+    {
+        self.scanner.input()
+    }
+
+    /// The next character.
+    #[inline(always)]
+    pub(crate) fn peek(&self) -> Option<char>
+        ensures { result ≡ next self.now }
+    {
+        self.scanner.peek()
+    }
+
+    /// Passes over blanks if no call was refused so far.
+    #[inline(always)]
+    pub(crate) fn skip_blank(&mut self) -> Result<()>
+        ensures { PassesGap self.old self.new result }
+    {
+        self.check_not_failed()?;
+        match self.scanner.skip_blank() {
+            Ok(()) => Ok(()),
+            Err(e) => self.refuse(e),
+        }
+    }
+
+    /// Takes the literal in front.
+    pub(crate) fn literal(&mut self, literal: Literal) -> Result<()>
+        ensures { PassesWord (word_of literal) (ends_of literal) (differs_of literal) self.old self.new result }
+    {
+        match skip_literal(&mut self.scanner, literal) {
+            Ok(()) => Ok(()),
+            Err(e) => self.refuse(e),
+        }
+    }
+
+    /// Takes the number in front.
+    pub(crate) fn number(&mut self) -> Result<Number>
+        ensures { Takes tokens.number_token self.old self.new result }
+    {
+        match self.scanner.number() {
+            Ok(number) => Ok(number),
+            Err(e) => self.refuse(e),
+        }
+    }
+
+    /// Takes the string in front, and returns an owned copy of its text.
+    pub(crate) fn string_owned(&mut self) -> Result<String>
+        ensures { TakesOwnString self.old self.new result }
+    {
+        // Goals below need what `offset` promises: what is unread is the end of the input.
+        let _offset = self.offset();
+        match self.scanner.string_owned() {
+            Ok(text) => Ok(text),
+            Err(e) => self.refuse(e),
+        }
+    }
+
+    /// Takes the string in front, to its token.
+    pub(crate) fn string_token(&mut self) -> Result<TextToken>
+        ensures { Takes tokens.text_token self.old self.new result }
+    {
+        match self.scanner.string_token() {
+            Ok(token) => Ok(token),
+            Err(e) => self.refuse(e),
+        }
+    }
+
+    /// Passes over the value in front.
+    pub(crate) fn skip_value(&mut self) -> Result<()>
+        ensures { Calls (SkipsValue (max_depth - self.old.level)) self.old self.new result }
+    {
+        match skip_value(&mut self.scanner, 128 - self.level) {
+            Ok(()) => Ok(()),
+            Err(e) => self.refuse(e),
+        }
+    }
+
+    /// Reads the value in front.
+    pub(crate) fn read_value(&mut self) -> Result<Value>
+        ensures { Calls (ReadsDatum (max_depth - self.old.level)) self.old self.new result }
+    {
+        match read_value(&mut self.scanner, 128 - self.level) {
+            Ok(value) => Ok(value),
+            Err(e) => self.refuse(e),
+        }
+    }
+
+    /// Takes the key in front.
+    pub(crate) fn key(&mut self) -> Result<TextToken>
+        ensures { Takes tokens.key_token self.old self.new result }
+    {
+        match self.scanner.key() {
+            Ok(key) => Ok(key),
+            Err(e) => self.refuse(e),
+        }
+    }
+
+    /// The text of a string or a key that was taken.
+    pub(crate) fn token_text<'t>(&'t self, token: &'t TextToken) -> &'t str
+        ensures { SpellsText self.now token.now result.now }
+    {
+        self.scanner.text_of(token)
+    }
+
+    /// An owned copy of the text of a key that was taken.
+    pub(crate) fn own_key_text(&self, key: TextToken) -> Result<String>
+        ensures { OwnsKey self.now.input key result }
+    {
+        key_owned(&self.scanner, key)
+    }
+
+    /// The count of bytes before what is unread.
+    pub(crate) fn offset(&self) -> usize
+        ensures { IsCount self.now result }
+    {
+        self.scanner.offset()
+    }
+
+    /// Takes the character if it is next, and returns whether it was.
+    pub(crate) fn eat(&mut self, c: char) -> bool
+        ensures { Eats c self.old self.new result }
+    {
+        self.scanner.eat(c)
+    }
+
+    /// Takes a string, blanks before it included.
+    pub(crate) fn find_string(&mut self) -> Result<FoundText>
+        ensures { FindsString self.old self.new result }
+    {
+        self.skip_blank()?;
+        let start = self.offset();
+        let token = self.string_token()?;
+        Ok(FoundText { start, token })
+    }
+
+    /// Takes a key, blanks before it included.
+    pub(crate) fn find_key(&mut self) -> Result<FoundText>
+        ensures { FindsKey self.old self.new result }
+    {
+        self.skip_blank()?;
+        let start = self.offset();
+        let token = self.key()?;
+        Ok(FoundText { start, token })
+    }
+
+    /// Reads a whole number of few digits from 0 to `max`, or nothing.
+    #[inline(always)]
+    pub(crate) fn short_natural(&mut self, max: u64) -> Option<u64>
+        ensures reads { ReadsShort (natural_kind (max + 1)) (λ n. n) self.old self.new result }
+        ensures fits { IfSome result (IsUpTo max) }
+    {
+        if self.failed {
+            return None;
+        }
+        let number = self.scanner.short_whole(0, i128::from(max))?;
+        Some(number as u64)
+    }
+
+    /// Reads a whole number of few digits from `-max - 1` to `max`, or nothing.
+    #[inline(always)]
+    pub(crate) fn short_integer(&mut self, max: i128) -> Option<i128>
+        ensures reads { ReadsShort (integer_kind (nat_abs max + 1)) (λ n. n) self.old self.new result }
+        ensures fits { IfSome result (IsWithin max) }
+    {
+        if self.failed {
+            return None;
+        }
+        self.scanner.short_whole(-1 - max, max)
+    }
+
+    /// Reads a decimal with a point or an exponent whose digits take no memory, or returns None.
+    #[inline(always)]
+    pub(crate) fn short_decimal(&mut self) -> Option<Decimal>
+        ensures { ReadsShort decimal_kind (λ d. d) self.old self.new result }
+    {
+        if self.failed {
+            return None;
+        }
+        self.scanner.short_decimal()
+    }
+
+    /// Reads a string without an escape and returns the span of its text, or returns None.
+    #[inline(always)]
+    pub(crate) fn short_string(&mut self) -> Option<Span>
+        ensures { ReadsShortText self.old self.new result }
+    {
+        if self.failed {
+            return None;
+        }
+        self.scanner.short_string()
+    }
+
+    /// Reads the string in front and returns its text, escapes replaced, or returns None.
+    #[inline(always)]
+    pub(crate) fn short_string_owned(&mut self) -> Option<String>
+        ensures { ReadsShort string_kind string_bytes self.old self.new result }
+    {
+        if self.failed {
+            return None;
+        }
+        self.scanner.short_string_owned()
+    }
+
+    /// Takes a key without an escape and returns the span of its text, or returns None.
+    #[inline(always)]
+    pub(crate) fn short_key(&mut self) -> Option<Span>
+        ensures { ReadsShortKey self.old self.new result }
+    {
+        if self.failed {
+            return None;
+        }
+        self.scanner.short_key()
+    }
+
+    /// An owned copy of the text of the span. If memory runs out, the reader has failed.
+    pub(crate) fn own_text(&mut self, span: Span) -> Result<String>
+        ensures { OwnsTextAt span self.old self.new result }
+    {
+        match String::from_str(self.allocator(), self.scanner.text_of_span(span)) {
+            Ok(text) => Ok(text),
+            Err(_) => self.without_memory(),
+        }
+    }
+
+    /// Refuses since memory ran out, now and from now on.
+    #[cold]
+    #[inline(never)]
+    pub(crate) fn without_memory<T>(&mut self) -> Result<T>
+        ensures { RunsOut self.old self.new result }
+    {
+        self.refuse(Error::new(ErrorCode::OutOfMemory))
+    }
+}
+
+// What is borrowed from the input.
+impl<'de, I: Borrows<'de>> Deserializer<I> {
+    /// Takes the string in front, its text borrowed if it has no backslash.
+    pub(crate) fn text(&mut self) -> Result<CowStr<'de>>
+        ensures { Takes tokens.string_token self.old self.new result }
+    {
+        match self.scanner.string() {
+            Ok(text) => Ok(text),
+            Err(e) => self.refuse(e),
+        }
+    }
+
+    /// The text of a key that was taken, borrowed if no escape is used.
+    pub(crate) fn borrowed_key_text(&self, key: TextToken) -> CowStr<'de>
+        ensures { SpellsCow self.now key result }
+    {
+        self.scanner.borrowed_text_of(key)
+    }
+
+    /// Reads a string without an escape and returns its text, or returns None.
+    #[inline(always)]
+    pub(crate) fn short_str(&mut self) -> Option<&'de str>
+        ensures { ReadsEscapeFreeText self.old self.new result }
+    {
+        let span = self.short_string()?;
+        Some(self.scanner.borrowed_text_of_span(span))
+    }
+
+    /// Takes a key without an escape, or nothing.
+    #[inline(always)]
+    pub(crate) fn short_key_str(&mut self) -> Option<&'de str>
+        ensures { TakesEscapeFreeKey self.old self.new result }
+    {
+        let span = self.short_key()?;
+        Some(self.scanner.borrowed_text_of_span(span))
+    }
+}
