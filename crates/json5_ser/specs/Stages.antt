@@ -1,7 +1,7 @@
 -- How far a collection has come.
 use Rattle.std.specs.Prelude.{Bool, true, false}
-use Rattle.json5_ser.specs.declared.stage.CollectionStage.{CollectionStage}
-use Rattle.json5_ser.specs.declared.stage.CollectionStage.TheVariants as stage
+use Rattle.json5_ser.specs.declared.collection.CollectionStage.{CollectionStage}
+use Rattle.json5_ser.specs.declared.collection.CollectionStage.TheVariants as stage
 
 -- whether something was written in it
 abbrev pub is_started : CollectionStage → Bool

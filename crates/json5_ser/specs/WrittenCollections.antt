@@ -10,9 +10,9 @@ use Rattle.json5_grammar.specs.Faults.Fronts.{closing}
 use Rattle.json5_write.specs.Brackets.{bracket_of}
 use Rattle.json5_ser.specs.Brackets.{is_square}
 use Rattle.json5_ser.specs.Stages.{is_started, is_pending}
-use Rattle.json5_ser.specs.declared.stage.CollectionStage.{CollectionStage}
+use Rattle.json5_ser.specs.declared.collection.CollectionStage.{CollectionStage}
 use Rattle.json5_ser.specs.declared.collection.SerializeCollection.{SerializeCollection}
-use Rattle.json5_ser.specs.contracts.serializer.Serializer.{the_row}
+use Rattle.json5_ser.specs.contracts.ser.Serializer.{the_row}
 
 -- a collection's output within d brackets, with the end of the variant's object if the collection is a variant's content
 abbrev pub within_variant : Bool → ℕ → Out → Out

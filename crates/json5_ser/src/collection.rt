@@ -5,10 +5,10 @@ ghost use Rattle.std.specs.Str.{chars};
 ghost use Rattle.json5_write.specs.WrittenTrees.{named};
 ghost use Rattle.json5_write.specs.Out.{out, element_out, key_part, value_part, entry_out};
 ghost use Rattle.json5_write.specs.Writes.{Writes};
+ghost use Rattle.json5_ser.specs.Stages.{is_started, is_pending};
 
 mod opening;
 
-use crate::stage::CollectionStage;
 use crate::{Serialize, SerializeKey, Serializer};
 use json5_types::error::Result;
 use json5_write::brackets::Brackets;
@@ -239,5 +239,32 @@ impl<W: Write + Drop> SerializeCollection<'_, W> {
             return Ok(());
         }
         ser.close_after(true, Brackets::Curly)
+    }
+}
+
+/// How far a collection has come.
+#[derive(Clone, Copy)]
+pub(crate) enum CollectionStage {
+    /// Nothing was written in it.
+    Empty,
+    /// An element or a member was written in it.
+    Started,
+    /// A key was written in it whose value comes next.
+    KeyPending,
+}
+
+impl CollectionStage {
+    /// Whether something was written in it.
+    pub(crate) fn is_started(self) -> bool
+        ensures { result ≡ is_started self }
+    {
+        !matches!(self, CollectionStage::Empty)
+    }
+
+    /// Whether a key waits for its value.
+    pub(crate) fn is_pending(self) -> bool
+        ensures { result ≡ is_pending self }
+    {
+        matches!(self, CollectionStage::KeyPending)
     }
 }

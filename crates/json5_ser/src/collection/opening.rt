@@ -5,7 +5,7 @@ ghost use Rattle.std.specs.Borrow.{sem};
 ghost use Rattle.std.specs.Str.{chars};
 ghost use Rattle.json5_grammar.specs.Language.Characters.{left_bracket, left_brace};
 
-use crate::stage::CollectionStage;
+use crate::collection::CollectionStage;
 use crate::{SerializeCollection, Serializer};
 use json5_types::error::Result;
 use json5_write::brackets::Brackets;

@@ -1,5 +1,0 @@
-use Rattle.std.proofs.Common.{rules}
-use Rattle.json5_ser.proofs.basic_impls.UnitSerialize.serialize.Goals as goal
-
-pub returns : goal.returns
-returns g c = search rules

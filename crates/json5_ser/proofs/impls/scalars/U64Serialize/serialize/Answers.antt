@@ -1,0 +1,5 @@
+use Rattle.std.proofs.Common.{rules}
+use Rattle.json5_ser.proofs.impls.scalars.U64Serialize.serialize.Goals as goal
+
+pub returns : goal.returns
+returns g c = search rules

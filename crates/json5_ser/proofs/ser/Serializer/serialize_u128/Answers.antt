@@ -1,0 +1,5 @@
+use Rattle.json5_write.proofs.ShortWritesJoined.{Puts-handed}
+use Rattle.json5_ser.proofs.ser.Serializer.serialize_u128.Goals as goal
+
+pub returns-in_err-put_unsigned : goal.returns-in_err-put_unsigned
+returns-in_err-put_unsigned g c = Puts-handed _ _ _ _ _ c.from_residual.ensures.1 c.in_err-put_unsigned.ensures

@@ -1,5 +1,0 @@
-use Rattle.json5_write.proofs.ShortWritesJoined.{Puts-handed}
-use Rattle.json5_ser.proofs.serializer.Serializer.close_after.Goals as goal
-
-pub returns-in_err-close_brackets : goal.returns-in_err-close_brackets
-returns-in_err-close_brackets g c = Puts-handed _ _ _ _ _ c.from_residual.ensures.1 c.in_err-close_brackets.ensures
