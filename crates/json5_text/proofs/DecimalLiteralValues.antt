@@ -13,8 +13,8 @@ use Rattle.json5_grammar.specs.Model.Reading.{got, bad, here}
 use Rattle.json5_grammar.specs.Model.ReadNumbers.{is_whole, in_whole, in_exponents, judged, if_literal}
 use Rattle.json5_grammar.proofs.CharacterTests.{in_exponents_yes, in_exponents_true}
 use Rattle.json5_grammar.proofs.FixedWidthLaws.{IsChecked, checked_is, capped_range, capped_same}
-use Rattle.json5_text.specs.declared.decimal_literals.Exponent.{Exponent}
-use Rattle.json5_text.specs.declared.decimal_literals.DecimalLiteral.{DecimalLiteral}
+use Rattle.json5_text.specs.declared.numbers.decimal_literals.Exponent.{Exponent}
+use Rattle.json5_text.specs.declared.numbers.decimal_literals.DecimalLiteral.{DecimalLiteral}
 use Rattle.json5_text.specs.NumberParts.{raised_of, parts_of, limited_exponent, is_whole_literal, MeansDecimal}
 use Rattle.json5_types.specs.NumberDecimals.{IsFiniteIfInRange}
 use mathlib.Core.Bool.{true≢false}

@@ -7,8 +7,8 @@ use Rattle.json5_grammar.specs.Language.Characters.{is_digit, NotBegun}
 use Rattle.json5_grammar.specs.Language.Numbers.{is_empty, in_run}
 use Rattle.json5_grammar.specs.Model.ReadNumbers.{Parts, front_of, rest_of, exponent_digits, exponent_sign, exponent_at, no_point, at_point, literal_at}
 use Rattle.json5_grammar.proofs.CharacterTests.{by_test, digit_in_run, e_in_run, rest_none, front_none}
-use Rattle.json5_text.specs.declared.decimal_literals.DecimalLiteral.{DecimalLiteral}
-use Rattle.json5_text.specs.declared.decimal_literals.Tail.{Tail}
+use Rattle.json5_text.specs.declared.numbers.decimal_literals.DecimalLiteral.{DecimalLiteral}
+use Rattle.json5_text.specs.declared.numbers.decimal_literals.Tail.{Tail}
 use Rattle.json5_text.specs.NumberParts.{begun, split_sign, run_of, EndsRun, ReadsTail, ReadsDecimalLiteral}
 use Rattle.json5_text.proofs.DecimalLiteralParts.{literal_ends, literal_plain, literal_pointed}
 

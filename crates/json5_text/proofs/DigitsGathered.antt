@@ -5,7 +5,7 @@ use Rattle.std.proofs.lemmas.List.{append-nil, append_assoc}
 use Rattle.json5_grammar.specs.Language.Numbers.{is_empty, finite, InExponents, without_front_zeros, without_zeros, normal_exponent, all_digits, digits_after}
 use Rattle.json5_grammar.specs.Model.ReadNumbers.{Parts, is_integer, exponent_at, with_exponent, no_point, at_point}
 use Rattle.json5_grammar.proofs.NormalForms.{front_twice}
-use Rattle.json5_text.specs.declared.decimal_literals.DecimalLiteral.{DecimalLiteral}
+use Rattle.json5_text.specs.declared.numbers.decimal_literals.DecimalLiteral.{DecimalLiteral}
 use Rattle.json5_text.specs.NumberParts.{parts_of, digits_of, IsDecimalLiteral, ReadsDecimalLiteral, MeansFinite}
 use Rattle.json5_text.proofs.DecimalLiteralValues.{Found, means_decimal}
 use Rattle.json5_types.specs.DigitRuns.{Gathers}

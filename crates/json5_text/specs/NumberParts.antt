@@ -8,11 +8,11 @@ use Rattle.json5_grammar.specs.Language.Numbers.{signed, spelled, in_run}
 use Rattle.json5_grammar.specs.Model.ReadNumbers.{Parts, is_whole, front_of, rest_of, if_literal, unsigned, decimal_run}
 use Rattle.json5_grammar.specs.Model.Reading.{got, bad, here}
 use Rattle.json5_grammar.specs.declared.error_code.ErrorCode.TheVariants.{OverflowParsingNumber}
-use Rattle.json5_text.specs.declared.decimal_literals.Exponent.{Exponent}
-use Rattle.json5_text.specs.declared.decimal_literals.DecimalLiteral.{DecimalLiteral}
-use Rattle.json5_text.specs.declared.number_slices.Scanned.{Scanned}
-use Rattle.json5_text.specs.declared.decimal_literals.Tail.{Tail}
-use Rattle.json5_text.specs.declared.number_slices.Scanned.TheVariants as scanned
+use Rattle.json5_text.specs.declared.numbers.decimal_literals.Exponent.{Exponent}
+use Rattle.json5_text.specs.declared.numbers.decimal_literals.DecimalLiteral.{DecimalLiteral}
+use Rattle.json5_text.specs.declared.numbers.slices.Scanned.{Scanned}
+use Rattle.json5_text.specs.declared.numbers.decimal_literals.Tail.{Tail}
+use Rattle.json5_text.specs.declared.numbers.slices.Scanned.TheVariants as scanned
 
 abbrev pub scanned_of : Scanned → numbers.Number
 scanned_of (scanned.Whole z) = numbers.whole z

@@ -10,7 +10,7 @@ use Rattle.json5_grammar.specs.Model.ReadBlanks.{skip, between}
 use Rattle.json5_grammar.specs.Model.ReadNumbers as model
 use Rattle.json5_text.specs.declared.short_ways.ShortStep.{ShortStep}
 use Rattle.json5_text.specs.declared.short_ways.ShortStep.TheVariants as short
-use Rattle.json5_text.specs.declared.short_ways.SpacedWhole.{SpacedWhole}
+use Rattle.json5_text.specs.declared.numbers.short.SpacedWhole.{SpacedWhole}
 use Rattle.json5_text.specs.declared.short_ways.EntryStep.{EntryStep}
 use Rattle.json5_text.specs.TokenResults.{GivesValue}
 use Rattle.json5_text.specs.Cursor.{Cursor}

@@ -5,7 +5,7 @@ use Rattle.std.specs.Str.{IsUtf8, chars, encode_utf8_all}
 use Rattle.json5_grammar.specs.Language.Numbers.{Number}
 use Rattle.json5_grammar.specs.Model.Reading.{Read, got}
 use Rattle.json5_types.specs.declared.cow_str.CowStr.{CowStr}
-use Rattle.json5_text.specs.declared.number_slices.Scanned.{Scanned}
+use Rattle.json5_text.specs.declared.numbers.slices.Scanned.{Scanned}
 use Rattle.json5_text.specs.declared.refusal.Refusal.{Refusal}
 use Rattle.json5_text.specs.declared.refusal.Refusal.TheVariants as refusal
 use Rattle.json5_types.specs.Cows.{cow_bytes, is_borrowed}

@@ -7,8 +7,7 @@ ghost use Rattle.json5_text.specs.TokenResults.{Skips, RefusesByCode};
 ghost use Rattle.json5_text.specs.ScanComments.{Continues, IsUnclosed};
 
 use crate::byte_runs::{begins_solid, blanks_len, line_len, star_offset};
-use crate::char::{is_json5_line_terminator, is_json5_whitespace};
-use crate::first_char::front;
+use crate::char::{front, is_json5_line_terminator, is_json5_whitespace};
 use crate::refusal::Refusal;
 use json5_grammar::error_code::ErrorCode;
 

@@ -1,9 +1,10 @@
-//! The character classes of JSON5, and the escapes that are written.
+//! The character classes of JSON5, the escapes that are written, and the first character of a text.
 
 ghost use Rattle.std.specs.Prelude.{◌≡◌, ◌↔◌, [], ◌∷◌, IsNone, IfSome};
 ghost use Rattle.std.specs.Str.{chars};
 ghost use Rattle.json5_grammar.specs.Language.Characters.{is_blank, is_terminator, is_identifier_start, is_identifier_part, is_start_category, is_part_category};
 ghost use Rattle.json5_text.specs.Escapes.{escape_of};
+ghost use Rattle.json5_text.specs.Scan.{IsFront, StartsWith};
 
 use crate::byte_runs::{is_ascii_part, is_ascii_start};
 use unicode::properties::GeneralCategory;
@@ -121,4 +122,39 @@ fn is_part_category(category: GeneralCategory) -> bool
             | GeneralCategory::DecimalNumber
             | GeneralCategory::ConnectorPunctuation
     )
+}
+
+/// The first character, and what follows it.
+pub(crate) fn front(text: &str) -> Option<(char, &str)>
+    ensures { IsFront text.now result }
+{
+    let bytes = text.as_bytes();
+    if bytes.is_empty() {
+        return None;
+    }
+    if bytes[0] < 128 {
+        return Some((char::from(bytes[0]), text.split_at(1).1));
+    }
+    front_decoded(text)
+}
+
+/// The same for any characters, not only ASCII.
+fn front_decoded(text: &str) -> Option<(char, &str)>
+    ensures { IsFront text.now result }
+{
+    let mut rest = text.chars();
+    let c = rest.next()?;
+    Some((c, rest.as_str()))
+}
+
+/// The first character and what follows it, if it is an ASCII character.
+#[inline(always)]
+pub(crate) fn front_ascii(text: &str) -> Option<(char, &str)>
+    ensures { IfSome result (λ p. StartsWith text.now p.0 p.1.now) }
+{
+    let bytes = text.as_bytes();
+    if bytes.is_empty() || bytes[0] >= 128 {
+        return None;
+    }
+    Some((char::from(bytes[0]), text.split_at(1).1))
 }

@@ -11,7 +11,7 @@ ghost use Rattle.json5_text.specs.TokenResults.{GivesValue, ReturnsReading, Answ
 ghost use Rattle.json5_text.specs.Scan.{in_list};
 ghost use Rattle.json5_text.specs.ShortEscapes.{spells_itself, SpellsAlone, SpellsUnicode, SpellsEscape};
 
-use crate::first_char::{front, front_ascii};
+use crate::char::{front, front_ascii};
 use crate::refusal::Refusal;
 use crate::words::skip_word;
 use json5_grammar::error_code::ErrorCode;

@@ -1,18 +1,21 @@
-//! Identifiers (JSON5 section 3, ECMAScript 5.1 section 7.6).
+//! Identifiers, and keys, which are strings or identifiers (JSON5 section 3, ECMAScript 5.1 section 7.6).
 
-ghost use Rattle.std.specs.Prelude.{◌≡◌};
+ghost use Rattle.std.specs.Prelude.{◌≡◌, ◌≤◌, length};
 ghost use Rattle.std.specs.Str.{chars};
 ghost use Rattle.json5_grammar.specs.Model.ReadTexts.{name_escape, identifier};
 ghost use Rattle.json5_text.specs.TokenResults.{ReturnsReading, AnswersAs, AnswersCow, Passes};
 ghost use Rattle.json5_text.specs.Scan.{SkipsAll, SkipsSome, in_list};
 ghost use Rattle.json5_text.specs.ScanTexts.{fits_name, is_raw_part, item_of_name, SkipsRaw};
+ghost use Rattle.json5_text.specs.ScanKeys.{key_ahead};
+ghost use Rattle.json5_text.specs.ScanTextTokens.{AnswersToken};
 
 use crate::byte_runs::name_len;
-use crate::char::{is_json5_identifier, is_json5_identifier_start};
+use crate::char::{front, is_json5_identifier, is_json5_identifier_start};
 use crate::escapes::unicode_escape;
-use crate::first_char::front;
 use crate::refusal::Refusal;
+use crate::strings::{is_quote, read_string_token};
 use crate::strings_and_names::{Kind, read_text, skip_text};
+use crate::text_token::TextToken;
 use json5_grammar::error_code::ErrorCode;
 use json5_types::cow_str::CowStr;
 use std::alloc::Global;
@@ -118,4 +121,22 @@ fn is_raw_part(c: char) -> bool
     ensures { result ≡ is_raw_part c }
 {
     c != '\\' && is_json5_identifier(c)
+}
+
+/// The key in front, and what follows it. `end` is the length in bytes of the whole input, of which `text` is the rest.
+pub(crate) fn read_key(alloc: Global, end: usize, text: &str) -> Result<(TextToken, &str), Refusal>
+    requires { length text.now ≤ end }
+    ensures { AnswersToken end (chars text.now) (key_ahead (chars text.now)) result }
+{
+    let Some((c, _)) = front(text) else {
+        return Err(Refusal::TokenError {
+            code: ErrorCode::EofParsingIdentifier,
+            remaining: None,
+        });
+    };
+    if is_quote(c) {
+        return read_string_token(alloc, end, text);
+    }
+    let (name, rest) = read_name(alloc, text)?;
+    Ok((TextToken::new(end, text.len(), name), rest))
 }

@@ -1,27 +1,34 @@
 //! The scanner: the tokens of an input, one after another.
 
-ghost use Rattle.std.specs.Prelude.{◌≡◌, ℕ, List, [], ◌∷◌, ◌++◌, true, false, ◌==◌, drop, slice_get, IsTrue};
-ghost use Rattle.std.specs.Str.{all_scalars, chars};
+ghost use Rattle.std.specs.Prelude.{◌≡◌, ℕ, List, [], ◌∷◌, ◌++◌, true, false, ◌==◌, drop, slice_get, IsTrue, ◌⊎◌, Some};
+ghost use Rattle.std.specs.Str.{all_scalars, chars, encode_utf8_all};
 ghost use Rattle.json5_grammar.specs.Language.Characters.{NotBegun};
-ghost use Rattle.json5_text.specs.Cursor.{Cursor, offset_of, IsInput, Took};
-ghost use Rattle.json5_text.specs.Scan.{InText, Leaves, LeavesAt};
-ghost use Rattle.json5_text.specs.TokenCalls.{PassesBlanks, TakesWord, TakesNumber, TakesOwned, TakesStringToken, TakesKey, PassesString, PassesName, PassesNumber};
+ghost use Rattle.json5_text.specs.Cursor.{Cursor, offset_of, IsInput, Took, Locates};
+ghost use Rattle.json5_text.specs.Scan.{InText, Leaves, LeavesAt, InUnread, IsWhere, MadeOf};
+ghost use Rattle.json5_text.specs.TokenCalls.{PassesBlanks, TakesWord, TakesNumber, TakesOwned, TakesStringToken, TakesKey, PassesString, PassesName, PassesNumber, TakesString, TakesName};
+ghost use Rattle.json5_text.specs.TextTokens.{IsSliceAt, IsTextOf, IsCowOf};
+ghost use Rattle.json5_text.specs.ShortTexts.{IsTextAt};
+ghost use Rattle.json5_types.specs.Errors.{IsCustomAt, LacksMemory};
 
 use crate::blanks::skip_blank;
 use crate::byte_runs::begins_solid;
-use crate::first_char::front;
-use crate::input::Input;
-use crate::keys::read_key;
-use crate::names::skip_name;
-use crate::read_numbers::{read_number, skip_number};
-use crate::strings::{read_string_owned, read_string_token, skip_string};
+use crate::char::front;
+use crate::input::{Borrows, Input};
+use crate::names::{read_key, read_name, skip_name};
+use crate::numbers::{read_number, skip_number};
+use crate::refusal::Refusal;
+use crate::short_texts::Span;
+use crate::strings::{read_string, read_string_owned, read_string_token, skip_string};
 use crate::text_token::TextToken;
 use crate::words::skip_word;
 use json5_grammar::error_code::ErrorCode;
-use json5_types::error::Result;
+use json5_grammar::position::Position;
+use json5_types::cow_str::CowStr;
+use json5_types::error::{Error, Result};
 use json5_types::number::Number;
 use json5_types::whole::Whole;
 use std::alloc::Global;
+use std::fmt::Display;
 use std::marker::Model;
 
 /// Takes a token: `$read` gives the token and what follows it, or refuses.
@@ -47,9 +54,6 @@ macro_rules! pass {
         Ok(())
     }};
 }
-
-mod borrowed;
-mod faults;
 
 /// Takes tokens from the front of a text. A call that succeeds takes its token; a call that is refused takes nothing, and may
 /// be followed by any other. No call passes over blanks but `skip_blank`.
@@ -297,4 +301,159 @@ impl<I: Input> Scanner<I> {
     {
         self.offset = self.end - left;
     }
+
+    /// Returns the text of a token that this scanner took. Of another scanner's token it may be any part of the text that is read,
+    /// or empty where no character begins at the token's offsets.
+    pub fn text_of<'t>(&'t self, token: &'t TextToken) -> &'t str
+        ensures { IsTextOf self.now.input token.now result.now }
+    {
+        match token {
+            TextToken::EscapeFree(span) => self.text_of_span(*span),
+            TextToken::Escaped(text) => text.as_str(),
+        }
+    }
+
+    /// The text of a span that this scanner returned. Of another scanner's span it may be any part of the input, or empty where
+    /// one of the span's offsets is past the end or within a character.
+    #[inline(always)]
+    pub fn text_of_span(&self, span: Span) -> &str
+        ensures { IsTextAt self.now.input span result.now }
+    {
+        between(self.input.as_text(), span.start, span.end)
+    }
+
+    /// Returns the position of an offset in bytes, or that of the text's end where no character begins at the offset. Line and
+    /// column count from 0, the column in characters.
+    pub fn position_of(&self, offset: usize) -> Position
+        ensures { Locates self.now.input offset result }
+    {
+        // A goal below needs what is known of the field: it is the length of the input.
+        let _end = self.end;
+        let text = self.input.as_text();
+        match text.split_at_checked(offset) {
+            Some((before, _)) => Position::after(before),
+            None => Position::after(text),
+        }
+    }
+
+    /// The position where so many bytes are left.
+    fn position_where_left(&self, left: usize) -> Position
+        requires { Leaves self.now left }
+        ensures { IsWhere self.now left result }
+    {
+        Position::from_offset(self.end - left, self.input.as_text())
+    }
+
+    /// The fault that a token was refused with.
+    fn fault(&self, refusal: Refusal) -> Error
+        requires { InUnread self.now refusal }
+        ensures { MadeOf self.now refusal result }
+    {
+        match refusal {
+            Refusal::TokenError {
+                code,
+                remaining: None,
+            } => Error::new(code),
+            Refusal::TokenError {
+                code,
+                remaining: Some(left),
+            } => Error::new_at(self.position_where_left(left), code),
+            Refusal::InvalidNumber(left) => self.custom(
+                self.position_where_left(left),
+                "invalid number",
+            ),
+            Refusal::TooLarge(left) => {
+                self.custom(
+                    self.position_where_left(left),
+                    "number too large to fit in target type",
+                )
+            }
+            Refusal::UnpairedSurrogate(escape, left) => {
+                self.custom(
+                    self.position_where_left(left),
+                    format_args!("unpaired surrogate found: {escape:x}"),
+                )
+            }
+            Refusal::OutOfMemory => Error::new(ErrorCode::OutOfMemory),
+        }
+    }
+
+    /// The custom fault with this message at this position; `OutOfMemory` if there is no memory for the message.
+    fn custom<D: Display + Drop>(&self, position: Position, message: D) -> Error
+        ensures { LacksMemory result ⊎ IsCustomAt (Some position) result }
+    {
+        match Error::custom_at(self.alloc, position, message) {
+            Ok(error) => error,
+            Err(error) => error,
+        }
+    }
+}
+
+impl<'de, I: Borrows<'de>> Scanner<I> {
+    /// Takes a string and returns its text, borrowed where the string has no escape, which then takes no memory (JSON5 section
+    /// 5, ECMAScript 5.1 section 7.8.4).
+    ///
+    /// # Errors
+    ///
+    /// - `ExpectedString` at a character that is no quote.
+    /// - `LineTerminatorInString` at an LF or CR that no backslash escapes.
+    /// - `InvalidEscapeSequence` at the backslash of an escape that isn't allowed, of two the first one's; or, where a second
+    ///   `\u` must follow that of a surrogate, at the character in place of its `\` or `u`.
+    /// - A custom fault at the first backslash of two `\u` escapes that are no pair of surrogates.
+    /// - `EofParsingString`, without a position, where the text ends before the closing quote.
+    /// - `EofParsingEscapeSequence`, without a position, where it ends in an escape.
+    pub fn string(&mut self) -> Result<CowStr<'de>>
+        ensures { TakesString self.old self.new result }
+    {
+        take!(
+            self,
+            read_string(self.alloc, self.rest(self.input.as_borrowed()))
+        )
+    }
+
+    /// Takes an identifier, as far as it goes, and returns its text, borrowed where it has no escape, which then takes no
+    /// memory (JSON5 section 3, ECMAScript 5.1 section 7.6). A character must follow it: an identifier ends no text.
+    ///
+    /// # Errors
+    ///
+    /// - `ExpectedIdentifier` at a character that may not begin one, or at the backslash of an escape whose character may not
+    ///   be there.
+    /// - `InvalidEscapeSequence` at the character after a backslash that is no `u`. The faults of `\u` escapes are those of
+    ///   [`string`](Scanner::string).
+    /// - `EofParsingIdentifier`, without a position, where the text ends in it or right after it.
+    /// - `EofParsingEscapeSequence`, without a position, where it ends in a `\u` escape.
+    pub fn identifier(&mut self) -> Result<CowStr<'de>>
+        ensures { TakesName self.old self.new result }
+    {
+        take!(
+            self,
+            read_name(self.alloc, self.rest(self.input.as_borrowed()))
+        )
+    }
+
+    /// Returns the text of a token that this scanner took, borrowed where the token has no escape; of another scanner's token as in
+    /// [`text_of`](Scanner::text_of).
+    pub fn borrowed_text_of(&self, token: TextToken) -> CowStr<'de>
+        ensures { IsCowOf self.now.input token result }
+    {
+        match token {
+            TextToken::EscapeFree(span) => CowStr::Borrowed(self.borrowed_text_of_span(span)),
+            TextToken::Escaped(text) => CowStr::Owned(text),
+        }
+    }
+
+    /// The same as `text_of_span`, for as long as the input lives.
+    #[inline(always)]
+    pub fn borrowed_text_of_span(&self, span: Span) -> &'de str
+        ensures { IsTextAt self.now.input span result.now }
+    {
+        between(self.input.as_borrowed(), span.start, span.end)
+    }
+}
+
+/// The part of the input between two offsets in bytes; empty if they are out of order, past the end or within a character.
+fn between(text: &str, start: usize, end: usize) -> &str
+    ensures { (u : List ℕ) → IsSliceAt (chars text.now) u start end → result.now ≡ encode_utf8_all u }
+{
+    text.get(start..end).unwrap_or("")
 }

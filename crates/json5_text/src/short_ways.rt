@@ -2,10 +2,10 @@
 //! holds no fault. When they return None they take nothing, and the scanner's other calls say what is there.
 
 ghost use Rattle.std.specs.Prelude.{◌<◌, true, false, IfSome};
-ghost use Rattle.json5_text.specs.ShortWays.{FollowsBlanks, IsWholeOfFewDigits, GivesSpaced, TakesShortWhole, IsInFront, FindsStep, TakesShortStep, FindsSign, TakesShortSign};
+ghost use Rattle.json5_text.specs.ShortWays.{FollowsBlanks, IsInFront, FindsStep, TakesShortStep, FindsSign, TakesShortSign};
 
 use crate::blanks::{skip_ascii, skip_blank};
-use crate::byte_runs::{begins_minus, begins_solid, few_digits};
+use crate::byte_runs::begins_solid;
 use crate::input::Input;
 use crate::scanner::Scanner;
 
@@ -44,38 +44,6 @@ fn skip_to_comma(text: &str) -> Option<&str>
         return Some(text);
     }
     skip_to_solid(text)
-}
-
-/// A whole number of few digits, and how many bytes follow it.
-#[derive(Clone, Copy)]
-struct SpacedWhole {
-    number: i128,
-    left: usize,
-}
-
-/// The whole number in front, if it has few digits, and what follows it.
-#[inline(always)]
-fn front_whole(text: &str) -> Option<(i128, &str)>
-    ensures { IfSome result (λ p. IsWholeOfFewDigits text.now p.0 p.1.now) }
-{
-    if begins_minus(text.as_bytes()) {
-        let (magnitude, rest) = few_digits(text.split_at(1).1)?;
-        return Some((-i128::from(magnitude), rest));
-    }
-    let (magnitude, rest) = few_digits(text)?;
-    Some((i128::from(magnitude), rest))
-}
-
-/// The whole number after ASCII blanks, if it has few digits.
-#[inline(always)]
-fn spaced_whole(text: &str) -> Option<SpacedWhole>
-    ensures { IfSome result (GivesSpaced text.now) }
-{
-    let (number, rest) = front_whole(skip_ascii(text))?;
-    Some(SpacedWhole {
-        number,
-        left: rest.len(),
-    })
 }
 
 /// What a step to the next entry, an element or a member, came to.
@@ -169,20 +137,6 @@ fn left_after_sign(sign: u8, text: &str) -> Option<usize>
 }
 
 impl<I: Input> Scanner<I> {
-    /// Takes ASCII blanks and a whole number of at most 19 digits from `min` to `max`, up to where a number can't go on. Returns
-    /// None where anything else is in front, and takes nothing then.
-    #[inline(always)]
-    pub fn short_whole(&mut self, min: i128, max: i128) -> Option<i128>
-        ensures { TakesShortWhole min max self.old self.new result }
-    {
-        let found = spaced_whole(self.rest(self.input.as_text()))?;
-        if found.number < min || max < found.number {
-            return None;
-        }
-        self.set_remaining(found.left);
-        Some(found.number)
-    }
-
     /// Takes ASCII blanks up to the next element or member, and before it the comma where one is due. The closing
     /// bracket stays unread. Returns `Other` where anything else is in front, and takes nothing then.
     #[inline(always)]

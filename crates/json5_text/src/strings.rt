@@ -9,7 +9,7 @@ ghost use Rattle.json5_text.specs.ScanTextTokens.{AnswersToken};
 ghost use Rattle.json5_text.specs.ScanTexts.{quote_of, string_at, AnswersQuote};
 
 use crate::byte_runs::raw_end;
-use crate::first_char::front;
+use crate::char::front;
 use crate::refusal::Refusal;
 use crate::strings_and_names::{Kind, Quote, read_text, read_text_owned, skip_text};
 use crate::text_token::TextToken;

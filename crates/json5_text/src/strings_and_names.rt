@@ -7,8 +7,8 @@ ghost use Rattle.json5_text.specs.TokenResults.{AnswersAs, AnswersCow, AddsRest,
 ghost use Rattle.json5_text.specs.Scan.{AtEscape, in_list};
 ghost use Rattle.json5_text.specs.ScanTexts.{quote_of, after_first_char, past, ends_early, text_at, item, is_raw_in, SkipsRaw, AnswersStop, AnswersRun, AnswersStep, IsReadTo, AddsUpTo, PassesSteps, AddsSteps};
 
+use crate::char::front;
 use crate::escapes::{front_escape, read_escape};
-use crate::first_char::front;
 use crate::names::{self, skip_parts, skip_start};
 use crate::refusal::Refusal;
 use crate::strings::skip_raw;
