@@ -15,6 +15,7 @@ pub mod ValuesCounted
 pub mod MembersPlaced
 pub mod ValuesChanged
 pub mod MembersMerged
+pub mod MembersSpotted
 pub mod PointerParts
 pub mod PointerKeys
 pub mod PointerIndices

@@ -17,6 +17,7 @@ pub mod DigitRuns
 pub mod ValueKinds
 pub mod ValueChanges
 pub mod MemberPlaces
+pub mod MemberSpots
 pub mod Pointers
 pub mod PointerSteps
 pub mod LentValues

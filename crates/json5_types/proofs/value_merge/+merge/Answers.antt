@@ -1,43 +1,31 @@
-use Rattle.std.proofs.Common.{refl, sym, ap, ◌∙◌, String, string_bytes}
+use Rattle.std.proofs.Common.{arith, refl, sym, ap, ◌∙◌, String, string_bytes, reverse}
 use Rattle.std.specs.declared.alloc.Global.{Global}
 use Rattle.std.specs.Str.{chars}
 use Rattle.json5_types.specs.declared.value.Value.{Value}
 use Rattle.json5_types.specs.ValueMeanings.{value_of, fields_view}
-use Rattle.json5_types.proofs.MembersMerged.{merged_there, merged_last, shallower, no_later, some_later, turn_merged, turn_passed}
+use Rattle.json5_types.proofs.MembersMerged.{shallower}
+use Rattle.json5_types.proofs.MembersSpotted.{spot_there, spot_new, spot_outside, next_turn}
 use Rattle.json5_types.proofs.value_merge.+merge.Goals as goal
 
-pub merge_member-returns-in-Some-clause-merges : goal.merge_member-returns-in-Some-clause-merges
-merge_member-returns-in-Some-clause-merges t c =
-    let f = c.replace-key.result in
-    let last = rw (c.deref.ensures.value, c.as_str.ensures.value) at c.in-Some.ensures in
+pub merge_member-returns-else-len-place-clause-merges : goal.merge_member-returns-else-len-place-clause-merges
+merge_member-returns-else-len-place-clause-merges t c =
     let is = rw (← c.replace-key.ensures.value) at c.index_mut.ensures.value in
-    merged_there (chars (string_bytes c.args.key)) c.args.fields.now.items c.in-Some.place c.replace-key.new.dest f c.merge_value-outcome.new.value (value_of c.args.value) c.merge_value-outcome.result last is c.merge_value-outcome.ensures.merges
+    spot_there (chars (string_bytes c.args.key)) c.args.fields.now.items c.in-Known.place c.args.spot c.replace-key.new.dest c.replace-key.result c.merge_value-outcome.new.value (value_of c.args.value) c.merge_value-outcome.result c.in-Known.is is c.merge_value-outcome.ensures.merges
 
-pub merge_member-returns-in_ok-push-in-None-clause-merges : goal.merge_member-returns-in_ok-push-in-None-clause-merges
-merge_member-returns-in_ok-push-in-None-clause-merges t c =
-    let none = rw (c.deref.ensures.value, c.as_str.ensures.value) at c.in-None.ensures in
-    ap fields_view c.in_ok-push-in-None.ensures.items ∙ merged_last (chars (string_bytes c.args.key)) c.args.key c.args.value c.args.fields.now.items none refl
+pub merge_member-returns-then-len-place-clause-merges : goal.merge_member-returns-then-len-place-clause-merges
+merge_member-returns-then-len-place-clause-merges t c = spot_outside (chars (string_bytes c.args.key)) (value_of c.args.value) c.args.fields.now.items c.in-Known.place c.args.spot c.in-Known.is (omega (arith, c.args.fields.now.ok))
 
-pub merge_members-loop-key-preserved-in-Continue-1 : goal.merge_members-loop-key-preserved-in-Continue-1
-merge_members-loop-key-preserved-in-Continue-1 t c =
-    let rest = c.loop-key.rest.items in
-    let new = c.pop.new.self.items in
-    let f : String Global × Value = (c.in-Some.key, c.in-Some.value) in
-    let found = rw (c.deref.ensures.value, c.as_str.ensures.value) at c.last_place.ensures in
-    let none = no_later (chars (string_bytes c.in-Some.key)) new c.last_place.result c.is_none.result found c.is_none.ensures c.if-is_none.true in
-    record {
-      whole = turn_merged (fields_view c.loop-key.fields.items) (fields_view c.merge_member.new.fields.items) rest new f c.in-Some.ensures.items none c.in_ok-merge_member.ensures.merges ∙ c.loop-key.invariant.whole;
-      inside = shallower rest new f _ c.in-Some.ensures.items c.loop-key.invariant.inside;
-    }
+pub merge_member-returns-in_ok-push-in-New-clause-merges : goal.merge_member-returns-in_ok-push-in-New-clause-merges
+merge_member-returns-in_ok-push-in-New-clause-merges t c = spot_new (chars (string_bytes c.args.key)) c.args.key c.args.value c.args.fields.now.items c.push.new.self.items c.args.spot c.in-New.is refl c.in_ok-push-in-New.ensures.items
 
 pub merge_members-loop-key-preserved : goal.merge_members-loop-key-preserved
 merge_members-loop-key-preserved t c =
     let rest = c.loop-key.rest.items in
     let new = c.pop.new.self.items in
     let f : String Global × Value = (c.in-Some.key, c.in-Some.value) in
-    let found = rw (c.deref.ensures.value, c.as_str.ensures.value) at c.last_place.ensures in
-    let some = some_later (chars (string_bytes c.in-Some.key)) new c.last_place.result c.is_none.result found c.is_none.ensures c.if-is_none.false in
+    let next = next_turn rest new f c.loop-key.spots.items c.pop-in-Some.new.self.items c.pop-in-Some.result c.unwrap_or-spot.result c.loop-key.fields.items c.merge_member.new.fields.items c.in-Some.ensures.items c.pop-in-Some.ensures.items (λ x. let p = c.pop-in-Some.ensures.variant.0 x in omega (arith, p, c.loop-key.spots.ok), λ x. c.pop-in-Some.ensures.variant.1 (omega (arith, x, c.loop-key.spots.ok))) c.unwrap_or-spot.ensures c.loop-key.invariant.spotted c.in_ok-merge_member.ensures.merges in
     record {
-      whole = turn_passed (fields_view c.loop-key.fields.items) rest new f c.in-Some.ensures.items some ∙ c.loop-key.invariant.whole;
+      whole = next.0 ∙ c.loop-key.invariant.whole;
       inside = shallower rest new f _ c.in-Some.ensures.items c.loop-key.invariant.inside;
+      spotted = next.1;
     }

@@ -2,6 +2,7 @@ use Rattle.std.proofs.Common.{◌≡◌, ◌≤◌, ◌+◌, ◌*◌, suc, lengt
 use Rattle.json5_types.specs.ValueMeanings.{value_of, fields_view}
 use Rattle.json5_types.specs.ValueLookups.{datum_depth, fields_depth}
 use Rattle.json5_types.specs.ValueChanges.{fields_merged}
+use Rattle.json5_types.specs.MemberSpots.{keys_in, spots_of}
 use Rattle.json5_types.proofs.value_merge.+merge.Given as goal
 
 abbrev pub decreases-merge_value : goal.decreases-merge_value
@@ -21,6 +22,7 @@ abbrev pub invariant-merge_members-loop-key : goal.invariant-merge_members-loop-
 invariant-merge_members-loop-key l = record {
   whole : fields_merged (fields_view l.fields.items) (fields_view (reverse l.rest.items)) ≡ fields_merged (fields_view l.fn.fields.items) (fields_view l.fn.others.items);
   inside : fields_depth (fields_view (reverse l.rest.items)) ≤ fields_depth (fields_view l.fn.others.items);
+  spotted : reverse l.spots.items ≡ spots_of (keys_in (reverse l.rest.items)) (keys_in l.fields.items);
 }
 
 abbrev pub decreases-merge_members-loop-key : goal.decreases-merge_members-loop-key
