@@ -1,16 +1,16 @@
 -- Members that are merged one after another, the last of those with equal keys.
-use Rattle.std.proofs.Common.{◌≡◌, ◌∙◌, ◌≤◌, ℕ, zero, suc, max, Bool, true, false, nat_eq, ◌||◌, not, List, [], ◌∷◌, ◌++◌, set, Result, Ok, Err, Option, Some, None, is_some, refl, sym, ap, arith, String, string_bytes}
-use Rattle.std.specs.Prelude.{⊤, OnOk, if◌then◌else◌, reverse, slice_index_or}
+use Rattle.std.proofs.Common.{◌≡◌, ◌∙◌, ◌≤◌, ℕ, zero, suc, List, [], ◌∷◌, ◌++◌, set, None, refl, sym, ap, arith, String, string_bytes}
+use Rattle.std.specs.Prelude.{reverse, slice_index_or}
 use Rattle.std.specs.declared.alloc.Global.{Global}
 use Rattle.std.specs.Str.{chars}
-use Rattle.std.specs.Cmp.Lexicographic.{pointwise, bytes_decides}
+use Rattle.std.specs.Cmp.Lexicographic.{bytes_decides}
 use Rattle.std.proofs.lemmas.List.{reverse-append}
 use Rattle.json5_types.specs.declared.value.Value.{Value}
-use Rattle.json5_types.specs.ValueMeanings.{Datum, null, boolean, number, text, array, object, Fields, field, value_of, fields_view}
-use Rattle.json5_types.specs.ValueLookups.{or_else, last_named, datum_depth, fields_depth}
-use Rattle.json5_types.specs.ValueChanges.{has_key, merged, fields_merged, put_named, or_null}
-use Rattle.json5_types.specs.MemberPlaces.{IsLastNamed, FindsLast}
-use Rattle.json5_types.proofs.MembersPlaced.{found_there, is_found, put_there, put_last}
+use Rattle.json5_types.specs.ValueMeanings.{Datum, null, boolean, number, text, array, object, field, value_of, fields_view}
+use Rattle.json5_types.specs.ValueLookups.{last_named, fields_depth}
+use Rattle.json5_types.specs.ValueChanges.{merged, put_named, or_null}
+use Rattle.json5_types.specs.MemberPlaces.{IsLastNamed}
+use Rattle.json5_types.proofs.MembersPlaced.{found_there, put_there, put_last}
 
 abbrev Member : Type 0
 Member = String Global × Value

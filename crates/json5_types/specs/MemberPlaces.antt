@@ -1,12 +1,12 @@
 -- The place of the last member with a key. Private clauses and proofs alone cite it.
-use Rattle.std.specs.Prelude.{◌≡◌, ◌<◌, ℕ, suc, true, nat_eq, List, length, drop, slice_index_or, Option, None, Some, option_map, MatchOption, Result, Ok, Err, String, string_bytes, Vec}
+use Rattle.std.specs.Prelude.{◌≡◌, ◌<◌, ℕ, suc, true, nat_eq, List, length, drop, slice_index_or, Option, None, option_map, MatchOption, Result, Ok, Err, String, string_bytes}
 use Rattle.std.specs.declared.alloc.Global.{Global}
 use Rattle.std.specs.Str.{chars}
 use Rattle.std.specs.Cmp.Lexicographic.{pointwise}
 use Rattle.json5_types.specs.declared.error.Error.{Error}
 use Rattle.json5_types.specs.declared.value.Value.{Value}
 use Rattle.json5_types.specs.Errors.{LacksMemory}
-use Rattle.json5_types.specs.ValueMeanings.{Datum, value_of, Fields, fields_view}
+use Rattle.json5_types.specs.ValueMeanings.{Datum, value_of, fields_view}
 use Rattle.json5_types.specs.ValueLookups.{last_named}
 use Rattle.json5_types.specs.ValueChanges.{put_named}
 

@@ -1,8 +1,8 @@
-use Rattle.std.proofs.Common.{arith, refl, sym, ap, ◌∙◌, String, string_bytes, reverse}
+use Rattle.std.proofs.Common.{arith, refl, ◌∙◌, String, string_bytes}
 use Rattle.std.specs.declared.alloc.Global.{Global}
 use Rattle.std.specs.Str.{chars}
 use Rattle.json5_types.specs.declared.value.Value.{Value}
-use Rattle.json5_types.specs.ValueMeanings.{value_of, fields_view}
+use Rattle.json5_types.specs.ValueMeanings.{value_of}
 use Rattle.json5_types.proofs.MembersMerged.{shallower}
 use Rattle.json5_types.proofs.MembersSpotted.{spot_there, spot_new, spot_outside, next_turn}
 use Rattle.json5_types.proofs.value_merge.+merge.Goals as goal

@@ -1,4 +1,4 @@
-use Rattle.std.proofs.Common.{◌≡◌, take}
+use Rattle.std.proofs.Common.{take}
 use Rattle.json5_types.specs.MemberSpots.{FindsPlaces}
 use Rattle.json5_types.proofs.value_merge.last_places.Given as goal
 
