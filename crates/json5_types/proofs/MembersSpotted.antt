@@ -61,9 +61,9 @@ last_found key (f ∷ fs) i h = go (λ j e. last_found key fs j e) (last_index k
   where
     go : ((j : ℕ) → last_index key (keys_in fs) ≡ Some j → IsLastNamed key fs j) → (o : Option ℕ) → last_index key (keys_in fs) ≡ o → (b : Bool) → pointwise nat_eq (chars (string_bytes f.0)) key ≡ b → (i : ℕ) → later_or_here o b ≡ Some i → IsLastNamed key (f ∷ fs) i
     go further (Some j) e b here (suc i) h =
-      let later : IsLastNamed key fs j = further j e in
-      let same : j ≡ i = cc in
-      subst (λ n. IsLastNamed key (f ∷ fs) (suc n)) same (record { within = omega (arith, later.within); named = later.named; last = later.last })
+        let later : IsLastNamed key fs j = further j e in
+        let same : j ≡ i = cc in
+        subst (λ n. IsLastNamed key (f ∷ fs) (suc n)) same (record { within = omega (arith, later.within); named = later.named; last = later.last })
     go further (Some j) e b here zero h = absurd (cc)
     go further None e true here zero h = record {
       within = omega arith;
@@ -248,9 +248,10 @@ turn : (rest new : List Member) (f : Member) (spots left : List Spot) (s : Spot)
     → (fields_merged gs (fields_view (reverse new)) ≡ fields_merged fs (fields_view (reverse rest))) × (reverse left ≡ spots_of (keys_in (reverse new)) (keys_of gs))
 turn rest new f spots left s fs gs e h all is =
     let n = next_spot rest new f spots left s fs e h all in
-    let key = chars (string_bytes f.0) in
-    (ap (λ x. fields_merged x (fields_view (reverse new))) is ∙ merged_next key (value_of f.1) fs (fields_view (reverse new)) s n.0 ∙ ap (fields_merged fs) (sym (next_keys rest new f e)),
-     n.1 ∙ sym (kept_spots key (value_of f.1) fs (keys_in (reverse new)) s n.0) ∙ ap (λ x. spots_of (keys_in (reverse new)) (keys_of x)) (sym is))
+    let key = chars (string_bytes f.0) in (
+      ap (λ x. fields_merged x (fields_view (reverse new))) is ∙ merged_next key (value_of f.1) fs (fields_view (reverse new)) s n.0 ∙ ap (fields_merged fs) (sym (next_keys rest new f e)),
+      n.1 ∙ sym (kept_spots key (value_of f.1) fs (keys_in (reverse new)) s n.0) ∙ ap (λ x. spots_of (keys_in (reverse new)) (keys_of x)) (sym is),
+    )
 
 pub next_turn : (rest new : List Member) (f : Member) (spots left : List Spot) (r : Option Spot) (s : Spot) (fs gs : List Member) → rest ≡ new ++ f ∷ [] → spots ≡ left ++ option_to_list r → IsSome r ↔ (0 < length spots) → s ≡ unwrap_or r spot.Passed
     → reverse spots ≡ spots_of (keys_in (reverse rest)) (keys_in fs) → MergesAt s (chars (string_bytes f.0)) (value_of f.1) fs gs
