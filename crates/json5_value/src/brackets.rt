@@ -1,15 +1,10 @@
 //! Brackets: their kinds, their characters and codes, and those that are open.
 
-ghost use Rattle.std.specs.Prelude.{◌≡◌, Some, slice_get};
-ghost use Rattle.json5_grammar.specs.Faults.Fronts.{opening};
-ghost use Rattle.json5_value.specs.Brackets.{bracket_of, brackets_of};
-ghost use Rattle.json5_value.specs.Opening.{OpensBracket, OpensKind};
-ghost use Rattle.json5_value.specs.ModelSteps.{IsInside};
+ghost use Rattle.std.specs.Prelude.{◌≡◌};
+ghost use Rattle.json5_value.specs.Brackets.{brackets_of};
+ghost use Rattle.json5_value.specs.Opening.{OpensKind};
 
-use json5_text::input::Input;
-use json5_text::scanner::Scanner;
 use json5_types::ErrorCode;
-use json5_types::error::{Error, Result};
 
 /// A kind of brackets: of arrays or of objects.
 #[derive(Clone, Copy, Drop)]
@@ -86,23 +81,4 @@ impl Default for OpenBracket {
             start: 0,
         }
     }
-}
-
-/// Takes the opening bracket in front, if there is room for one more.
-#[inline(always)]
-pub(crate) fn open_bracket<I: Input>(
-    scanner: &mut Scanner<I>,
-    room: usize,
-    kind: BracketKind,
-) -> Result<OpenBracket>
-    requires ready { IsInside scanner.old }
-    requires sign { slice_get scanner.old.unread 0 ≡ Some (opening (bracket_of kind)) }
-    ensures { OpensBracket room scanner.old scanner.new result }
-{
-    let start = scanner.offset();
-    if room == 0 {
-        return Err(Error::new_at(scanner.position_of(start), ErrorCode::TooDeep));
-    }
-    let _ = scanner.eat(kind.brackets().opening);
-    Ok(OpenBracket { kind, start })
 }

@@ -1,66 +1,64 @@
-//! What is around an entry, which is an element of an array or a member of an object (JSON5 sections 3 and 4).
-
-ghost use Rattle.json5_grammar.specs.Model.ReadSteps.{forget, colon_after, next_value};
-ghost use Rattle.json5_grammar.specs.Model.ReadTexts.{key};
-ghost use Rattle.json5_value.specs.Brackets.{bracket_of};
-ghost use Rattle.json5_value.specs.Entries.{due_comma, next_entry};
-ghost use Rattle.json5_value.specs.ShortWays.{before_value};
-ghost use Rattle.json5_value.specs.ModelSteps.{IsInside, Steps};
+//! What is around an entry, which is an element of an array or a member of an object (JSON5 sections 3 and 4). A call that is
+//! refused returns None, and leaves its error in `fault`: so no error is in the frame of a loop over entries.
 
 use crate::brackets::BracketKind;
-use crate::faults::unexpected_here;
-use crate::short_ways::BeforeValue;
+use crate::faults::{leave_error, unexpected_here};
 use json5_text::input::Input;
 use json5_text::scanner::Scanner;
+use json5_text::short_ways::ShortStep;
 use json5_text::strings::is_quote;
 use json5_types::ErrorCode;
-use json5_types::error::{Error, Result};
+use json5_types::error::Error;
 
-/// Passes over a key.
-fn skip_key<I: Input>(scanner: &mut Scanner<I>) -> Result<()>
-    requires { IsInside scanner.old }
-    ensures { Steps (forget (key scanner.old.unread)) scanner.old scanner.new result }
-{
-    let Some(c) = scanner.peek() else {
-        return Err(Error::new(ErrorCode::EofParsingObject));
-    };
-    if is_quote(c) {
-        return scanner.skip_string();
+/// Passes over blanks.
+#[inline(never)]
+fn skip_blank<I: Input>(scanner: &mut Scanner<I>, fault: &mut Error) -> Option<()> {
+    leave_error(scanner.skip_blank(), fault)
+}
+
+/// The same as `skip_colon`, whatever is in front.
+#[inline(never)]
+fn skip_colon_slowly<I: Input>(scanner: &mut Scanner<I>, fault: &mut Error) -> Option<()> {
+    skip_blank(scanner, fault)?;
+    if !scanner.eat(':') {
+        *fault = unexpected_here(scanner, ErrorCode::EofParsingObject, ErrorCode::ExpectedColon);
+        return None;
     }
-    scanner.skip_identifier()
+    skip_blank(scanner, fault)
 }
 
 /// Passes over blanks, a colon and blanks.
-pub(crate) fn skip_colon<I: Input>(scanner: &mut Scanner<I>) -> Result<()>
-    requires { IsInside scanner.old }
-    ensures { Steps (colon_after scanner.old.unread) scanner.old scanner.new result }
-{
-    scanner.skip_blank()?;
-    if !scanner.eat(':') {
-        return Err(unexpected_here(
-            scanner,
-            ErrorCode::EofParsingObject,
-            ErrorCode::ExpectedColon,
-        ));
+#[inline(always)]
+pub(crate) fn skip_colon<I: Input>(scanner: &mut Scanner<I>, fault: &mut Error) -> Option<()> {
+    if !scanner.short_sign(b':') {
+        return skip_colon_slowly(scanner, fault);
     }
-    scanner.skip_blank()
+    match scanner.short_step(b'}', false) {
+        ShortStep::Other => skip_blank(scanner, fault),
+        _ => Some(()),
+    }
 }
 
-/// Passes over what is left before the value of a member: its key, and blanks, a colon and blanks.
+/// Passes over a key, whatever it is.
 #[inline(never)]
-pub(crate) fn skip_before_value<I: Input>(scanner: &mut Scanner<I>, left: BeforeValue) -> Result<()>
-    requires { IsInside scanner.old }
-    ensures { Steps (before_value left scanner.old.unread) scanner.old scanner.new result }
-{
-    match left {
-        BeforeValue::Key => {
-            skip_key(scanner)?;
-            skip_colon(scanner)
-        }
-        BeforeValue::Colon => skip_colon(scanner),
-        BeforeValue::Blanks => scanner.skip_blank(),
-        BeforeValue::Nothing => Ok(()),
+fn skip_key_slowly<I: Input>(scanner: &mut Scanner<I>, fault: &mut Error) -> Option<()> {
+    let Some(c) = scanner.peek() else {
+        *fault = Error::new(ErrorCode::EofParsingObject);
+        return None;
+    };
+    if is_quote(c) {
+        return leave_error(scanner.skip_string(), fault);
     }
+    leave_error(scanner.skip_identifier(), fault)
+}
+
+/// Passes over what is before the value of a member: its key, blanks, a colon and blanks.
+#[inline(always)]
+fn skip_name<I: Input>(scanner: &mut Scanner<I>, fault: &mut Error) -> Option<()> {
+    if scanner.short_key().is_none() {
+        skip_key_slowly(scanner, fault)?;
+    }
+    skip_colon(scanner, fault)
 }
 
 /// If a comma is due, passes over it and returns true, or over the closing bracket and returns false. Else returns true.
@@ -68,59 +66,75 @@ fn skip_comma<I: Input>(
     scanner: &mut Scanner<I>,
     kind: BracketKind,
     comma_due: bool,
-) -> Result<bool>
-    requires { IsInside scanner.old }
-    ensures { Steps (due_comma (bracket_of kind) comma_due scanner.old.unread) scanner.old scanner.new result }
-{
+    fault: &mut Error,
+) -> Option<bool> {
     if !comma_due {
-        return Ok(true);
+        return Some(true);
     }
-    scanner.skip_blank()?;
+    skip_blank(scanner, fault)?;
     if scanner.eat(',') {
-        return Ok(true);
+        return Some(true);
     }
     let brackets = kind.brackets();
     if scanner.eat(brackets.closing) {
-        return Ok(false);
+        return Some(false);
     }
-    Err(unexpected_here(scanner, brackets.ends, ErrorCode::ExpectedComma))
+    *fault = unexpected_here(scanner, brackets.ends, ErrorCode::ExpectedComma);
+    None
+}
+
+/// The same as `next_entry`, whatever is in front.
+#[inline(never)]
+fn next_entry_slowly<I: Input>(
+    scanner: &mut Scanner<I>,
+    kind: BracketKind,
+    comma_due: bool,
+    fault: &mut Error,
+) -> Option<bool> {
+    let more = skip_comma(scanner, kind, comma_due, fault)?;
+    if !more {
+        return Some(false);
+    }
+    skip_blank(scanner, fault)?;
+    Some(!scanner.eat(kind.brackets().closing))
 }
 
 /// Goes to the next entry, after a comma if one is due, and returns true; or passes over the closing bracket and returns false.
-pub(crate) fn skip_to_entry<I: Input>(
+#[inline(always)]
+pub(crate) fn next_entry<I: Input>(
     scanner: &mut Scanner<I>,
     kind: BracketKind,
     comma_due: bool,
-) -> Result<bool>
-    requires { IsInside scanner.old }
-    ensures { Steps (next_entry (bracket_of kind) comma_due scanner.old.unread) scanner.old scanner.new result }
-{
-    let more = skip_comma(scanner, kind, comma_due)?;
-    if !more {
-        return Ok(false);
+    fault: &mut Error,
+) -> Option<bool> {
+    let closing = kind.brackets().closing;
+    match scanner.short_step(closing as u8, comma_due) {
+        ShortStep::Entry => Some(true),
+        ShortStep::Closing => {
+            let _ = scanner.eat(closing);
+            Some(false)
+        }
+        ShortStep::Other => next_entry_slowly(scanner, kind, comma_due, fault),
     }
-    scanner.skip_blank()?;
-    Ok(!scanner.eat(kind.brackets().closing))
 }
 
-/// Goes to the next entry as `skip_to_entry` does, but on to its value: over the key and the colon of a member too.
-pub(crate) fn skip_to_value<I: Input>(
+/// Goes to the next entry as `next_entry` does, but on to its value: over the key and the colon of a member too.
+#[inline(always)]
+pub(crate) fn next_value<I: Input>(
     scanner: &mut Scanner<I>,
     kind: BracketKind,
     comma_due: bool,
-) -> Result<bool>
-    requires { IsInside scanner.old }
-    ensures { Steps (next_value (bracket_of kind) comma_due scanner.old.unread) scanner.old scanner.new result }
-{
-    let more = skip_to_entry(scanner, kind, comma_due)?;
+    fault: &mut Error,
+) -> Option<bool> {
+    let more = next_entry(scanner, kind, comma_due, fault)?;
     if !more {
-        return Ok(false);
+        return Some(false);
     }
     match kind {
-        BracketKind::Array => Ok(true),
+        BracketKind::Array => Some(true),
         BracketKind::Object => {
-            skip_before_value(scanner, BeforeValue::Key)?;
-            Ok(true)
+            skip_name(scanner, fault)?;
+            Some(true)
         }
     }
 }

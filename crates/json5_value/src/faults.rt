@@ -9,7 +9,8 @@ ghost use Rattle.json5_value.specs.ModelSteps.{Unexpected};
 use json5_text::input::Input;
 use json5_text::scanner::Scanner;
 use json5_types::ErrorCode;
-use json5_types::error::Error;
+use json5_types::error::{Error, Result};
+use std::mem;
 
 /// Makes the fault of what is next and isn't expected: `differs` at the character, or `ends` at the end of the input, without a
 /// position.
@@ -44,5 +45,32 @@ pub fn with_position_at<I: Input>(scanner: &Scanner<I>, start: usize, error: Err
     match error.position() {
         Some(_) => error,
         None => error.at(scanner.position_of(start)),
+    }
+}
+
+/// Gives the fault that was left the bracket's position, if it has none.
+#[cold]
+#[inline(never)]
+pub(crate) fn place_fault<I: Input>(scanner: &Scanner<I>, start: usize, fault: &mut Error) {
+    let own = mem::replace(fault, Error::new(ErrorCode::Failed));
+    *fault = with_position_at(scanner, start, own);
+}
+
+/// Leaves the fault that memory ran out.
+#[cold]
+#[inline(never)]
+pub(crate) fn lack_memory(fault: &mut Error) {
+    *fault = Error::new(ErrorCode::OutOfMemory);
+}
+
+/// What the call returned, or None where it was refused: then its error is left in `fault`.
+#[inline(always)]
+pub(crate) fn leave_error<T: Drop>(read: Result<T>, fault: &mut Error) -> Option<T> {
+    match read {
+        Ok(found) => Some(found),
+        Err(e) => {
+            *fault = e;
+            None
+        }
     }
 }

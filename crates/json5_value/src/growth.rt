@@ -2,8 +2,10 @@
 
 ghost use Rattle.std.specs.Prelude.{◌≡◌, ◌<◌, [], ◌∷◌, ◌++◌, IsTrue, vec_len, vec_capacity};
 
+use crate::faults::lack_memory;
 use json5_text::input::Input;
 use json5_text::scanner::Scanner;
+use json5_types::error::Error;
 
 /// Makes room for one more entry, and says whether there was memory for it. The first gets room for itself alone unless the scanner
 /// is at a comma, so an array or an object of one entry takes the memory of one. With more entries it grows as `push` lets it.
@@ -21,18 +23,18 @@ fn make_room<I: Input, T>(scanner: &Scanner<I>, entries: &mut Vec<T>) -> bool
     entries.reserve(1).is_ok()
 }
 
-/// Adds an entry, and says whether there was memory for it.
+/// Adds an entry. If memory runs out, it returns None, and the error is left in `fault`.
 #[inline(always)]
 pub(crate) fn add_entry<I: Input, T: Drop>(
     scanner: &Scanner<I>,
     entries: &mut Vec<T>,
     entry: T,
-) -> bool
-    ensures { IsTrue result → entries.new.items ≡ entries.old.items ++ entry ∷ [] }
-{
+    fault: &mut Error,
+) -> Option<()> {
     if !make_room(scanner, entries) {
-        return false;
+        lack_memory(fault);
+        return None;
     }
     entries.push_reserved(entry);
-    true
+    Some(())
 }
