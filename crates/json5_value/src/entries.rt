@@ -1,8 +1,16 @@
 //! What is around an entry, which is an element of an array or a member of an object (JSON5 sections 3 and 4). A call that is
 //! refused returns None, and leaves its error in `fault`: so no error is in the frame of a loop over entries.
 
+ghost use Rattle.json5_grammar.specs.Language.Blanks.{Solid};
+ghost use Rattle.json5_grammar.specs.Model.ReadBlanks.{skip, between};
+ghost use Rattle.json5_grammar.specs.Model.ReadSteps.{forget, colon_after, next_value};
+ghost use Rattle.json5_grammar.specs.Model.ReadTexts.{key};
+ghost use Rattle.json5_value.specs.Brackets.{bracket_of};
+ghost use Rattle.json5_value.specs.Entries.{due_comma, key_and_colon, next_entry};
+ghost use Rattle.json5_value.specs.ModelSteps.{IsInside, Steps, answered};
+
 use crate::brackets::BracketKind;
-use crate::faults::{leave_error, unexpected_here};
+use crate::faults::{leave_code, leave_error, unexpected_here};
 use json5_text::input::Input;
 use json5_text::scanner::Scanner;
 use json5_text::short_ways::ShortStep;
@@ -12,13 +20,19 @@ use json5_types::error::Error;
 
 /// Passes over blanks.
 #[inline(never)]
-fn skip_blank<I: Input>(scanner: &mut Scanner<I>, fault: &mut Error) -> Option<()> {
+fn skip_blank<I: Input>(scanner: &mut Scanner<I>, fault: &mut Error) -> Option<()>
+    requires { IsInside scanner.old }
+    ensures { Steps (skip between scanner.old.unread) scanner.old scanner.new (answered result fault.new) }
+{
     leave_error(scanner.skip_blank(), fault)
 }
 
 /// The same as `skip_colon`, whatever is in front.
 #[inline(never)]
-fn skip_colon_slowly<I: Input>(scanner: &mut Scanner<I>, fault: &mut Error) -> Option<()> {
+fn skip_colon_slowly<I: Input>(scanner: &mut Scanner<I>, fault: &mut Error) -> Option<()>
+    requires { IsInside scanner.old }
+    ensures { Steps (colon_after scanner.old.unread) scanner.old scanner.new (answered result fault.new) }
+{
     skip_blank(scanner, fault)?;
     if !scanner.eat(':') {
         *fault = unexpected_here(scanner, ErrorCode::EofParsingObject, ErrorCode::ExpectedColon);
@@ -29,7 +43,10 @@ fn skip_colon_slowly<I: Input>(scanner: &mut Scanner<I>, fault: &mut Error) -> O
 
 /// Passes over blanks, a colon and blanks.
 #[inline(always)]
-pub(crate) fn skip_colon<I: Input>(scanner: &mut Scanner<I>, fault: &mut Error) -> Option<()> {
+pub(crate) fn skip_colon<I: Input>(scanner: &mut Scanner<I>, fault: &mut Error) -> Option<()>
+    requires { IsInside scanner.old }
+    ensures { Steps (colon_after scanner.old.unread) scanner.old scanner.new (answered result fault.new) }
+{
     if !scanner.short_sign(b':') {
         return skip_colon_slowly(scanner, fault);
     }
@@ -41,9 +58,12 @@ pub(crate) fn skip_colon<I: Input>(scanner: &mut Scanner<I>, fault: &mut Error) 
 
 /// Passes over a key, whatever it is.
 #[inline(never)]
-fn skip_key_slowly<I: Input>(scanner: &mut Scanner<I>, fault: &mut Error) -> Option<()> {
+fn skip_key_slowly<I: Input>(scanner: &mut Scanner<I>, fault: &mut Error) -> Option<()>
+    requires { IsInside scanner.old }
+    ensures { Steps (forget (key scanner.old.unread)) scanner.old scanner.new (answered result fault.new) }
+{
     let Some(c) = scanner.peek() else {
-        *fault = Error::new(ErrorCode::EofParsingObject);
+        leave_code(ErrorCode::EofParsingObject, fault);
         return None;
     };
     if is_quote(c) {
@@ -54,7 +74,11 @@ fn skip_key_slowly<I: Input>(scanner: &mut Scanner<I>, fault: &mut Error) -> Opt
 
 /// Passes over what is before the value of a member: its key, blanks, a colon and blanks.
 #[inline(always)]
-fn skip_name<I: Input>(scanner: &mut Scanner<I>, fault: &mut Error) -> Option<()> {
+fn skip_name<I: Input>(scanner: &mut Scanner<I>, fault: &mut Error) -> Option<()>
+    requires ready { IsInside scanner.old }
+    requires solid { Solid scanner.old.unread }
+    ensures { Steps (key_and_colon scanner.old.unread) scanner.old scanner.new (answered result fault.new) }
+{
     if scanner.short_key().is_none() {
         skip_key_slowly(scanner, fault)?;
     }
@@ -67,7 +91,10 @@ fn skip_comma<I: Input>(
     kind: BracketKind,
     comma_due: bool,
     fault: &mut Error,
-) -> Option<bool> {
+) -> Option<bool>
+    requires { IsInside scanner.old }
+    ensures { Steps (due_comma (bracket_of kind) comma_due scanner.old.unread) scanner.old scanner.new (answered result fault.new) }
+{
     if !comma_due {
         return Some(true);
     }
@@ -90,7 +117,10 @@ fn next_entry_slowly<I: Input>(
     kind: BracketKind,
     comma_due: bool,
     fault: &mut Error,
-) -> Option<bool> {
+) -> Option<bool>
+    requires { IsInside scanner.old }
+    ensures { Steps (next_entry (bracket_of kind) comma_due scanner.old.unread) scanner.old scanner.new (answered result fault.new) }
+{
     let more = skip_comma(scanner, kind, comma_due, fault)?;
     if !more {
         return Some(false);
@@ -106,7 +136,10 @@ pub(crate) fn next_entry<I: Input>(
     kind: BracketKind,
     comma_due: bool,
     fault: &mut Error,
-) -> Option<bool> {
+) -> Option<bool>
+    requires { IsInside scanner.old }
+    ensures { Steps (next_entry (bracket_of kind) comma_due scanner.old.unread) scanner.old scanner.new (answered result fault.new) }
+{
     let closing = kind.brackets().closing;
     match scanner.short_step(closing as u8, comma_due) {
         ShortStep::Entry => Some(true),
@@ -125,7 +158,10 @@ pub(crate) fn next_value<I: Input>(
     kind: BracketKind,
     comma_due: bool,
     fault: &mut Error,
-) -> Option<bool> {
+) -> Option<bool>
+    requires { IsInside scanner.old }
+    ensures { Steps (next_value (bracket_of kind) comma_due scanner.old.unread) scanner.old scanner.new (answered result fault.new) }
+{
     let more = next_entry(scanner, kind, comma_due, fault)?;
     if !more {
         return Some(false);

@@ -2,9 +2,10 @@
 
 ghost use Rattle.std.specs.Prelude.{◌≡◌, ◌<◌, [], ◌∷◌, ◌++◌, IsTrue, vec_len, vec_capacity};
 
-use crate::faults::lack_memory;
+use crate::faults::leave_code;
 use json5_text::input::Input;
 use json5_text::scanner::Scanner;
+use json5_types::ErrorCode;
 use json5_types::error::Error;
 
 /// Makes room for one more entry, and says whether there was memory for it. The first gets room for itself alone unless the scanner
@@ -32,7 +33,7 @@ pub(crate) fn add_entry<I: Input, T: Drop>(
     fault: &mut Error,
 ) -> Option<()> {
     if !make_room(scanner, entries) {
-        lack_memory(fault);
+        leave_code(ErrorCode::OutOfMemory, fault);
         return None;
     }
     entries.push_reserved(entry);

@@ -2,7 +2,7 @@
 
 ghost use Rattle.json5_value.specs.OwnedReads.{OwnsKey};
 
-use crate::faults::{lack_memory, leave_error};
+use crate::faults::{leave_code, leave_error};
 use json5_text::input::Input;
 use json5_text::scanner::Scanner;
 use json5_text::short_texts::Span;
@@ -31,7 +31,7 @@ pub(crate) fn own_text<I: Input>(scanner: &Scanner<I>, span: Span, fault: &mut E
     match String::from_str(scanner.allocator(), scanner.text_of_span(span)) {
         Ok(text) => Some(text),
         Err(_) => {
-            lack_memory(fault);
+            leave_code(ErrorCode::OutOfMemory, fault);
             None
         }
     }
@@ -50,7 +50,7 @@ pub(crate) fn own_key<I: Input>(scanner: &Scanner<I>, key: TextToken, fault: &mu
 #[inline(never)]
 fn take_key_slowly<I: Input>(scanner: &mut Scanner<I>, fault: &mut Error) -> Option<TextToken> {
     if scanner.peek().is_none() {
-        *fault = Error::new(ErrorCode::EofParsingObject);
+        leave_code(ErrorCode::EofParsingObject, fault);
         return None;
     }
     leave_error(scanner.key(), fault)

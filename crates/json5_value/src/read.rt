@@ -3,6 +3,7 @@
 ghost use Rattle.json5_value.specs.OwnedReads.{ReadsDatum};
 
 use crate::brackets::BracketKind;
+use crate::faults::leave_here;
 use crate::unfinished::{Next, Unfinished, attach_value, begin_value, resume_array, resume_object};
 use json5_text::input::Input;
 use json5_text::scanner::Scanner;
@@ -18,11 +19,11 @@ fn open_value<I: Input>(
     kind: BracketKind,
     fault: &mut Error,
 ) -> Option<Next> {
-    let start = scanner.offset();
     if room <= stack.len() {
-        *fault = Error::new_at(scanner.position_of(start), ErrorCode::TooDeep);
+        leave_here(scanner, ErrorCode::TooDeep, fault);
         return None;
     }
+    let start = scanner.offset();
     let _ = scanner.eat(kind.brackets().opening);
     let alloc = scanner.allocator();
     match kind {

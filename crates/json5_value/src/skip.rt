@@ -1,12 +1,13 @@
 //! Passing over values of any kind (JSON5 sections 2 to 6). A call that is refused returns None, and leaves its error in `fault`.
 
-ghost use Rattle.std.specs.Prelude.{◌≤◌};
+ghost use Rattle.std.specs.Prelude.{◌<◌, ◌≤◌};
 ghost use Rattle.json5_grammar.specs.Language.Documents.{max_depth};
-ghost use Rattle.json5_value.specs.SkipSteps.{SkipsValue};
+ghost use Rattle.json5_value.specs.SkipSteps.{SkipsOrOpens, TakesTurn, SkipsBracket, SkipsValue};
+ghost use Rattle.json5_value.specs.ModelSteps.{IsInside, answered};
 
 use crate::brackets::{BracketKind, OpenBracket, kind_opened};
 use crate::entries::next_value;
-use crate::faults::place_fault;
+use crate::faults::{leave_code, leave_here, place_fault};
 use crate::scalars::skip_scalar;
 use arrayvec::ArrayVec;
 use json5_text::input::Input;
@@ -34,20 +35,23 @@ fn skip_or_open<I: Input>(
     scanner: &mut Scanner<I>,
     room: usize,
     fault: &mut Error,
-) -> Option<Option<OpenBracket>> {
+) -> Option<Option<OpenBracket>>
+    requires { IsInside scanner.old }
+    ensures { SkipsOrOpens room scanner.old scanner.new (answered result fault.new) }
+{
     let Some(c) = scanner.peek() else {
-        *fault = Error::new(ErrorCode::EofParsingValue);
+        leave_code(ErrorCode::EofParsingValue, fault);
         return None;
     };
     let Some(kind) = kind_opened(c) else {
         skip_scalar(scanner, c, fault)?;
         return Some(None);
     };
-    let start = scanner.offset();
     if room == 0 {
-        *fault = Error::new_at(scanner.position_of(start), ErrorCode::TooDeep);
+        leave_here(scanner, ErrorCode::TooDeep, fault);
         return None;
     }
+    let start = scanner.offset();
     let _ = scanner.eat(c);
     Some(Some(OpenBracket { kind, start }))
 }
@@ -60,7 +64,10 @@ fn skip_turn<I: Input>(
     kind: BracketKind,
     comma_due: bool,
     fault: &mut Error,
-) -> Option<Turn> {
+) -> Option<Turn>
+    requires { IsInside scanner.old }
+    ensures { TakesTurn kind comma_due room scanner.old scanner.new (answered result fault.new) }
+{
     let more = next_value(scanner, kind, comma_due, fault)?;
     if !more {
         return Some(Turn::Closed);
@@ -78,7 +85,12 @@ fn skip_bracket<I: Input>(
     room: usize,
     outermost: OpenBracket,
     fault: &mut Error,
-) -> Option<()> {
+) -> Option<()>
+    requires ready { IsInside scanner.old }
+    requires room { room ≤ max_depth }
+    requires place { 0 < room }
+    ensures { SkipsBracket room outermost scanner.old scanner.new (answered result fault.new) }
+{
     let mut brackets = OpenBrackets::new();
     let mut bracket = outermost;
     let mut comma_due = false;
@@ -108,7 +120,11 @@ fn skip_bracket<I: Input>(
 
 /// The same as `skip_value`, with the error of a refusal left in `fault`.
 #[inline(always)]
-fn pass_value<I: Input>(scanner: &mut Scanner<I>, room: usize, fault: &mut Error) -> Option<()> {
+fn pass_value<I: Input>(scanner: &mut Scanner<I>, room: usize, fault: &mut Error) -> Option<()>
+    requires ready { IsInside scanner.old }
+    requires room { room ≤ max_depth }
+    ensures { SkipsValue room scanner.old scanner.new (answered result fault.new) }
+{
     match skip_or_open(scanner, room, fault)? {
         Some(bracket) => skip_bracket(scanner, room, bracket, fault),
         None => Some(()),
@@ -125,6 +141,8 @@ pub fn skip_value<I: Input>(scanner: &mut Scanner<I>, room: usize) -> Result<()>
     requires { room ≤ max_depth }
     ensures { SkipsValue room scanner.old scanner.new result }
 {
+    // Goals below need what `offset` promises: what is unread is the end of the input.
+    let _offset = scanner.offset();
     let mut fault = Error::new(ErrorCode::Failed);
     match pass_value(scanner, room, &mut fault) {
         Some(()) => Ok(()),

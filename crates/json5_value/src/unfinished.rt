@@ -3,7 +3,7 @@
 
 use crate::brackets::{BracketKind, kind_opened};
 use crate::entries::{next_entry, skip_colon};
-use crate::faults::{lack_memory, place_fault};
+use crate::faults::{leave_code, place_fault};
 use crate::growth::add_entry;
 use crate::owned_tokens::{own_key, take_key};
 use crate::scalars::take_scalar;
@@ -41,7 +41,7 @@ pub(crate) enum Next {
 #[inline(always)]
 pub(crate) fn begin_value<I: Input>(scanner: &mut Scanner<I>, fault: &mut Error) -> Option<Next> {
     let Some(c) = scanner.peek() else {
-        *fault = Error::new(ErrorCode::EofParsingValue);
+        leave_code(ErrorCode::EofParsingValue, fault);
         return None;
     };
     if let Some(kind) = kind_opened(c) {
@@ -66,14 +66,17 @@ fn take_elements<I: Input>(
         if !more {
             return Some(None);
         }
-        match begin_value(scanner, fault)? {
-            Next::Ended(value) => {
-                if elements.push(value).is_err() {
-                    lack_memory(fault);
-                    return None;
-                }
-            }
-            Next::Opens(kind) => return Some(Some(kind)),
+        let Some(c) = scanner.peek() else {
+            leave_code(ErrorCode::EofParsingValue, fault);
+            return None;
+        };
+        if let Some(kind) = kind_opened(c) {
+            return Some(Some(kind));
+        }
+        let value = take_scalar(scanner, c, fault)?;
+        if elements.push(value).is_err() {
+            leave_code(ErrorCode::OutOfMemory, fault);
+            return None;
         }
         due = true;
     }
@@ -96,12 +99,17 @@ fn take_members<I: Input>(
         }
         let key = take_key(scanner, fault)?;
         skip_colon(scanner, fault)?;
-        let next = begin_value(scanner, fault)?;
-        let key = own_key(scanner, key, fault)?;
-        match next {
-            Next::Ended(value) => add_entry(scanner, members, (key, value), fault)?,
-            Next::Opens(kind) => return Some(Some((key, kind))),
+        let Some(c) = scanner.peek() else {
+            leave_code(ErrorCode::EofParsingValue, fault);
+            return None;
+        };
+        if let Some(kind) = kind_opened(c) {
+            let key = own_key(scanner, key, fault)?;
+            return Some(Some((key, kind)));
         }
+        let value = take_scalar(scanner, c, fault)?;
+        let key = own_key(scanner, key, fault)?;
+        add_entry(scanner, members, (key, value), fault)?;
         due = true;
     }
 }
