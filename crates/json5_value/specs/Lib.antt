@@ -10,3 +10,4 @@ pub mod SkipSteps
 pub mod TreeMeanings
 pub mod OwnedReads
 pub mod BuildSteps
+pub mod TakenEntries

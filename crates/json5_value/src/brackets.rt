@@ -1,10 +1,16 @@
 //! Brackets: their kinds, their characters and codes, and those that are open.
 
-ghost use Rattle.std.specs.Prelude.{◌≡◌};
-ghost use Rattle.json5_value.specs.Brackets.{brackets_of};
-ghost use Rattle.json5_value.specs.Opening.{OpensKind};
+ghost use Rattle.std.specs.Prelude.{◌≡◌, Some, slice_get};
+ghost use Rattle.json5_grammar.specs.Faults.Fronts.{opening};
+ghost use Rattle.json5_value.specs.Brackets.{bracket_of, brackets_of};
+ghost use Rattle.json5_value.specs.Opening.{OpensBracket, OpensKind};
+ghost use Rattle.json5_value.specs.ModelSteps.{IsInside, answered};
 
+use crate::faults::leave_here;
+use json5_text::input::Input;
+use json5_text::scanner::Scanner;
 use json5_types::ErrorCode;
+use json5_types::error::Error;
 
 /// A kind of brackets: of arrays or of objects.
 #[derive(Clone, Copy, Drop)]
@@ -81,4 +87,25 @@ impl Default for OpenBracket {
             start: 0,
         }
     }
+}
+
+/// Takes the opening bracket in front, if there is room for one more. Otherwise it returns None, and leaves the error in `fault`.
+#[inline(always)]
+pub(crate) fn open_bracket<I: Input>(
+    scanner: &mut Scanner<I>,
+    room: usize,
+    kind: BracketKind,
+    fault: &mut Error,
+) -> Option<OpenBracket>
+    requires ready { IsInside scanner.old }
+    requires sign { slice_get scanner.old.unread 0 ≡ Some (opening (bracket_of kind)) }
+    ensures { OpensBracket room scanner.old scanner.new (answered result fault.new) }
+{
+    if room == 0 {
+        leave_here(scanner, ErrorCode::TooDeep, fault);
+        return None;
+    }
+    let start = scanner.offset();
+    let _ = scanner.eat(kind.brackets().opening);
+    Some(OpenBracket { kind, start })
 }

@@ -6,7 +6,7 @@ ghost use Rattle.json5_grammar.specs.Model.ReadBlanks.{skip, between};
 ghost use Rattle.json5_grammar.specs.Model.ReadSteps.{forget, colon_after, next_value};
 ghost use Rattle.json5_grammar.specs.Model.ReadTexts.{key};
 ghost use Rattle.json5_value.specs.Brackets.{bracket_of};
-ghost use Rattle.json5_value.specs.Entries.{due_comma, key_and_colon, next_entry};
+ghost use Rattle.json5_value.specs.Entries.{due_comma, next_entry};
 ghost use Rattle.json5_value.specs.ModelSteps.{IsInside, Steps, answered};
 
 use crate::brackets::BracketKind;
@@ -56,7 +56,7 @@ pub(crate) fn skip_colon<I: Input>(scanner: &mut Scanner<I>, fault: &mut Error) 
     }
 }
 
-/// Passes over a key, whatever it is.
+/// The same as `skip_key`, whatever is in front.
 #[inline(never)]
 fn skip_key_slowly<I: Input>(scanner: &mut Scanner<I>, fault: &mut Error) -> Option<()>
     requires { IsInside scanner.old }
@@ -72,17 +72,17 @@ fn skip_key_slowly<I: Input>(scanner: &mut Scanner<I>, fault: &mut Error) -> Opt
     leave_error(scanner.skip_identifier(), fault)
 }
 
-/// Passes over what is before the value of a member: its key, blanks, a colon and blanks.
+/// Passes over a key.
 #[inline(always)]
-fn skip_name<I: Input>(scanner: &mut Scanner<I>, fault: &mut Error) -> Option<()>
+fn skip_key<I: Input>(scanner: &mut Scanner<I>, fault: &mut Error) -> Option<()>
     requires ready { IsInside scanner.old }
     requires solid { Solid scanner.old.unread }
-    ensures { Steps (key_and_colon scanner.old.unread) scanner.old scanner.new (answered result fault.new) }
+    ensures { Steps (forget (key scanner.old.unread)) scanner.old scanner.new (answered result fault.new) }
 {
-    if scanner.short_key().is_none() {
-        skip_key_slowly(scanner, fault)?;
+    match scanner.short_key() {
+        Some(_) => Some(()),
+        None => skip_key_slowly(scanner, fault),
     }
-    skip_colon(scanner, fault)
 }
 
 /// If a comma is due, passes over it and returns true, or over the closing bracket and returns false. Else returns true.
@@ -169,7 +169,8 @@ pub(crate) fn next_value<I: Input>(
     match kind {
         BracketKind::Array => Some(true),
         BracketKind::Object => {
-            skip_name(scanner, fault)?;
+            skip_key(scanner, fault)?;
+            skip_colon(scanner, fault)?;
             Some(true)
         }
     }

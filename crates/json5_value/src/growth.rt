@@ -1,6 +1,7 @@
 //! Adding to an array or an object: room is made first, so that an entry is moved once.
 
-ghost use Rattle.std.specs.Prelude.{◌≡◌, ◌<◌, [], ◌∷◌, ◌++◌, IsTrue, vec_len, vec_capacity};
+ghost use Rattle.std.specs.Prelude.{◌≡◌, ◌<◌, [], ◌∷◌, ◌++◌, IsTrue, MatchOption, vec_len, vec_capacity};
+ghost use Rattle.json5_types.specs.Errors.{LacksMemory};
 
 use crate::faults::leave_code;
 use json5_text::input::Input;
@@ -31,7 +32,9 @@ pub(crate) fn add_entry<I: Input, T: Drop>(
     entries: &mut Vec<T>,
     entry: T,
     fault: &mut Error,
-) -> Option<()> {
+) -> Option<()>
+    ensures { MatchOption result (LacksMemory fault.new) (λ u. entries.new.items ≡ entries.old.items ++ entry ∷ []) }
+{
     if !make_room(scanner, entries) {
         leave_code(ErrorCode::OutOfMemory, fault);
         return None;

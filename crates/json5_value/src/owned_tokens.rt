@@ -1,6 +1,9 @@
 //! Owned copies of keys and strings.
 
-ghost use Rattle.json5_value.specs.OwnedReads.{OwnsKey};
+ghost use Rattle.json5_grammar.specs.Language.Blanks.{Solid};
+ghost use Rattle.json5_grammar.specs.Model.ReadTexts.{key};
+ghost use Rattle.json5_value.specs.OwnedReads.{Keeps, OwnsKey, OwnsText, IsFoundKey};
+ghost use Rattle.json5_value.specs.ModelSteps.{IsInside, answered};
 
 use crate::faults::{leave_code, leave_error};
 use json5_text::input::Input;
@@ -27,7 +30,9 @@ pub fn key_owned<I: Input>(scanner: &Scanner<I>, key: TextToken) -> Result<Strin
 
 /// An owned copy of the text of a span.
 #[inline(always)]
-pub(crate) fn own_text<I: Input>(scanner: &Scanner<I>, span: Span, fault: &mut Error) -> Option<String> {
+pub(crate) fn own_text<I: Input>(scanner: &Scanner<I>, span: Span, fault: &mut Error) -> Option<String>
+    ensures { OwnsText scanner.now.input span (answered result fault.new) }
+{
     match String::from_str(scanner.allocator(), scanner.text_of_span(span)) {
         Ok(text) => Some(text),
         Err(_) => {
@@ -39,7 +44,9 @@ pub(crate) fn own_text<I: Input>(scanner: &Scanner<I>, span: Span, fault: &mut E
 
 /// The text of a key that the scanner took, as a `String`.
 #[inline(always)]
-pub(crate) fn own_key<I: Input>(scanner: &Scanner<I>, key: TextToken, fault: &mut Error) -> Option<String> {
+pub(crate) fn own_key<I: Input>(scanner: &Scanner<I>, key: TextToken, fault: &mut Error) -> Option<String>
+    ensures { OwnsKey scanner.now.input key (answered result fault.new) }
+{
     match key {
         TextToken::EscapeFree(span) => own_text(scanner, span, fault),
         TextToken::Escaped(text) => Some(text),
@@ -48,17 +55,28 @@ pub(crate) fn own_key<I: Input>(scanner: &Scanner<I>, key: TextToken, fault: &mu
 
 /// Takes a key, whatever it is.
 #[inline(never)]
-fn take_key_slowly<I: Input>(scanner: &mut Scanner<I>, fault: &mut Error) -> Option<TextToken> {
+fn take_key_slowly<I: Input>(scanner: &mut Scanner<I>, fault: &mut Error) -> Option<TextToken>
+    requires { IsInside scanner.old }
+    ensures { Keeps (IsFoundKey scanner.old.input) (key scanner.old.unread) scanner.old scanner.new (answered result fault.new) }
+{
     if scanner.peek().is_none() {
         leave_code(ErrorCode::EofParsingObject, fault);
         return None;
     }
+    // Goals below need what `offset` promises: what is unread is the end of the input.
+    let _offset = scanner.offset();
     leave_error(scanner.key(), fault)
 }
 
 /// Takes a key.
 #[inline(always)]
-pub(crate) fn take_key<I: Input>(scanner: &mut Scanner<I>, fault: &mut Error) -> Option<TextToken> {
+pub(crate) fn take_key<I: Input>(scanner: &mut Scanner<I>, fault: &mut Error) -> Option<TextToken>
+    requires ready { IsInside scanner.old }
+    requires solid { Solid scanner.old.unread }
+    ensures { Keeps (IsFoundKey scanner.old.input) (key scanner.old.unread) scanner.old scanner.new (answered result fault.new) }
+{
+    // Goals below need what `offset` promises: what is unread is the end of the input.
+    let _offset = scanner.offset();
     match scanner.short_key() {
         Some(span) => Some(TextToken::EscapeFree(span)),
         None => take_key_slowly(scanner, fault),

@@ -1,9 +1,10 @@
 //! Reading of values of any kind (JSON5 sections 2 to 6).
 
+ghost use Rattle.json5_value.specs.BuildSteps.{AtBracket, TurnsBuilding};
 ghost use Rattle.json5_value.specs.OwnedReads.{ReadsDatum};
+ghost use Rattle.json5_value.specs.ModelSteps.{IsInside, answered};
 
-use crate::brackets::BracketKind;
-use crate::faults::leave_here;
+use crate::brackets::{BracketKind, open_bracket};
 use crate::unfinished::{Next, Unfinished, attach_value, begin_value, resume_array, resume_object};
 use json5_text::input::Input;
 use json5_text::scanner::Scanner;
@@ -18,22 +19,27 @@ fn open_value<I: Input>(
     stack: &mut Vec<Unfinished>,
     kind: BracketKind,
     fault: &mut Error,
-) -> Option<Next> {
-    if room <= stack.len() {
-        leave_here(scanner, ErrorCode::TooDeep, fault);
-        return None;
-    }
-    let start = scanner.offset();
-    let _ = scanner.eat(kind.brackets().opening);
+) -> Option<Next>
+    requires ready { IsInside scanner.old }
+    requires sign { AtBracket kind scanner.old }
+    ensures { TurnsBuilding room kind stack.old.items stack.new.items scanner.old scanner.new (answered result fault.new) }
+{
+    let open = stack.len();
+    let left = room.saturating_sub(open);
+    let bracket = open_bracket(scanner, left, kind, fault)?;
+    let start = bracket.start;
     let alloc = scanner.allocator();
-    match kind {
+    match bracket.kind {
         BracketKind::Array => resume_array(scanner, stack, start, Vec::new(alloc), false, fault),
         BracketKind::Object => resume_object(scanner, stack, start, Vec::new(alloc), false, fault),
     }
 }
 
 /// The same as `read_value`, with the error of a refusal left in `fault`.
-fn take_value<I: Input>(scanner: &mut Scanner<I>, room: usize, fault: &mut Error) -> Option<Value> {
+fn take_value<I: Input>(scanner: &mut Scanner<I>, room: usize, fault: &mut Error) -> Option<Value>
+    requires { IsInside scanner.old }
+    ensures { ReadsDatum room scanner.old scanner.new (answered result fault.new) }
+{
     let mut stack = Vec::new(scanner.allocator());
     let mut next = begin_value(scanner, fault)?;
     loop {
@@ -63,6 +69,8 @@ fn take_value<I: Input>(scanner: &mut Scanner<I>, room: usize, fault: &mut Error
 pub fn read_value<I: Input>(scanner: &mut Scanner<I>, room: usize) -> Result<Value>
     ensures { ReadsDatum room scanner.old scanner.new result }
 {
+    // Goals below need what `offset` promises: what is unread is the end of the input.
+    let _offset = scanner.offset();
     let mut fault = Error::new(ErrorCode::Failed);
     match take_value(scanner, room, &mut fault) {
         Some(value) => Ok(value),

@@ -5,14 +5,15 @@ ghost use Rattle.std.specs.Prelude.{◌≡◌, ℕ};
 ghost use Rattle.json5_types.specs.NumberMeanings.{number_of};
 ghost use Rattle.json5_types.specs.ValueMeanings as datum;
 ghost use Rattle.json5_types.specs.ValueMeanings.{value_of};
+ghost use Rattle.json5_value.specs.declared.kinds.ValueKind.TheVariants as kind;
+ghost use Rattle.json5_value.specs.Kinds.{kind_at};
 ghost use Rattle.json5_value.specs.OwnedReads.{ReadsScalar, datum_of_literal};
 ghost use Rattle.json5_value.specs.Opening.{AtScalar};
 ghost use Rattle.json5_value.specs.SkipSteps.{PassesShort};
 ghost use Rattle.json5_value.specs.ModelSteps.{Steps, answered, value_at};
 
-use crate::faults::{leave_error, leave_here};
+use crate::faults::{leave_code, leave_error, leave_here};
 use crate::kinds::{Literal, ValueKind, kind_at, short_literal, skip_literal};
-use crate::owned_tokens::own_text;
 use json5_text::input::Input;
 use json5_text::scanner::Scanner;
 use json5_types::ErrorCode;
@@ -42,13 +43,15 @@ fn value_of_number(number: Number) -> Value
     }
 }
 
-/// Takes a value that is no collection and begins with the character, whatever it is.
+/// Takes a value that is no collection and begins with the character, whether or not it has a short way.
 #[cold]
 #[inline(never)]
 fn read_scalar<I: Input>(scanner: &mut Scanner<I>, c: char, fault: &mut Error) -> Option<Value>
     requires { AtScalar c scanner.old }
     ensures { ReadsScalar scanner.old scanner.new (answered result fault.new) }
 {
+    // Goals below need what `offset` promises: what is unread is the end of the input.
+    let _offset = scanner.offset();
     match kind_at(c) {
         ValueKind::Literal(literal) => {
             leave_error(skip_literal(scanner, literal), fault)?;
@@ -69,67 +72,104 @@ fn read_scalar<I: Input>(scanner: &mut Scanner<I>, c: char, fault: &mut Error) -
     }
 }
 
-/// The same as `take_scalar`, also for a string with an escape and a decimal.
+/// The same as `take_text`, also with escapes.
 #[inline(never)]
-fn take_scalar_slowly<I: Input>(
+fn take_escaped<I: Input>(
     scanner: &mut Scanner<I>,
+    c: char,
+    fault: &mut Error,
+) -> Option<Value>
+    requires scalar { AtScalar c scanner.old }
+    requires kind { kind_at c ≡ kind.String }
+    ensures { ReadsScalar scanner.old scanner.new (answered result fault.new) }
+{
+    // Goals below need what `offset` promises: what is unread is the end of the input.
+    let _offset = scanner.offset();
+    match scanner.short_string_owned() {
+        Some(text) => Some(Value::String(text)),
+        None => read_scalar(scanner, c, fault),
+    }
+}
+
+/// Takes a string.
+#[inline(always)]
+pub(crate) fn take_text<I: Input>(
+    scanner: &mut Scanner<I>,
+    c: char,
+    fault: &mut Error,
+) -> Option<Value>
+    requires scalar { AtScalar c scanner.old }
+    requires kind { kind_at c ≡ kind.String }
+    ensures { ReadsScalar scanner.old scanner.new (answered result fault.new) }
+{
+    // Goals below need what `offset` promises: what is unread is the end of the input.
+    let _offset = scanner.offset();
+    let Some(span) = scanner.short_string() else {
+        return take_escaped(scanner, c, fault);
+    };
+    match String::from_str(scanner.allocator(), scanner.text_of_span(span)) {
+        Ok(text) => Some(Value::String(text)),
+        Err(_) => {
+            leave_code(ErrorCode::OutOfMemory, fault);
+            None
+        }
+    }
+}
+
+/// The same as `take_number`, also of a decimal. It isn't inlined, since it has more locals than the loops that need it.
+#[inline(never)]
+fn take_decimal<I: Input>(
+    scanner: &mut Scanner<I>,
+    c: char,
+    fault: &mut Error,
+) -> Option<Value>
+    requires scalar { AtScalar c scanner.old }
+    requires kind { kind_at c ≡ kind.Number }
+    ensures { ReadsScalar scanner.old scanner.new (answered result fault.new) }
+{
+    match scanner.short_decimal() {
+        Some(decimal) => Some(Value::Decimal(decimal)),
+        None => read_scalar(scanner, c, fault),
+    }
+}
+
+/// Takes a number.
+#[inline(always)]
+pub(crate) fn take_number<I: Input>(
+    scanner: &mut Scanner<I>,
+    c: char,
+    fault: &mut Error,
+) -> Option<Value>
+    requires scalar { AtScalar c scanner.old }
+    requires kind { kind_at c ≡ kind.Number }
+    ensures { ReadsScalar scanner.old scanner.new (answered result fault.new) }
+{
+    match scanner.short_whole(i128::MIN, i128::MAX) {
+        Some(number) => Some(Value::Whole(Whole::from_i128(number))),
+        None => take_decimal(scanner, c, fault),
+    }
+}
+
+/// Takes the literal.
+#[inline(always)]
+pub(crate) fn take_literal<I: Input>(
+    scanner: &mut Scanner<I>,
+    literal: Literal,
     c: char,
     fault: &mut Error,
 ) -> Option<Value>
     requires { AtScalar c scanner.old }
     ensures { ReadsScalar scanner.old scanner.new (answered result fault.new) }
 {
-    match kind_at(c) {
-        ValueKind::String => {
-            if let Some(text) = scanner.short_string_owned() {
-                return Some(Value::String(text));
-            }
-        }
-        ValueKind::Number => {
-            if let Some(decimal) = scanner.short_decimal() {
-                return Some(Value::Decimal(decimal));
-            }
-        }
-        _ => {}
+    if short_literal(scanner, literal) {
+        return Some(value_of_literal(literal));
     }
     read_scalar(scanner, c, fault)
 }
 
-/// Takes a value that is no collection and begins with the character.
-#[inline(always)]
-pub(crate) fn take_scalar<I: Input>(
-    scanner: &mut Scanner<I>,
-    c: char,
-    fault: &mut Error,
-) -> Option<Value>
-    requires { AtScalar c scanner.old }
-    ensures { ReadsScalar scanner.old scanner.new (answered result fault.new) }
-{
-    match kind_at(c) {
-        ValueKind::Literal(literal) => {
-            if short_literal(scanner, literal) {
-                return Some(value_of_literal(literal));
-            }
-        }
-        ValueKind::String => {
-            if let Some(span) = scanner.short_string() {
-                let text = own_text(scanner, span, fault)?;
-                return Some(Value::String(text));
-            }
-        }
-        ValueKind::Number => {
-            if let Some(number) = scanner.short_whole(i128::MIN, i128::MAX) {
-                return Some(Value::Whole(Whole::from_i128(number)));
-            }
-        }
-        ValueKind::Other => {}
-    }
-    take_scalar_slowly(scanner, c, fault)
-}
-
-/// The same as `skip_scalar`, whatever the character begins.
+/// Passes over a value that is no collection and begins with the character, whether or not it has a short way.
 #[inline(never)]
-fn skip_scalar_slowly<I: Input>(
+pub(crate) fn skip_scalar<I: Input>(
     scanner: &mut Scanner<I>,
     c: char,
     fault: &mut Error,
@@ -154,7 +194,7 @@ fn skip_scalar_slowly<I: Input>(
 /// Passes over a literal, a string without an escape or a number of few digits that begins with the character, and says whether one
 /// is in front.
 #[inline(always)]
-fn short_scalar<I: Input>(scanner: &mut Scanner<I>, c: char) -> bool
+pub(crate) fn short_scalar<I: Input>(scanner: &mut Scanner<I>, c: char) -> bool
     requires { AtScalar c scanner.old }
     ensures { PassesShort scanner.old scanner.new result }
 {
@@ -164,20 +204,4 @@ fn short_scalar<I: Input>(scanner: &mut Scanner<I>, c: char) -> bool
         ValueKind::Number => scanner.short_number(),
         ValueKind::Other => false,
     }
-}
-
-/// Passes over a value that is no collection and begins with the character.
-#[inline(always)]
-pub(crate) fn skip_scalar<I: Input>(
-    scanner: &mut Scanner<I>,
-    c: char,
-    fault: &mut Error,
-) -> Option<()>
-    requires { AtScalar c scanner.old }
-    ensures { (room : ℕ) → Steps (value_at room scanner.old) scanner.old scanner.new (answered result fault.new) }
-{
-    if short_scalar(scanner, c) {
-        return Some(());
-    }
-    skip_scalar_slowly(scanner, c, fault)
 }

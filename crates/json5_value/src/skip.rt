@@ -5,10 +5,10 @@ ghost use Rattle.json5_grammar.specs.Language.Documents.{max_depth};
 ghost use Rattle.json5_value.specs.SkipSteps.{SkipsOrOpens, TakesTurn, SkipsBracket, SkipsValue};
 ghost use Rattle.json5_value.specs.ModelSteps.{IsInside, answered};
 
-use crate::brackets::{BracketKind, OpenBracket, kind_opened};
+use crate::brackets::{BracketKind, OpenBracket, kind_opened, open_bracket};
 use crate::entries::next_value;
-use crate::faults::{leave_code, leave_here, place_fault};
-use crate::scalars::skip_scalar;
+use crate::faults::{leave_code, place_fault};
+use crate::scalars::{short_scalar, skip_scalar};
 use arrayvec::ArrayVec;
 use json5_text::input::Input;
 use json5_text::scanner::Scanner;
@@ -43,17 +43,15 @@ fn skip_or_open<I: Input>(
         leave_code(ErrorCode::EofParsingValue, fault);
         return None;
     };
-    let Some(kind) = kind_opened(c) else {
-        skip_scalar(scanner, c, fault)?;
-        return Some(None);
-    };
-    if room == 0 {
-        leave_here(scanner, ErrorCode::TooDeep, fault);
-        return None;
+    if let Some(kind) = kind_opened(c) {
+        let bracket = open_bracket(scanner, room, kind, fault)?;
+        return Some(Some(bracket));
     }
-    let start = scanner.offset();
-    let _ = scanner.eat(c);
-    Some(Some(OpenBracket { kind, start }))
+    if short_scalar(scanner, c) {
+        return Some(None);
+    }
+    skip_scalar(scanner, c, fault)?;
+    Some(None)
 }
 
 /// Goes to the next value of a bracket, after a comma if one is due, and passes over it or opens it; or past the closing bracket.

@@ -1,12 +1,20 @@
 //! Arrays and objects that are unfinished: how they go on to a value, and what a value makes of them (JSON5 sections 3 and 4). A
 //! call that is refused returns None, and leaves its error in `fault`.
 
+ghost use Rattle.std.specs.Prelude.{◌≡◌, Some, true, slice_get};
+ghost use Rattle.json5_value.specs.declared.kinds.ValueKind.TheVariants as kind;
+ghost use Rattle.json5_value.specs.Kinds.{kind_at};
+ghost use Rattle.json5_value.specs.BuildSteps.{BeginsValue, TurnsBuildingInside, array_at, object_at, start_of, value_in_at};
+ghost use Rattle.json5_value.specs.TakenEntries.{TakesElements, TakesMembers};
+ghost use Rattle.json5_value.specs.ModelSteps.{IsInside, answered};
+
 use crate::brackets::{BracketKind, kind_opened};
 use crate::entries::{next_entry, skip_colon};
-use crate::faults::{leave_code, place_fault};
+use crate::faults::{leave_code, leave_here, place_fault};
 use crate::growth::add_entry;
+use crate::kinds::{ValueKind, kind_at};
 use crate::owned_tokens::{own_key, take_key};
-use crate::scalars::take_scalar;
+use crate::scalars::{take_literal, take_number, take_text};
 use json5_text::input::Input;
 use json5_text::scanner::Scanner;
 use json5_types::ErrorCode;
@@ -37,17 +45,37 @@ pub(crate) enum Next {
     Opens(BracketKind),
 }
 
+/// What the character begins that begins no value but a collection, if any.
+#[inline(always)]
+fn begin_collection<I: Input>(scanner: &mut Scanner<I>, c: char, fault: &mut Error) -> Option<Next>
+    requires ready { IsInside scanner.old }
+    requires first { slice_get scanner.old.unread 0 ≡ Some c }
+    requires kind { kind_at c ≡ kind.Other }
+    ensures { BeginsValue scanner.old scanner.new (answered result fault.new) }
+{
+    let Some(kind) = kind_opened(c) else {
+        leave_here(scanner, ErrorCode::ExpectedValue, fault);
+        return None;
+    };
+    Some(Next::Opens(kind))
+}
+
 /// Takes the value in front, if it is no collection.
 #[inline(always)]
-pub(crate) fn begin_value<I: Input>(scanner: &mut Scanner<I>, fault: &mut Error) -> Option<Next> {
+pub(crate) fn begin_value<I: Input>(scanner: &mut Scanner<I>, fault: &mut Error) -> Option<Next>
+    requires { IsInside scanner.old }
+    ensures { BeginsValue scanner.old scanner.new (answered result fault.new) }
+{
     let Some(c) = scanner.peek() else {
         leave_code(ErrorCode::EofParsingValue, fault);
         return None;
     };
-    if let Some(kind) = kind_opened(c) {
-        return Some(Next::Opens(kind));
-    }
-    let value = take_scalar(scanner, c, fault)?;
+    let value = match kind_at(c) {
+        ValueKind::Literal(literal) => take_literal(scanner, literal, c, fault)?,
+        ValueKind::String => take_text(scanner, c, fault)?,
+        ValueKind::Number => take_number(scanner, c, fault)?,
+        ValueKind::Other => return begin_collection(scanner, c, fault),
+    };
     Some(Next::Ended(value))
 }
 
@@ -59,24 +87,24 @@ fn take_elements<I: Input>(
     elements: &mut Vec<Value>,
     comma_due: bool,
     fault: &mut Error,
-) -> Option<Option<BracketKind>> {
+) -> Option<Option<BracketKind>>
+    requires { IsInside scanner.old }
+    ensures { TakesElements comma_due elements.old.items elements.new.items scanner.old scanner.new (answered result fault.new) }
+{
     let mut due = comma_due;
     loop {
         let more = next_entry(scanner, BracketKind::Array, due, fault)?;
         if !more {
             return Some(None);
         }
-        let Some(c) = scanner.peek() else {
-            leave_code(ErrorCode::EofParsingValue, fault);
-            return None;
-        };
-        if let Some(kind) = kind_opened(c) {
-            return Some(Some(kind));
-        }
-        let value = take_scalar(scanner, c, fault)?;
-        if elements.push(value).is_err() {
-            leave_code(ErrorCode::OutOfMemory, fault);
-            return None;
+        match begin_value(scanner, fault)? {
+            Next::Ended(value) => {
+                if elements.push(value).is_err() {
+                    leave_code(ErrorCode::OutOfMemory, fault);
+                    return None;
+                }
+            }
+            Next::Opens(kind) => return Some(Some(kind)),
         }
         due = true;
     }
@@ -90,7 +118,10 @@ fn take_members<I: Input>(
     members: &mut Vec<(String, Value)>,
     comma_due: bool,
     fault: &mut Error,
-) -> Option<Option<(String, BracketKind)>> {
+) -> Option<Option<(String, BracketKind)>>
+    requires { IsInside scanner.old }
+    ensures { TakesMembers comma_due members.old.items members.new.items scanner.old scanner.new (answered result fault.new) }
+{
     let mut due = comma_due;
     loop {
         let more = next_entry(scanner, BracketKind::Object, due, fault)?;
@@ -99,17 +130,12 @@ fn take_members<I: Input>(
         }
         let key = take_key(scanner, fault)?;
         skip_colon(scanner, fault)?;
-        let Some(c) = scanner.peek() else {
-            leave_code(ErrorCode::EofParsingValue, fault);
-            return None;
-        };
-        if let Some(kind) = kind_opened(c) {
-            let key = own_key(scanner, key, fault)?;
-            return Some(Some((key, kind)));
+        let next = begin_value(scanner, fault)?;
+        let text = own_key(scanner, key, fault)?;
+        match next {
+            Next::Ended(value) => add_entry(scanner, members, (text, value), fault)?,
+            Next::Opens(kind) => return Some(Some((text, kind))),
         }
-        let value = take_scalar(scanner, c, fault)?;
-        let key = own_key(scanner, key, fault)?;
-        add_entry(scanner, members, (key, value), fault)?;
         due = true;
     }
 }
@@ -123,7 +149,10 @@ pub(crate) fn resume_array<I: Input>(
     elements: Vec<Value>,
     comma_due: bool,
     fault: &mut Error,
-) -> Option<Next> {
+) -> Option<Next>
+    requires { IsInside scanner.old }
+    ensures { TurnsBuildingInside (array_at elements.items comma_due scanner.old) start comma_due stack.old.items stack.new.items scanner.old scanner.new (answered result fault.new) }
+{
     let mut elements = elements;
     match take_elements(scanner, &mut elements, comma_due, fault) {
         Some(Some(kind)) => {
@@ -147,7 +176,10 @@ pub(crate) fn resume_object<I: Input>(
     members: Vec<(String, Value)>,
     comma_due: bool,
     fault: &mut Error,
-) -> Option<Next> {
+) -> Option<Next>
+    requires { IsInside scanner.old }
+    ensures { TurnsBuildingInside (object_at members.items comma_due scanner.old) start comma_due stack.old.items stack.new.items scanner.old scanner.new (answered result fault.new) }
+{
     let mut members = members;
     match take_members(scanner, &mut members, comma_due, fault) {
         Some(Some((key, kind))) => {
@@ -174,7 +206,10 @@ pub(crate) fn attach_value<I: Input>(
     unfinished: Unfinished,
     value: Value,
     fault: &mut Error,
-) -> Option<Next> {
+) -> Option<Next>
+    requires { IsInside scanner.old }
+    ensures { TurnsBuildingInside (value_in_at unfinished value scanner.old) (start_of unfinished) true stack.old.items stack.new.items scanner.old scanner.new (answered result fault.new) }
+{
     match unfinished {
         Unfinished::Array {
             start,
