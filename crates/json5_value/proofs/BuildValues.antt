@@ -88,7 +88,7 @@ bracket_refused room left k fs old new e is front o = record {
       let (r, x) = some_next old.unread (opening (bracket_of k)) front in
       let none : room - length fs ≡ 0 = sym is ∙ o.full in
       let bad_value : value_at (room - length fs) old ≡ bad (Some codes.TooDeep) (here old.unread) =
-          ap (λ d. forget (read d old.unread)) none ∙ ap (λ z. forget (read 0 z)) x ∙ read_too_deep (bracket_of k) r ∙ ap (λ z. bad (Some codes.TooDeep) (here z)) (sym x) in
+      ap (λ d. forget (read d old.unread)) none ∙ ap (λ z. forget (read 0 z)) x ∙ read_too_deep (bracket_of k) r ∙ ap (λ z. bad (Some codes.TooDeep) (here z)) (sym x) in
       let blamed : RefusesRead old.input (value_at (room - length fs) old) e = subst (λ d. RefusesRead old.input (value_at d old) e) is o.refused in
       here_blamed start_of value_in room old w (datum_at (room - length fs) old) fs e h (Some codes.TooDeep) old.unread
       (ap as_datum (forget_bad (tree_at (room - length fs) old) (Some codes.TooDeep) (here old.unread) bad_value))
@@ -105,9 +105,12 @@ starts_building room fs old new (next.Ended v) none ready k =
     let g = k room in
     (subst (λ gs. Building room (datum_at room old) gs (next.Ended v) new) (sym none) (value_ended start_of value_in room old new (datum_at room old) (datum_at room old) [] (value_of v) (starts start_of value_in room old (datum_at room old) ready) g), tt, g.took.same)
 starts_building room fs old new (next.Opens k) none ready (same, at) =
-    subst (λ (s : Cursor). Building room (datum_at room old) fs (next.Opens k) s × IsInFront (next.Opens k) s × SameText old s) (sym same)
-    (subst (λ gs. Building room (datum_at room old) gs (next.Opens k) old) (sym none)
-    (subst (λ d. Within start_of value_in room (datum_at room old) [] (datum_at d old) old) (omega arith) (starts start_of value_in room old (datum_at room old) ready)), at, refl)
+    subst (λ (s : Cursor). Building room (datum_at room old) fs (next.Opens k) s × IsInFront (next.Opens k) s × SameText old s) (sym same) (
+      subst (λ gs. Building room (datum_at room old) gs (next.Opens k) old) (sym none)
+          (subst (λ d. Within start_of value_in room (datum_at room old) [] (datum_at d old) old) (omega arith) (starts start_of value_in room old (datum_at room old) ready)),
+      at,
+      refl,
+    )
 
 pub not_begun : (room : ℕ) (old new : Cursor) (e : Error) → BeginsValue old new (Err e) → ReadsDatum room old new (Err e)
 not_begun room old new e k = record { given = tt; refused = by_cause k.refused; same_text = k.same_text }

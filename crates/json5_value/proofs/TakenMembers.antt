@@ -66,8 +66,8 @@ module _ (b : Bool) (before : List (String Global × Value)) (start : Cursor) (f
   object_ended goes mid is g =
       let c = brace_closed comma_due now goes mid is g in
       let l = leaves_less (λ d. got (object (fields_view fs)) mid.unread) mid c.taken
-          (λ d. turned d ∙ ap (λ m. and_then m (object_turn (members_before fs) d)) c.reads ∙ ap (λ xs. got (object xs) mid.unread) (no_more_members fs)) c.took
-          (λ is. key_shorter comma_due None now.unread mid.unread c.reads is) in
+      (λ d. turned d ∙ ap (λ m. and_then m (object_turn (members_before fs) d)) c.reads ∙ ap (λ xs. got (object xs) mid.unread) (no_more_members fs)) c.took
+      (λ is. key_shorter comma_due None now.unread mid.unread c.reads is) in
       record { goes = l; refused = tt; same_text = l.0.took.same }
 
   -- what comes before the value is refused

@@ -35,7 +35,11 @@ fn skip_colon_slowly<I: Input>(scanner: &mut Scanner<I>, fault: &mut Error) -> O
 {
     skip_blank(scanner, fault)?;
     if !scanner.eat(':') {
-        *fault = unexpected_here(scanner, ErrorCode::EofParsingObject, ErrorCode::ExpectedColon);
+        *fault = unexpected_here(
+            scanner,
+            ErrorCode::EofParsingObject,
+            ErrorCode::ExpectedColon,
+        );
         return None;
     }
     skip_blank(scanner, fault)

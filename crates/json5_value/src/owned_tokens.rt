@@ -30,7 +30,11 @@ pub fn key_owned<I: Input>(scanner: &Scanner<I>, key: TextToken) -> Result<Strin
 
 /// An owned copy of the text of a span.
 #[inline(always)]
-pub(crate) fn own_text<I: Input>(scanner: &Scanner<I>, span: Span, fault: &mut Error) -> Option<String>
+pub(crate) fn own_text<I: Input>(
+    scanner: &Scanner<I>,
+    span: Span,
+    fault: &mut Error,
+) -> Option<String>
     ensures { OwnsText scanner.now.input span (answered result fault.new) }
 {
     match String::from_str(scanner.allocator(), scanner.text_of_span(span)) {
@@ -44,7 +48,11 @@ pub(crate) fn own_text<I: Input>(scanner: &Scanner<I>, span: Span, fault: &mut E
 
 /// The text of a key that the scanner took, as a `String`.
 #[inline(always)]
-pub(crate) fn own_key<I: Input>(scanner: &Scanner<I>, key: TextToken, fault: &mut Error) -> Option<String>
+pub(crate) fn own_key<I: Input>(
+    scanner: &Scanner<I>,
+    key: TextToken,
+    fault: &mut Error,
+) -> Option<String>
     ensures { OwnsKey scanner.now.input key (answered result fault.new) }
 {
     match key {

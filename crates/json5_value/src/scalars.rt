@@ -74,11 +74,7 @@ fn read_scalar<I: Input>(scanner: &mut Scanner<I>, c: char, fault: &mut Error) -
 
 /// The same as `take_text`, also with escapes.
 #[inline(never)]
-fn take_escaped<I: Input>(
-    scanner: &mut Scanner<I>,
-    c: char,
-    fault: &mut Error,
-) -> Option<Value>
+fn take_escaped<I: Input>(scanner: &mut Scanner<I>, c: char, fault: &mut Error) -> Option<Value>
     requires scalar { AtScalar c scanner.old }
     requires kind { kind_at c ≡ kind.String }
     ensures { ReadsScalar scanner.old scanner.new (answered result fault.new) }
@@ -118,11 +114,7 @@ pub(crate) fn take_text<I: Input>(
 
 /// The same as `take_number`, also of a decimal. It isn't inlined, since it has more locals than the loops that need it.
 #[inline(never)]
-fn take_decimal<I: Input>(
-    scanner: &mut Scanner<I>,
-    c: char,
-    fault: &mut Error,
-) -> Option<Value>
+fn take_decimal<I: Input>(scanner: &mut Scanner<I>, c: char, fault: &mut Error) -> Option<Value>
     requires scalar { AtScalar c scanner.old }
     requires kind { kind_at c ≡ kind.Number }
     ensures { ReadsScalar scanner.old scanner.new (answered result fault.new) }
