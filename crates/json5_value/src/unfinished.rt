@@ -70,13 +70,21 @@ pub(crate) fn begin_value<I: Input>(scanner: &mut Scanner<I>, fault: &mut Error)
         leave_code(ErrorCode::EofParsingValue, fault);
         return None;
     };
-    let value = match kind_at(c) {
-        ValueKind::Literal(literal) => take_literal(scanner, literal, c, fault)?,
-        ValueKind::String => take_text(scanner, c, fault)?,
-        ValueKind::Number => take_number(scanner, c, fault)?,
-        ValueKind::Other => return begin_collection(scanner, c, fault),
-    };
-    Some(Next::Ended(value))
+    match kind_at(c) {
+        ValueKind::Literal(literal) => {
+            let value = take_literal(scanner, literal, c, fault)?;
+            Some(Next::Ended(value))
+        }
+        ValueKind::String => {
+            let value = take_text(scanner, c, fault)?;
+            Some(Next::Ended(value))
+        }
+        ValueKind::Number => {
+            let value = take_number(scanner, c, fault)?;
+            Some(Next::Ended(value))
+        }
+        ValueKind::Other => begin_collection(scanner, c, fault),
+    }
 }
 
 /// Takes the elements of an array that follow these, after a comma if one is due, up to one that is a collection, and returns its
