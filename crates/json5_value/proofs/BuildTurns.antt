@@ -107,7 +107,7 @@ module _ (before : List (String Global × Value)) (members : Vec (String Global 
 
 -- the same of a reading that is equal at each depth
 pub turns_as : (m n : ℕ → Read Datum) (at : ℕ) (comma_due : Bool) (fs after : List Unfinished) (old new : Cursor) (result : Result Next Error) → ((d : ℕ) → m d ≡ n d) → TurnsBuildingInside n at comma_due fs after old new result → TurnsBuildingInside m at comma_due fs after old new result
-turns_as m n at comma_due fs after old new (Ok n) same k = record {
+turns_as m n at comma_due fs after old new (Ok found) same k = record {
   goes = λ room w q h. k.goes room w q (subst (λ z. InsideOf room w q z) (same (room - length fs - 1)) h);
   front = k.front;
   refused = tt;

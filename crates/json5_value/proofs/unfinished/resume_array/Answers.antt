@@ -9,10 +9,10 @@ returns-in_err-add_entry-in-Some-Some g c =
 
 pub returns-in-Some-Some : goal.returns-in-Some-Some
 returns-in-Some-Some g c =
-    element_next c.args.elements.items c.take_elements.new.elements c.args.start c.args.comma_due c.args.stack.now.items c.args.scanner.now c.take_elements.new.scanner c.in-Some-Some.kind c.add_entry.new.entries.items c.in-Some-Some.ensures c.in_ok-add_entry-in-Some-Some.ensures
+    element_next c.args.elements.items c.take_elements.new.elements c.args.start c.args.comma_due c.args.stack.now.items c.args.scanner.now c.take_elements.new.scanner c.in-Some-Some.kind c.add_entry.new.entries.items (rw c.in-Some-Some.field-0-is at c.in-Some-Some.ensures) c.in_ok-add_entry-in-Some-Some.ensures
 
 pub returns-in-Some-None : goal.returns-in-Some-None
-returns-in-Some-None g c = elements_end c.args.elements.items c.take_elements.new.elements c.args.start c.args.comma_due c.args.stack.now.items c.args.scanner.now c.take_elements.new.scanner c.in-Some-None.ensures
+returns-in-Some-None g c = elements_end c.args.elements.items c.take_elements.new.elements c.args.start c.args.comma_due c.args.stack.now.items c.args.scanner.now c.take_elements.new.scanner (rw c.in-Some-None.field-0-is at c.in-Some-None.ensures)
 
 pub returns-in-None : goal.returns-in-None
 returns-in-None g c =
