@@ -4,6 +4,6 @@ mod btree_map;
 mod gather;
 mod hash_map;
 mod index_map;
-pub(crate) mod keys;
+mod keys;
 mod lists;
-mod scalars;
+pub(crate) mod scalars;

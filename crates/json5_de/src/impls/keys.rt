@@ -1,32 +1,27 @@
 //! The types that can be read from a key: from its text itself, or from its text as a document.
 
-ghost use Rattle.std.specs.Prelude.{string_bytes, ◌^◌};
+ghost use Rattle.std.specs.Prelude.{ℕ, Bool, List, Option, string_bytes};
+ghost use Rattle.json5_types.specs.ByteBufs.{bytes_of};
 ghost use Rattle.json5_types.specs.Cows.{cow_bytes, is_borrowed};
 ghost use Rattle.json5_de.specs.ConvertLists.{if_some};
 ghost use Rattle.json5_de.specs.OptionFaults.{RefusesLive};
-ghost use Rattle.json5_de.specs.KeyKinds.{string_key, char_key, escape_free_key, cow_key, some_of};
-ghost use Rattle.json5_de.specs.TokenKinds.{natural_kind, integer_kind};
+ghost use Rattle.json5_de.specs.KeyKinds.{RefusedAsKey, string_key, char_key, escape_free_key, cow_key, bytes_key, ignored_key, document_key, some_of};
 
 use crate::de::any::IgnoredAny;
+use crate::impls::scalars::Scalar;
 use crate::key::{DeserializeKey, MapKey};
-use crate::whole_input::from_str;
 use json5_text::input::{Borrows, Input};
 use json5_types::byte_buf::ByteBuf;
 use json5_types::cow_str::CowStr;
 use json5_types::decimal::Decimal;
 use json5_types::error::Result;
-use std::alloc::Global;
 
 impl<I: Input> DeserializeKey<I> for char {
-    ghost use Rattle.std.specs.Prelude.{ℕ};
-    ghost use Rattle.json5_de.specs.Convert.{one_character};
-    ghost use Rattle.json5_de.specs.KeyKinds.{char_key, RefusedAsKey};
-
     ghost Content = { ℕ };
 
     ghost content = { λ c. c };
 
-    ghost convert = { one_character };
+    ghost convert = { char_key.convert };
 
     ghost refuses = { RefusedAsKey char_key };
 
@@ -36,15 +31,11 @@ impl<I: Input> DeserializeKey<I> for char {
 }
 
 impl<I: Input> DeserializeKey<I> for String {
-    ghost use Rattle.std.specs.Prelude.{ℕ, List, string_bytes};
-    ghost use Rattle.json5_de.specs.Convert.{every_text};
-    ghost use Rattle.json5_de.specs.KeyKinds.{string_key, RefusedAsKey};
-
     ghost Content = { List ℕ };
 
     ghost content = { string_bytes };
 
-    ghost convert = { every_text };
+    ghost convert = { string_key.convert };
 
     ghost refuses = { RefusedAsKey string_key };
 
@@ -55,16 +46,11 @@ impl<I: Input> DeserializeKey<I> for String {
 }
 
 impl<I: Input> DeserializeKey<I> for ByteBuf {
-    ghost use Rattle.std.specs.Prelude.{ℕ, List};
-    ghost use Rattle.json5_types.specs.ByteBufs.{bytes_of};
-    ghost use Rattle.json5_de.specs.Convert.{digits_bytes};
-    ghost use Rattle.json5_de.specs.KeyKinds.{bytes_key, RefusedAsKey};
-
     ghost Content = { List ℕ };
 
     ghost content = { bytes_of };
 
-    ghost convert = { digits_bytes };
+    ghost convert = { bytes_key.convert };
 
     ghost refuses = { RefusedAsKey bytes_key };
 
@@ -74,15 +60,11 @@ impl<I: Input> DeserializeKey<I> for ByteBuf {
 }
 
 impl<'de, I: Borrows<'de>> DeserializeKey<I> for &'de str {
-    ghost use Rattle.std.specs.Prelude.{ℕ, List};
-    ghost use Rattle.json5_de.specs.Convert.{if_escape_free};
-    ghost use Rattle.json5_de.specs.KeyKinds.{escape_free_key, RefusedAsKey};
-
     ghost Content = { List ℕ };
 
     ghost content = { λ t. t.now };
 
-    ghost convert = { if_escape_free };
+    ghost convert = { escape_free_key.convert };
 
     ghost refuses = { RefusedAsKey escape_free_key };
 
@@ -93,16 +75,11 @@ impl<'de, I: Borrows<'de>> DeserializeKey<I> for &'de str {
 }
 
 impl<'de, I: Borrows<'de>> DeserializeKey<I> for CowStr<'de> {
-    ghost use Rattle.std.specs.Prelude.{ℕ, List, Bool};
-    ghost use Rattle.json5_types.specs.Cows.{cow_bytes, is_borrowed};
-    ghost use Rattle.json5_de.specs.Convert.{every_cow};
-    ghost use Rattle.json5_de.specs.KeyKinds.{cow_key, RefusedAsKey};
-
     ghost Content = { List ℕ × Bool };
 
     ghost content = { λ t. (cow_bytes t, is_borrowed t) };
 
-    ghost convert = { every_cow };
+    ghost convert = { cow_key.convert };
 
     ghost refuses = { RefusedAsKey cow_key };
 
@@ -113,14 +90,11 @@ impl<'de, I: Borrows<'de>> DeserializeKey<I> for CowStr<'de> {
 }
 
 impl<I: Input> DeserializeKey<I> for IgnoredAny {
-    ghost use Rattle.json5_de.specs.Keys.{every_key};
-    ghost use Rattle.json5_de.specs.KeyKinds.{ignored_key, RefusedAsKey};
-
     ghost Content = { Unit {0} };
 
     ghost content = { λ _. tt };
 
-    ghost convert = { every_key };
+    ghost convert = { ignored_key.convert };
 
     ghost refuses = { RefusedAsKey ignored_key };
 
@@ -131,11 +105,6 @@ impl<I: Input> DeserializeKey<I> for IgnoredAny {
 }
 
 impl<I: Input, K: DeserializeKey<I>> DeserializeKey<I> for Option<K> {
-    ghost use Rattle.std.specs.Prelude.{Option};
-    ghost use Rattle.json5_de.specs.ConvertLists.{if_some};
-    ghost use Rattle.json5_de.specs.KeyKinds.{some_of};
-    ghost use Rattle.json5_de.specs.OptionFaults.{RefusesLive};
-
     ghost Content = { Option K.Content };
 
     ghost content = { if_some K.content };
@@ -149,30 +118,10 @@ impl<I: Input, K: DeserializeKey<I>> DeserializeKey<I> for Option<K> {
     }
 }
 
-/// A type that a whole text is read as: one value of its kind, with blanks and comments round it.
-pub trait FromText: Sized + Drop {
-    ghost use Rattle.std.specs.Str.{chars};
-    ghost use Rattle.json5_grammar.specs.Language.Documents.{max_depth};
-    ghost use Rattle.json5_de.specs.TokenKinds.{Kind, RefusedAs};
-    ghost use Rattle.json5_de.specs.WholeInputs.{ReadsWholeText};
+/// A type that is read from a key whose text is a document: one value of its kind, with blanks and comments round it.
+pub trait DocumentKey: Scalar {}
 
-    // What of a value counts.
-    ghost Content: { Type 0 };
-
-    ghost content: { Self → Content };
-
-    // The kind of value.
-    ghost kind: { Kind Content };
-
-    /// The value that the text holds.
-    fn from_text(alloc: Global, text: &str) -> Result<Self>
-        ensures { ReadsWholeText content kind.convert (RefusedAs kind) max_depth (chars text.now) result };
-}
-
-/// A key whose text is a document of the kind.
-impl<I: Input, T: FromText> DeserializeKey<I> for T {
-    ghost use Rattle.json5_de.specs.KeyKinds.{document_key, RefusedAsKey};
-
+impl<I: Input, T: DocumentKey> DeserializeKey<I> for T {
     ghost Content = { T.Content };
 
     ghost content = { T.content };
@@ -186,226 +135,32 @@ impl<I: Input, T: FromText> DeserializeKey<I> for T {
     }
 }
 
-impl FromText for () {
-    ghost use Rattle.json5_de.specs.TokenKinds.{null_kind};
+impl DocumentKey for () {}
 
-    ghost Content = { Unit {0} };
+impl DocumentKey for bool {}
 
-    ghost content = { λ _. tt };
+impl DocumentKey for Decimal {}
 
-    ghost kind = { null_kind };
+impl DocumentKey for u8 {}
 
-    fn from_text(alloc: Global, text: &str) -> Result<()> {
-        from_str(alloc, text)
-    }
-}
+impl DocumentKey for u16 {}
 
-impl FromText for bool {
-    ghost use Rattle.std.specs.Prelude.{Bool};
-    ghost use Rattle.json5_de.specs.TokenKinds.{bool_kind};
+impl DocumentKey for u32 {}
 
-    ghost Content = { Bool };
+impl DocumentKey for u64 {}
 
-    ghost content = { λ b. b };
+impl DocumentKey for u128 {}
 
-    ghost kind = { bool_kind };
+impl DocumentKey for i8 {}
 
-    fn from_text(alloc: Global, text: &str) -> Result<bool> {
-        from_str(alloc, text)
-    }
-}
+impl DocumentKey for i16 {}
 
-impl FromText for u8 {
-    ghost use Rattle.std.specs.Prelude.{ℕ, ◌^◌};
-    ghost use Rattle.json5_de.specs.TokenKinds.{natural_kind};
+impl DocumentKey for i32 {}
 
-    ghost Content = { ℕ };
+impl DocumentKey for i64 {}
 
-    ghost content = { λ n. n };
+impl DocumentKey for i128 {}
 
-    ghost kind = { natural_kind (2 ^ 8) };
+impl DocumentKey for usize {}
 
-    fn from_text(alloc: Global, text: &str) -> Result<u8> {
-        from_str(alloc, text)
-    }
-}
-
-impl FromText for u16 {
-    ghost use Rattle.std.specs.Prelude.{ℕ, ◌^◌};
-    ghost use Rattle.json5_de.specs.TokenKinds.{natural_kind};
-
-    ghost Content = { ℕ };
-
-    ghost content = { λ n. n };
-
-    ghost kind = { natural_kind (2 ^ 16) };
-
-    fn from_text(alloc: Global, text: &str) -> Result<u16> {
-        from_str(alloc, text)
-    }
-}
-
-impl FromText for u32 {
-    ghost use Rattle.std.specs.Prelude.{ℕ, ◌^◌};
-    ghost use Rattle.json5_de.specs.TokenKinds.{natural_kind};
-
-    ghost Content = { ℕ };
-
-    ghost content = { λ n. n };
-
-    ghost kind = { natural_kind (2 ^ 32) };
-
-    fn from_text(alloc: Global, text: &str) -> Result<u32> {
-        from_str(alloc, text)
-    }
-}
-
-impl FromText for u64 {
-    ghost use Rattle.std.specs.Prelude.{ℕ, ◌^◌};
-    ghost use Rattle.json5_de.specs.TokenKinds.{natural_kind};
-
-    ghost Content = { ℕ };
-
-    ghost content = { λ n. n };
-
-    ghost kind = { natural_kind (2 ^ 64) };
-
-    fn from_text(alloc: Global, text: &str) -> Result<u64> {
-        from_str(alloc, text)
-    }
-}
-
-impl FromText for u128 {
-    ghost use Rattle.std.specs.Prelude.{ℕ, ◌^◌};
-    ghost use Rattle.json5_de.specs.TokenKinds.{natural_kind};
-
-    ghost Content = { ℕ };
-
-    ghost content = { λ n. n };
-
-    ghost kind = { natural_kind (2 ^ 128) };
-
-    fn from_text(alloc: Global, text: &str) -> Result<u128> {
-        from_str(alloc, text)
-    }
-}
-
-impl FromText for i8 {
-    ghost use Rattle.std.specs.Prelude.{ℤ, ◌^◌};
-    ghost use Rattle.json5_de.specs.TokenKinds.{integer_kind};
-
-    ghost Content = { ℤ };
-
-    ghost content = { λ n. n };
-
-    ghost kind = { integer_kind (2 ^ 7) };
-
-    fn from_text(alloc: Global, text: &str) -> Result<i8> {
-        from_str(alloc, text)
-    }
-}
-
-impl FromText for i16 {
-    ghost use Rattle.std.specs.Prelude.{ℤ, ◌^◌};
-    ghost use Rattle.json5_de.specs.TokenKinds.{integer_kind};
-
-    ghost Content = { ℤ };
-
-    ghost content = { λ n. n };
-
-    ghost kind = { integer_kind (2 ^ 15) };
-
-    fn from_text(alloc: Global, text: &str) -> Result<i16> {
-        from_str(alloc, text)
-    }
-}
-
-impl FromText for i32 {
-    ghost use Rattle.std.specs.Prelude.{ℤ, ◌^◌};
-    ghost use Rattle.json5_de.specs.TokenKinds.{integer_kind};
-
-    ghost Content = { ℤ };
-
-    ghost content = { λ n. n };
-
-    ghost kind = { integer_kind (2 ^ 31) };
-
-    fn from_text(alloc: Global, text: &str) -> Result<i32> {
-        from_str(alloc, text)
-    }
-}
-
-impl FromText for i64 {
-    ghost use Rattle.std.specs.Prelude.{ℤ, ◌^◌};
-    ghost use Rattle.json5_de.specs.TokenKinds.{integer_kind};
-
-    ghost Content = { ℤ };
-
-    ghost content = { λ n. n };
-
-    ghost kind = { integer_kind (2 ^ 63) };
-
-    fn from_text(alloc: Global, text: &str) -> Result<i64> {
-        from_str(alloc, text)
-    }
-}
-
-impl FromText for i128 {
-    ghost use Rattle.std.specs.Prelude.{ℤ, ◌^◌};
-    ghost use Rattle.json5_de.specs.TokenKinds.{integer_kind};
-
-    ghost Content = { ℤ };
-
-    ghost content = { λ n. n };
-
-    ghost kind = { integer_kind (2 ^ 127) };
-
-    fn from_text(alloc: Global, text: &str) -> Result<i128> {
-        from_str(alloc, text)
-    }
-}
-
-impl FromText for Decimal {
-    ghost use Rattle.json5_grammar.specs.Language.Numbers as numbers;
-    ghost use Rattle.json5_de.specs.TokenKinds.{decimal_kind};
-
-    ghost Content = { numbers.Decimal };
-
-    ghost content = { λ d. d };
-
-    ghost kind = { decimal_kind };
-
-    fn from_text(alloc: Global, text: &str) -> Result<Decimal> {
-        from_str(alloc, text)
-    }
-}
-
-impl FromText for usize {
-    ghost use Rattle.std.specs.Prelude.{ℕ, ◌^◌};
-    ghost use Rattle.json5_de.specs.TokenKinds.{natural_kind};
-
-    ghost Content = { ℕ };
-
-    ghost content = { λ n. n };
-
-    ghost kind = { natural_kind (2 ^ 64) };
-
-    fn from_text(alloc: Global, text: &str) -> Result<usize> {
-        from_str(alloc, text)
-    }
-}
-
-impl FromText for isize {
-    ghost use Rattle.std.specs.Prelude.{ℤ, ◌^◌};
-    ghost use Rattle.json5_de.specs.TokenKinds.{integer_kind};
-
-    ghost Content = { ℤ };
-
-    ghost content = { λ n. n };
-
-    ghost kind = { integer_kind (2 ^ 63) };
-
-    fn from_text(alloc: Global, text: &str) -> Result<isize> {
-        from_str(alloc, text)
-    }
-}
+impl DocumentKey for isize {}

@@ -7,8 +7,9 @@ ghost use Rattle.json5_de.specs.KeyKinds.{ReadsKeyAs, document_key};
 ghost use Rattle.json5_de.specs.KeySteps.{IsTextFault, is_out_of_memory};
 
 use crate::de::Deserializer;
-use crate::impls::keys::FromText;
+use crate::impls::scalars::Scalar;
 use crate::key::MapKey;
+use crate::whole_input::from_str;
 use json5_text::input::Input;
 use json5_types::ErrorCode;
 use json5_types::decimal::Decimal;
@@ -237,11 +238,11 @@ fn is_out_of_memory(error: &Error) -> bool
 
 impl<I: Input> Deserializer<I> {
     /// Reads a key as a document of its own.
-    pub(crate) fn read_key_document<T: FromText>(&mut self) -> Result<T>
+    pub(crate) fn read_key_document<T: Scalar>(&mut self) -> Result<T>
         ensures { ReadsKeyAs (document_key T.kind) T.content self.old self.new result }
     {
         let key = self.find_key()?;
-        match T::from_text(self.allocator(), self.token_text(&key.token)) {
+        match from_str(self.allocator(), self.token_text(&key.token)) {
             Ok(value) => Ok(value),
             Err(e) => {
                 let error = self.text_fault(e, key.start);
