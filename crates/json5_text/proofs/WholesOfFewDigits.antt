@@ -41,8 +41,8 @@ whole_digits (c ∷ s) (char d e) h = decide (c == 48) s refl e h
     decide true [] k e h = subst (λ z. Integer (z ∷ [])) (sym (eq_from c 48 k)) lone_zero
     decide true (x ∷ s) k e h = let no : (not (c == 48) || false) ≡ false = rw k refl in absurd (cc)
 
-pub few_found : (s r : List ℕ) (found : FewDigits) → IsUtf8 s → IsFewDigits s found → r ≡ drop found.len s → SpellsFewDigits s found.value r
-few_found s r found u k d =
+pub few_spelled : (s r : List ℕ) (found : FewDigits) → IsUtf8 s → IsFewDigits s found → r ≡ drop found.len s → SpellsFewDigits s found.value r
+few_spelled s r found u k d =
     let cut : r ≡ rest_of is_digit s = d ∙ rest_cut is_digit s found.len (len_counted s found k) in
     let v : IsUtf8 r = subst IsUtf8 (sym cut) (rest_utf8 is_digit s digit_is_ascii u) in
     record {

@@ -3,7 +3,7 @@ use Rattle.std.proofs.Common.{subst}
 use Rattle.json5_text.specs.ByteRuns.{IsFewDigits}
 use Rattle.json5_text.proofs.FewDigits.{few_found}
 use Rattle.json5_types.proofs.AsciiRuns.{front_boundary, digit_is_ascii}
-use Rattle.json5_text.proofs.WholesOfFewDigits.{len_counted, few_found}
+use Rattle.json5_text.proofs.WholesOfFewDigits.{len_counted, few_spelled}
 use Rattle.json5_text.proofs.byte_runs.few_digits.Goals as goal
 
 pub split_at-requires : goal.split_at-requires
@@ -16,4 +16,4 @@ pub returns : goal.returns
 returns c =
     let few = few_found c.as_bytes-bytes.result.now _ c.front_digits-found.ensures c.if-found-eq0.false (c.number_goes_on.ensures c.if-number_goes_on.false) (c.is_padded.ensures c.if-is_padded.false) in
     let k = subst (λ z. IsFewDigits z c.front_digits-found.result) c.as_bytes-bytes.ensures.value few in
-    few_found c.args.text.now _ _ c.utf8.text k c.split_at.ensures.back
+    few_spelled c.args.text.now _ _ c.utf8.text k c.split_at.ensures.back
