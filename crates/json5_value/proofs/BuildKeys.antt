@@ -1,8 +1,7 @@
 -- The steps that keep a key.
-use Rattle.std.proofs.Common.{◌≡◌, ℕ, ◌<◌, length, Bool, true, false, cond, List, [], ◌∷◌, refl, ap, sym, ◌∙◌, subst, inl, inr, Option, Some, None, String}
+use Rattle.std.proofs.Common.{◌≡◌, ℕ, ◌<◌, length, Bool, true, false, cond, List, [], ◌∷◌, ◌++◌, refl, ap, sym, ◌∙◌, subst, inl, inr, Option, Some, None}
 use Rattle.std.specs.Prelude.{◌==◌, slice_get, Result, Ok, Err, is_some, not}
-use Rattle.std.specs.declared.alloc.Global.{Global}
-use Rattle.std.specs.Str.{all_scalars, chars}
+use Rattle.std.specs.Str.{all_scalars}
 use Rattle.std.proofs.lemmas.Str.{chars-encodes}
 use Rattle.json5_grammar.specs.declared.error_code.ErrorCode.{ErrorCode}
 use Rattle.json5_grammar.specs.declared.error_code.ErrorCode.TheVariants as codes
@@ -19,22 +18,25 @@ use Rattle.json5_grammar.proofs.KeysRead.{key_complete}
 use Rattle.json5_grammar.proofs.Refusals.{Refuses}
 use Rattle.json5_grammar.proofs.ValuesSound.{IsGap, gap_found}
 use Rattle.json5_types.specs.declared.error.Error.{Error}
+use Rattle.json5_text.specs.declared.short_texts.Span.{Span}
 use Rattle.json5_text.specs.declared.text_token.TextToken.{TextToken}
+use Rattle.json5_text.specs.declared.text_token.TextToken.TheVariants as token
 use Rattle.json5_text.specs.Cursor.{Cursor}
 use Rattle.json5_types.specs.Errors.{code, kind_of, error_position}
-use Rattle.json5_text.specs.TextTokens.{Spells}
+use Rattle.json5_text.specs.ShortTexts.{TakesShortKey}
 use Rattle.json5_text.specs.TokenCalls.{TakesKey}
 use Rattle.json5_text.specs.TokenFaults.{FaultyKey, at_quote, at_name}
 use Rattle.json5_text.proofs.UnicodeScalars.{key_scalars}
 use Rattle.json5_value.specs.Entries.{entry_front, entry_start, next_entry}
-use Rattle.json5_value.specs.OwnedReads.{BlamesOrMemory, Keeps, OwnsKey, IsFoundKey, IsKeyText, IsNextKey, next_key}
-use Rattle.json5_value.specs.ModelSteps.{IsInside, SameText, RefusesRead, Gave, RefusesToken}
+use Rattle.json5_value.specs.OwnedReads.{BlamesOrMemory, Keeps, IsFoundKey, next_key}
+use Rattle.json5_value.specs.ModelSteps.{IsInside, RefusesRead, Gave, RefusesToken}
 use Rattle.json5_value.proofs.EntryValues.{key_missing, key_string, key_name}
 use Rattle.json5_value.proofs.NoFailedCode.{key_lacks}
 use Rattle.json5_value.proofs.RestsShorter.{next_shorter}
-use Rattle.json5_value.proofs.ModelSteps.{same_of, none_next, some_next, blames_made, blames_refused}
+use Rattle.json5_value.proofs.ShortEntries.{key_spelled}
+use Rattle.json5_value.proofs.ModelSteps.{same_of, none_next, some_next, blames_as, blames_made, blames_refused, took_both}
 use Rattle.json5_value.proofs.TokenSteps.{string_fault_refuses, name_refuses}
-use Rattle.json5_value.proofs.BuildSteps.{takes_then, first_not_taken, taken_as, takes, not_taken, gave_text}
+use Rattle.json5_value.proofs.BuildSteps.{takes, not_taken, gave_text}
 
 -- ---- keys
 
@@ -74,14 +76,12 @@ key_taken old new next none (Err e) peeked test is ready scalars t = not_taken o
         let (r, x) = some_next old.unread c (sym peeked ∙ found) in
         inr (blames_refused old (key old.unread) e ready key_lacks (λ reason place g. key_refuses c r old.unread reason place x g) f)
 
--- the key's text is copied, or memory ran out for the copy
-pub key_kept : (old mid : Cursor) (k : TextToken) (result : Result (String Global) Error) (given : (a : List ℕ × Bool) × IsFoundKey old.input k a × Gave (key old.unread) a old mid) → OwnsKey mid.input k result
-    → Keeps IsKeyText (key old.unread) old mid result
-key_kept old mid k (Ok t) (a, (is, same), g) copied =
-    takes old mid (key old.unread) a t (ap chars (copied a.0 a.1 (subst (λ z. Spells z a.0 a.1 k) (sym g.took.same) is)) ∙ same) g
-key_kept old mid k (Err e) (a, (is, same), g) copied =
-    let lacks = copied a.0 a.1 (subst (λ z. Spells z a.0 a.1 k) (sym g.took.same) is) in
-    not_taken old mid (key old.unread) e (inl lacks.kind) g.took.same
+-- a key without an escape was taken at once
+pub key_found : (old new : Cursor) (span : Span) → Solid old.unread → all_scalars old.unread ≡ true → TakesShortKey old new (Some span) → Keeps (IsFoundKey old.input) (key old.unread) old new (Ok (token.EscapeFree span))
+key_found old new span solid scalars k =
+    let split = key_spelled old.unread k.spelled new.unread solid k.read in
+    takes old new (key old.unread) (k.spelled, true) (token.EscapeFree span) ((refl, k.stands), chars-encodes k.spelled (key_scalars old.unread new.unread split scalars k.read.key))
+    (gave_text old new (key old.unread) (k.spelled, true) k.read.spelling (ap key split ∙ key_complete k.read.key) (record { split = split; same = k.same }))
 
 -- ---- the next key
 
@@ -116,33 +116,34 @@ next_is true x = by_comma (separator of_object x)
     by_comma (got false y) = refl
     by_comma (bad c p) = refl
 
-pub entry_refused : (comma_due : Bool) (old new : Cursor) (e : Error) → RefusesRead old.input (next_entry of_object comma_due old.unread) e → SameText old new → Keeps IsNextKey (next_key comma_due old.unread) old new (Err e)
-entry_refused comma_due old new e b g = taken_as old new (next_key comma_due old.unread) (and_then (next_entry of_object comma_due old.unread) key_or_end) (Err e) (next_is comma_due old.unread) (first_not_taken old new (next_entry of_object comma_due old.unread) key_or_end e (inr b) g)
+module _ (comma_due : Bool) (old : Cursor) where
+  -- what comes before the key is refused
+  pub entry_refused : (e : Error) → RefusesRead old.input (next_entry of_object comma_due old.unread) e → RefusesRead old.input (next_key comma_due old.unread) e
+  entry_refused e b = blames_as old.input old.input (next_entry of_object comma_due old.unread) (next_key comma_due old.unread) e refl (λ c p is. next_is comma_due old.unread ∙ ap (λ m. and_then m key_or_end) is) b
 
-pub brace_closed : (comma_due goes : Bool) (old new : Cursor) → goes ≡ false → Gave (next_entry of_object comma_due old.unread) goes old new → Keeps IsNextKey (next_key comma_due old.unread) old new (Ok None)
-brace_closed comma_due goes old new e g =
-    takes old new (next_key comma_due old.unread) None None tt
-    (gave_text old new (next_key comma_due old.unread) None g.taken (next_is comma_due old.unread ∙ ap (λ m. and_then m key_or_end) (g.reads ∙ ap (λ b. got b new.unread) e)) g.took)
+  pub brace_closed : (goes : Bool) (new : Cursor) → goes ≡ false → Gave (next_entry of_object comma_due old.unread) goes old new → Gave (next_key comma_due old.unread) None old new
+  brace_closed goes new e g = gave_text old new (next_key comma_due old.unread) None g.taken (next_is comma_due old.unread ∙ ap (λ m. and_then m key_or_end) (g.reads ∙ ap (λ b. got b new.unread) e)) g.took
 
-module _ (comma_due goes : Bool) (old mid : Cursor) (is : goes ≡ true) (g : Gave (next_entry of_object comma_due old.unread) goes old mid) where
-  key_next : (new : Cursor) (result : Result (Option (String Global)) Error) → Keeps IsNextKey (and_then (key mid.unread) key_and_colon) mid new result → Keeps IsNextKey (next_key comma_due old.unread) old new result
-  key_next new result k =
-      taken_as old new (next_key comma_due old.unread) (and_then (next_entry of_object comma_due old.unread) key_or_end) result (next_is comma_due old.unread)
-      (takes_then old mid new (next_entry of_object comma_due old.unread) goes key_or_end result g (taken_as mid new (key_or_end goes mid.unread) (and_then (key mid.unread) key_and_colon) result (ap (λ b. key_or_end b mid.unread) is) k))
+  module _ (goes : Bool) (mid : Cursor) (is : goes ≡ true) (g : Gave (next_entry of_object comma_due old.unread) goes old mid) where
+    key_comes : next_key comma_due old.unread ≡ and_then (key mid.unread) key_and_colon
+    key_comes = next_is comma_due old.unread ∙ ap (λ m. and_then m key_or_end) (g.reads ∙ ap (λ b. got b mid.unread) is)
 
-  -- the key is refused, or its colon is
-  pub next_key_refused : (new : Cursor) (e : Error) → BlamesOrMemory mid.input (key mid.unread) e → SameText mid new → Keeps IsNextKey (next_key comma_due old.unread) old new (Err e)
-  next_key_refused new e b f = key_next new (Err e) (first_not_taken mid new (key mid.unread) key_and_colon e b f)
+    -- the key is refused, or its colon is
+    pub key_refused : (e : Error) → BlamesOrMemory mid.input (key mid.unread) e → BlamesOrMemory old.input (next_key comma_due old.unread) e
+    key_refused e (inl memory) = inl memory
+    key_refused e (inr b) = inr (blames_as mid.input old.input (key mid.unread) (next_key comma_due old.unread) e g.took.same (λ c p is. key_comes ∙ ap (λ m. and_then m key_and_colon) is) b)
 
-  pub next_colon_refused : (last new : Cursor) (t : String Global) (e : Error) → (a : List ℕ × Bool) × IsKeyText t a × Gave (key mid.unread) a mid last → RefusesRead last.input (colon_after last.unread) e → SameText last new → Keeps IsNextKey (next_key comma_due old.unread) old new (Err e)
-  next_colon_refused last new t e (a, same, k) b f =
-      key_next new (Err e) (takes_then mid last new (key mid.unread) a key_and_colon (Err e) k (first_not_taken last new (colon_after last.unread) (λ u y. got (Some a) y) e (inr b) f))
+    module _ (last : Cursor) (a : List ℕ × Bool) (k : Gave (key mid.unread) a mid last) where
+      pub colon_refused : (e : Error) → RefusesRead last.input (colon_after last.unread) e → RefusesRead old.input (next_key comma_due old.unread) e
+      colon_refused e b =
+          blames_as last.input old.input (colon_after last.unread) (next_key comma_due old.unread) e (k.took.same ∙ g.took.same)
+          (λ c p is. key_comes ∙ ap (λ m. and_then m key_and_colon) k.reads ∙ ap (λ m. and_then m (λ u y. got (Some a) y)) is) b
 
-  pub next_key_taken : (last new : Cursor) (v : Unit {0}) (t : String Global) → (a : List ℕ × Bool) × IsKeyText t a × Gave (key mid.unread) a mid last → Gave (colon_after last.unread) v last new → Keeps IsNextKey (next_key comma_due old.unread) old new (Ok (Some t))
-  next_key_taken last new v t (a, same, k) c =
-      key_next new (Ok (Some t))
-      (takes_then mid last new (key mid.unread) a key_and_colon (Ok (Some t)) k
-      (takes last new (key_and_colon a last.unread) (Some a) (Some t) same (gave_text last new (key_and_colon a last.unread) (Some a) c.taken (ap (λ m. and_then m (λ u y. got (Some a) y)) c.reads) c.took)))
+      pub name_taken : (new : Cursor) (u : Unit {0}) → Gave (colon_after last.unread) u last new → Gave (next_key comma_due old.unread) (Some a) old new
+      name_taken new u c =
+          gave_text old new (next_key comma_due old.unread) (Some a) (g.taken ++ (k.taken ++ c.taken))
+          (key_comes ∙ ap (λ m. and_then m key_and_colon) k.reads ∙ ap (λ m. and_then m (λ u y. got (Some a) y)) c.reads)
+          (took_both old mid new g.taken (k.taken ++ c.taken) g.took (took_both mid last new k.taken c.taken k.took c.took))
 
 -- ---- an entry begins with no blank
 

@@ -20,7 +20,7 @@ use Rattle.json5_grammar.proofs.ValuesSound.{text_stops}
 use Rattle.json5_grammar.proofs.ValueSteps.{read_quote, read_numeral, read_missing}
 use Rattle.json5_types.specs.declared.error.Error.{Error}
 use Rattle.json5_types.specs.declared.value.Value.{Value}
-use Rattle.json5_text.specs.Cursor.{Cursor, Took}
+use Rattle.json5_text.specs.Cursor.{Cursor, Took, IsOutOfMemory}
 use Rattle.json5_types.specs.Errors.{code, kind_of, error_position}
 use Rattle.json5_text.specs.TokenFaults.{FaultyNumber, FaultyString}
 use Rattle.json5_types.specs.declared.value.Value as value
@@ -32,16 +32,20 @@ use Rattle.json5_value.specs.declared.kinds.Literal.{Literal}
 use Rattle.json5_value.specs.declared.kinds.Literal.TheVariants as literal
 use Rattle.json5_value.specs.declared.kinds.ValueKind.{ValueKind}
 use Rattle.json5_value.specs.declared.kinds.ValueKind.TheVariants as kind
+use Rattle.json5_value.specs.declared.brackets.BracketKind.{BracketKind}
+use Rattle.json5_value.specs.declared.scalars.ShortValue.{ShortValue}
+use Rattle.json5_value.specs.declared.unfinished.Next.TheVariants as next
+use Rattle.json5_value.specs.Opening.{OpensKind}
+use Rattle.json5_value.specs.BuildSteps.{BeginsValue}
 use Rattle.json5_value.specs.TreeMeanings.{datum_of}
-use Rattle.json5_value.specs.OwnedReads.{BlamesOrMemory, Keeps, IsOfTree, as_datum, tree_at, datum_at, datum_of_literal, ReadsOrOpens}
+use Rattle.json5_value.specs.OwnedReads.{Keeps, IsOfTree, KeepsValue, KeepsShort, ReadsScalar, as_datum, tree_at, datum_at, datum_of_literal}
 use Rattle.json5_value.specs.Kinds.{kind_at, word_of}
 use Rattle.json5_value.specs.ModelSteps.{IsInside, SameText, RefusesRead, Gave, Steps, RefusesToken, value_at}
 use Rattle.json5_value.proofs.NoFailedCode.{Lacks, faulty_number_lacks, faulty_string_lacks}
-use Rattle.json5_value.proofs.SkipScalars.{tests_of, value_shorter}
+use Rattle.json5_value.proofs.SkipScalars.{tests_of}
 use Rattle.json5_value.proofs.ModelSteps.{same_of, none_next, some_next, blames_as, blames_made, blames_refused}
 use Rattle.json5_value.proofs.TokenSteps.{string_fault_refuses, number_fault_refuses}
-use Rattle.json5_value.specs.declared.read.ValueStart.TheVariants as start
-use Rattle.json5_value.proofs.BuildSteps.{or_blames, takes, not_taken, gave_text}
+use Rattle.json5_value.proofs.BuildSteps.{takes, gave_text}
 
 -- ---- values of one token
 
@@ -87,55 +91,74 @@ text_taken room old new t scalars (s, u, escape_free, took, str, bytes) =
     scalar_taken room old new s (text u escape_free) (value.String t) refl took (is_text str) (text_stops new.unread str) (view-String t ∙ ap datum.text (text_characters old.unread new.unread (string_bytes t) took.split scalars str bytes))
 
 -- a step that passes over it is refused
-pub scalar_refused : (room : ℕ) (old new : Cursor) (e : Error) → Steps (value_at room old) old new (Err e) → Keeps IsOfTree (tree_at room old) old new (Err e)
-scalar_refused room old new e k = not_taken old new (tree_at room old) e (inr (tree_blamed room old e k.refused)) k.same_text
+pub scalar_refused : (old new : Cursor) (e : Error) → ((room : ℕ) → Steps (value_at room old) old new (Err e)) → ReadsScalar old new (Err e)
+scalar_refused old new e k = record { given = tt; refused = inr (λ room. datum_blamed room old e (tree_blamed room old e (k room).refused)); same_text = (k 0).same_text }
 
-module _ (room : ℕ) (old new : Cursor) (c : ℕ) (first : slice_get old.unread 0 ≡ Some c) (found : ValueKind) (at : found ≡ kind_at c) (e : Error) (ready : IsInside old) (kept : new ≡ old) where
+module _ (old new : Cursor) (c : ℕ) (first : slice_get old.unread 0 ≡ Some c) (found : ValueKind) (at : found ≡ kind_at c) (e : Error) (ready : IsInside old) (kept : new ≡ old) where
   -- memory ran out in a token, or it is refused as reading does
-  token_refused : {A : Type 0} {F : _} (m : Read A) → Lacks F → ((reason : Option ErrorCode) (place : Option (List ℕ)) → F old.unread reason place → Refuses m old.unread reason place) → value_at room old ≡ forget m → RefusesToken F old e
-      → Keeps IsOfTree (tree_at room old) old new (Err e)
-  token_refused m l k is (inl memory) = not_taken old new (tree_at room old) e (inl memory.kind) (same_of kept)
-  token_refused m l k is (inr f) =
-      not_taken old new (tree_at room old) e
-      (inr (tree_blamed room old e (blames_as old.input old.input m (value_at room old) e refl (λ r p b. is ∙ ap forget b) (blames_refused old m e ready l k f)))) (same_of kept)
+  token_refused : {A : Type 0} {F : _} (m : Read A) → Lacks F → ((reason : Option ErrorCode) (place : Option (List ℕ)) → F old.unread reason place → Refuses m old.unread reason place) → ((room : ℕ) → value_at room old ≡ forget m) → RefusesToken F old e
+      → ReadsScalar old new (Err e)
+  token_refused m l k is (inl memory) = record { given = tt; refused = inl memory.kind; same_text = same_of kept }
+  token_refused m l k is (inr f) = record {
+    given = tt;
+    refused = inr (λ room. datum_blamed room old e (tree_blamed room old e (blames_as old.input old.input m (value_at room old) e refl (λ r p b. is room ∙ ap forget b) (blames_refused old m e ready l k f))));
+    same_text = same_of kept;
+  }
 
-  pub text_refused : found ≡ kind.String → RefusesToken FaultyString old e → Keeps IsOfTree (tree_at room old) old new (Err e)
+  pub text_refused : found ≡ kind.String → RefusesToken FaultyString old e → ReadsScalar old new (Err e)
   text_refused is k =
       let (r, x) = some_next old.unread c first in
       let quote : is_quote c ≡ true = tests_of c found kind.String at is in
       token_refused (string old.unread) faulty_string_lacks (λ reason place f. string_fault_refuses c r quote old.unread reason place x f)
-      (ap (λ z. forget (read room z)) x ∙ read_quote room c r quote ∙ ap (λ z. forget (string z)) (sym x)) k
+      (λ room. ap (λ z. forget (read room z)) x ∙ read_quote room c r quote ∙ ap (λ z. forget (string z)) (sym x)) k
 
-  pub number_refused : found ≡ kind.Number → RefusesToken FaultyNumber old e → Keeps IsOfTree (tree_at room old) old new (Err e)
+  pub number_refused : found ≡ kind.Number → RefusesToken FaultyNumber old e → ReadsScalar old new (Err e)
   number_refused is k =
       let (r, x) = some_next old.unread c first in
       let begins : (is_sign c || begins_number c) ≡ true = tests_of c found kind.Number at is in
       token_refused (reading.number old.unread) faulty_number_lacks (λ reason place f. number_fault_refuses c r begins old.unread reason place x f)
-      (ap (λ z. forget (read room z)) x ∙ read_numeral room c r begins ∙ ap (λ z. forget (reading.number z)) (sym x)) k
-
--- ---- how a value begins
-
--- nothing is left
-pub nothing_left : (room : ℕ) (old : Cursor) (next : Option ℕ) (e : Error) → next ≡ slice_get old.unread 0 → next ≡ None → kind_of e ≡ code codes.EofParsingValue → error_position e ≡ None → ReadsOrOpens room old old (Err e)
-nothing_left room old next e peeked is says place = record {
-  begun = tt;
-  refused = inr (datum_blamed room old e (tree_blamed room old e (blames_made old.input (value_at room old) e codes.EofParsingValue inner (ap (λ z. forget (read room z)) (none_next old.unread (sym peeked ∙ is)) ∙ read_missing room) (λ e. absurd (cc)) says place)));
-  same_text = refl;
-  shorter = tt;
-}
+      (λ room. ap (λ z. forget (read room z)) x ∙ read_numeral room c r begins ∙ ap (λ z. forget (reading.number z)) (sym x)) k
 
 -- what is read as a datum is read as a tree
 pub datum_got : (m : Read Tree) (x : Datum) (r : List ℕ) → as_datum m ≡ got x r → (t : Tree) × (m ≡ got t r) × (datum_of t ≡ x)
 datum_got (got t y) x r e = let k : y ≡ r = cc in let l : datum_of t ≡ x = cc in (t, ap (got t) k, l)
 datum_got (bad c p) x r e = absurd (cc)
 
-pub scalar_begun : (room : ℕ) (old new : Cursor) (v : Value) → (t : Tree) × IsOfTree v t × Gave (tree_at room old) t old new → ReadsOrOpens room old new (Ok (start.Scalar v))
-scalar_begun room old new v (t, is, g) = record {
-  begun = record { reads = ap as_datum g.reads ∙ ap (λ x. got x new.unread) (sym is); taken = g.taken; took = g.took };
-  refused = tt;
-  same_text = tt;
-  shorter = value_shorter room old.unread new.unread tt (ap forget g.reads);
+-- ---- how a value begins
+
+-- nothing is left
+pub nothing_left : (old : Cursor) (found : Option ℕ) (e : Error) → found ≡ slice_get old.unread 0 → found ≡ None → kind_of e ≡ code codes.EofParsingValue → error_position e ≡ None → BeginsValue old old (Err e)
+nothing_left old found e peeked is says place = record {
+  begun = tt;
+  refused = inr (λ room. datum_blamed room old e (tree_blamed room old e (blames_made old.input (value_at room old) e codes.EofParsingValue inner (ap (λ z. forget (read room z)) (none_next old.unread (sym peeked ∙ is)) ∙ read_missing room) (λ e. absurd (cc)) says place)));
+  same_text = refl;
 }
 
-pub scalar_not_begun : (room : ℕ) (old new : Cursor) (e : Error) → BlamesOrMemory old.input (tree_at room old) e → SameText old new → ReadsOrOpens room old new (Err e)
-scalar_not_begun room old new e b g = record { begun = tt; refused = or_blames old.input old.input (tree_at room old) (datum_at room old) e (datum_blamed room old e) b; same_text = g; shorter = tt }
+pub value_begun : (old new : Cursor) (v : Value) → KeepsValue old new v → BeginsValue old new (Ok (next.Ended v))
+value_begun old new v k = record { begun = k; refused = tt; same_text = (k 0).took.same }
+
+pub bracket_in_front : (old : Cursor) (c : ℕ) (k : BracketKind) → slice_get old.unread 0 ≡ Some c → OpensKind c (Some k) → BeginsValue old old (Ok (next.Opens k))
+bracket_in_front old c k first opens = record { begun = (refl, first ∙ ap (λ z. Some z) opens); refused = tt; same_text = refl }
+
+pub memory_lost : (old new : Cursor) (e : Error) → IsOutOfMemory e → SameText old new → BeginsValue old new (Err e)
+memory_lost old new e memory same = record { begun = tt; refused = inl memory; same_text = same }
+
+pub scalar_begun : (old new : Cursor) (v : Value) → ReadsScalar old new (Ok v) → BeginsValue old new (Ok (next.Ended v))
+scalar_begun old new v k = value_begun old new v k.given
+
+pub scalar_not_begun : (old new : Cursor) (e : Error) → ReadsScalar old new (Err e) → BeginsValue old new (Err e)
+scalar_not_begun old new e k = record { begun = tt; refused = k.refused; same_text = k.same_text }
+
+-- ---- a value of one token, however many brackets may be open
+
+pub datum_kept : (room : ℕ) (old new : Cursor) (v : Value) → Keeps IsOfTree (tree_at room old) old new (Ok v) → Gave (datum_at room old) (value_of v) old new
+datum_kept room old new v k =
+    let (t, is, g) = k.given in
+    record { reads = ap as_datum g.reads ∙ ap (λ x. got x new.unread) (sym is); taken = g.taken; took = g.took }
+
+pub scalar_kept : (old new : Cursor) (v : Value) → ((room : ℕ) → Keeps IsOfTree (tree_at room old) old new (Ok v)) → ReadsScalar old new (Ok v)
+scalar_kept old new v k = record { given = λ room. datum_kept room old new v (k room); refused = tt; same_text = tt }
+
+-- nothing was taken before it
+pub short_front : (old mid new : Cursor) (result : ShortValue) → mid ≡ old → KeepsShort mid new result → KeepsShort old new result
+short_front old mid new result same k = subst (λ (s : Cursor). KeepsShort s new result) same k

@@ -11,8 +11,7 @@ use Rattle.json5_grammar.specs.Language.Strings.{is_quote}
 use Rattle.json5_types.specs.declared.error.Error.{Error}
 use Rattle.json5_types.specs.Errors.{code, kind_of, error_position}
 use Rattle.json5_text.specs.Cursor.{Cursor}
-use Rattle.json5_value.specs.Entries.{entry_front, entry_start, next_entry}
-use Rattle.json5_value.specs.ShortWays.{key_and_colon}
+use Rattle.json5_value.specs.Entries.{entry_front, entry_start, key_and_colon, next_entry}
 use Rattle.json5_value.specs.ModelSteps.{SameText, RefusesRead, Gave, Steps}
 use Rattle.json5_value.proofs.EntrySteps.{start_or_end}
 use Rattle.json5_value.proofs.ModelSteps.{none_next, some_next, blames_made, then_step, first_step_refused, same_step, took_step, refused_step, took_nothing}

@@ -12,13 +12,13 @@ pub mod SkipScalars
 pub mod RestsShorter
 pub mod SkipInvariant
 pub mod ShortEntries
-pub mod ShortTurns
+pub mod SkipTurns
 pub mod BuildRests
 pub mod BuildSteps
+pub mod OwnedTexts
 pub mod BuildKeys
 pub mod BuildScalars
+pub mod TakenElements
+pub mod TakenMembers
 pub mod BuildTurns
 pub mod BuildValues
-pub mod ShortValues
-pub mod ShortBuilds
-pub mod ShortMembers

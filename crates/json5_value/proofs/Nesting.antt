@@ -137,17 +137,10 @@ module _ {F D : Type 0} (start : F → ℕ) (after : F → ℕ → D → List �
     nested = nested_as old.input mid.input room fs m (placed old.unread n) w (sym same) reads h.nested;
   }
 
-  -- it is refused where nothing is open
-  pub whole_blamed : (room : ℕ) (old : Cursor) (w m : Read D) (fs : List F) (e : Error) → Within start after room w fs m old → fs ≡ [] → RefusesRead old.input m e → RefusesRead old.input w e
-  whole_blamed room old w m fs e h none b = blames_as old.input old.input m w e refl (λ c p is. subst (λ gs. Nested start after old.input room gs m w) none h.nested ∙ is) b
-
-  -- it is refused in the innermost
-  pub innermost_blamed : (room : ℕ) (old : Cursor) (w m : Read D) (gs fs : List F) (f : F) (own e : Error) → Within start after room w gs m old → gs ≡ fs ++ f ∷ [] → RefusesRead old.input m own → PositionedAt (StartsAfter old.input (start f)) own e → RefusesRead old.input w e
-  innermost_blamed room old w m gs fs f own e h is b k =
-      let n : ℕ = room - length fs - 1 in
-      let (q, counted, nested) = nested_pop old.input room n fs f m w refl (subst (λ z. Nested start after old.input room z m w) is h.nested) in
-      let inside : RefusesRead old.input (and_then m (after f n)) own = blames_as old.input old.input m (and_then m (after f n)) own refl (λ c p is. ap (λ z. and_then z (after f n)) is) b in
-      blames_whole old.input room fs q (and_then m (after f n)) w e nested (blames_placed old.input q (start f) (and_then m (after f n)) own e counted k inside)
+  -- it is refused with a fault that has a position
+  pub here_blamed : (room : ℕ) (old : Cursor) (w m : Read D) (fs : List F) (e : Error) → Within start after room w fs m old → (reason : Option ErrorCode) (q : List ℕ) → m ≡ bad reason (here q) → RefusesRead old.input m e → RefusesRead old.input w e
+  here_blamed room old w m fs e h reason q is b =
+      blames_as old.input old.input m w e refl (λ c p k. nested_fault old.input room fs w reason q (nested_as old.input old.input room fs m (bad reason (here q)) w refl is h.nested) ∙ sym is ∙ k) b
 
   -- ---- the whole
 

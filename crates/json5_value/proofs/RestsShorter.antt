@@ -10,7 +10,6 @@ use Rattle.json5_grammar.specs.Model.ReadTexts.{key}
 use Rattle.json5_grammar.specs.Model.ReadValues.{colon_at}
 use Rattle.json5_grammar.proofs.FoundPlaces.{Found}
 use Rattle.json5_grammar.proofs.ValuesSound.{IsGap, IsKeyAt, gap_found, key_found}
-use Rattle.json5_value.specs.Entries.{entry_front, entry_start, next_entry}
 
 -- ---- what is left is no longer than before
 
@@ -114,25 +113,3 @@ shorter_of n b r (bad c p) h f = absurd (cc)
 -- a comma and what follows it, or the closing sign, take something
 pub next_shorter : (k : fronts.BracketKind) (comma_due b : Bool) (x r : List ℕ) → next_value k comma_due x ≡ got b r → comma_due ≡ true → length r < length x
 next_shorter k comma_due b x r e is = shorter_of (length x) b r (next_value k true x) (shorter_next k x) (sym (ap (λ d. next_value k d x) is) ∙ e)
-
-short_entry : (k : fronts.BracketKind) (x : List ℕ) → Short (length x) (entry_start k x)
-short_entry k x = short_then (length x) (skip between x) (λ u y. entry_front k y) (short_skip x) (λ u y l. short_within (length y) (length x) (entry_front k y) (front y) l)
-  where
-    front : (y : List ℕ) → Short (length y) (entry_front k y)
-    front [] = omega arith
-    front (c ∷ r) = by_test (c == fronts.closing k)
-      where
-        by_test : (b : Bool) → Short (length (c ∷ r)) (cond b (got false r) (got true (c ∷ r)))
-        by_test true = omega arith
-        by_test false = omega arith
-
-shorter_entry : (k : fronts.BracketKind) (x : List ℕ) → Shorter (length x) (next_entry k true x)
-shorter_entry k x = then_short (length x) (separator k x) _ (shorter_separator k x) (λ goes y l. by_test goes y l)
-  where
-    by_test : (goes : Bool) (y : List ℕ) → length y < length x → Shorter (length x) (cond goes (entry_start k y) (got false y))
-    by_test true y l = below (length y) (length x) (entry_start k y) (short_entry k y) l
-    by_test false y l = l
-
--- the same before the key of a member
-pub entry_shorter : (k : fronts.BracketKind) (comma_due b : Bool) (x r : List ℕ) → next_entry k comma_due x ≡ got b r → comma_due ≡ true → length r < length x
-entry_shorter k comma_due b x r e is = shorter_of (length x) b r (next_entry k true x) (shorter_entry k x) (sym (ap (λ d. next_entry k d x) is) ∙ e)

@@ -1,6 +1,6 @@
--- The short ways to entries and past values take what reading on lists takes.
-use Rattle.std.proofs.Common.{◌≡◌, ℕ, Bool, true, false, List, [], ◌∷◌, ◌++◌, length, refl, ap, sym, ◌∙◌, subst, append_assoc, arith, length-append, inl, inr, Option, Some, None, String, string_bytes}
-use Rattle.std.specs.Prelude.{◌==◌, Ok, is_some, not}
+-- What is taken at once takes what reading on lists takes.
+use Rattle.std.proofs.Common.{◌≡◌, ℕ, Bool, true, false, List, [], ◌∷◌, ◌++◌, refl, ap, sym, ◌∙◌, subst, append_assoc, arith, inl, inr, Option, Some, None, String, string_bytes}
+use Rattle.std.specs.Prelude.{◌==◌, Result, Ok, is_some}
 use Rattle.std.specs.declared.alloc.Global.{Global}
 use Rattle.std.specs.Str.{all_scalars}
 use Rattle.std.proofs.lemmas.Bool.{both_ways}
@@ -10,7 +10,7 @@ use Rattle.json5_grammar.specs.Language.Characters.{NotBegun}
 use Rattle.json5_grammar.specs.Faults.Fronts.{BracketKind, of_array, of_object, closing}
 use Rattle.json5_grammar.specs.Model.Collections.{IsSign, IsEnd, ReadsKey}
 use Rattle.json5_grammar.specs.Language.Numbers.{Number}
-use Rattle.json5_grammar.specs.Model.Reading.{Read, got, and_then}
+use Rattle.json5_grammar.specs.Model.Reading.{got, and_then}
 use Rattle.json5_grammar.specs.Model.ReadBlanks.{skip, between}
 use Rattle.json5_grammar.specs.Model.ReadSteps.{forget, colon_after, separator, comma_at}
 use Rattle.json5_grammar.specs.Model.ReadTexts.{key}
@@ -27,6 +27,7 @@ use Rattle.json5_grammar.proofs.ArraysRead.{comma_solid, bracket_solid, phrase_f
 use Rattle.json5_grammar.proofs.KeysRead.{key_complete}
 use Rattle.json5_grammar.proofs.ValueHeads.{val_head, value_solid, begins_value_solid, key_head, key_solid}
 use Rattle.json5_grammar.proofs.ValuesRead.{read_complete}
+use Rattle.json5_types.specs.declared.error.Error.{Error}
 use Rattle.json5_types.specs.declared.value.Value.{Value}
 use Rattle.json5_types.specs.declared.value.Value as value
 use Rattle.json5_types.specs.NumberMeanings.{whole_in}
@@ -43,27 +44,21 @@ use Rattle.json5_text.specs.ShortTexts.{TakesShortKey, TakesShortString, IsTextA
 use Rattle.json5_text.specs.TextTokens.{IsSliceAt}
 use Rattle.json5_value.specs.declared.brackets.BracketPair.{BracketPair}
 use Rattle.json5_value.specs.declared.brackets.BracketKind.{BracketKind as OwnKind}
-use Rattle.json5_value.specs.declared.brackets.BracketKind.TheVariants as kind
 use Rattle.json5_value.specs.declared.kinds.Literal.{Literal}
 use Rattle.json5_value.specs.declared.kinds.ValueKind.{ValueKind}
 use Rattle.json5_value.specs.declared.kinds.ValueKind.TheVariants as kinds
-use Rattle.json5_value.specs.declared.short_ways.BeforeValue.{BeforeValue}
-use Rattle.json5_value.specs.declared.short_ways.BeforeValue.TheVariants as names
-use Rattle.json5_value.specs.declared.short_ways.ShortEntry.TheVariants as entry
 use Rattle.json5_value.specs.Brackets.{bracket_of, brackets_of}
 use Rattle.json5_value.specs.Entries.{entry_front, entry_start, next_entry}
 use Rattle.json5_value.specs.Kinds.{kind_at, word_of}
 use Rattle.json5_value.specs.OwnedReads.{Keeps, IsOfTree, tree_at}
 use Rattle.json5_value.specs.Opening.{AtKind}
-use Rattle.json5_value.specs.ShortWays.{EntersShort, ReachesMember, PassesShort, PassesTo, key_and_colon, before_value}
-use Rattle.json5_value.specs.ModelSteps.{Gave}
+use Rattle.json5_value.specs.SkipSteps.{PassesShort}
+use Rattle.json5_value.specs.ModelSteps.{Gave, Steps}
 use Rattle.json5_value.proofs.BuildScalars.{scalar_taken, text_taken}
 use Rattle.json5_value.proofs.EntrySteps.{separator_is, front_closes, front_goes, closes_here, start_or_end}
-use Rattle.json5_value.proofs.EntryValues.{next_is, head_or_end, head_of, head_named, next_closed, element_reached}
 use Rattle.json5_value.proofs.SkipScalars.{literal_value, number_value, tests_of}
-use Rattle.json5_value.proofs.RestsShorter.{entry_shorter}
 use Rattle.json5_value.proofs.UnexpectedCharacters.{closing_is}
-use Rattle.json5_value.proofs.ModelSteps.{some_next, took_both, took_nothing}
+use Rattle.json5_value.proofs.ModelSteps.{some_next, same_step, then_step, took_step}
 
 -- ---- a step on lists
 
@@ -108,7 +103,7 @@ ends_read k true x r (inr (y, comma, s)) = (ap (λ m. and_then m (start_or_end k
 colon_read : (x r : List ℕ) → IsSign 58 x r → colon_after x ≡ skip between r
 colon_read x r s = ap (λ m. and_then m (λ u y. and_then (colon_at y) (λ v z. skip between z))) (sign_read 58 x r colon_solid s)
 
-colon_took : (old new : Cursor) → (k : TakesShortSign 58 old new true) → Took old (k.0.front ++ 58 ∷ []) new
+pub colon_took : (old new : Cursor) → (k : TakesShortSign 58 old new true) → Took old (k.0.front ++ 58 ∷ []) new
 colon_took old new k = record { split = k.0.split ∙ sym (append_assoc k.0.front (58 ∷ []) new.unread); same = k.1 }
 
 -- a step where no comma is due passes over the blanks
@@ -116,46 +111,25 @@ blanks_read : (b : Bool) (x y : List ℕ) → IsStep 125 false b x y → (skip b
 blanks_read true x y (r, s, e) = (sign_read 125 x r brace_solid s ∙ ap (got tt) (sym e), (s.front, s.split ∙ ap (λ z. s.front ++ z) (sym e)))
 blanks_read false x y (g, n) = (ap (skip between) g.split ∙ gap_read g.is_gap g.solid, (g.gap, g.split))
 
-blanks_passed : (b : Bool) (old mid new : Cursor) → TakesShortSign 58 old mid true → Stepped 125 false b mid new → PassesTo (colon_after old.unread) names.Nothing old new
-blanks_passed b old mid new colon s =
-    let (reads, (taken, split)) = blanks_read b mid.unread new.unread s.step in
-    record {
-      reads = colon_read old.unread mid.unread colon.0 ∙ reads;
-      taken = (colon.0.front ++ 58 ∷ []) ++ taken;
-      took = took_both old mid new (colon.0.front ++ 58 ∷ []) taken (colon_took old mid colon) (record { split = split; same = s.same });
-    }
+-- the blanks after it
+pub blanks_stepped : (old new : Cursor) (step : ShortStep) → (step ≡ steps.Other → ⊥) → TakesShortStep 125 false old new step → Steps (skip between old.unread) old new (Ok tt)
+blanks_stepped old new steps.Entry other s = let (reads, (taken, split)) = blanks_read false old.unread new.unread s.step in took_step old new (skip between old.unread) tt taken reads (record { split = split; same = s.same })
+blanks_stepped old new steps.Closing other s = let (reads, (taken, split)) = blanks_read true old.unread new.unread s.step in took_step old new (skip between old.unread) tt taken reads (record { split = split; same = s.same })
+blanks_stepped old new steps.Other other s = absurd (other refl)
 
--- no sign is in front
-pub colon_left : (reading : List ℕ → Read (Unit {0})) (left : BeforeValue) (old new : Cursor) → reading old.unread ≡ before_value left old.unread → new ≡ old → PassesTo (reading old.unread) left old new
-colon_left reading left old new is same = record { reads = is ∙ ap (λ (s : Cursor). before_value left s.unread) (sym same); taken = []; took = took_nothing old new same }
-
-pub blanks_left : (old mid new : Cursor) → TakesShortSign 58 old mid true → new ≡ mid → PassesTo (colon_after old.unread) names.Blanks old new
-blanks_left old mid new colon same =
-    let left = colon_took old mid colon in
-    record {
-      reads = colon_read old.unread mid.unread colon.0 ∙ ap (λ (s : Cursor). skip between s.unread) (sym same);
-      taken = (colon.0.front ++ 58 ∷ []) ++ [];
-      took = took_both old mid new (colon.0.front ++ 58 ∷ []) [] left (took_nothing mid new same);
-    }
-
-pub nothing_left : (old mid new : Cursor) (step : ShortStep) → TakesShortSign 58 old mid true → (step ≡ steps.Other → ⊥) → TakesShortStep 125 false mid new step → PassesTo (colon_after old.unread) names.Nothing old new
-nothing_left old mid new steps.Entry colon other s = blanks_passed false old mid new colon s
-nothing_left old mid new steps.Closing colon other s = blanks_passed true old mid new colon s
-nothing_left old mid new steps.Other colon other s = absurd (other refl)
+pub colon_stepped : (old mid new : Cursor) (result : Result (Unit {0}) Error) → TakesShortSign 58 old mid true → Steps (skip between mid.unread) mid new result → Steps (colon_after old.unread) old new result
+colon_stepped old mid new result colon k =
+    same_step old new (colon_after old.unread) (skip between mid.unread) result (colon_read old.unread mid.unread colon.0)
+    (then_step {A = Unit {0}} old mid new (got tt mid.unread) tt (λ u y. skip between y) result (record { reads = refl; taken = colon.0.front ++ 58 ∷ []; took = colon_took old mid colon }) k)
 
 -- no blanks stand before a key
 pub key_spelled : (x u r : List ℕ) → Solid x → (k : ReadsKey x u true r) → x ≡ k.spelling ++ r
 key_spelled x u r solid k = (one_gap k.front (k.spelling ++ r) [] x (blanks.Gap.blanks k.blank) (key_solid r (key_head k.key)) (blanks.Gap.blanks blanks.Blanks.empty) solid (sym k.split)).1
 
-pub name_passed : (old mid new : Cursor) (o : Option Span) (none : Bool) (left : BeforeValue) → Solid old.unread → TakesShortKey old mid o → is_some o ≡ not none → none ≡ false → PassesTo (colon_after mid.unread) left mid new → PassesTo (key_and_colon old.unread) left old new
-name_passed old mid new None none left solid k some is p = absurd (cc)
-name_passed old mid new (Some span) none left solid k some is p =
-    let split = key_spelled old.unread k.spelled mid.unread solid k.read in
-    record {
-      reads = ap (λ z. and_then (forget (key z)) (λ u r. colon_after r)) split ∙ ap (λ m. and_then (forget m) (λ u r. colon_after r)) (key_complete k.read.key) ∙ p.reads;
-      taken = k.read.spelling ++ p.taken;
-      took = took_both old mid new k.read.spelling p.taken (record { split = split; same = k.same }) p.took;
-    }
+pub key_stepped : (old new : Cursor) (span : Span) → Solid old.unread → TakesShortKey old new (Some span) → Steps (forget (key old.unread)) old new (Ok tt)
+key_stepped old new span solid k =
+    let split = key_spelled old.unread k.spelled new.unread solid k.read in
+    took_step old new (forget (key old.unread)) tt k.read.spelling (ap (λ z. forget (key z)) split ∙ ap forget (key_complete k.read.key)) (record { split = split; same = k.same })
 
 -- ---- entries
 
@@ -163,26 +137,6 @@ pub entry_gave : (k : OwnKind) (b : BracketPair) (comma_due : Bool) (old new : C
 entry_gave k b comma_due old new e s =
     let (reads, (taken, split)) = goes_read (bracket_of k) comma_due old.unread new.unread s.step.0 (subst (λ c. NotBegun (λ d. d == c) new.unread) (closing_is k b e) s.step.1) in
     record { reads = reads; taken = taken; took = record { split = split; same = s.same } }
-
-pub element_entered : (k : OwnKind) (b : BracketPair) (comma_due : Bool) (old new : Cursor) → b ≡ brackets_of k → k ≡ kind.Array → Stepped b.closing comma_due false old new → EntersShort k comma_due old new entry.Value
-element_entered k b comma_due old new e is s = (element_reached (bracket_of k) comma_due true old new (ap bracket_of is) refl (entry_gave k b comma_due old new e s)).given
-
-object_head : (k : OwnKind) (y : List ℕ) → k ≡ kind.Object → head_of (bracket_of k) y ≡ and_then (key_and_colon y) (λ u z. got true z)
-object_head kind.Array y e = absurd (cc)
-object_head kind.Object y e = head_named y
-
-pub member_entered : (k : OwnKind) (b : BracketPair) (comma_due : Bool) (left : BeforeValue) (old mid new : Cursor) → b ≡ brackets_of k → k ≡ kind.Object → Stepped b.closing comma_due false old mid → PassesTo (key_and_colon mid.unread) left mid new → ReachesMember k comma_due left old new
-member_entered k b comma_due left old mid new e is s p =
-    let g = entry_gave k b comma_due old mid e s in
-    record {
-      reads = next_is (bracket_of k) comma_due old.unread ∙ ap (λ m. and_then m (head_or_end (bracket_of k))) g.reads ∙ object_head k mid.unread is ∙ ap (λ m. and_then m (λ u z. got true z)) p.reads;
-      taken = g.taken ++ p.taken;
-      took = took_both old mid new g.taken p.taken g.took p.took;
-      shorter = λ d. (let l = entry_shorter (bracket_of k) comma_due true old.unread mid.unread g.reads d in omega (arith, l, ap length p.took.split, length-append p.taken new.unread));
-    }
-
-pub named_entered : (k : OwnKind) (comma_due : Bool) (left : BeforeValue) (old new : Cursor) → left ≡ names.Nothing → ReachesMember k comma_due left old new → EntersShort k comma_due old new entry.Value
-named_entered k comma_due left old new is m = record { reads = m.reads ∙ ap (λ l. and_then (before_value l new.unread) (λ u z. got true z)) is; taken = m.taken; took = m.took }
 
 -- the sign is next, so it is taken
 pub sign_eaten : (c : ℕ) (r : List ℕ) (mid new : Cursor) (b : Bool) → mid.unread ≡ c ∷ r → (b ≡ true → Took mid (c ∷ []) new) → (b ≡ false → (new ≡ mid) × NotBegun (λ d. d == c) mid.unread) → Took mid (c ∷ []) new
@@ -197,10 +151,6 @@ closing_gave k b comma_due old mid new ate e s taken kept =
     let same : r ≡ new.unread = cc (sym at ∙ took.split) in
     let (reads, (text, split)) = ends_read (bracket_of k) comma_due old.unread new.unread (subst (λ c. IsEnd c comma_due old.unread new.unread) (closing_is k b e) (subst (IsEnd b.closing comma_due old.unread) same end)) in
     record { reads = reads; taken = text; took = record { split = split; same = took.same ∙ s.same } }
-
-pub entry_closed : (k : OwnKind) (b : BracketPair) (comma_due : Bool) (old mid new : Cursor) (ate : Bool) → b ≡ brackets_of k → Stepped b.closing comma_due true old mid
-    → (ate ≡ true → Took mid (b.closing ∷ []) new) → (ate ≡ false → (new ≡ mid) × NotBegun (λ d. d == b.closing) mid.unread) → EntersShort k comma_due old new entry.Closed
-entry_closed k b comma_due old mid new ate e s taken kept = (next_closed (bracket_of k) comma_due false old new refl (closing_gave k b comma_due old mid new ate e s taken kept)).given
 
 -- ---- strings
 

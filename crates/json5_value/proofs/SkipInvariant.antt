@@ -1,24 +1,20 @@
 -- While a value is skipped: what the whole comes to, given the open brackets and what was read inside them.
-use Rattle.std.proofs.Common.{◌≡◌, ℕ, suc, ◌-◌, ◌<◌, ◌≤◌, Bool, true, false, List, [], ◌∷◌, ◌++◌, length, refl, ap, sym, ◌∙◌, subst, append_assoc, arith, length-append, inl, inr}
-use Rattle.std.specs.Prelude.{Result, Ok, Err}
+use Rattle.std.proofs.Common.{◌≡◌, ℕ, suc, ◌-◌, ◌≤◌, Bool, true, false, List, [], ◌∷◌, ◌++◌, length, refl, ap, sym, ◌∙◌, subst, append_assoc, arith, length-append}
 use Rattle.json5_grammar.specs.Faults.Fronts.{opening}
 use Rattle.json5_grammar.specs.Model.Reading.{Read, got, and_then, placed}
 use Rattle.json5_grammar.specs.Model.ReadSteps.{forget, next_value, rest_of_bracket}
 use Rattle.json5_grammar.specs.Model.ReadValues.{read}
 use Rattle.json5_grammar.proofs.ValuesSound.{read_sound}
 use Rattle.json5_grammar.proofs.ValueSteps.{turn, rest_step, read_opened}
-use Rattle.json5_types.specs.declared.error.Error.{Error}
 use Rattle.json5_text.specs.Cursor.{Cursor, Took}
 use Rattle.json5_value.specs.declared.brackets.OpenBracket.{OpenBracket}
 use Rattle.json5_value.specs.Brackets.{bracket_of}
 use Rattle.json5_value.specs.Nesting.{Nested, Within}
 use Rattle.json5_value.specs.Opening.{OpenedAt}
-use Rattle.json5_value.specs.Offsets.{StartsAfter, PositionedAt}
-use Rattle.json5_value.specs.SkipSteps.{start_of, rest_in, rest_at, Skipping, SkippingInside, TurnsSkipping, TurnsSkippingInside, PositionedWithin}
-use Rattle.json5_value.specs.ModelSteps.{IsInside, SameText, RefusesRead, Gave, value_at}
-use Rattle.json5_value.proofs.Nesting.{value_reached, closed, inside_blamed, value_ended, value_opened, whole_blamed, innermost_blamed, starts, ends_inside}
-use Rattle.json5_value.proofs.RestsShorter.{next_shorter}
-use Rattle.json5_value.proofs.ModelSteps.{blames_as, forget_got}
+use Rattle.json5_value.specs.SkipSteps.{start_of, rest_in, rest_at, Skipping, SkippingInside}
+use Rattle.json5_value.specs.ModelSteps.{IsInside, SameText, Gave, value_at}
+use Rattle.json5_value.proofs.Nesting.{value_reached, closed, value_opened, starts, ends_inside}
+use Rattle.json5_value.proofs.ModelSteps.{forget_got}
 
 -- ---- continuing a bracket
 
@@ -30,10 +26,6 @@ module _ (room : ℕ) (bs : List OpenBracket) (f : OpenBracket) (comma_due : Boo
   rest_is : (goes : Bool) (new : Cursor) → Gave (next_value (bracket_of f.kind) comma_due old.unread) goes old new → rest_at room bs f comma_due old ≡ turn (bracket_of f.kind) left goes new.unread
   rest_is goes new g = rest_step (bracket_of f.kind) comma_due left old.unread ∙ ap (λ m. and_then m (turn (bracket_of f.kind) left)) g.reads
 
-  rest_bad : (own : Error) → RefusesRead old.input (next_value (bracket_of f.kind) comma_due old.unread) own → RefusesRead old.input (rest_at room bs f comma_due old) own
-  rest_bad own b = blames_as old.input old.input (next_value (bracket_of f.kind) comma_due old.unread) (rest_at room bs f comma_due old) own refl
-      (λ c p is. rest_step (bracket_of f.kind) comma_due left old.unread ∙ ap (λ m. and_then m (turn (bracket_of f.kind) left)) is) b
-
   -- a value comes next
   pub value_is : (goes : Bool) (new : Cursor) → goes ≡ true → Gave (next_value (bracket_of f.kind) comma_due old.unread) goes old new → rest_at room bs f comma_due old ≡ and_then (value_at left new) (rest_in f left)
   value_is goes new is g = rest_is goes new g ∙ ap (λ b. turn (bracket_of f.kind) left b new.unread) is
@@ -44,45 +36,18 @@ room_within room bs f = omega (arith, length-append bs (f ∷ []))
 pub no_more_left : (old new : Cursor) (s : List ℕ) → Took old s new → length new.unread ≤ length old.unread
 no_more_left old new s t = omega (arith, ap length t.split, length-append s new.unread)
 
-pub inside_goes : (comma_due goes : Bool) (f : OpenBracket) (bs after : List OpenBracket) (old new : Cursor) → goes ≡ true → Gave (next_value (bracket_of f.kind) comma_due old.unread) goes old new → after ≡ bs ++ f ∷ [] → TurnsSkippingInside comma_due f bs after old new (Ok true)
-inside_goes comma_due goes f bs after old new is g grown = record {
-  goes = λ room w q h. subst (λ z. Skipping room w z true new) (sym grown)
-      (subst (λ d. Within start_of rest_in room w (bs ++ f ∷ []) (value_at d new) new) (sym (room_within room bs f))
-      (value_reached start_of rest_in room old w (rest_at room bs f comma_due old) bs f.start q h f new (value_at (room - length bs - 1) new) g.taken refl g.took (value_is room bs f comma_due old goes new is g)));
-  refused = tt;
-  same_text = g.took.same;
-  shorter = λ d. next_shorter (bracket_of f.kind) comma_due goes old.unread new.unread g.reads d;
-  no_longer = no_more_left old new g.taken g.took;
-}
+module _ (room : ℕ) (w : Read (Unit {0})) (q : List ℕ) (comma_due : Bool) (f : OpenBracket) (bs : List OpenBracket) (old new : Cursor) (h : SkippingInside room w bs f comma_due q old) where
+  -- a value comes next
+  pub value_next : Gave (next_value (bracket_of f.kind) comma_due old.unread) true old new → Skipping room w (bs ++ f ∷ []) true new
+  value_next g =
+      subst (λ d. Within start_of rest_in room w (bs ++ f ∷ []) (value_at d new) new) (sym (room_within room bs f))
+      (value_reached start_of rest_in room old w (rest_at room bs f comma_due old) bs f.start q h f new (value_at (room - length bs - 1) new) g.taken refl g.took (value_is room bs f comma_due old true new refl g))
 
-pub inside_closed : (comma_due goes : Bool) (f : OpenBracket) (bs : List OpenBracket) (old new : Cursor) → goes ≡ false → Gave (next_value (bracket_of f.kind) comma_due old.unread) goes old new → TurnsSkippingInside comma_due f bs bs old new (Ok false)
-inside_closed comma_due goes f bs old new is g = record {
-  goes = λ room w q h. closed start_of rest_in room old w (rest_at room bs f comma_due old) bs f.start q h new tt g.taken g.took (rest_is room bs f comma_due old goes new g ∙ ap (λ b. turn (bracket_of f.kind) (room - length bs - 1) b new.unread) is);
-  refused = tt;
-  same_text = g.took.same;
-  shorter = λ d. next_shorter (bracket_of f.kind) comma_due goes old.unread new.unread g.reads d;
-  no_longer = no_more_left old new g.taken g.took;
-}
-
-pub inside_refused : (comma_due : Bool) (f : OpenBracket) (bs after : List OpenBracket) (old new : Cursor) (own e : Error) → RefusesRead old.input (next_value (bracket_of f.kind) comma_due old.unread) own → SameText old new → PositionedAt (StartsAfter new.input f.start) own e
-    → TurnsSkippingInside comma_due f bs after old new (Err e)
-inside_refused comma_due f bs after old new own e b same k = record {
-  goes = tt;
-  refused = λ room w q h. inside_blamed start_of rest_in room old w (rest_at room bs f comma_due old) bs f.start q h new.input own e (rest_bad room bs f comma_due old own b) k same;
-  same_text = same;
-  shorter = tt;
-  no_longer = tt;
-}
+  -- the bracket is closed
+  pub closed_next : Gave (next_value (bracket_of f.kind) comma_due old.unread) false old new → Skipping room w bs false new
+  closed_next g = closed start_of rest_in room old w (rest_at room bs f comma_due old) bs f.start q h new tt g.taken g.took (rest_is room bs f comma_due old false new g)
 
 -- ---- how a value within brackets begins
-
-pub first_scalar : (room : ℕ) (bs after : List OpenBracket) (old new : Cursor) (u : Unit {0}) → Gave (value_at (room - length bs) old) u old new → after ≡ bs → length new.unread < length old.unread → TurnsSkipping room bs after old new (Ok false)
-first_scalar room bs after old new u g same less = record {
-  goes = λ w h. subst (λ fs. Skipping room w fs false new) (sym same) (value_ended start_of rest_in room old new w (value_at (room - length bs) old) bs u h g);
-  refused = tt;
-  same_text = g.took.same;
-  shorter = less;
-}
 
 -- after an opening bracket the rest is still the end of the input
 pub ready_opened : (room : ℕ) (f : OpenBracket) (old mid : Cursor) → IsInside old → OpenedAt room f old mid → IsInside mid
@@ -98,32 +63,6 @@ inside_of room w bs f old mid h o =
     value_opened start_of rest_in room old mid w (value_at (room - length bs) old) (rest_at room bs f false mid) bs f.start h (ready_opened (room - length bs) f old mid h.ready o) o.counted o.same_text o.room_left
     (ap (λ k. forget (read k old.unread)) more ∙ ap (λ z. forget (read (suc (room - length bs - 1)) z)) o.sign ∙ read_opened (bracket_of f.kind) (room - length bs - 1) mid.unread
     ∙ ap (λ z. placed z (rest_of_bracket (bracket_of f.kind) false (room - length bs - 1) mid.unread)) (sym o.sign))
-
-pub first_bracket : (room : ℕ) (bs after : List OpenBracket) (f : OpenBracket) (old mid new : Cursor) (result : Result Bool Error) → OpenedAt (room - length bs) f old mid → length mid.unread < length old.unread → TurnsSkippingInside false f bs after mid new result → TurnsSkipping room bs after old new result
-first_bracket room bs after f old mid new (Ok goes) o less t = record {
-  goes = λ w h. t.goes room w old.unread (inside_of room w bs f old mid h o);
-  refused = tt;
-  same_text = t.same_text ∙ o.same_text;
-  shorter = let k = t.no_longer in omega (arith, less, k);
-}
-first_bracket room bs after f old mid new (Err e) o less t = record {
-  goes = tt;
-  refused = λ w h. subst (λ z. RefusesRead z w e) o.same_text (t.refused room w old.unread (inside_of room w bs f old mid h o));
-  same_text = t.same_text ∙ o.same_text;
-  shorter = tt;
-}
-
-value_blamed : (room : ℕ) (old : Cursor) (w : Read (Unit {0})) (bs : List OpenBracket) (own e : Error) → RefusesRead old.input (value_at (room - length bs) old) own → PositionedWithin old.input bs own e → Skipping room w bs true old → RefusesRead old.input w e
-value_blamed room old w bs own e b (inl (none, same)) h = whole_blamed start_of rest_in room old w (value_at (room - length bs) old) bs e h none (subst (λ z. RefusesRead old.input (value_at (room - length bs) old) z) (sym same) b)
-value_blamed room old w bs own e b (inr (fs, f, is, k)) h = innermost_blamed start_of rest_in room old w (value_at (room - length bs) old) bs fs f own e h is b k
-
-pub first_refused : (room : ℕ) (bs after : List OpenBracket) (old new : Cursor) (own e : Error) → RefusesRead old.input (value_at (room - length bs) old) own → SameText old new → PositionedWithin new.input bs own e → TurnsSkipping room bs after old new (Err e)
-first_refused room bs after old new own e b same k = record {
-  goes = tt;
-  refused = λ w h. value_blamed room old w bs own e b (subst (λ z. PositionedWithin z bs own e) same k) h;
-  same_text = same;
-  shorter = tt;
-}
 
 -- ---- the whole
 

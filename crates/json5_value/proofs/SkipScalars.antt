@@ -1,9 +1,7 @@
 -- How a value that is passed over begins: as a scalar, or with an opening bracket.
-use Rattle.std.proofs.Common.{◌≡◌, ◌≢◌, ℕ, ◌<◌, Bool, true, false, cond, ◌||◌, List, [], ◌∷◌, ◌++◌, length, refl, ap, sym, ◌∙◌, subst, arith, length-append, Option, Some, None}
+use Rattle.std.proofs.Common.{◌≡◌, ◌≢◌, ℕ, ◌<◌, Bool, true, false, cond, ◌||◌, List, [], ◌∷◌, length, refl, ap, sym, ◌∙◌, subst, arith, length-append, Option, Some, None}
 use Rattle.std.specs.Prelude.{◌==◌, ℤ, slice_get, Result, Ok, Err}
-use Rattle.std.specs.Str.{encode_utf8_all}
 use Rattle.json5_grammar.specs.declared.error_code.ErrorCode.TheVariants as codes
-use Rattle.json5_grammar.specs.declared.position.Position.{Position}
 use Rattle.json5_grammar.specs.Language.Characters.{NotBegun}
 use Rattle.json5_grammar.specs.Faults.Fronts.{BracketKind, opening}
 use Rattle.json5_grammar.specs.Faults.Tokens.{is_sign, begins_number}
@@ -33,7 +31,8 @@ use Rattle.json5_value.specs.declared.kinds.ValueKind.TheVariants as kind
 use Rattle.json5_value.specs.declared.brackets.OpenBracket.{OpenBracket}
 use Rattle.json5_value.specs.Brackets.{bracket_of}
 use Rattle.json5_value.specs.Kinds.{kind_at, word_of, ends_of, differs_of}
-use Rattle.json5_value.specs.Opening.{OpensBracket}
+use Rattle.json5_value.specs.declared.brackets.BracketKind.{BracketKind as OwnKind}
+use Rattle.json5_value.specs.Opening.{AtScalar, OpenedAt, OpensBracket, OpensKind}
 use Rattle.json5_value.specs.SkipSteps.{SkipsOrOpens}
 use Rattle.json5_value.specs.ModelSteps.{IsInside, SameText, RefusesRead, Gave, Steps, value_at}
 use Rattle.json5_value.proofs.ModelSteps.{same_step, refused_step, forget_got, blames_made, none_next, some_next, counted_before}
@@ -148,19 +147,17 @@ scalar_refused room old new e b g = record { begun = tt; refused = b; same_text 
 -- ---- brackets
 
 -- one bracket too many
-pub bracket_too_deep : (room : ℕ) (old : Cursor) (k : BracketKind) (start : ℕ) (e : Error) (p : Position) → IsInside old → slice_get old.unread 0 ≡ Some (opening k) → room ≡ 0
-    → start ≡ offset_of old
-    → ((before rest : List ℕ) → old.input ≡ before ++ rest → start ≡ length (encode_utf8_all before) → p ≡ position_after before)
-    → kind_of e ≡ code codes.TooDeep → error_position e ≡ Some p → OpensBracket room old old (Err e)
-bracket_too_deep room old k start e p ready first none counted located kind place =
+pub bracket_too_deep : (room : ℕ) (old : Cursor) (k : BracketKind) (e : Error) → IsInside old → slice_get old.unread 0 ≡ Some (opening k) → room ≡ 0 → kind_of e ≡ code codes.TooDeep → IsPositioned old (Some []) e → OpensBracket room old old (Err e)
+bracket_too_deep room old k e ready first none kind placed =
     let (r, x) = some_next old.unread (opening k) first in
     record {
       opened = tt;
       refused = blames_made old.input (value_at room old) e codes.TooDeep (here old.unread)
           (ap (λ z. forget (read room z)) x ∙ ap (λ d. forget (read d (opening k ∷ r))) none ∙ read_too_deep k r ∙ ap (λ z. bad (Some codes.TooDeep) (here z)) (sym x))
           (λ e. absurd (cc)) kind
-          (ready.before, ready.inside, place ∙ ap (λ z. Some z) (located ready.before old.unread ready.inside (counted_before old ready.before start counted ready.inside)));
+          (ready.before, ready.inside, placed ready.before ready.inside ∙ ap (λ z. Some (position_after z)) (append-nil ready.before));
       same_text = refl;
+      full = none;
     }
 
 -- the bracket is taken
@@ -173,6 +170,7 @@ bracket_opened room old new bracket c true ready first left counted is taken kep
       opened = record { sign = took.split ∙ ap (λ z. z ∷ new.unread) is; counted = (ready.before, ready.inside, counted_before old ready.before bracket.start counted ready.inside); room_left = left; same_text = took.same };
       refused = tt;
       same_text = tt;
+      full = tt;
     }
 bracket_opened room old new bracket c false ready first left counted is taken kept =
     let (r, x) = some_next old.unread (opening (bracket_of bracket.kind)) first in
@@ -180,3 +178,11 @@ bracket_opened room old new bracket c false ready first left counted is taken ke
   where
     not_kept : (r : List ℕ) → old.unread ≡ c ∷ r → NotBegun (λ d. d == c) old.unread → ⊥
     not_kept r e n = both_ways (c == c) (subst (NotBegun (λ d. d == c)) e n) (same_char c)
+
+-- what follows the bracket is shorter
+pub opens : (room : ℕ) (old new : Cursor) (bracket : OpenBracket) → OpenedAt room bracket old new → SkipsOrOpens room old new (Ok (Some bracket))
+opens room old new bracket o = record { begun = o; refused = tt; same_text = tt; shorter = let sign = o.sign in omega (arith, ap length sign) }
+
+-- the character opens no bracket
+pub at_scalar : (s : Cursor) (c : ℕ) (o : Option OwnKind) → IsInside s → slice_get s.unread 0 ≡ Some c → o ≡ None → OpensKind c o → AtScalar c s
+at_scalar s c o ready first none opens = record { ready = ready; first = first; other = λ e. subst (OpensKind c) none opens }

@@ -7,9 +7,7 @@ pub mod Entries
 pub mod Opening
 pub mod Nesting
 pub mod SkipSteps
-pub mod ShortWays
 pub mod TreeMeanings
 pub mod OwnedReads
 pub mod BuildSteps
-pub mod ShortValues
-pub mod ShortMembers
+pub mod TakenEntries

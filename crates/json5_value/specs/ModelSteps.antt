@@ -1,5 +1,5 @@
 -- A step over the input does what reading on lists does.
-use Rattle.std.specs.Prelude.{◌≡◌, ◌≢◌, ◌⊎◌, ℕ, List, [], ◌∷◌, ◌++◌, Option, Some, None, Result, IfOk, IfErr, OnErr}
+use Rattle.std.specs.Prelude.{◌≡◌, ◌≢◌, ◌⊎◌, ℕ, List, [], ◌∷◌, ◌++◌, Option, Some, None, Result, Ok, Err, IfOk, IfErr, OnErr}
 use Rattle.json5_grammar.specs.declared.error_code.ErrorCode.{ErrorCode}
 use Rattle.json5_grammar.specs.declared.error_code.ErrorCode.TheVariants as codes
 use Rattle.json5_grammar.specs.Faults.Positions.{position_after}
@@ -46,6 +46,11 @@ pub record Steps {A : Type 0} (reading : Read A) (old new : Cursor) (result : Re
   pub given : IfOk result (λ a. Gave reading a old new)
   pub refused : IfErr result (RefusesRead old.input reading)
   pub same_text : OnErr result (SameText old new)
+
+-- what a call answers that leaves the error of a refusal
+abbrev pub answered : {A : Type 0} → Option A → Error → Result A Error
+answered (Some a) e = Ok a
+answered None e = Err e
 
 -- what the value in front is read as, its tree forgotten; at most `room` brackets may be open at once in it
 abbrev pub value_at : ℕ → Cursor → Read (Unit {0})

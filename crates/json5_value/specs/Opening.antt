@@ -6,6 +6,7 @@ use Rattle.json5_text.specs.Cursor.{Cursor}
 use Rattle.json5_value.specs.declared.brackets.BracketKind.{BracketKind}
 use Rattle.json5_value.specs.declared.brackets.OpenBracket.{OpenBracket}
 use Rattle.json5_value.specs.declared.kinds.ValueKind.{ValueKind}
+use Rattle.json5_value.specs.declared.kinds.ValueKind.TheVariants as kind
 use Rattle.json5_value.specs.Brackets.{bracket_of}
 use Rattle.json5_value.specs.Kinds.{kind_at}
 use Rattle.json5_value.specs.Offsets.{CountsTo}
@@ -16,11 +17,11 @@ abbrev pub OpensKind : ℕ → Option BracketKind → Type 0
 OpensKind c (Some k) = c ≡ opening (bracket_of k)
 OpensKind c None = ((c == opening of_array) || (c == opening of_object)) ≡ false
 
--- a value that is no collection begins here with this character
+-- no value that is a collection begins here with this character
 pub record AtScalar (c : ℕ) (s : Cursor) : Type 0 where
   pub ready : IsInside s
   pub first : slice_get s.unread 0 ≡ Some c
-  pub other : OpensKind c None
+  pub other : kind_at c ≡ kind.Other → OpensKind c None
 
 -- one of this kind begins here
 pub record AtKind (k : ValueKind) (s : Cursor) : Type 0 where
@@ -41,3 +42,4 @@ pub record OpensBracket (room : ℕ) (old new : Cursor) (result : Result OpenBra
   pub opened : IfOk result (λ bracket. OpenedAt room bracket old new)
   pub refused : IfErr result (RefusesRead old.input (value_at room old))
   pub same_text : OnErr result (SameText old new)
+  pub full : OnErr result (room ≡ 0)

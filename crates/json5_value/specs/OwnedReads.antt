@@ -1,5 +1,5 @@
 -- Steps that keep what they read: a key, a value that is no collection.
-use Rattle.std.specs.Prelude.{◌≡◌, ◌⊎◌, ℕ, ◌<◌, Bool, true, false, cond, List, length, Option, Some, None, Result, MatchResult, IfOk, IfErr, OnErr, String, string_bytes}
+use Rattle.std.specs.Prelude.{◌≡◌, ◌⊎◌, ℕ, Bool, true, false, cond, List, Option, None, Result, MatchResult, IfOk, IfErr, OnErr, String, string_bytes}
 use Rattle.std.specs.declared.alloc.Global.{Global}
 use Rattle.std.specs.Str.{chars, encode_utf8_all}
 use Rattle.json5_grammar.specs.Faults.Fronts.{of_object}
@@ -19,15 +19,18 @@ use Rattle.json5_types.specs.ValueMeanings.{Datum, value_of}
 use Rattle.json5_types.specs.ValueMeanings as datum
 use Rattle.json5_value.specs.declared.kinds.Literal.{Literal}
 use Rattle.json5_value.specs.declared.kinds.Literal.TheVariants as literal
-use Rattle.json5_value.specs.declared.read.ValueStart.{ValueStart}
-use Rattle.json5_value.specs.declared.read.ValueStart.TheVariants as start
+use Rattle.json5_value.specs.declared.scalars.ShortValue.{ShortValue}
+use Rattle.json5_value.specs.declared.scalars.ShortValue.TheVariants as short
 use Rattle.json5_value.specs.TreeMeanings.{datum_of}
-use Rattle.json5_value.specs.Opening.{OpenedAt}
 use Rattle.json5_value.specs.ModelSteps.{SameText, RefusesRead, Gave}
 
 -- reading gives this fault, or memory ran out
 abbrev pub BlamesOrMemory : {A : Type 0} → List ℕ → Read A → Error → Type 0
 BlamesOrMemory input reading e = IsOutOfMemory e ⊎ RefusesRead input reading e
+
+-- the same of a reading, however many brackets may be open
+abbrev pub BlamesEach : {A : Type 0} → List ℕ → (ℕ → Read A) → Error → Type 0
+BlamesEach input reading e = IsOutOfMemory e ⊎ ((room : ℕ) → RefusesRead input (reading room) e)
 
 -- a step keeps what reading on lists gives
 pub record Keeps {V A : Type 0} (Is : V → A → Type 0) (reading : Read A) (old new : Cursor) (result : Result V Error) : Type 0 where
@@ -45,18 +48,9 @@ OwnsKey input key result = (u : List ℕ) (escape_free : Bool) → Spells input 
 abbrev pub OwnsText : List ℕ → Span → Result (String Global) Error → Type 0
 OwnsText input span result = MatchResult result (λ t. IsTextAt input span (string_bytes t)) LacksMemory
 
--- a key that was found, or its text
+-- a key that was found
 abbrev pub IsFoundKey : List ℕ → TextToken → List ℕ × Bool → Type 0
 IsFoundKey input key a = Spells input a.0 a.1 key × (chars (encode_utf8_all a.0) ≡ a.0)
-
-abbrev pub IsKeyText : String Global → List ℕ × Bool → Type 0
-IsKeyText text a = chars (string_bytes text) ≡ a.0
-
--- None if the brace was closed
-abbrev pub IsNextKey : Option (String Global) → Option (List ℕ × Bool) → Type 0
-IsNextKey None None = Unit {0}
-IsNextKey (Some text) (Some a) = IsKeyText text a
-IsNextKey _ _ = ⊥
 
 -- the next member's key, after a comma if one is due
 abbrev pub next_key : Bool → List ℕ → Read (Option (List ℕ × Bool))
@@ -84,20 +78,21 @@ datum_of_literal literal.False = datum.boolean false
 abbrev pub IsOfTree : Value → Tree → Type 0
 IsOfTree v t = value_of v ≡ datum_of t
 
--- a value that is no collection is read, however many brackets may be open
-abbrev pub ReadsScalar : Cursor → Cursor → Result Value Error → Type 0
-ReadsScalar old new result = (room : ℕ) → Keeps IsOfTree (tree_at room old) old new result
+-- the value in front was taken, however many brackets may be open
+abbrev pub KeepsValue : Cursor → Cursor → Value → Type 0
+KeepsValue old new v = (room : ℕ) → Gave (datum_at room old) (value_of v) old new
 
--- a value that is no collection was read, or an opening bracket was taken
-abbrev pub ReadOrOpened : ℕ → Cursor → Cursor → ValueStart → Type 0
-ReadOrOpened room old new (start.Scalar v) = Gave (datum_at room old) (value_of v) old new
-ReadOrOpened room old new (start.Bracket b) = OpenedAt room b old new
+-- the same, or nothing was taken, or memory ran out
+abbrev pub KeepsShort : Cursor → Cursor → ShortValue → Type 0
+KeepsShort old new (short.Value v) = KeepsValue old new v
+KeepsShort old new short.Other = new ≡ old
+KeepsShort old new short.NoMemory = SameText old new
 
-pub record ReadsOrOpens (room : ℕ) (old new : Cursor) (result : Result ValueStart Error) : Type 0 where
-  pub begun : IfOk result (ReadOrOpened room old new)
-  pub refused : IfErr result (BlamesOrMemory old.input (datum_at room old))
+-- a value that is no collection is read
+pub record ReadsScalar (old new : Cursor) (result : Result Value Error) : Type 0 where
+  pub given : IfOk result (KeepsValue old new)
+  pub refused : IfErr result (BlamesEach old.input (λ room. datum_at room old))
   pub same_text : OnErr result (SameText old new)
-  pub shorter : IfOk result (λ o. length new.unread < length old.unread)
 
 -- ---- the whole
 

@@ -1,17 +1,24 @@
 -- How a value is passed over, and what the open brackets make of what is to come.
-use Rattle.std.specs.Prelude.{◌≡◌, ◌⊎◌, ℕ, ◌-◌, ◌<◌, ◌≤◌, Bool, true, cond, List, [], ◌∷◌, ◌++◌, length, Option, Some, None, Result, IfOk, IfErr, OnErr}
+use Rattle.std.specs.Prelude.{◌≡◌, ℕ, ◌-◌, ◌<◌, Bool, true, false, cond, List, [], length, Option, Some, None, Result, IfOk, IfErr, OnOk, OnErr}
 use Rattle.json5_grammar.specs.Model.Reading.{Read, got}
-use Rattle.json5_grammar.specs.Model.ReadSteps.{rest_of_bracket}
+use Rattle.json5_grammar.specs.Model.ReadSteps.{next_value, rest_of_bracket}
 use Rattle.json5_types.specs.declared.error.Error.{Error}
 use Rattle.json5_text.specs.Cursor.{Cursor}
+use Rattle.json5_value.specs.declared.brackets.BracketKind.{BracketKind}
 use Rattle.json5_value.specs.declared.brackets.OpenBracket.{OpenBracket}
+use Rattle.json5_value.specs.declared.skip.Turn.{Turn}
+use Rattle.json5_value.specs.declared.skip.Turn.TheVariants as turn
 use Rattle.json5_value.specs.Brackets.{bracket_of}
 use Rattle.json5_value.specs.Nesting.{Within, WithinInner}
 use Rattle.json5_value.specs.Opening.{OpenedAt}
-use Rattle.json5_value.specs.Offsets.{StartsAfter, PositionedAt}
 use Rattle.json5_value.specs.ModelSteps.{SameText, RefusesRead, Gave, value_at}
 
 -- ---- how a value begins
+
+-- a value was passed over, however many brackets may be open, or nothing was
+abbrev pub PassesShort : Cursor → Cursor → Bool → Type 0
+PassesShort old new true = (room : ℕ) → Gave (value_at room old) tt old new
+PassesShort old new false = new ≡ old
 
 -- a value that is no collection was taken, or an opening bracket
 abbrev pub SkippedOrOpened : ℕ → Cursor → Cursor → Option OpenBracket → Type 0
@@ -49,26 +56,25 @@ rest_at room brackets bracket comma_due now = rest_of_bracket (bracket_of bracke
 abbrev pub SkippingInside : ℕ → Read (Unit {0}) → List OpenBracket → OpenBracket → Bool → List ℕ → Cursor → Type 0
 SkippingInside room w brackets bracket comma_due q now = WithinInner start_of rest_in room w brackets bracket.start (rest_at room brackets bracket comma_due now) q now
 
--- the fault gets the innermost open bracket's position if it has none and there is such a bracket
-abbrev pub PositionedWithin : List ℕ → List OpenBracket → Error → Error → Type 0
-PositionedWithin input brackets own e = ((brackets ≡ []) × (e ≡ own)) ⊎ ((fs : List OpenBracket) × (f : OpenBracket) × (brackets ≡ fs ++ f ∷ []) × PositionedAt (StartsAfter input f.start) own e)
-
 -- ---- turns
 
--- a turn succeeds, and returns whether a value is next; or what is refused makes a fault of the whole
-pub record TurnsSkipping (room : ℕ) (brackets after : List OpenBracket) (old new : Cursor) (result : Result Bool Error) : Type 0 where
-  pub goes : IfOk result (λ at_value. (w : Read (Unit {0})) → Skipping room w brackets true old → Skipping room w after at_value new)
-  pub refused : IfErr result (λ e. (w : Read (Unit {0})) → Skipping room w brackets true old → RefusesRead old.input w e)
-  pub same_text : SameText old new
-  pub shorter : IfOk result (λ at_value. length new.unread < length old.unread)
+-- the next value of a bracket was passed over, or it was a bracket and was opened; or the closing sign was
+abbrev pub Turned : BracketKind → Bool → ℕ → Cursor → Cursor → Turn → Type 0
+Turned k comma_due room old new turn.Ended = (mid : Cursor) × Gave (next_value (bracket_of k) comma_due old.unread) true old mid × Gave (value_at room mid) tt mid new
+Turned k comma_due room old new (turn.Opened bracket) = (mid : Cursor) × Gave (next_value (bracket_of k) comma_due old.unread) true old mid × OpenedAt room bracket mid new
+Turned k comma_due room old new turn.Closed = Gave (next_value (bracket_of k) comma_due old.unread) false old new
 
--- the same within a bracket, which is open afterwards if a value is next
-pub record TurnsSkippingInside (comma_due : Bool) (bracket : OpenBracket) (brackets after : List OpenBracket) (old new : Cursor) (result : Result Bool Error) : Type 0 where
-  pub goes : IfOk result (λ at_value. (room : ℕ) (w : Read (Unit {0})) (q : List ℕ) → SkippingInside room w brackets bracket comma_due q old → Skipping room w after at_value new)
-  pub refused : IfErr result (λ e. (room : ℕ) (w : Read (Unit {0})) (q : List ℕ) → SkippingInside room w brackets bracket comma_due q old → RefusesRead old.input w e)
+-- the same, or what is refused makes a fault of what is left of the bracket
+pub record TakesTurn (k : BracketKind) (comma_due : Bool) (room : ℕ) (old new : Cursor) (result : Result Turn Error) : Type 0 where
+  pub goes : IfOk result (Turned k comma_due room old new)
+  pub refused : IfErr result (RefusesRead old.input (rest_of_bracket (bracket_of k) comma_due room old.unread))
+  pub same_text : OnErr result (SameText old new)
+
+-- the rest of the outermost bracket, which was opened before q, was passed over; or what is refused makes a fault of the whole
+pub record SkipsBracket (room : ℕ) (bracket : OpenBracket) (old new : Cursor) (result : Result (Unit {0}) Error) : Type 0 where
+  pub goes : OnOk result ((w : Read (Unit {0})) (q : List ℕ) → SkippingInside room w [] bracket false q old → Skipping room w [] false new)
+  pub refused : IfErr result (λ e. (w : Read (Unit {0})) (q : List ℕ) → SkippingInside room w [] bracket false q old → RefusesRead old.input w e)
   pub same_text : SameText old new
-  pub shorter : IfOk result (λ at_value. comma_due ≡ true → length new.unread < length old.unread)
-  pub no_longer : IfOk result (λ at_value. length new.unread ≤ length old.unread)
 
 -- ---- the whole
 

@@ -4,12 +4,13 @@ ghost use Rattle.std.specs.Prelude.{◌≡◌, Some, slice_get};
 ghost use Rattle.json5_grammar.specs.Faults.Fronts.{opening};
 ghost use Rattle.json5_value.specs.Brackets.{bracket_of, brackets_of};
 ghost use Rattle.json5_value.specs.Opening.{OpensBracket, OpensKind};
-ghost use Rattle.json5_value.specs.ModelSteps.{IsInside};
+ghost use Rattle.json5_value.specs.ModelSteps.{IsInside, answered};
 
+use crate::faults::leave_here;
 use json5_text::input::Input;
 use json5_text::scanner::Scanner;
 use json5_types::ErrorCode;
-use json5_types::error::{Error, Result};
+use json5_types::error::Error;
 
 /// A kind of brackets: of arrays or of objects.
 #[derive(Clone, Copy, Drop)]
@@ -88,21 +89,23 @@ impl Default for OpenBracket {
     }
 }
 
-/// Takes the opening bracket in front, if there is room for one more.
+/// Takes the opening bracket in front, if there is room for one more. Otherwise it returns None, and leaves the error in `fault`.
 #[inline(always)]
 pub(crate) fn open_bracket<I: Input>(
     scanner: &mut Scanner<I>,
     room: usize,
     kind: BracketKind,
-) -> Result<OpenBracket>
+    fault: &mut Error,
+) -> Option<OpenBracket>
     requires ready { IsInside scanner.old }
     requires sign { slice_get scanner.old.unread 0 ≡ Some (opening (bracket_of kind)) }
-    ensures { OpensBracket room scanner.old scanner.new result }
+    ensures { OpensBracket room scanner.old scanner.new (answered result fault.new) }
 {
-    let start = scanner.offset();
     if room == 0 {
-        return Err(Error::new_at(scanner.position_of(start), ErrorCode::TooDeep));
+        leave_here(scanner, ErrorCode::TooDeep, fault);
+        return None;
     }
+    let start = scanner.offset();
     let _ = scanner.eat(kind.brackets().opening);
-    Ok(OpenBracket { kind, start })
+    Some(OpenBracket { kind, start })
 }

@@ -1,65 +1,91 @@
-//! What is around an entry, which is an element of an array or a member of an object (JSON5 sections 3 and 4).
+//! What is around an entry, which is an element of an array or a member of an object (JSON5 sections 3 and 4). A call that is
+//! refused returns None, and leaves its error in `fault`: so no error is in the frame of a loop over entries.
 
+ghost use Rattle.json5_grammar.specs.Language.Blanks.{Solid};
+ghost use Rattle.json5_grammar.specs.Model.ReadBlanks.{skip, between};
 ghost use Rattle.json5_grammar.specs.Model.ReadSteps.{forget, colon_after, next_value};
 ghost use Rattle.json5_grammar.specs.Model.ReadTexts.{key};
 ghost use Rattle.json5_value.specs.Brackets.{bracket_of};
 ghost use Rattle.json5_value.specs.Entries.{due_comma, next_entry};
-ghost use Rattle.json5_value.specs.ShortWays.{before_value};
-ghost use Rattle.json5_value.specs.ModelSteps.{IsInside, Steps};
+ghost use Rattle.json5_value.specs.ModelSteps.{IsInside, Steps, answered};
 
 use crate::brackets::BracketKind;
-use crate::faults::unexpected_here;
-use crate::short_ways::BeforeValue;
+use crate::faults::{leave_code, leave_error, unexpected_here};
 use json5_text::input::Input;
 use json5_text::scanner::Scanner;
+use json5_text::short_ways::ShortStep;
 use json5_text::strings::is_quote;
 use json5_types::ErrorCode;
-use json5_types::error::{Error, Result};
+use json5_types::error::Error;
 
-/// Passes over a key.
-fn skip_key<I: Input>(scanner: &mut Scanner<I>) -> Result<()>
+/// Passes over blanks.
+#[inline(never)]
+fn skip_blank<I: Input>(scanner: &mut Scanner<I>, fault: &mut Error) -> Option<()>
     requires { IsInside scanner.old }
-    ensures { Steps (forget (key scanner.old.unread)) scanner.old scanner.new result }
+    ensures { Steps (skip between scanner.old.unread) scanner.old scanner.new (answered result fault.new) }
 {
-    let Some(c) = scanner.peek() else {
-        return Err(Error::new(ErrorCode::EofParsingObject));
-    };
-    if is_quote(c) {
-        return scanner.skip_string();
-    }
-    scanner.skip_identifier()
+    leave_error(scanner.skip_blank(), fault)
 }
 
-/// Passes over blanks, a colon and blanks.
-pub(crate) fn skip_colon<I: Input>(scanner: &mut Scanner<I>) -> Result<()>
+/// The same as `skip_colon`, whatever is in front.
+#[inline(never)]
+fn skip_colon_slowly<I: Input>(scanner: &mut Scanner<I>, fault: &mut Error) -> Option<()>
     requires { IsInside scanner.old }
-    ensures { Steps (colon_after scanner.old.unread) scanner.old scanner.new result }
+    ensures { Steps (colon_after scanner.old.unread) scanner.old scanner.new (answered result fault.new) }
 {
-    scanner.skip_blank()?;
+    skip_blank(scanner, fault)?;
     if !scanner.eat(':') {
-        return Err(unexpected_here(
+        *fault = unexpected_here(
             scanner,
             ErrorCode::EofParsingObject,
             ErrorCode::ExpectedColon,
-        ));
+        );
+        return None;
     }
-    scanner.skip_blank()
+    skip_blank(scanner, fault)
 }
 
-/// Passes over what is left before the value of a member: its key, and blanks, a colon and blanks.
-#[inline(never)]
-pub(crate) fn skip_before_value<I: Input>(scanner: &mut Scanner<I>, left: BeforeValue) -> Result<()>
+/// Passes over blanks, a colon and blanks.
+#[inline(always)]
+pub(crate) fn skip_colon<I: Input>(scanner: &mut Scanner<I>, fault: &mut Error) -> Option<()>
     requires { IsInside scanner.old }
-    ensures { Steps (before_value left scanner.old.unread) scanner.old scanner.new result }
+    ensures { Steps (colon_after scanner.old.unread) scanner.old scanner.new (answered result fault.new) }
 {
-    match left {
-        BeforeValue::Key => {
-            skip_key(scanner)?;
-            skip_colon(scanner)
-        }
-        BeforeValue::Colon => skip_colon(scanner),
-        BeforeValue::Blanks => scanner.skip_blank(),
-        BeforeValue::Nothing => Ok(()),
+    if !scanner.short_sign(b':') {
+        return skip_colon_slowly(scanner, fault);
+    }
+    match scanner.short_step(b'}', false) {
+        ShortStep::Other => skip_blank(scanner, fault),
+        _ => Some(()),
+    }
+}
+
+/// The same as `skip_key`, whatever is in front.
+#[inline(never)]
+fn skip_key_slowly<I: Input>(scanner: &mut Scanner<I>, fault: &mut Error) -> Option<()>
+    requires { IsInside scanner.old }
+    ensures { Steps (forget (key scanner.old.unread)) scanner.old scanner.new (answered result fault.new) }
+{
+    let Some(c) = scanner.peek() else {
+        leave_code(ErrorCode::EofParsingObject, fault);
+        return None;
+    };
+    if is_quote(c) {
+        return leave_error(scanner.skip_string(), fault);
+    }
+    leave_error(scanner.skip_identifier(), fault)
+}
+
+/// Passes over a key.
+#[inline(always)]
+fn skip_key<I: Input>(scanner: &mut Scanner<I>, fault: &mut Error) -> Option<()>
+    requires ready { IsInside scanner.old }
+    requires solid { Solid scanner.old.unread }
+    ensures { Steps (forget (key scanner.old.unread)) scanner.old scanner.new (answered result fault.new) }
+{
+    match scanner.short_key() {
+        Some(_) => Some(()),
+        None => skip_key_slowly(scanner, fault),
     }
 }
 
@@ -68,59 +94,88 @@ fn skip_comma<I: Input>(
     scanner: &mut Scanner<I>,
     kind: BracketKind,
     comma_due: bool,
-) -> Result<bool>
+    fault: &mut Error,
+) -> Option<bool>
     requires { IsInside scanner.old }
-    ensures { Steps (due_comma (bracket_of kind) comma_due scanner.old.unread) scanner.old scanner.new result }
+    ensures { Steps (due_comma (bracket_of kind) comma_due scanner.old.unread) scanner.old scanner.new (answered result fault.new) }
 {
     if !comma_due {
-        return Ok(true);
+        return Some(true);
     }
-    scanner.skip_blank()?;
+    skip_blank(scanner, fault)?;
     if scanner.eat(',') {
-        return Ok(true);
+        return Some(true);
     }
     let brackets = kind.brackets();
     if scanner.eat(brackets.closing) {
-        return Ok(false);
+        return Some(false);
     }
-    Err(unexpected_here(scanner, brackets.ends, ErrorCode::ExpectedComma))
+    *fault = unexpected_here(scanner, brackets.ends, ErrorCode::ExpectedComma);
+    None
+}
+
+/// The same as `next_entry`, whatever is in front.
+#[inline(never)]
+fn next_entry_slowly<I: Input>(
+    scanner: &mut Scanner<I>,
+    kind: BracketKind,
+    comma_due: bool,
+    fault: &mut Error,
+) -> Option<bool>
+    requires { IsInside scanner.old }
+    ensures { Steps (next_entry (bracket_of kind) comma_due scanner.old.unread) scanner.old scanner.new (answered result fault.new) }
+{
+    let more = skip_comma(scanner, kind, comma_due, fault)?;
+    if !more {
+        return Some(false);
+    }
+    skip_blank(scanner, fault)?;
+    Some(!scanner.eat(kind.brackets().closing))
 }
 
 /// Goes to the next entry, after a comma if one is due, and returns true; or passes over the closing bracket and returns false.
-pub(crate) fn skip_to_entry<I: Input>(
+#[inline(always)]
+pub(crate) fn next_entry<I: Input>(
     scanner: &mut Scanner<I>,
     kind: BracketKind,
     comma_due: bool,
-) -> Result<bool>
+    fault: &mut Error,
+) -> Option<bool>
     requires { IsInside scanner.old }
-    ensures { Steps (next_entry (bracket_of kind) comma_due scanner.old.unread) scanner.old scanner.new result }
+    ensures { Steps (next_entry (bracket_of kind) comma_due scanner.old.unread) scanner.old scanner.new (answered result fault.new) }
 {
-    let more = skip_comma(scanner, kind, comma_due)?;
-    if !more {
-        return Ok(false);
+    let closing = kind.brackets().closing;
+    match scanner.short_step(closing as u8, comma_due) {
+        ShortStep::Entry => Some(true),
+        ShortStep::Closing => {
+            let _ = scanner.eat(closing);
+            Some(false)
+        }
+        ShortStep::Other => next_entry_slowly(scanner, kind, comma_due, fault),
     }
-    scanner.skip_blank()?;
-    Ok(!scanner.eat(kind.brackets().closing))
 }
 
-/// Goes to the next entry as `skip_to_entry` does, but on to its value: over the key and the colon of a member too.
-pub(crate) fn skip_to_value<I: Input>(
+/// Goes to the next entry as `next_entry` does, but on to its value: over the key and the colon of a member too.
+#[inline(always)]
+pub(crate) fn next_value<I: Input>(
     scanner: &mut Scanner<I>,
     kind: BracketKind,
     comma_due: bool,
-) -> Result<bool>
+    fault: &mut Error,
+) -> Option<bool>
     requires { IsInside scanner.old }
-    ensures { Steps (next_value (bracket_of kind) comma_due scanner.old.unread) scanner.old scanner.new result }
+    ensures { Steps (next_value (bracket_of kind) comma_due scanner.old.unread) scanner.old scanner.new (answered result fault.new) }
 {
-    let more = skip_to_entry(scanner, kind, comma_due)?;
+    let more = next_entry(scanner, kind, comma_due, fault)?;
     if !more {
-        return Ok(false);
+        return Some(false);
     }
     match kind {
-        BracketKind::Array => Ok(true),
+        BracketKind::Array => Some(true),
         BracketKind::Object => {
-            skip_before_value(scanner, BeforeValue::Key)?;
-            Ok(true)
+            skip_key(scanner, fault)?;
+            skip_colon(scanner, fault)?;
+            Some(true)
         }
     }
 }

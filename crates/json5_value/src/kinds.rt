@@ -1,6 +1,7 @@
 //! What a value begins with, and the literals (JSON5 section 2).
 
 ghost use Rattle.std.specs.Prelude.{◌≡◌};
+ghost use Rattle.json5_text.specs.ShortWords.{TakesShortWord};
 ghost use Rattle.json5_text.specs.TokenCalls.{TakesWord};
 ghost use Rattle.json5_value.specs.Kinds.{kind_at, word_of, ends_of, differs_of};
 
@@ -54,5 +55,17 @@ pub fn skip_literal<I: Input>(scanner: &mut Scanner<I>, literal: Literal) -> Res
         Literal::Null => scanner.word("null", ErrorCode::EofParsingNull, ErrorCode::ExpectedNull),
         Literal::True => scanner.word("true", ErrorCode::EofParsingBool, ErrorCode::ExpectedBool),
         Literal::False => scanner.word("false", ErrorCode::EofParsingBool, ErrorCode::ExpectedBool),
+    }
+}
+
+/// Passes over the literal, and says whether it was next.
+#[inline(always)]
+pub(crate) fn short_literal<I: Input>(scanner: &mut Scanner<I>, literal: Literal) -> bool
+    ensures { TakesShortWord (word_of literal) scanner.old scanner.new result }
+{
+    match literal {
+        Literal::Null => scanner.short_word("null"),
+        Literal::True => scanner.short_word("true"),
+        Literal::False => scanner.short_word("false"),
     }
 }

@@ -4,14 +4,12 @@
 #![tactic(auto)]
 
 pub mod brackets;
-pub mod entries;
+mod entries;
 pub mod faults;
 mod growth;
 pub mod kinds;
 pub mod owned_tokens;
 pub mod read;
-mod short_members;
-mod short_values;
-mod short_ways;
+mod scalars;
 pub mod skip;
 mod unfinished;

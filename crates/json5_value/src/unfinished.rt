@@ -1,23 +1,21 @@
-//! Arrays and objects that are unfinished: how they go on to a value, and what a value makes of them (JSON5 sections 3 and 4).
+//! Arrays and objects that are unfinished: how they go on to a value, and what a value makes of them (JSON5 sections 3 and 4). A
+//! call that is refused returns None, and leaves its error in `fault`.
 
-ghost use Rattle.std.specs.Prelude.{◌≡◌, true};
-ghost use Rattle.json5_value.specs.BuildSteps.{TurnsBuildingInside, array_at, object_at, start_of, value_in_at};
-ghost use Rattle.json5_value.specs.ShortMembers.{TurnsBuildingMember};
-ghost use Rattle.json5_value.specs.ModelSteps.{IsInside};
+ghost use Rattle.json5_value.specs.BuildSteps.{ArrayGoesOn, BeginsValue, GoesOnAfter, ObjectGoesOn};
+ghost use Rattle.json5_value.specs.TakenEntries.{TakesElements, TakesMembers};
+ghost use Rattle.json5_value.specs.Opening.{AtScalar};
+ghost use Rattle.json5_value.specs.ModelSteps.{IsInside, answered};
 
-use crate::brackets::BracketKind;
-use crate::entries::{skip_before_value, skip_to_value};
-use crate::faults::with_position_at;
+use crate::brackets::{BracketKind, kind_opened};
+use crate::entries::{next_entry, skip_colon};
+use crate::faults::{leave_code, place_fault};
 use crate::growth::add_entry;
-use crate::owned_tokens::{next_member_key, own_text};
-use crate::short_members::{ShortMembers, short_members};
-use crate::short_values::{ShortElements, short_elements};
-use crate::short_ways::BeforeValue;
+use crate::owned_tokens::{own_key, take_key};
+use crate::scalars::{ShortValue, read_scalar, short_value};
 use json5_text::input::Input;
 use json5_text::scanner::Scanner;
-use json5_text::short_texts::Span;
 use json5_types::ErrorCode;
-use json5_types::error::{Error, Result};
+use json5_types::error::Error;
 use json5_types::value::Value;
 
 /// An array or an object in which a value is being read. `start` is the count of bytes before its bracket.
@@ -35,150 +33,166 @@ pub(crate) enum Unfinished {
     },
 }
 
-impl Unfinished {
-    /// The count of bytes before its bracket.
-    #[inline(always)]
-    pub(crate) fn start(&self) -> usize
-        ensures { result ≡ start_of self.now }
-    {
-        match self {
-            Unfinished::Array { start, .. } => *start,
-            Unfinished::Object { start, .. } => *start,
+/// How far the reading of a value went.
+#[derive(Drop)]
+pub(crate) enum Next {
+    /// A value has ended.
+    Ended(Value),
+    /// A value in brackets of this kind is in front.
+    Opens(BracketKind),
+}
+
+/// Takes the value in front, which is no collection and begins with the character, whether or not it has a short way.
+#[inline(always)]
+fn begin_slowly<I: Input>(scanner: &mut Scanner<I>, c: char, fault: &mut Error) -> Option<Next>
+    requires { AtScalar c scanner.old }
+    ensures { BeginsValue scanner.old scanner.new (answered result fault.new) }
+{
+    let value = read_scalar(scanner, c, fault)?;
+    Some(Next::Ended(value))
+}
+
+/// Takes the value in front, if it is no collection.
+#[inline(always)]
+pub(crate) fn begin_value<I: Input>(scanner: &mut Scanner<I>, fault: &mut Error) -> Option<Next>
+    requires { IsInside scanner.old }
+    ensures { BeginsValue scanner.old scanner.new (answered result fault.new) }
+{
+    let Some(c) = scanner.peek() else {
+        leave_code(ErrorCode::EofParsingValue, fault);
+        return None;
+    };
+    if let Some(kind) = kind_opened(c) {
+        return Some(Next::Opens(kind));
+    }
+    match short_value(scanner, c) {
+        ShortValue::Value(value) => Some(Next::Ended(value)),
+        ShortValue::Other => begin_slowly(scanner, c, fault),
+        ShortValue::NoMemory => {
+            leave_code(ErrorCode::OutOfMemory, fault);
+            None
         }
     }
 }
 
-/// Continues an array with these elements: goes to the next element that has no short way and pushes the array; or the array
-/// ends and is returned.
+/// Takes the elements of an array that follow these, after a comma if one is due, up to one that is a collection, and returns its
+/// kind; or up to the closing bracket.
+#[inline(never)]
+fn take_elements<I: Input>(
+    scanner: &mut Scanner<I>,
+    elements: &mut Vec<Value>,
+    comma_due: bool,
+    fault: &mut Error,
+) -> Option<Option<BracketKind>>
+    requires { IsInside scanner.old }
+    ensures { TakesElements comma_due elements.old.items elements.new.items scanner.old scanner.new (answered result fault.new) }
+{
+    let mut due = comma_due;
+    loop {
+        let more = next_entry(scanner, BracketKind::Array, due, fault)?;
+        if !more {
+            return Some(None);
+        }
+        match begin_value(scanner, fault)? {
+            Next::Ended(value) => {
+                if elements.push(value).is_err() {
+                    leave_code(ErrorCode::OutOfMemory, fault);
+                    return None;
+                }
+            }
+            Next::Opens(kind) => return Some(Some(kind)),
+        }
+        due = true;
+    }
+}
+
+/// Takes the members of an object that follow these, after a comma if one is due, up to one whose value is a collection, and returns
+/// its key and kind; or up to the closing brace.
+#[inline(never)]
+fn take_members<I: Input>(
+    scanner: &mut Scanner<I>,
+    members: &mut Vec<(String, Value)>,
+    comma_due: bool,
+    fault: &mut Error,
+) -> Option<Option<(String, BracketKind)>>
+    requires { IsInside scanner.old }
+    ensures { TakesMembers comma_due members.old.items members.new.items scanner.old scanner.new (answered result fault.new) }
+{
+    let mut due = comma_due;
+    loop {
+        let more = next_entry(scanner, BracketKind::Object, due, fault)?;
+        if !more {
+            return Some(None);
+        }
+        let key = take_key(scanner, fault)?;
+        skip_colon(scanner, fault)?;
+        let next = begin_value(scanner, fault)?;
+        let text = own_key(scanner, key, fault)?;
+        match next {
+            Next::Ended(value) => add_entry(scanner, members, (text, value), fault)?,
+            Next::Opens(kind) => return Some(Some((text, kind))),
+        }
+        due = true;
+    }
+}
+
+/// Continues an array with these elements: goes to the next element that is a collection and pushes the array; or the array ends
+/// and is returned.
 pub(crate) fn resume_array<I: Input>(
     scanner: &mut Scanner<I>,
     stack: &mut Vec<Unfinished>,
     start: usize,
     elements: Vec<Value>,
     comma_due: bool,
-) -> Result<Option<Value>>
+    fault: &mut Error,
+) -> Option<Next>
     requires { IsInside scanner.old }
-    ensures { TurnsBuildingInside (array_at elements.items comma_due scanner.old) start comma_due stack.old.items stack.new.items scanner.old scanner.new result }
+    ensures { ArrayGoesOn start elements.items comma_due stack.old.items stack.new.items scanner.old scanner.new (answered result fault.new) }
 {
     let mut elements = elements;
-    match short_elements(scanner, &mut elements, comma_due) {
-        ShortElements::Value => {
-            if !add_entry(scanner, stack, Unfinished::Array { start, elements }) {
-                return Err(Error::new(ErrorCode::OutOfMemory));
-            }
-            Ok(None)
+    match take_elements(scanner, &mut elements, comma_due, fault) {
+        Some(Some(kind)) => {
+            add_entry(scanner, stack, Unfinished::Array { start, elements }, fault)?;
+            Some(Next::Opens(kind))
         }
-        ShortElements::Closed => Ok(Some(Value::Array(elements))),
-        ShortElements::Within { comma_due } => {
-            resume_array_slowly(scanner, stack, start, elements, comma_due)
+        Some(None) => Some(Next::Ended(Value::Array(elements))),
+        None => {
+            place_fault(scanner, start, fault);
+            None
         }
-        ShortElements::NoMemory => Err(Error::new(ErrorCode::OutOfMemory)),
     }
 }
 
-/// The same, up to the next element, whatever is in front of it.
-#[inline(never)]
-fn resume_array_slowly<I: Input>(
-    scanner: &mut Scanner<I>,
-    stack: &mut Vec<Unfinished>,
-    start: usize,
-    elements: Vec<Value>,
-    comma_due: bool,
-) -> Result<Option<Value>>
-    requires { IsInside scanner.old }
-    ensures { TurnsBuildingInside (array_at elements.items comma_due scanner.old) start comma_due stack.old.items stack.new.items scanner.old scanner.new result }
-{
-    match skip_to_value(scanner, BracketKind::Array, comma_due) {
-        Ok(true) => {
-            if !add_entry(scanner, stack, Unfinished::Array { start, elements }) {
-                return Err(Error::new(ErrorCode::OutOfMemory));
-            }
-            Ok(None)
-        }
-        Ok(false) => Ok(Some(Value::Array(elements))),
-        Err(e) => Err(with_position_at(scanner, start, e)),
-    }
-}
-
-/// Continues an object with these members: goes to the value of the next member that has no short way and pushes the object; or
-/// the object ends and is returned.
+/// Continues an object with these members: goes to the value of the next member whose value is a collection and pushes the object;
+/// or the object ends and is returned.
 pub(crate) fn resume_object<I: Input>(
     scanner: &mut Scanner<I>,
     stack: &mut Vec<Unfinished>,
     start: usize,
     members: Vec<(String, Value)>,
     comma_due: bool,
-) -> Result<Option<Value>>
+    fault: &mut Error,
+) -> Option<Next>
     requires { IsInside scanner.old }
-    ensures { TurnsBuildingInside (object_at members.items comma_due scanner.old) start comma_due stack.old.items stack.new.items scanner.old scanner.new result }
+    ensures { ObjectGoesOn start members.items comma_due stack.old.items stack.new.items scanner.old scanner.new (answered result fault.new) }
 {
     let mut members = members;
-    match short_members(scanner, &mut members, comma_due) {
-        ShortMembers::KeyTaken { key, left } => {
-            enter_member(scanner, stack, start, members, key, left)
-        }
-        ShortMembers::Closed => Ok(Some(Value::Object(members))),
-        ShortMembers::Within { comma_due } => {
-            resume_object_slowly(scanner, stack, start, members, comma_due)
-        }
-        ShortMembers::NoMemory => Err(Error::new(ErrorCode::OutOfMemory)),
-    }
-}
-
-/// The same, up to the value of the next member, whatever is in front of it.
-#[inline(never)]
-fn resume_object_slowly<I: Input>(
-    scanner: &mut Scanner<I>,
-    stack: &mut Vec<Unfinished>,
-    start: usize,
-    members: Vec<(String, Value)>,
-    comma_due: bool,
-) -> Result<Option<Value>>
-    requires { IsInside scanner.old }
-    ensures { TurnsBuildingInside (object_at members.items comma_due scanner.old) start comma_due stack.old.items stack.new.items scanner.old scanner.new result }
-{
-    match next_member_key(scanner, comma_due) {
-        Ok(Some(key)) => {
+    match take_members(scanner, &mut members, comma_due, fault) {
+        Some(Some((key, kind))) => {
             let object = Unfinished::Object {
                 start,
                 members,
                 key,
             };
-            if !add_entry(scanner, stack, object) {
-                return Err(Error::new(ErrorCode::OutOfMemory));
-            }
-            Ok(None)
+            add_entry(scanner, stack, object, fault)?;
+            Some(Next::Opens(kind))
         }
-        Ok(None) => Ok(Some(Value::Object(members))),
-        Err(e) => Err(with_position_at(scanner, start, e)),
+        Some(None) => Some(Next::Ended(Value::Object(members))),
+        None => {
+            place_fault(scanner, start, fault);
+            None
+        }
     }
-}
-
-/// Goes to the value of a member, before which this is left, and pushes the object.
-fn enter_member<I: Input>(
-    scanner: &mut Scanner<I>,
-    stack: &mut Vec<Unfinished>,
-    start: usize,
-    members: Vec<(String, Value)>,
-    key: Span,
-    left: BeforeValue,
-) -> Result<Option<Value>>
-    requires { IsInside scanner.old }
-    ensures { TurnsBuildingMember members.items start key left stack.old.items stack.new.items scanner.old scanner.new result }
-{
-    let key = own_text(scanner, key)?;
-    if let Err(e) = skip_before_value(scanner, left) {
-        return Err(with_position_at(scanner, start, e));
-    }
-    let object = Unfinished::Object {
-        start,
-        members,
-        key,
-    };
-    if !add_entry(scanner, stack, object) {
-        return Err(Error::new(ErrorCode::OutOfMemory));
-    }
-    Ok(None)
 }
 
 /// Puts the value into the array or the object round it, and continues that one.
@@ -187,29 +201,26 @@ pub(crate) fn attach_value<I: Input>(
     stack: &mut Vec<Unfinished>,
     unfinished: Unfinished,
     value: Value,
-) -> Result<Option<Value>>
+    fault: &mut Error,
+) -> Option<Next>
     requires { IsInside scanner.old }
-    ensures { TurnsBuildingInside (value_in_at unfinished value scanner.old) (start_of unfinished) true stack.old.items stack.new.items scanner.old scanner.new result }
+    ensures { GoesOnAfter unfinished value stack.old.items stack.new.items scanner.old scanner.new (answered result fault.new) }
 {
     match unfinished {
         Unfinished::Array {
             start,
             mut elements,
         } => {
-            if !add_entry(scanner, &mut elements, value) {
-                return Err(Error::new(ErrorCode::OutOfMemory));
-            }
-            resume_array(scanner, stack, start, elements, true)
+            add_entry(scanner, &mut elements, value, fault)?;
+            resume_array(scanner, stack, start, elements, true, fault)
         }
         Unfinished::Object {
             start,
             mut members,
             key,
         } => {
-            if !add_entry(scanner, &mut members, (key, value)) {
-                return Err(Error::new(ErrorCode::OutOfMemory));
-            }
-            resume_object(scanner, stack, start, members, true)
+            add_entry(scanner, &mut members, (key, value), fault)?;
+            resume_object(scanner, stack, start, members, true, fault)
         }
     }
 }

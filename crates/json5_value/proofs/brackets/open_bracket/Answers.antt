@@ -6,8 +6,7 @@ use Rattle.json5_value.proofs.brackets.open_bracket.Goals as goal
 
 pub returns-then-room-eq0 : goal.returns-then-room-eq0
 returns-then-room-eq0 g c =
-    bracket_too_deep c.args.room c.args.scanner.now (bracket_of c.args.kind) c.offset-start.result c.new_at.result c.position_of.result c.requires.ready c.requires.sign c.if-room-eq0.true c.offset-start.ensures.counted
-    c.position_of.ensures.inside c.new_at.ensures.kind c.new_at.ensures.place
+    bracket_too_deep c.args.room c.args.scanner.now (bracket_of c.args.kind) c.leave_here.new.fault c.requires.ready c.requires.sign c.if-room-eq0.true c.leave_here.ensures.kind c.leave_here.ensures.placed
 
 pub returns : goal.returns
 returns g c =

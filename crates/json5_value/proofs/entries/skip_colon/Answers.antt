@@ -1,22 +1,28 @@
-use Rattle.std.proofs.Common.{refl, Ok, Err}
-use Rattle.std.proofs.lemmas.Result.{err_from_is_err_and}
-use Rattle.json5_value.proofs.EntrySteps.{colon_blanks, colon_missing, colon_passed}
-use Rattle.json5_value.proofs.ModelSteps.{ready_sign, same_of}
-use Rattle.json5_value.proofs.TokenSteps.{gap_given, gap_blamed, blanks_step}
+use Rattle.std.proofs.Common.{sym, subst, Ok}
+use Rattle.json5_grammar.specs.Model.ReadBlanks.{skip, between}
+use Rattle.json5_grammar.specs.Model.ReadSteps.{colon_after}
+use Rattle.json5_text.specs.Cursor.{Cursor}
+use Rattle.json5_value.specs.ModelSteps.{IsInside, Steps, answered}
+use Rattle.json5_value.proofs.ShortEntries.{colon_took, colon_stepped, blanks_stepped}
+use Rattle.json5_value.proofs.ModelSteps.{ready_after}
 use Rattle.json5_value.proofs.entries.skip_colon.Goals as goal
 
-pub returns-in_err-skip_blank : goal.returns-in_err-skip_blank
-returns-in_err-skip_blank g c =
-    let (y, is, from) = err_from_is_err_and c.from_residual.result c.from_residual.ensures.1 in
-    rw (is, from) (colon_blanks c.args.scanner.now c.skip_blank.new.self c.in_err-skip_blank.field-0.0 (gap_blamed c.args.scanner.now c.skip_blank.new.self (Err c.in_err-skip_blank.field-0.0) c.requires c.in_err-skip_blank.ensures) (same_of c.in_err-skip_blank.ensures.kept))
+pub skip_colon_slowly-requires : goal.skip_colon_slowly-requires
+skip_colon_slowly-requires g c = subst IsInside (sym c.if-not-short_sign.ensures) c.requires
 
-pub returns-then-not-eat : goal.returns-then-not-eat
-returns-then-not-eat g c =
-    let kept = c.if-not-eat.ensures.kept refl in
-    colon_missing c.args.scanner.now c.skip_blank.new.self c.eat.new.self tt c.unexpected_here.result c.requires (gap_given c.args.scanner.now c.skip_blank.new.self (Ok tt) c.in_ok-skip_blank.ensures) kept.0 kept.1 c.unexpected_here.ensures
+pub returns-then-not-short_sign : goal.returns-then-not-short_sign
+returns-then-not-short_sign g c =
+    subst (λ (s : Cursor). Steps (colon_after s.unread) s c.skip_colon_slowly.new.scanner (answered c.skip_colon_slowly.result c.skip_colon_slowly.new.fault)) c.if-not-short_sign.ensures c.skip_colon_slowly.ensures
 
-pub returns : goal.returns
-returns g c =
-    colon_passed c.args.scanner.now c.skip_blank.new.self c.eat.new.self c.skip_blank-2.new.self tt c.skip_blank-2.result (gap_given c.args.scanner.now c.skip_blank.new.self (Ok tt) c.in_ok-skip_blank.ensures) (c.if-not-eat.ensures.taken refl)
-    (blanks_step c.eat.new.self c.skip_blank-2.new.self c.skip_blank-2.result (ready_sign c.args.scanner.now c.skip_blank.new.self c.eat.new.self _ c.requires (gap_given c.args.scanner.now c.skip_blank.new.self (Ok tt) c.in_ok-skip_blank.ensures) (c.if-not-eat.ensures.taken refl))
-    c.skip_blank-2.ensures)
+pub skip_blank-requires : goal.skip_blank-requires
+skip_blank-requires g c = subst IsInside (sym c.in-Other.ensures) (ready_after c.args.scanner.now c.short_sign.new.self _ c.requires (colon_took c.args.scanner.now c.short_sign.new.self c.if-not-short_sign.ensures))
+
+pub returns-in-Other : goal.returns-in-Other
+returns-in-Other g c =
+    let result = answered c.skip_blank.result c.skip_blank.new.fault in
+    colon_stepped c.args.scanner.now c.short_sign.new.self c.skip_blank.new.scanner result c.if-not-short_sign.ensures
+    (subst (λ (s : Cursor). Steps (skip between s.unread) s c.skip_blank.new.scanner result) c.in-Other.ensures c.skip_blank.ensures)
+
+pub returns-in_default : goal.returns-in_default
+returns-in_default g c =
+    colon_stepped c.args.scanner.now c.short_sign.new.self c.short_step.new.self (Ok tt) c.if-not-short_sign.ensures (blanks_stepped c.short_sign.new.self c.short_step.new.self c.short_step.result c.in_default.not-Other c.short_step.ensures)

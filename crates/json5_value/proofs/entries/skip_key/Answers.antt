@@ -1,16 +1,17 @@
-use Rattle.json5_value.proofs.EntryValues.{key_at_end, key_is_string, key_is_name}
-use Rattle.json5_value.proofs.TokenSteps.{string_step, name_step}
+use Rattle.std.proofs.Common.{sym, subst}
+use Rattle.json5_grammar.specs.Model.ReadSteps.{forget}
+use Rattle.json5_grammar.specs.Model.ReadTexts.{key}
+use Rattle.json5_text.specs.Cursor.{Cursor}
+use Rattle.json5_value.specs.ModelSteps.{IsInside, Steps, answered}
+use Rattle.json5_value.proofs.ShortEntries.{key_stepped}
 use Rattle.json5_value.proofs.entries.skip_key.Goals as goal
 
-pub returns-in_default : goal.returns-in_default
-returns-in_default g c = key_at_end c.args.scanner.now c.peek.result c.new.result c.peek.ensures c.in_default.is c.new.ensures.kind c.new.ensures.place
+pub returns-in-Some : goal.returns-in-Some
+returns-in-Some g c = key_stepped c.args.scanner.now c.short_key.new.self _ c.requires.solid c.in-Some.ensures
 
-pub returns-then-is_quote : goal.returns-then-is_quote
-returns-then-is_quote g c =
-    key_is_string c.args.scanner.now c.skip_string.new.self c.skip_string.result c.peek.result c.in-Some.c c.is_quote.result c.peek.ensures c.in-Some.is c.is_quote.ensures c.if-is_quote.true
-    (λ d r x h. string_step c.args.scanner.now c.skip_string.new.self c.skip_string.result d r c.requires x h c.skip_string.ensures)
+pub skip_key_slowly-requires : goal.skip_key_slowly-requires
+skip_key_slowly-requires g c = subst IsInside (sym c.in-None.ensures) c.requires.ready
 
-pub returns : goal.returns
-returns g c =
-    key_is_name c.args.scanner.now c.skip_identifier.new.self c.skip_identifier.result c.peek.result c.in-Some.c c.is_quote.result c.peek.ensures c.in-Some.is c.is_quote.ensures c.if-is_quote.false
-    (name_step c.args.scanner.now c.skip_identifier.new.self c.skip_identifier.result c.requires c.skip_identifier.ensures)
+pub returns-in-None : goal.returns-in-None
+returns-in-None g c =
+    subst (λ (s : Cursor). Steps (forget (key s.unread)) s c.skip_key_slowly.new.scanner (answered c.skip_key_slowly.result c.skip_key_slowly.new.fault)) c.in-None.ensures c.skip_key_slowly.ensures

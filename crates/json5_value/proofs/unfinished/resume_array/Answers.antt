@@ -1,21 +1,19 @@
-use Rattle.std.proofs.Common.{inl}
 use Rattle.json5_value.specs.BuildSteps.{array_at}
-use Rattle.json5_value.proofs.ShortBuilds.{turn_left, element_next, elements_end}
-use Rattle.json5_value.proofs.ModelSteps.{ready_after}
+use Rattle.json5_value.proofs.BuildTurns.{turn_lacks_memory, element_next, elements_end, elements_refused}
 use Rattle.json5_value.proofs.unfinished.resume_array.Goals as goal
 
-pub returns-else-not-add_entry : goal.returns-else-not-add_entry
-returns-else-not-add_entry g c =
-    element_next c.args.elements.items c.short_elements.new.elements c.args.start c.args.comma_due c.args.stack.now.items c.args.scanner.now c.short_elements.new.scanner c.add_entry.new.entries.items (rw c.in-Value.is at c.short_elements.ensures) (c.add_entry.ensures c.if-not-add_entry.false)
+pub returns-in_err-add_entry-in-Some-Some : goal.returns-in_err-add_entry-in-Some-Some
+returns-in_err-add_entry-in-Some-Some g c =
+    rw c.from_residual.ensures (turn_lacks_memory (array_at c.args.elements.items c.args.comma_due c.args.scanner.now) c.args.start c.args.comma_due c.args.stack.now.items c.args.scanner.now c.add_entry.new.entries.items c.take_elements.new.scanner c.add_entry.new.fault
+    c.in_err-add_entry-in-Some-Some.ensures.kind c.in-Some-Some.ensures.same_text)
 
-pub returns-in-Closed : goal.returns-in-Closed
-returns-in-Closed g c = elements_end c.args.elements.items c.short_elements.new.elements c.args.start c.args.comma_due c.args.stack.now.items c.args.scanner.now c.short_elements.new.scanner (rw c.in-Closed.is at c.short_elements.ensures)
+pub returns-in_ok-add_entry-in-Some-Some : goal.returns-in_ok-add_entry-in-Some-Some
+returns-in_ok-add_entry-in-Some-Some g c =
+    element_next c.args.elements.items c.take_elements.new.elements c.args.start c.args.comma_due c.args.stack.now.items c.args.scanner.now c.take_elements.new.scanner c.in-Some-Some.kind c.add_entry.new.entries.items (rw c.in-Some-Some.field-0-is at c.in-Some-Some.ensures) c.in_ok-add_entry-in-Some-Some.ensures
 
-pub resume_array_slowly-requires : goal.resume_array_slowly-requires
-resume_array_slowly-requires g c = let (l, due) = rw c.in-Within.is at c.short_elements.ensures in ready_after c.args.scanner.now c.short_elements.new.scanner l.taken c.requires l.took
+pub returns-in-Some-None : goal.returns-in-Some-None
+returns-in-Some-None g c = elements_end c.args.elements.items c.take_elements.new.elements c.args.start c.args.comma_due c.args.stack.now.items c.args.scanner.now c.take_elements.new.scanner (rw c.in-Some-None.field-0-is at c.in-Some-None.ensures)
 
-pub returns-in-Within : goal.returns-in-Within
-returns-in-Within g c =
-    let (l, due) = rw c.in-Within.is at c.short_elements.ensures in
-    turn_left (array_at c.args.elements.items c.args.comma_due c.args.scanner.now) (array_at c.short_elements.new.elements.items c.in-Within.comma_due c.short_elements.new.scanner) c.args.start c.args.comma_due c.in-Within.comma_due c.args.stack.now.items
-    c.resume_array_slowly.new.stack.items c.args.scanner.now c.short_elements.new.scanner c.resume_array_slowly.new.scanner l (λ e. inl (due e)) c.resume_array_slowly.result c.resume_array_slowly.ensures
+pub returns-in-None : goal.returns-in-None
+returns-in-None g c =
+    elements_refused c.args.elements.items c.take_elements.new.elements c.args.start c.args.comma_due c.args.stack.now.items c.args.scanner.now c.take_elements.new.scanner c.take_elements.new.fault c.place_fault.new.fault c.in-None.ensures c.place_fault.ensures
