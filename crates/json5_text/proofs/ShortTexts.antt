@@ -11,8 +11,9 @@ use Rattle.json5_grammar.specs.Language.Names.{Ident, name, NameParts, no_part, 
 use Rattle.json5_grammar.specs.Model.ReadBlanks.{skip, between}
 use Rattle.json5_grammar.specs.Model.Reading.{got}
 use Rattle.json5_grammar.specs.Model.ReadNumbers.{front_of, rest_of}
-use Rattle.json5_grammar.specs.Language.Strings.{quoted, Items, no_item, raw, is_raw}
-use Rattle.json5_grammar.specs.Language.Values.{is_text}
+use Rattle.json5_grammar.specs.Language.Strings.{Str, quoted, Items, no_item, raw, is_raw, is_quote}
+use Rattle.json5_grammar.specs.Language.Trees as trees
+use Rattle.json5_grammar.specs.Language.Values.{Reads, is_text}
 use Rattle.json5_grammar.proofs.BlanksRead.{skip_rest, begins_solid, printable_solid}
 use Rattle.json5_grammar.proofs.BlanksSound.{gap_blanks}
 use Rattle.json5_grammar.proofs.CharacterTests.{front_each, rest_stops}
@@ -22,7 +23,7 @@ use Rattle.json5_text.specs.Cursor.{Cursor}
 use Rattle.json5_text.specs.TextTokens.{IsSliceAt}
 use Rattle.json5_text.specs.Outcome.{bytes_in}
 use Rattle.json5_text.specs.Scan.{InText, Leaves, LeavesAt, SkipsAll}
-use Rattle.json5_text.specs.ScanTexts.{quote_of}
+use Rattle.json5_text.specs.ScanTexts.{quote_of, string_at}
 use Rattle.json5_text.specs.ShortWays.{IsInFront}
 use Rattle.json5_text.specs.ShortTexts.{ReadsEscapeFreeString, ReadsEscapeFreeKey, IsEscapeFreeString, IsEscapeFreeKey, TookEscapeFree, IsSliceBefore, FindsEscapeFree, HasSolid, FindsFirst}
 use Rattle.json5_text.specs.declared.short_texts.TextBounds.{TextBounds}
@@ -32,7 +33,7 @@ use Rattle.json5_text.proofs.AsciiNames.{ascii_start, ascii_part, parts_ascii, p
 use Rattle.json5_types.proofs.AsciiRuns.{chars_split, rest_cut, rest_utf8}
 use Rattle.json5_text.proofs.TextCuts.{fits_left, whole_split, bytes_append}
 use Rattle.json5_text.proofs.ScanRuns.{quote_is}
-use Rattle.json5_text.proofs.ScanTokens.{left_counted, blanks_passed}
+use Rattle.json5_text.proofs.ScanTokens.{left_counted, blanks_passed, string_taken}
 
 -- ---- strings
 
@@ -255,3 +256,31 @@ pub took_escape_free : {IsRead : List ℕ → List ℕ → List ℕ → Type 0} 
 took_escape_free {IsRead = IsRead} old new k i e f left =
     let l = left f.taken f.rest f.split f.counted in
     record { spelled = f.spelled; read = subst (IsRead old.unread f.spelled) (sym l.1) f.read; stands = stands_at old k i e f.place; same = l.0.same }
+
+-- ---- strings that may have escapes
+
+quote_is_solid : (c : ℕ) → is_quote c ≡ true → is_solid c ≡ true
+quote_is_solid c h =
+    let printable : is_in 33 126 c ≡ true = grind (arith, nat_tests) in
+    let other : (c == 47) ≡ false = grind (arith, nat_tests) in
+    printable_solid c printable other
+
+string_solid : {s u : List ℕ} {escape_free : Bool} (r : List ℕ) → Str s u escape_free → HasSolid (s ++ r)
+string_solid r (quoted {q = q} {s = s} k i) = (q, (s ++ q ∷ []) ++ r, refl, quote_is_solid q k)
+
+-- blanks and a string are in front of x
+pub record FoundString (x u : List ℕ) (escape_free : Bool) (r : List ℕ) : Type 0 where
+  pub taken : List ℕ
+  pub split : x ≡ taken ++ r
+  pub read : Reads x (trees.text u escape_free) r
+
+pub string_found : (text x y u r : List ℕ) (escape_free : Bool) → text ≡ x → skip between text ≡ skip between y → string_at y ≡ got (u, escape_free) r → FoundString x u escape_free r
+string_found text x y u r escape_free f e reads =
+    let k = string_taken y y u r escape_free refl reads in
+    let b = blanks_before x y (ap (skip between) (sym f) ∙ e) (subst HasSolid (sym k.split) (string_solid r k.is_string)) in
+    let split = b.split ∙ ap (λ z. b.front ++ z) k.split in
+    record {
+      taken = b.front ++ k.string;
+      split = split ∙ sym (append_assoc b.front k.string r);
+      read = record { front = b.front; phrase = k.string; split = split; blank = b.blank; value = is_text k.is_string; stops = text_stops r k.is_string };
+    }

@@ -1,5 +1,6 @@
--- What the short ways of strings and keys promise: one without an escape is taken with the ASCII blanks before it, or nothing is.
-use Rattle.std.specs.Prelude.{◌≡◌, ℕ, true, List, ◌∷◌, ◌++◌, Option, MatchOption}
+-- What the short ways of strings and keys promise: one is taken with the ASCII blanks before it, or nothing is. All but one take
+-- those without an escape alone.
+use Rattle.std.specs.Prelude.{◌≡◌, ℕ, Bool, true, List, ◌∷◌, ◌++◌, Option, MatchOption, String, string_bytes}
 use Rattle.std.specs.Str.{encode_utf8_all}
 use Rattle.json5_grammar.specs.Language.Blanks.{is_solid}
 use Rattle.json5_grammar.specs.Model.Collections.{ReadsKey}
@@ -31,6 +32,18 @@ pub record TookEscapeFree (IsRead : List ℕ → List ℕ → List ℕ → Type 
 -- a string without an escape is taken, or nothing
 abbrev pub TakesShortString : Cursor → Cursor → Option Span → Type 0
 TakesShortString old new result = MatchOption result (new ≡ old) (λ span. TookEscapeFree ReadsEscapeFreeString old new span)
+
+-- a string was taken, and this is an owned copy of its text
+pub record TookShortOwned {A : Type 0} (old new : Cursor) (copy : String A) : Type 0 where
+  pub spelled : List ℕ
+  pub escape_free : Bool
+  pub read : Reads old.unread (text spelled escape_free) new.unread
+  pub same : new.input ≡ old.input
+  pub bytes : string_bytes copy ≡ encode_utf8_all spelled
+
+-- a string is taken, its text an owned copy, or nothing
+abbrev pub TakesShortOwned : {A : Type 0} → Cursor → Cursor → Option (String A) → Type 0
+TakesShortOwned old new result = MatchOption result (new ≡ old) (TookShortOwned old new)
 
 -- a key without an escape is taken, or nothing
 abbrev pub TakesShortKey : Cursor → Cursor → Option Span → Type 0

@@ -1,5 +1,5 @@
 -- What each call of the scanner promises: a token in front is taken whole, or refused with one of its faults, and then nothing is taken.
-use Rattle.std.specs.Prelude.{◌≡◌, ℕ, Bool, true, false, List, ◌∷◌, ◌++◌, ◌⊎◌, ℤ, Option, Result, String, string_bytes, IfOk, IfErr, OnOk, OnErr, IsOk, MatchOption}
+use Rattle.std.specs.Prelude.{◌≡◌, ℕ, Bool, true, false, List, ◌∷◌, ◌++◌, ◌⊎◌, ℤ, Option, Result, String, string_bytes, IfOk, IfErr, OnOk, OnErr, IsOk}
 use Rattle.std.specs.Str.{encode_utf8_all}
 use Rattle.json5_grammar.specs.declared.error_code.ErrorCode.{ErrorCode}
 use Rattle.json5_grammar.specs.Language.Characters.{NotBegun}
@@ -47,10 +47,6 @@ pub record TakesOwned {A : Type 0} (old new : Cursor) (result : Result (String A
   pub taken : IfOk result (TookOwned old new)
   pub refused : IfErr result (λ e. LacksMemory e ⊎ Refused FaultyString old e)
   pub kept : OnErr result (new ≡ old)
-
--- a string is taken, its text an owned copy, or nothing
-abbrev pub TakesShortOwned : {A : Type 0} → Cursor → Cursor → Option (String A) → Type 0
-TakesShortOwned old new result = MatchOption result (new ≡ old) (TookOwned old new)
 
 -- a string with this text is taken; it takes memory only if it isn't escape-free or is refused
 pub record TakesText {T : Type 0} (IsText : T → List ℕ → Bool → Type 0) (old new : Cursor) (result : Result T Error) : Type 0 where

@@ -105,6 +105,10 @@ pub record IsCow (value : CowStr) (spelled : List ℕ) (escape_free : Bool) : Ty
 abbrev pub IsOwned : {A : Type 0} → String A → List ℕ → Bool → Type 0
 IsOwned value spelled escape_free = string_bytes value ≡ encode_utf8_all spelled
 
+-- the run, and behind it what is spelled
+abbrev pub IsOwnedBehind : {A : Type 0} → List ℕ → String A → List ℕ → Bool → Type 0
+IsOwnedBehind run value spelled escape_free = string_bytes value ≡ run ++ encode_utf8_all spelled
+
 -- an escape-free text takes no memory that could run out
 abbrev pub SparesEscapeFree : Refusal → Read (List ℕ × Bool) → Type 0
 SparesEscapeFree e reading = e ≡ refusal.OutOfMemory → (spelled rest : List ℕ) → reading ≡ got (spelled, true) rest → ⊥

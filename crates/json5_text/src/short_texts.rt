@@ -1,15 +1,14 @@
-//! Short ways of strings and keys: one without an escape is taken at once and isn't copied, and a string with escapes is taken
-//! as a `String`. Each returns numbers alone, or no `Error`, so the caller's frame holds none. When it returns None it takes
-//! nothing, and the scanner's other calls say what is there.
+//! Short ways of strings and keys: one without an escape is taken at once and isn't copied, or any string as a `String`. Each
+//! returns no `Error`, so the caller's frame holds none. When it returns None it takes nothing, and the scanner's other calls say
+//! what is there.
 
 ghost use Rattle.std.specs.Prelude.{◌≡◌, ◌∷◌, true, IfSome, string_bytes};
 ghost use Rattle.std.specs.Str.{chars};
 ghost use Rattle.json5_text.specs.ScanTexts.{quote_of, string_at, text_at};
 ghost use Rattle.json5_text.specs.ShortWays.{IsInFront};
-ghost use Rattle.json5_text.specs.ShortTexts.{IsEscapeFreeString, IsEscapeFreeKey, FindsEscapeFree, FindsFirst, TakesShortString, TakesShortKey, IsTextAt};
+ghost use Rattle.json5_text.specs.ShortTexts.{IsEscapeFreeString, IsEscapeFreeKey, FindsEscapeFree, FindsFirst, TakesShortString, TakesShortKey, TakesShortOwned};
 ghost use Rattle.json5_text.specs.declared.strings_and_names.Kind.TheVariants as kind;
-ghost use Rattle.json5_text.specs.TokenResults.{GivesMore, GivesText, IsOwned};
-ghost use Rattle.json5_text.specs.TokenCalls.{TakesShortOwned};
+ghost use Rattle.json5_text.specs.TokenResults.{GivesMore, GivesText, IsOwned, IsOwnedBehind};
 
 use crate::blanks::skip_ascii;
 use crate::byte_runs::ascii_name_len;
@@ -123,13 +122,16 @@ impl<I: Input> Scanner<I> {
         Some(span)
     }
 
-    /// Takes a string and returns its text, escapes replaced, as a `String`. Returns None where anything else is in front, where the
-    /// string has a fault, or where memory runs out, and takes nothing then.
-    #[inline(never)]
+    /// Takes ASCII blanks and a string, and returns its text, escapes replaced, as a `String`. Returns None where anything else is in
+    /// front, where the string has a fault, or where memory runs out, and takes nothing then.
+    #[inline(always)]
     pub fn short_string_owned(&mut self) -> Option<String>
         ensures { TakesShortOwned self.old self.new result }
     {
-        let (text, rest) = front_spelled(self.allocator(), self.rest(self.input.as_text()))?;
+        let (text, rest) = front_owned(
+            self.allocator(),
+            skip_ascii(self.rest(self.input.as_text())),
+        )?;
         let left = rest.len();
         self.set_remaining(left);
         Some(text)
@@ -147,15 +149,17 @@ fn push_to_quote<'t>(text: &mut String, quote: Quote, rest: &'t str) -> Option<&
     push_rest(text, Kind::String(quote), rest, after).ok()
 }
 
-/// An owned copy of what the string in front spells, and what follows the string.
-#[inline(always)]
-fn front_spelled(alloc: Global, text: &str) -> Option<(String, &str)>
-    ensures { IfSome result (λ p. GivesText IsOwned (string_at (chars text.now)) p.0 p.1.now) }
+/// An owned copy of the run of a string and of what is spelled behind it, and what follows the string.
+#[inline(never)]
+fn spelled_behind<'t>(
+    alloc: Global,
+    quote: Quote,
+    run: &str,
+    escape: &'t str,
+) -> Option<(String, &'t str)>
+    ensures { IfSome result (λ p. GivesText (IsOwnedBehind run.now) (text_at (kind.String quote) (chars escape.now)) p.0 p.1.now) }
 {
-    let quote = front_quote(text)?;
-    let body = text.split_at(1).1;
-    let escape = skip_raw(quote, body);
-    let Ok(mut spelled) = with_room(alloc, &body[..body.len() - escape.len()]) else {
+    let Ok(mut spelled) = with_room(alloc, run) else {
         return None;
     };
     let Ok(rest) = push_escapes(&mut spelled, Kind::String(quote), escape) else {
@@ -166,4 +170,22 @@ fn front_spelled(alloc: Global, text: &str) -> Option<(String, &str)>
     }
     let left = push_to_quote(&mut spelled, quote, rest)?;
     Some((spelled, left))
+}
+
+/// An owned copy of what the string in front spells, and what follows the string. A string without an escape is searched once.
+#[inline(always)]
+fn front_owned(alloc: Global, text: &str) -> Option<(String, &str)>
+    ensures { IfSome result (λ p. GivesText IsOwned (string_at (chars text.now)) p.0 p.1.now) }
+{
+    let quote = front_quote(text)?;
+    let body = text.split_at(1).1;
+    let rest = skip_raw(quote, body);
+    let run = &body[..body.len() - rest.len()];
+    if !is_in_front(quote.byte(), rest) {
+        return spelled_behind(alloc, quote, run, rest);
+    }
+    let Ok(owned) = String::from_str(alloc, run) else {
+        return None;
+    };
+    Some((owned, rest.split_at(1).1))
 }
