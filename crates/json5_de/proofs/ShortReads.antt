@@ -1,20 +1,17 @@
 -- What the short ways return is what the reader's other calls return.
-use Rattle.std.proofs.Common.{◌≡◌, ℕ, ◌+◌, ◌≤◌, ◌<◌, ◌^◌, Bool, true, false, nat_lt, ℤ, pos, negsuc, nat_abs, ◌-ℤ◌, ◌≤ℤ◌, List, [], ◌++◌, Option, Some, None, inl, refl, ap, sym, ◌∙◌, subst, arith}
+use Rattle.std.proofs.Common.{◌≡◌, ℕ, ◌+◌, ◌≤◌, ◌<◌, ◌^◌, Bool, true, false, nat_lt, ℤ, pos, negsuc, nat_abs, ◌-ℤ◌, ◌≤ℤ◌, List, ◌++◌, Option, Some, None, inl, refl, ap, sym, ◌∙◌, subst, arith}
 use Rattle.std.specs.Prelude.{MatchOption, Result, Ok, Err, String, string_bytes}
 use Rattle.std.proofs.lemmas.Bool.Decides.{nat_tests}
 use Rattle.std.proofs.lemmas.Int.{ints, to_z-of_z}
 use mir.Syntax.{w128}
 use mir.Val.{to_z, of_z, SFits}
-use Rattle.json5_grammar.specs.Language.Blanks.{empty}
 use Rattle.json5_grammar.specs.Language.Documents.{max_depth}
 use Rattle.json5_grammar.specs.Language.Numbers.{Number, Decimal, whole, decimal}
-use Rattle.json5_grammar.specs.Language.Strings.{Str}
 use Rattle.json5_grammar.specs.Language.Trees.{number, text}
-use Rattle.json5_grammar.specs.Language.Values.{is_number, is_text}
-use Rattle.json5_text.specs.Cursor.{Cursor, Took}
-use Rattle.json5_text.specs.TokenCalls.{TakesShortOwned}
+use Rattle.json5_grammar.specs.Language.Values.{is_number}
+use Rattle.json5_text.specs.Cursor.{Cursor}
 use Rattle.json5_text.specs.ShortWays.{TookNumber, TookWhole, TookInRange, TakesShortDecimal, StepsTo, TakesShortStep, TakesShortSign}
-use Rattle.json5_text.specs.ShortTexts.{ReadsEscapeFreeString, TookEscapeFree, TakesShortString, TakesShortKey, IsTextAt}
+use Rattle.json5_text.specs.ShortTexts.{ReadsEscapeFreeString, TookEscapeFree, TakesShortString, TakesShortKey, TookShortOwned, TakesShortOwned, IsTextAt}
 use Rattle.json5_text.specs.ShortTexts as texts
 use Rattle.json5_text.specs.TextTokens.{IsSliceAt}
 use Rattle.json5_text.specs.declared.short_texts.Span.{Span}
@@ -31,7 +28,6 @@ use Rattle.json5_de.specs.ShortWays.{ReadsShort, StepsShort, ReadsShortText, Rea
 use Rattle.json5_de.specs.State.{State}
 use Rattle.json5_de.proofs.TokenKinds.{reads_ok}
 use Rattle.json5_de.proofs.ReadSteps.{value_gap, input_of}
-use Rattle.json5_de.proofs.ExpectsStrings.{text_stops}
 use Rattle.json5_de.proofs.FoundKeys.{key_ok}
 use Rattle.json5_grammar.proofs.CommonLemmas.{true_false}
 use Rattle.json5_value.proofs.NoFailedCode.{memory_other}
@@ -139,23 +135,23 @@ pub short_text : (before after : Cursor) (level : ℕ) (failed : Bool) (old : St
 short_text before after level failed old None e room live k = same_reader before after level failed old e k
 short_text before after level failed old (Some span) e room live k = subst (λ s. ReadsShortText s (reader_at after level failed) (Some span)) e (took_text before after level failed span room live k)
 
--- ---- strings with escapes
+-- ---- strings with and without escapes
 
-took_string : (before after : Cursor) (level : ℕ) (failed : Bool) (s u : List ℕ) (escape_free : Bool) → level ≤ max_depth → failed ≡ false → Took before s after → Str s u escape_free
-    → TookValue (reader_at before level failed) (text u escape_free) (reader_at after level failed)
-took_string before after level failed s u escape_free room live took string = record {
+took_owned : {A : Type 0} (before after : Cursor) (level : ℕ) (failed : Bool) (t : String A) → level ≤ max_depth → failed ≡ false → (k : TookShortOwned before after t)
+    → TookValue (reader_at before level failed) (text k.spelled k.escape_free) (reader_at after level failed)
+took_owned before after level failed t room live k = record {
   live = live;
-  reads = record { front = []; phrase = s; split = took.split; blank = empty; value = is_text string; stops = text_stops after.unread string };
+  reads = k.read;
   shallow = omega (arith, room);
-  rest = ap (λ i. record { input = i; unread = after.unread; level = level; failed = failed }) took.same;
+  rest = ap (λ i. record { input = i; unread = after.unread; level = level; failed = failed }) k.same;
 }
 
 pub short_string_owned : {A : Type 0} (before after : Cursor) (level : ℕ) (failed : Bool) (old : State) (o : Option (String A)) → reader_at before level failed ≡ old → level ≤ max_depth → failed ≡ false → TakesShortOwned before after o
     → ReadsShort string_kind string_bytes old (reader_at after level failed) o
 short_string_owned before after level failed old None e room live k = same_reader before after level failed old e k
-short_string_owned before after level failed old (Some t) e room live (s, u, escape_free, took, string, bytes) =
+short_string_owned before after level failed old (Some t) e room live k =
     subst (λ r. ReadsAs string_kind string_bytes r (reader_at after level failed) (Ok t)) e
-    (reads_ok string_kind string_bytes (reader_at before level failed) (reader_at after level failed) t (text u escape_free, took_string before after level failed s u escape_free room live took string, ap Some (sym bytes)))
+    (reads_ok string_kind string_bytes (reader_at before level failed) (reader_at after level failed) t (text k.spelled k.escape_free, took_owned before after level failed t room live k, ap Some (sym k.bytes)))
 
 -- ---- keys without an escape
 
@@ -188,21 +184,7 @@ short_colon before after level failed old true e live k =
     subst (λ s. PassesShortColon s (reader_at after level failed) true) e
     (record { live = live; colon = k.0; rest = ap (λ i. record { input = i; unread = after.unread; level = level; failed = failed }) k.1 })
 
--- ---- an owned copy of a text
-
-pub own_value : {A : Type 0} {span : Span} (old mid new : State) (r : Result (String A) Error) → ((u : List ℕ) × TookValue old (text u true) mid × IsSliceAt mid.input u span.start span.end) → OwnsTextAt span mid new r → ReadsAs string_kind string_bytes old new r
-own_value old mid new (Ok t) (u, took, stands) (same, bytes) =
-    subst (λ s. ReadsAs string_kind string_bytes old s (Ok t)) (sym same) (reads_ok string_kind string_bytes old mid t (text u true, took, ap Some (sym (bytes u stands))))
-own_value old mid new (Err e) (u, took, stands) (lacks, gives_up) = record {
-  sound = tt;
-  complete = record { memory = λ t r c live reads shallow is. lacks.kind };
-  no_memory = λ t r c live reads shallow is allocation_free. absurd (cc);
-  refused = inl lacks;
-  unprompted = λ live. memory_other e lacks.kind;
-  same_text = gives_up.same_text ∙ input_of took.rest;
-  failed = gives_up.failed;
-  before = λ h. absurd (true_false h took.live);
-}
+-- ---- an owned copy of a key
 
 -- a key whose text is kept in some form
 pub kept_key : {K : Type 0} {span : Span} (content : K → List ℕ) (old mid new : State) (k : K) → ((u : List ℕ) × TookKey old u true mid × IsSliceAt mid.input u span.start span.end) → (new ≡ mid) × IsTextAt mid.input span (content k) → ReadsKeyAs string_key content old new (Ok k)

@@ -40,9 +40,6 @@ impl<I: Input> Deserializer<I> {
     pub fn deserialize_string(&mut self) -> Result<String>
         ensures { ReadsAs string_kind string_bytes self.old self.new result }
     {
-        if let Some(span) = self.short_string() {
-            return self.own_text(span);
-        }
         match self.short_string_owned() {
             Some(text) => Ok(text),
             None => self.string_slowly(),
