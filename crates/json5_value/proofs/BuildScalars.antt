@@ -20,7 +20,7 @@ use Rattle.json5_grammar.proofs.ValuesSound.{text_stops}
 use Rattle.json5_grammar.proofs.ValueSteps.{read_quote, read_numeral, read_missing}
 use Rattle.json5_types.specs.declared.error.Error.{Error}
 use Rattle.json5_types.specs.declared.value.Value.{Value}
-use Rattle.json5_text.specs.Cursor.{Cursor, Took, IsOutOfMemory}
+use Rattle.json5_text.specs.Cursor.{Cursor, Took}
 use Rattle.json5_types.specs.Errors.{code, kind_of, error_position}
 use Rattle.json5_text.specs.TokenFaults.{FaultyNumber, FaultyString}
 use Rattle.json5_types.specs.declared.value.Value as value
@@ -33,14 +33,13 @@ use Rattle.json5_value.specs.declared.kinds.Literal.TheVariants as literal
 use Rattle.json5_value.specs.declared.kinds.ValueKind.{ValueKind}
 use Rattle.json5_value.specs.declared.kinds.ValueKind.TheVariants as kind
 use Rattle.json5_value.specs.declared.brackets.BracketKind.{BracketKind}
-use Rattle.json5_value.specs.declared.scalars.ShortValue.{ShortValue}
 use Rattle.json5_value.specs.declared.unfinished.Next.TheVariants as next
 use Rattle.json5_value.specs.Opening.{OpensKind}
 use Rattle.json5_value.specs.BuildSteps.{BeginsValue}
 use Rattle.json5_value.specs.TreeMeanings.{datum_of}
 use Rattle.json5_value.specs.OwnedReads.{Keeps, IsOfTree, KeepsValue, KeepsShort, ReadsScalar, as_datum, tree_at, datum_at, datum_of_literal}
 use Rattle.json5_value.specs.Kinds.{kind_at, word_of}
-use Rattle.json5_value.specs.ModelSteps.{IsInside, SameText, RefusesRead, Gave, Steps, RefusesToken, value_at}
+use Rattle.json5_value.specs.ModelSteps.{IsInside, RefusesRead, Gave, Steps, RefusesToken, value_at}
 use Rattle.json5_value.proofs.NoFailedCode.{Lacks, faulty_number_lacks, faulty_string_lacks}
 use Rattle.json5_value.proofs.SkipScalars.{tests_of}
 use Rattle.json5_value.proofs.ModelSteps.{same_of, none_next, some_next, blames_as, blames_made, blames_refused}
@@ -140,9 +139,6 @@ value_begun old new v k = record { begun = k; refused = tt; same_text = (k 0).to
 pub bracket_in_front : (old : Cursor) (c : ℕ) (k : BracketKind) → slice_get old.unread 0 ≡ Some c → OpensKind c (Some k) → BeginsValue old old (Ok (next.Opens k))
 bracket_in_front old c k first opens = record { begun = (refl, first ∙ ap (λ z. Some z) opens); refused = tt; same_text = refl }
 
-pub memory_lost : (old new : Cursor) (e : Error) → IsOutOfMemory e → SameText old new → BeginsValue old new (Err e)
-memory_lost old new e memory same = record { begun = tt; refused = inl memory; same_text = same }
-
 pub scalar_begun : (old new : Cursor) (v : Value) → ReadsScalar old new (Ok v) → BeginsValue old new (Ok (next.Ended v))
 scalar_begun old new v k = value_begun old new v k.given
 
@@ -160,5 +156,5 @@ pub scalar_kept : (old new : Cursor) (v : Value) → ((room : ℕ) → Keeps IsO
 scalar_kept old new v k = record { given = λ room. datum_kept room old new v (k room); refused = tt; same_text = tt }
 
 -- nothing was taken before it
-pub short_front : (old mid new : Cursor) (result : ShortValue) → mid ≡ old → KeepsShort mid new result → KeepsShort old new result
+pub short_front : (old mid new : Cursor) (result : Option Value) → mid ≡ old → KeepsShort mid new result → KeepsShort old new result
 short_front old mid new result same k = subst (λ (s : Cursor). KeepsShort s new result) same k

@@ -1,5 +1,5 @@
 -- What is taken at once takes what reading on lists takes.
-use Rattle.std.proofs.Common.{◌≡◌, ℕ, Bool, true, false, List, [], ◌∷◌, ◌++◌, refl, ap, sym, ◌∙◌, subst, append_assoc, arith, inl, inr, Option, Some, None, String, string_bytes}
+use Rattle.std.proofs.Common.{◌≡◌, ℕ, Bool, true, false, List, [], ◌∷◌, ◌++◌, refl, ap, sym, ◌∙◌, subst, append_assoc, arith, inl, inr, Option, Some, None, String}
 use Rattle.std.specs.Prelude.{◌==◌, Result, Ok, is_some}
 use Rattle.std.specs.declared.alloc.Global.{Global}
 use Rattle.std.specs.Str.{all_scalars}
@@ -17,7 +17,7 @@ use Rattle.json5_grammar.specs.Model.ReadTexts.{key}
 use Rattle.json5_grammar.specs.Model.ReadValues.{read, colon_at}
 use Rattle.json5_grammar.specs.Language.Trees as trees
 use Rattle.json5_grammar.specs.Language.Strings.{Str}
-use Rattle.json5_grammar.specs.Language.Values.{Val, is_number, is_text}
+use Rattle.json5_grammar.specs.Language.Values.{Val, Reads, is_number, is_text}
 use Rattle.json5_grammar.proofs.CommonLemmas.{same_char}
 use Rattle.json5_grammar.proofs.BlanksRead.{begins_solid}
 use Rattle.json5_grammar.proofs.BlanksSound.{gap_read, gap_before, one_gap}
@@ -40,8 +40,7 @@ use Rattle.json5_text.specs.declared.short_texts.Span.{Span}
 use Rattle.json5_text.specs.ShortWays.{AfterGap, StepsTo, IsStep, Stepped, TookNumber, TakesShortStep, TakesShortSign}
 use Rattle.json5_text.specs.ShortNumberSkips.{TakesShortNumber}
 use Rattle.json5_text.specs.ShortWords.{TakesShortWord}
-use Rattle.json5_text.specs.ShortTexts.{TakesShortKey, TakesShortString, IsTextAt}
-use Rattle.json5_text.specs.TextTokens.{IsSliceAt}
+use Rattle.json5_text.specs.ShortTexts.{TakesShortKey, TakesShortString, TookShortOwned}
 use Rattle.json5_value.specs.declared.brackets.BracketPair.{BracketPair}
 use Rattle.json5_value.specs.declared.brackets.BracketKind.{BracketKind as OwnKind}
 use Rattle.json5_value.specs.declared.kinds.Literal.{Literal}
@@ -155,15 +154,15 @@ closing_gave k b comma_due old mid new ate e s taken kept =
 -- ---- strings
 
 -- no blanks stand before it
-string_split : (old new : Cursor) (span : Span) → AtKind kinds.String old → (k : TakesShortString old new (Some span)) → old.unread ≡ k.read.phrase ++ new.unread
-string_split old new span at k =
+string_split : (old new : Cursor) {u : List ℕ} {escape_free : Bool} → AtKind kinds.String old → (k : Reads old.unread (trees.text u escape_free) new.unread) → old.unread ≡ k.phrase ++ new.unread
+string_split old new {u = u} {escape_free = escape_free} at k =
     let (r, x) = some_next old.unread at.char at.first in
     let solid : Solid old.unread = subst Solid (sym x) (begins_solid at.char r (begins_value_solid at.char (quote_begins at.char (tests_of at.char (kind_at at.char) kinds.String refl at.is)))) in
-    phrase_found old.unread [] old.unread new.unread (trees.text k.spelled true) refl (blanks.Gap.blanks blanks.Blanks.empty) solid k.read
+    phrase_found old.unread [] old.unread new.unread (trees.text u escape_free) refl (blanks.Gap.blanks blanks.Blanks.empty) solid k
 
 string_passed : (old new : Cursor) (span : Span) → AtKind kinds.String old → TakesShortString old new (Some span) → PassesShort old new true
 string_passed old new span at k room =
-    let split = string_split old new span at k in
+    let split = string_split old new at k.read in
     record {
       reads = ap (λ z. forget (read room z)) split ∙ ap forget (read_complete k.read.value new.unread k.read.stops room (omega arith));
       taken = k.read.phrase;
@@ -204,10 +203,9 @@ number_short old new true at (n, k) = λ room.
 str_of : {s u : List ℕ} {escape_free : Bool} → Val s (trees.text u escape_free) → Str s u escape_free
 str_of (is_text k) = k
 
-pub string_kept : (room : ℕ) (old new : Cursor) (span : Span) (t : String Global) → AtKind kinds.String old → all_scalars old.unread ≡ true → TakesShortString old new (Some span) → IsTextAt new.input span (string_bytes t) → Keeps IsOfTree (tree_at room old) old new (Ok (value.String t))
-string_kept room old new span t at scalars k is =
-    let split = string_split old new span at k in
-    text_taken room old new t scalars (k.read.phrase, k.spelled, true, record { split = split; same = k.same }, str_of k.read.value, is k.spelled (subst (λ z. IsSliceAt z k.spelled span.start span.end) (sym k.same) k.stands))
+pub string_kept : (room : ℕ) (old new : Cursor) (t : String Global) → AtKind kinds.String old → all_scalars old.unread ≡ true → TookShortOwned old new t → Keeps IsOfTree (tree_at room old) old new (Ok (value.String t))
+string_kept room old new t at scalars k =
+    text_taken room old new t scalars (k.read.phrase, k.spelled, k.escape_free, record { split = string_split old new at k.read; same = k.same }, str_of k.read.value, k.bytes)
 
 -- ---- numbers, which are kept
 

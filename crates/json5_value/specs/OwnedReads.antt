@@ -1,5 +1,5 @@
 -- Steps that keep what they read: a key, a value that is no collection.
-use Rattle.std.specs.Prelude.{◌≡◌, ◌⊎◌, ℕ, Bool, true, false, cond, List, Option, None, Result, MatchResult, IfOk, IfErr, OnErr, String, string_bytes}
+use Rattle.std.specs.Prelude.{◌≡◌, ◌⊎◌, ℕ, Bool, true, false, cond, List, Option, None, Result, MatchOption, MatchResult, IfOk, IfErr, OnErr, String, string_bytes}
 use Rattle.std.specs.declared.alloc.Global.{Global}
 use Rattle.std.specs.Str.{chars, encode_utf8_all}
 use Rattle.json5_grammar.specs.Faults.Fronts.{of_object}
@@ -19,8 +19,6 @@ use Rattle.json5_types.specs.ValueMeanings.{Datum, value_of}
 use Rattle.json5_types.specs.ValueMeanings as datum
 use Rattle.json5_value.specs.declared.kinds.Literal.{Literal}
 use Rattle.json5_value.specs.declared.kinds.Literal.TheVariants as literal
-use Rattle.json5_value.specs.declared.scalars.ShortValue.{ShortValue}
-use Rattle.json5_value.specs.declared.scalars.ShortValue.TheVariants as short
 use Rattle.json5_value.specs.TreeMeanings.{datum_of}
 use Rattle.json5_value.specs.ModelSteps.{SameText, RefusesRead, Gave}
 
@@ -82,11 +80,9 @@ IsOfTree v t = value_of v ≡ datum_of t
 abbrev pub KeepsValue : Cursor → Cursor → Value → Type 0
 KeepsValue old new v = (room : ℕ) → Gave (datum_at room old) (value_of v) old new
 
--- the same, or nothing was taken, or memory ran out
-abbrev pub KeepsShort : Cursor → Cursor → ShortValue → Type 0
-KeepsShort old new (short.Value v) = KeepsValue old new v
-KeepsShort old new short.Other = new ≡ old
-KeepsShort old new short.NoMemory = SameText old new
+-- the same, or nothing was taken
+abbrev pub KeepsShort : Cursor → Cursor → Option Value → Type 0
+KeepsShort old new result = MatchOption result (new ≡ old) (KeepsValue old new)
 
 -- a value that is no collection is read
 pub record ReadsScalar (old new : Cursor) (result : Result Value Error) : Type 0 where

@@ -75,86 +75,59 @@ pub(crate) fn read_scalar<I: Input>(
     }
 }
 
-/// What a short way to a value came to.
-#[derive(Drop)]
-pub(crate) enum ShortValue {
-    /// The value was taken.
-    Value(Value),
-    /// Nothing was taken.
-    Other,
-    /// Memory ran out.
-    NoMemory,
-}
-
-/// Takes a string with its escapes.
-#[inline(always)]
-fn short_escaped<I: Input>(scanner: &mut Scanner<I>) -> ShortValue
-    ensures { KeepsShort scanner.old scanner.new result }
-{
-    // Goals below need what `offset` promises: what is unread is the end of the input.
-    let _offset = scanner.offset();
-    match scanner.short_string_owned() {
-        Some(text) => ShortValue::Value(Value::String(text)),
-        None => ShortValue::Other,
-    }
-}
-
 /// Takes a string.
 #[inline(always)]
-fn short_text<I: Input>(scanner: &mut Scanner<I>) -> ShortValue
+fn short_text<I: Input>(scanner: &mut Scanner<I>) -> Option<Value>
     requires { AtKind kind.String scanner.old }
     ensures { KeepsShort scanner.old scanner.new result }
 {
     // Goals below need what `offset` promises: what is unread is the end of the input.
     let _offset = scanner.offset();
-    let Some(span) = scanner.short_string() else {
-        return short_escaped(scanner);
-    };
-    match String::from_str(scanner.allocator(), scanner.text_of_span(span)) {
-        Ok(text) => ShortValue::Value(Value::String(text)),
-        Err(_) => ShortValue::NoMemory,
+    match scanner.short_string_owned() {
+        Some(text) => Some(Value::String(text)),
+        None => None,
     }
 }
 
 /// Takes a decimal whose digits take no memory. It isn't inlined, since it has more locals than the loops that need it.
 #[inline(never)]
-fn short_decimal<I: Input>(scanner: &mut Scanner<I>) -> ShortValue
+fn short_decimal<I: Input>(scanner: &mut Scanner<I>) -> Option<Value>
     requires { AtKind kind.Number scanner.old }
     ensures { KeepsShort scanner.old scanner.new result }
 {
     match scanner.short_decimal() {
-        Some(decimal) => ShortValue::Value(Value::Decimal(decimal)),
-        None => ShortValue::Other,
+        Some(decimal) => Some(Value::Decimal(decimal)),
+        None => None,
     }
 }
 
 /// Takes a number of few digits.
 #[inline(always)]
-fn short_number<I: Input>(scanner: &mut Scanner<I>) -> ShortValue
+fn short_number<I: Input>(scanner: &mut Scanner<I>) -> Option<Value>
     requires { AtKind kind.Number scanner.old }
     ensures { KeepsShort scanner.old scanner.new result }
 {
     match scanner.short_whole(i128::MIN, i128::MAX) {
-        Some(number) => ShortValue::Value(Value::Whole(Whole::from_i128(number))),
+        Some(number) => Some(Value::Whole(Whole::from_i128(number))),
         None => short_decimal(scanner),
     }
 }
 
 /// Takes the literal.
 #[inline(always)]
-fn kept_literal<I: Input>(scanner: &mut Scanner<I>, literal: Literal) -> ShortValue
+fn kept_literal<I: Input>(scanner: &mut Scanner<I>, literal: Literal) -> Option<Value>
     ensures { KeepsShort scanner.old scanner.new result }
 {
     if short_literal(scanner, literal) {
-        return ShortValue::Value(value_of_literal(literal));
+        return Some(value_of_literal(literal));
     }
-    ShortValue::Other
+    None
 }
 
 /// Takes a value that is no collection and begins with the character, if it has a short way. The result holds no error, so a loop over
 /// values sets nothing to zero for one that has a short way.
 #[inline(always)]
-pub(crate) fn short_value<I: Input>(scanner: &mut Scanner<I>, c: char) -> ShortValue
+pub(crate) fn short_value<I: Input>(scanner: &mut Scanner<I>, c: char) -> Option<Value>
     requires { AtScalar c scanner.old }
     ensures { KeepsShort scanner.old scanner.new result }
 {
@@ -162,7 +135,7 @@ pub(crate) fn short_value<I: Input>(scanner: &mut Scanner<I>, c: char) -> ShortV
         ValueKind::Literal(literal) => kept_literal(scanner, literal),
         ValueKind::String => short_text(scanner),
         ValueKind::Number => short_number(scanner),
-        ValueKind::Other => ShortValue::Other,
+        ValueKind::Other => None,
     }
 }
 

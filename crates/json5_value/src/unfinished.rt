@@ -11,7 +11,7 @@ use crate::entries::{next_entry, skip_colon};
 use crate::faults::{leave_code, place_fault};
 use crate::growth::add_entry;
 use crate::owned_tokens::{own_key, take_key};
-use crate::scalars::{ShortValue, read_scalar, short_value};
+use crate::scalars::{read_scalar, short_value};
 use json5_text::input::Input;
 use json5_text::scanner::Scanner;
 use json5_types::ErrorCode;
@@ -66,12 +66,8 @@ pub(crate) fn begin_value<I: Input>(scanner: &mut Scanner<I>, fault: &mut Error)
         return Some(Next::Opens(kind));
     }
     match short_value(scanner, c) {
-        ShortValue::Value(value) => Some(Next::Ended(value)),
-        ShortValue::Other => begin_slowly(scanner, c, fault),
-        ShortValue::NoMemory => {
-            leave_code(ErrorCode::OutOfMemory, fault);
-            None
-        }
+        Some(value) => Some(Next::Ended(value)),
+        None => begin_slowly(scanner, c, fault),
     }
 }
 

@@ -3,7 +3,7 @@ use Rattle.json5_text.specs.Cursor.{Cursor}
 use Rattle.json5_value.specs.BuildSteps.{BeginsValue}
 use Rattle.json5_value.specs.Opening.{AtScalar}
 use Rattle.json5_value.specs.ModelSteps.{answered}
-use Rattle.json5_value.proofs.BuildScalars.{nothing_left, bracket_in_front, value_begun, memory_lost}
+use Rattle.json5_value.proofs.BuildScalars.{nothing_left, bracket_in_front, value_begun}
 use Rattle.json5_value.proofs.SkipScalars.{at_scalar}
 use Rattle.json5_value.proofs.unfinished.begin_value.Goals as goal
 
@@ -16,15 +16,12 @@ returns-in-Some-kind_opened g c = bracket_in_front c.args.scanner.now c.in-Some.
 pub short_value-requires : goal.short_value-requires
 short_value-requires g c = at_scalar c.args.scanner.now c.in-Some.c c.kind_opened.result c.requires (sym c.peek.ensures ∙ c.in-Some.is) c.in_default-kind_opened.is c.kind_opened.ensures
 
-pub returns-in-Value : goal.returns-in-Value
-returns-in-Value g c = value_begun c.args.scanner.now c.short_value.new.scanner c.in-Value.value c.in-Value.ensures
+pub returns-in-Some-short_value : goal.returns-in-Some-short_value
+returns-in-Some-short_value g c = value_begun c.args.scanner.now c.short_value.new.scanner c.in-Some-short_value.value c.in-Some-short_value.ensures
 
 pub begin_slowly-requires : goal.begin_slowly-requires
 begin_slowly-requires g c =
-    subst (AtScalar c.in-Some.c) (sym c.in-Other.ensures) (at_scalar c.args.scanner.now c.in-Some.c c.kind_opened.result c.requires (sym c.peek.ensures ∙ c.in-Some.is) c.in_default-kind_opened.is c.kind_opened.ensures)
+    subst (AtScalar c.in-Some.c) (sym c.in-None.ensures) (at_scalar c.args.scanner.now c.in-Some.c c.kind_opened.result c.requires (sym c.peek.ensures ∙ c.in-Some.is) c.in_default-kind_opened.is c.kind_opened.ensures)
 
-pub returns-in-Other : goal.returns-in-Other
-returns-in-Other g c = subst (λ (s : Cursor). BeginsValue s c.begin_slowly.new.scanner (answered c.begin_slowly.result c.begin_slowly.new.fault)) c.in-Other.ensures c.begin_slowly.ensures
-
-pub returns-in-NoMemory : goal.returns-in-NoMemory
-returns-in-NoMemory g c = memory_lost c.args.scanner.now c.short_value.new.scanner c.leave_code-in-NoMemory.new.fault c.leave_code-in-NoMemory.ensures.kind c.in-NoMemory.ensures
+pub returns-in-None : goal.returns-in-None
+returns-in-None g c = subst (λ (s : Cursor). BeginsValue s c.begin_slowly.new.scanner (answered c.begin_slowly.result c.begin_slowly.new.fault)) c.in-None.ensures c.begin_slowly.ensures
