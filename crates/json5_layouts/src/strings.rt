@@ -15,12 +15,12 @@ use crate::layout::{Form, Spelling};
 use crate::lines::colon;
 use json5_write::Printer;
 use json5_write::refusal::Put;
-use json5_write::sink::Sink;
+use json5_write::joined_write::JoinedWrite;
 use std::io::Write;
 
 /// Writes a string.
 #[inline(always)]
-pub(crate) fn put_string<W: Sink + Drop>(
+pub(crate) fn put_string<W: JoinedWrite + Drop>(
     text: &str,
     spelling: Spelling,
     printer: &mut Printer<W>,
@@ -28,14 +28,14 @@ pub(crate) fn put_string<W: Sink + Drop>(
     ensures { Puts (piece (string_in spelling (chars text.now))) printer.old result printer.new }
 {
     match spelling {
-        Spelling::Json5 => printer.put_str_at_once(text),
+        Spelling::Json5 => printer.put_str(text),
         Spelling::Json => put_json_string(text, printer),
     }
 }
 
 /// Writes a key and the colon after it.
 #[inline(always)]
-pub(crate) fn put_key<W: Sink + Drop>(text: &str, form: &Form, printer: &mut Printer<W>) -> Put
+pub(crate) fn put_key<W: JoinedWrite + Drop>(text: &str, form: &Form, printer: &mut Printer<W>) -> Put
     ensures { Puts (piece (key_in form.now.spelling (chars text.now) ++ colon_sign ∷ gap_in form.now.layout)) printer.old result printer.new }
 {
     match form.spelling {
@@ -52,7 +52,7 @@ pub(crate) fn put_key<W: Sink + Drop>(text: &str, form: &Form, printer: &mut Pri
 
 /// Writes the text between double quotes.
 #[inline(always)]
-fn put_json_string<W: Sink + Drop>(text: &str, printer: &mut Printer<W>) -> Put
+fn put_json_string<W: JoinedWrite + Drop>(text: &str, printer: &mut Printer<W>) -> Put
     ensures { Puts (piece (json_string (chars text.now))) printer.old result printer.new }
 {
     if skip_unescaped(text).is_empty() {

@@ -19,12 +19,12 @@ use json5_types::whole::Whole;
 use json5_write::Printer;
 use json5_write::literals::bool_name;
 use json5_write::refusal::Put;
-use json5_write::sink::Sink;
+use json5_write::joined_write::JoinedWrite;
 
 /// Writes a value within so many brackets.
 #[cycle(laid)]
 #[inline(always)]
-pub(crate) fn put_value<W: Sink + Drop>(
+pub(crate) fn put_value<W: JoinedWrite + Drop>(
     value: &Value,
     form: &Form,
     depth: usize,
@@ -47,7 +47,7 @@ pub(crate) fn put_value<W: Sink + Drop>(
 
 /// Writes the decimal digits of a whole number of either sign.
 #[inline(always)]
-fn put_whole<W: Sink + Drop>(number: Whole, printer: &mut Printer<W>) -> Put
+fn put_whole<W: JoinedWrite + Drop>(number: Whole, printer: &mut Printer<W>) -> Put
     ensures { PutsTree (integer number) printer.old result printer.new }
 {
     if let Some(positive) = number.as_u128() {
@@ -60,7 +60,7 @@ fn put_whole<W: Sink + Drop>(number: Whole, printer: &mut Printer<W>) -> Put
 /// Writes an array of the values.
 #[cycle(laid)]
 #[inline(always)]
-fn put_array<W: Sink + Drop>(
+fn put_array<W: JoinedWrite + Drop>(
     items: &[Value],
     form: &Form,
     depth: usize,
@@ -78,7 +78,7 @@ fn put_array<W: Sink + Drop>(
 
 /// Writes an array on one line.
 #[cycle(laid)]
-fn put_items_on_line<W: Sink + Drop>(
+fn put_items_on_line<W: JoinedWrite + Drop>(
     items: &[Value],
     form: &Form,
     depth: usize,
@@ -101,7 +101,7 @@ fn put_items_on_line<W: Sink + Drop>(
 
 /// Writes an array of which each element begins a line.
 #[cycle(laid)]
-fn put_items<W: Sink + Drop>(
+fn put_items<W: JoinedWrite + Drop>(
     items: &[Value],
     form: &Form,
     depth: usize,
@@ -126,7 +126,7 @@ fn put_items<W: Sink + Drop>(
 /// Writes an object of the members, in their order.
 #[cycle(laid)]
 #[inline(always)]
-fn put_object<W: Sink + Drop>(
+fn put_object<W: JoinedWrite + Drop>(
     fields: &[(String, Value)],
     form: &Form,
     depth: usize,
@@ -144,7 +144,7 @@ fn put_object<W: Sink + Drop>(
 
 /// Writes an object on one line.
 #[cycle(laid)]
-fn put_fields_on_line<W: Sink + Drop>(
+fn put_fields_on_line<W: JoinedWrite + Drop>(
     fields: &[(String, Value)],
     form: &Form,
     depth: usize,
@@ -167,7 +167,7 @@ fn put_fields_on_line<W: Sink + Drop>(
 
 /// Writes an object of which each member begins a line.
 #[cycle(laid)]
-fn put_fields<W: Sink + Drop>(
+fn put_fields<W: JoinedWrite + Drop>(
     fields: &[(String, Value)],
     form: &Form,
     depth: usize,
@@ -192,7 +192,7 @@ fn put_fields<W: Sink + Drop>(
 /// Writes a key, a colon and a value.
 #[cycle(laid)]
 #[inline(always)]
-fn put_entry<W: Sink + Drop>(
+fn put_entry<W: JoinedWrite + Drop>(
     key: &str,
     value: &Value,
     form: &Form,

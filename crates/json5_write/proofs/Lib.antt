@@ -2,6 +2,7 @@
 pub mod OutputsJoined
 pub mod PiecesWritten
 pub mod QuotesWritten
+pub mod DecimalDigits
 pub mod ShortWritesJoined
 pub mod TextsWhole
 pub mod QuotesFound

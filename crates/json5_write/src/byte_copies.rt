@@ -1,9 +1,11 @@
 //! Copies into a row of bytes.
 
-ghost use Rattle.std.specs.Prelude.{◌+◌, ◌<◌, ◌≤◌, [], ◌∷◌, length, take};
+ghost use Rattle.std.specs.Prelude.{◌≡◌, ◌+◌, ◌<◌, ◌≤◌, [], ◌∷◌, length, take};
+ghost use Rattle.std.specs.Fmt.{decimal};
 ghost use Rattle.json5_write.specs.Copies.{Copied};
 ghost use Rattle.json5_write.specs.Pieces.{between_quotes};
 
+use itoa::{Buffer, write_digits};
 use std::simd::Simd;
 
 /// Copies the first N bytes, with one load and one store.
@@ -74,4 +76,54 @@ pub(crate) fn copy_between_quotes(row: &mut [u8], at: usize, text: &[u8])
     copy_byte(row, at, b'"');
     copy_to(row, at + 1, text);
     copy_byte(row, at + 1 + text.len(), b'"');
+}
+
+/// Copies a byte to this place, and after it the text between double quotes.
+#[inline(always)]
+pub(crate) fn copy_quoted_after(row: &mut [u8], at: usize, mark: u8, text: &[u8])
+    requires { at + (length text.now + 3) ≤ length row.old }
+    ensures { Copied row.old row.new at (mark ∷ between_quotes text.now) (at + (length text.now + 3)) }
+{
+    copy_byte(row, at, mark);
+    copy_between_quotes(row, at + 1, text);
+}
+
+/// How many decimal digits a number below 1,000 has.
+#[inline(always)]
+fn short_len(number: u64) -> usize
+    requires { number < 1000 }
+    ensures { result ≡ length (decimal number) }
+{
+    match number {
+        0..=9 => 1,
+        10..=99 => 2,
+        _ => 3,
+    }
+}
+
+/// Copies the decimal digits of the number to this place, and returns where they end. Those of a number below 1,000 are made there.
+#[inline(always)]
+fn copy_digits(row: &mut [u8], at: usize, number: u64) -> usize
+    requires { at + 20 ≤ length row.old }
+    ensures { Copied row.old row.new at (decimal number) result }
+{
+    if number >= 1000 {
+        let mut buffer = Buffer::new();
+        let digits = buffer.format(number).as_bytes();
+        copy_to(row, at, digits);
+        return at + digits.len();
+    }
+    let end = at + short_len(number);
+    write_digits(number, row, end);
+    end
+}
+
+/// Copies a byte to this place, and after it the decimal digits of the number. Returns where they end.
+#[inline(always)]
+pub(crate) fn copy_number_after(row: &mut [u8], at: usize, mark: u8, number: u64) -> usize
+    requires { at + 21 ≤ length row.old }
+    ensures { Copied row.old row.new at (mark ∷ decimal number) result }
+{
+    copy_byte(row, at, mark);
+    copy_digits(row, at + 1, number)
 }

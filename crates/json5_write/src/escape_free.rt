@@ -57,7 +57,7 @@ pub(crate) fn skip_escape_free(text: &str) -> &str
 }
 
 /// Whether all characters are written as they are between any quotes, and no character is a quote.
-pub(crate) fn is_escape_free(text: &str) -> bool
+pub fn is_escape_free(text: &str) -> bool
     ensures { IsTrue result → Each is_escape_free (chars text.now) }
 {
     skip_escape_free(text).is_empty()

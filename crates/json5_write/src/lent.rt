@@ -2,8 +2,9 @@
 
 ghost use Rattle.json5_write.specs.ReferencedWriters.{named};
 
-use crate::sink::Sink;
+use crate::joined_write::JoinedWrite;
 use crate::write_whole::write_whole;
+use itoa::Buffer;
 use std::io;
 use std::io::Write;
 
@@ -25,11 +26,21 @@ impl<W: Write> Write for Lent<'_, W> {
     }
 }
 
-impl<W: Write> Sink for Lent<'_, W> {
+impl<W: Write> JoinedWrite for Lent<'_, W> {
     #[inline(always)]
     fn write_between_quotes(&mut self, text: &[u8]) -> io::Result<()> {
         write_whole(self, b"\"")?;
         write_whole(self, text)?;
         write_whole(self, b"\"")
+    }
+
+    fn write_quoted_after(&mut self, mark: u8, text: &[u8]) -> io::Result<()> {
+        write_whole(self, &[mark])?;
+        self.write_between_quotes(text)
+    }
+
+    fn write_number_after(&mut self, mark: u8, number: u64) -> io::Result<()> {
+        write_whole(self, &[mark])?;
+        write_whole(self, Buffer::new().format(number).as_bytes())
     }
 }

@@ -6,15 +6,15 @@
 
 pub mod brackets;
 mod byte_copies;
-mod escape_free;
+pub mod escape_free;
 mod identifiers;
+pub mod joined_write;
 pub mod lent;
 mod line_starts;
 pub mod literals;
 pub mod printer;
 mod quoting;
 pub mod refusal;
-pub mod sink;
 pub mod string_writer;
 pub mod value;
 mod whole_values;

@@ -11,8 +11,8 @@ ghost use Rattle.json5_write.specs.ShortWrites.{Puts};
 ghost use Rattle.json5_write.specs.WrittenTrees.{named};
 ghost use Rattle.json5_write.specs.Writes.{SerializerState, fresh_within, at_depth, after_closing};
 
+mod joined;
 mod numbers;
-mod quotes;
 mod strings;
 
 use crate::brackets::Brackets;

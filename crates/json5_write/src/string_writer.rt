@@ -2,8 +2,8 @@
 
 ghost use Rattle.std.specs.Prelude.{◌≡◌, ◌+◌, ◌≤◌, [], Some, take, vec_len, OnOk};
 
-use crate::byte_copies::{copy_between_quotes, copy_to};
-use crate::sink::Sink;
+use crate::byte_copies::{copy_between_quotes, copy_number_after, copy_quoted_after, copy_to};
+use crate::joined_write::JoinedWrite;
 use std::alloc::{AllocError, Global};
 use std::io::{self, ErrorKind, Write};
 use std::marker::Model;
@@ -84,7 +84,7 @@ impl Write for StringWriter {
     }
 }
 
-impl Sink for StringWriter {
+impl JoinedWrite for StringWriter {
     #[inline(always)]
     fn write_between_quotes(&mut self, text: &[u8]) -> io::Result<()> {
         let room = self.bytes.len() - self.len;
@@ -94,6 +94,29 @@ impl Sink for StringWriter {
         }
         copy_between_quotes(&mut self.bytes, self.len, text);
         self.len += count;
+        Ok(())
+    }
+
+    #[inline(always)]
+    fn write_quoted_after(&mut self, mark: u8, text: &[u8]) -> io::Result<()> {
+        let room = self.bytes.len() - self.len;
+        let count = text.len() + 3;
+        if room < count && add_zeros(&mut self.bytes, count - room).is_err() {
+            return Err(io::Error::from(ErrorKind::OutOfMemory));
+        }
+        copy_quoted_after(&mut self.bytes, self.len, mark, text);
+        self.len += count;
+        Ok(())
+    }
+
+    /// Makes room for the longest number.
+    #[inline(always)]
+    fn write_number_after(&mut self, mark: u8, number: u64) -> io::Result<()> {
+        let room = self.bytes.len() - self.len;
+        if room < 21 && add_zeros(&mut self.bytes, 21 - room).is_err() {
+            return Err(io::Error::from(ErrorKind::OutOfMemory));
+        }
+        self.len = copy_number_after(&mut self.bytes, self.len, mark, number);
         Ok(())
     }
 }

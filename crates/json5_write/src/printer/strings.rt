@@ -40,7 +40,7 @@ impl<W: Write + Drop> Printer<W> {
 
     /// Writes the text between the quotes that are for it.
     #[inline(never)]
-    pub(crate) fn put_quoted(&mut self, text: &str) -> Put
+    pub fn put_quoted(&mut self, text: &str) -> Put
         ensures { Puts (piece (quoted_text (chars text.now))) self.old result self.new }
     {
         let quote = Quote::around(text);

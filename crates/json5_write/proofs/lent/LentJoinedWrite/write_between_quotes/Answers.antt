@@ -1,6 +1,6 @@
 use Rattle.std.proofs.Common.{[], ◌∷◌, ◌++◌}
 use Rattle.json5_write.proofs.QuotesWritten.{pushed_stop, pushed_then}
-use Rattle.json5_write.proofs.lent.LentSink.write_between_quotes.Goals as goal
+use Rattle.json5_write.proofs.lent.LentJoinedWrite.write_between_quotes.Goals as goal
 
 pub returns-in_err-write_whole : goal.returns-in_err-write_whole
 returns-in_err-write_whole g c = pushed_stop _ _ (34 ∷ []) (c.args.text.now ++ 34 ∷ []) _ _ c.from_residual.ensures.1 c.in_err-write_whole.ensures
