@@ -84,13 +84,13 @@ impl Fault {
         }
     }
 
-    /// The code and its offset, where it has one.
-    pub(crate) fn code(&self) -> Option<(ErrorCode, Option<usize>)> {
+    /// The code and its offset, or else the one of the last value.
+    pub(crate) fn code(&self, last: usize) -> Option<(ErrorCode, usize)> {
         match self {
-            Fault::Bare(code) => Some((*code, None)),
-            Fault::Code(code, at) => Some((*code, Some(*at))),
+            Fault::Bare(code) => Some((*code, last)),
+            Fault::Code(code, at) => Some((*code, *at)),
             Fault::Long(long) => match long.as_ref() {
-                Long::Scanned(error, _) => Some((error.code()?, None)),
+                Long::Scanned(error, _) => Some((error.code()?, last)),
                 Long::Said(_, _, _) => None,
             },
             _ => None,

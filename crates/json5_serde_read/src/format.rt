@@ -7,38 +7,33 @@ use crate::reader::{Json5, Saved, Step};
 use fast_float::FastFloat;
 use json5_grammar::error_code::ErrorCode;
 use json5_types::cow_str::CowStr;
-use json5_types::whole::Whole;
 use json5_value::brackets::BracketKind;
 use json5_value::kinds::Literal;
 use serde::{Format, Kind, Name};
 use std::alloc::Global;
 
-/// Why a whole number isn't in the range of a type.
-#[cold]
-fn out_of_range(whole: Whole) -> Wanted {
-    match whole.as_u128() {
-        Some(_) => Wanted::In64Bits,
-        None => Wanted::NotNegative,
-    }
-}
-
 impl<'t> Json5<'t> {
     /// An integer that has no short way.
     #[inline(never)]
     fn long_i64(&mut self) -> Step<i64> {
-        match self.whole()?.as_i128().and_then(|n| i64::try_from(n).ok()) {
-            Some(n) => Ok(n),
-            None => Err(Fault::Misfit(Wanted::In64Bits, self.last)),
+        if let Some(n) = self.whole()?.as_i128() {
+            if let Ok(n) = i64::try_from(n) {
+                return Ok(n);
+            }
         }
+        Err(Fault::Misfit(Wanted::In64Bits, self.last))
     }
 
     /// An integer that has no short way.
     #[inline(never)]
     fn long_u64(&mut self) -> Step<u64> {
         let whole = self.whole()?;
-        match whole.as_u128().and_then(|n| u64::try_from(n).ok()) {
-            Some(n) => Ok(n),
-            None => Err(Fault::Misfit(out_of_range(whole), self.last)),
+        let Some(n) = whole.as_u128() else {
+            return Err(Fault::Misfit(Wanted::NotNegative, self.last));
+        };
+        match u64::try_from(n) {
+            Ok(n) => Ok(n),
+            Err(_) => Err(Fault::Misfit(Wanted::In64Bits, self.last)),
         }
     }
 
@@ -341,7 +336,7 @@ impl<'t> Format for Json5<'t> {
         if error.is_of_type() {
             return false;
         }
-        match error.code() {
+        match error.code(self.last) {
             Some((code, at)) => !self.may_be_another(code, at),
             None => true,
         }

@@ -10,19 +10,22 @@ use std::alloc::Global;
 
 /// The fault as the caller sees it.
 pub(crate) fn told(alloc: Global, text: &str, fault: Fault) -> Error {
-    match fault {
-        Fault::Bare(code) => Error::new(code),
-        Fault::Code(code, at) => Error::new_at(position(text, at), code),
-        Fault::Misplaced(at) => plain(alloc, text, at, "a step was called out of its place"),
-        Fault::Unread(at) => plain(alloc, text, at, "a type did not read its value to the end"),
-        Fault::Misfit(wanted, at) => either(misfit(alloc, text, at, wanted)),
-        Fault::BorrowedBytes(at) => plain(alloc, text, at, "bytes can't be borrowed from a text"),
-        Fault::WrongLength(at) => plain(alloc, text, at, "invalid length"),
+    let (at, message) = match fault {
+        Fault::Bare(code) => return Error::new(code),
+        Fault::Code(code, at) => return Error::new_at(position(text, at), code),
+        Fault::Misfit(wanted, at) => return either(misfit(alloc, text, at, wanted)),
         Fault::Long(long) => match Box::into_inner(long) {
-            Long::Scanned(error, base) => scanned(text, error, base),
-            Long::Said(saying, at, known) => either(said(alloc, text, saying, at, words(&known))),
+            Long::Scanned(error, base) => return scanned(text, error, base),
+            Long::Said(saying, at, known) => {
+                return either(said(alloc, text, saying, at, words(&known)));
+            }
         },
-    }
+        Fault::Misplaced(at) => (at, "a step was called out of its place"),
+        Fault::Unread(at) => (at, "a type did not read its value to the end"),
+        Fault::BorrowedBytes(at) => (at, "bytes can't be borrowed from a text"),
+        Fault::WrongLength(at) => (at, "invalid length"),
+    };
+    custom(alloc, text, at, &[message])
 }
 
 /// The fault, or that memory for its words was refused.
@@ -31,11 +34,6 @@ fn either(told: Result<Error>) -> Error {
         Ok(error) => error,
         Err(error) => error,
     }
-}
-
-/// A custom fault at an offset, with this message.
-pub(crate) fn plain(alloc: Global, text: &str, offset: usize, message: &str) -> Error {
-    either(custom(alloc, text, offset, &[message]))
 }
 
 /// What the scanner said, whose place counts from the offset.
@@ -51,19 +49,21 @@ fn said(alloc: Global, text: &str, saying: Saying, at: usize, known: &str) -> Re
     match saying {
         Saying::UnknownVariant => unknown(alloc, text, at, "variant", known),
         Saying::UnknownKey => unknown(alloc, text, at, "field", known),
-        Saying::Missing => custom(alloc, text, at, &["missing field `", known, "`"]),
+        Saying::Missing => Ok(custom(alloc, text, at, &["missing field `", known, "`"])),
         Saying::Duplicate => match given(named(alloc, text, at))? {
-            Some(key) => custom(alloc, text, at, &["duplicate field `", key.as_str(), "`"]),
-            None => custom(alloc, text, at, &["duplicate field `", known, "`"]),
+            Some(key) => Ok(custom(alloc, text, at, &["duplicate field `", key.as_str(), "`"])),
+            None => Ok(custom(alloc, text, at, &["duplicate field `", known, "`"])),
         },
-        Saying::Custom => custom(alloc, text, at, &[known]),
+        Saying::Custom => Ok(custom(alloc, text, at, &[known])),
     }
 }
 
 /// A custom fault at an offset, with these words.
-fn custom(alloc: Global, text: &str, offset: usize, words: &[&str]) -> Result<Error> {
-    let message = words.concat(alloc)?;
-    Ok(Error::from_text(message).at(position(text, offset)))
+pub(crate) fn custom(alloc: Global, text: &str, offset: usize, words: &[&str]) -> Error {
+    match words.concat(alloc) {
+        Ok(message) => Error::from_text(message).at(position(text, offset)),
+        Err(_) => Error::new(ErrorCode::OutOfMemory),
+    }
 }
 
 /// The position of an offset in bytes.
@@ -83,13 +83,19 @@ fn after(base: Position, then: Position) -> Position {
     }
 }
 
-/// A value at the offset that isn't what was wanted.
+/// A value, or else a key, at the offset that isn't what was wanted.
 fn misfit(alloc: Global, text: &str, at: usize, wanted: Wanted) -> Result<Error> {
-    let Some(found) = found_at(alloc, text, at)? else {
-        return custom(alloc, text, at, &["invalid value"]);
-    };
-    let words = ["invalid value: ", found.as_str(), expected(wanted)];
-    custom(alloc, text, at, &words)
+    let after = expected(wanted);
+    if let Some(value) = given(shown(alloc, text, at))? {
+        return Ok(custom(alloc, text, at, &["invalid value: ", value.as_str(), after]));
+    }
+    match given(named(alloc, text, at))? {
+        Some(key) => {
+            let words = ["invalid value: key `", key.as_str(), "`", after];
+            Ok(custom(alloc, text, at, &words))
+        }
+        None => Ok(custom(alloc, text, at, &["invalid value"])),
+    }
 }
 
 /// What was wanted, as the end of a message.
@@ -106,25 +112,14 @@ fn expected(wanted: Wanted) -> &'static str {
     }
 }
 
-/// The value at the offset, or else the key.
-fn found_at(alloc: Global, text: &str, at: usize) -> Result<Option<String>> {
-    if let Some(value) = given(shown(alloc, text, at))? {
-        return Ok(Some(value));
-    }
-    match given(named(alloc, text, at))? {
-        Some(key) => Ok(Some(format!(in alloc; "key `{key}`")?)),
-        None => Ok(None),
-    }
-}
-
 /// A name at the offset that is none of those of fields or variants.
 fn unknown(alloc: Global, text: &str, at: usize, what: &str, expected: &str) -> Result<Error> {
     let Some(found) = given(named(alloc, text, at))? else {
-        return custom(alloc, text, at, &["unknown ", what]);
+        return Ok(custom(alloc, text, at, &["unknown ", what]));
     };
     let comma = if expected.is_empty() { "" } else { ", " };
     let words = ["unknown ", what, " `", found.as_str(), "`", comma, expected];
-    custom(alloc, text, at, &words)
+    Ok(custom(alloc, text, at, &words))
 }
 
 /// What was found, if it was, or that memory for it was refused.
@@ -138,23 +133,21 @@ fn given(found: Result<String>) -> Result<Option<String>> {
     }
 }
 
-/// The value or the key at the offset, as a fault names it.
+/// The value at the offset, as a fault names it.
 fn shown(alloc: Global, text: &str, offset: usize) -> Result<String> {
     let mut scanner = Scanner::new(alloc, text.get(offset..).unwrap_or(""));
-    match scanner.peek() {
-        Some('"' | '\'') => {
-            let string = scanner.string_owned()?;
-            Ok(format!(in alloc; "string {:?}", string.as_str())?)
-        }
-        Some('n') => Ok(String::from_str(alloc, "null")?),
-        Some('t' | 'f') => Ok(String::from_str(alloc, "boolean")?),
-        Some('[') => Ok(String::from_str(alloc, "array")?),
-        Some('{') => Ok(String::from_str(alloc, "object")?),
+    let shown = match scanner.peek() {
+        Some('"' | '\'') => format!(in alloc; "string {:?}", scanner.string_owned()?.as_str()),
+        Some('n') => String::from_str(alloc, "null"),
+        Some('t' | 'f') => String::from_str(alloc, "boolean"),
+        Some('[') => String::from_str(alloc, "array"),
+        Some('{') => String::from_str(alloc, "object"),
         _ => match scanner.number()? {
-            Number::Whole(whole) => Ok(format!(in alloc; "integer `{whole}`")?),
-            Number::Decimal(decimal) => Ok(format!(in alloc; "decimal `{decimal}`")?),
+            Number::Whole(whole) => format!(in alloc; "integer `{whole}`"),
+            Number::Decimal(decimal) => format!(in alloc; "decimal `{decimal}`"),
         },
-    }
+    };
+    Ok(shown?)
 }
 
 /// The text of the string or the key at the offset.

@@ -4,7 +4,7 @@ ghost use Rattle.std.specs.Prelude.{◌≡◌, OnOk, IfOk};
 ghost use Rattle.json5_walk.specs.Walks.{IsDocument, IsDocumentWithin};
 
 use crate::fault::Fault;
-use crate::messages::{plain, told};
+use crate::messages::{custom, told};
 use crate::reader::Json5;
 use json5_types::ErrorCode;
 use json5_types::error::{Error, Result};
@@ -135,7 +135,7 @@ fn text_in<'b>(alloc: Global, bytes: &'b [u8]) -> Result<&'b str>
         Err(error) => {
             let valid = bytes.get(..error.valid_up_to()).unwrap_or(&[]);
             let text = std::str::from_utf8(valid).unwrap_or("");
-            Err(plain(alloc, text, text.len(), "invalid UTF-8"))
+            Err(custom(alloc, text, text.len(), &["invalid UTF-8"]))
         }
     }
 }

@@ -82,16 +82,14 @@ impl<'t> Json5<'t> {
         first: &Json5<'_>,
         fault: &Fault,
     ) -> Option<Json5<'t>> {
-        let (saying, at, name) = fault.said()?;
-        let mut format = Json5::new(first.alloc, limit, text);
-        match saying {
-            Saying::UnknownVariant | Saying::UnknownKey => format.asked = first.unknown,
-            Saying::Missing => {
-                format.asked = at;
-                format.field = first.kept(name);
-            }
+        let (asked, field) = match fault.said()? {
+            (Saying::UnknownVariant | Saying::UnknownKey, _, _) => (first.unknown, None),
+            (Saying::Missing, at, name) => (at, first.kept(name)),
             _ => return None,
-        }
+        };
+        let mut format = Json5::new(first.alloc, limit, text);
+        format.asked = asked;
+        format.field = field;
         Some(format)
     }
 
@@ -447,11 +445,12 @@ impl<'t> Json5<'t> {
     #[inline(never)]
     pub(crate) fn goes_on(&mut self, kind: BracketKind) -> Step<bool> {
         self.gap()?;
-        if let Next::Comma = self.walk.next() {
+        if self.is_comma_due() {
+            let brackets = kind.brackets();
             if self.walk.comma() {
                 self.gap()?;
-            } else if self.walk.peek() != Some(kind.brackets().closing) {
-                return Err(self.ends_or(kind.brackets().ends, ErrorCode::ExpectedComma));
+            } else if self.walk.peek() != Some(brackets.closing) {
+                return Err(self.ends_or(brackets.ends, ErrorCode::ExpectedComma));
             }
         }
         if self.close() {
@@ -490,8 +489,8 @@ impl<'t> Json5<'t> {
     }
 
     /// Whether the value that was refused with this code may be one of another type.
-    pub(crate) fn may_be_another(&self, code: ErrorCode, at: Option<usize>) -> bool {
-        let Some(kind) = self.begins(at.unwrap_or(self.last)) else {
+    pub(crate) fn may_be_another(&self, code: ErrorCode, at: usize) -> bool {
+        let Some(kind) = self.begins(at) else {
             return false;
         };
         match code {
@@ -613,15 +612,16 @@ fn list_of(alloc: Global, names: &[Name<'_>]) -> Option<String> {
     let count = count_of(names);
     let (lead, mark) = match count {
         0 => return None,
-        1 | 2 => ("expected ", " or "),
-        _ => ("expected one of ", ", "),
+        1 | 2 => ("expected `", "` or `"),
+        _ => ("expected one of `", "`, `"),
     };
     let mut list = String::from_str(alloc, lead).ok()?;
     let mut left = count;
     for name in names {
         if !name.skipped {
             left = left.saturating_sub(1);
-            push_name(&mut list, name, if left == 0 { "" } else { mark })?;
+            name.case.append(name.kind, name.name, &mut list).ok()?;
+            list.push_str(if left == 0 { "`" } else { mark }).ok()?;
         }
     }
     Some(list)
@@ -643,14 +643,6 @@ fn count_of(names: &[Name<'_>]) -> usize {
         }
     }
     count
-}
-
-/// Puts the name to the list, between backquotes, and what follows it.
-fn push_name(list: &mut String, name: &Name<'_>, after: &str) -> Option<()> {
-    list.push('`').ok()?;
-    name.case.append(name.kind, name.name, list).ok()?;
-    list.push('`').ok()?;
-    list.push_str(after).ok()
 }
 
 /// A number that stands alone in a text.
