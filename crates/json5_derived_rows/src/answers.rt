@@ -40,7 +40,7 @@ pub(crate) fn back<T: DeserializeOwned + Serialize>(alloc: Global, text: &str) -
     let mut output = Vec::new(alloc);
     to_writer(alloc, &mut output, &second)?;
     if output.as_slice() != written.as_bytes() {
-        return Err(Error::custom(alloc, "it doesn't read back")?);
+        return words(alloc, "it doesn't read back");
     }
     words(alloc, written.as_str())
 }
@@ -48,7 +48,7 @@ pub(crate) fn back<T: DeserializeOwned + Serialize>(alloc: Global, text: &str) -
 /// That it is read.
 fn read<'a, T: Deserialize<'a>>(alloc: Global, text: &'a str) -> Result<String> {
     let _ = from_str::<T>(alloc, text)?;
-    Ok(String::from_str(alloc, " read")?)
+    words(alloc, "read")
 }
 
 /// What is written of steps that are sent.
@@ -67,7 +67,7 @@ fn same(alloc: Global, text: &str) -> Result<String> {
     let here = from_str::<Skip>(alloc, text).err();
     let there = read_document(alloc, text).err();
     if here == there {
-        return Ok(String::from_str(alloc, " same")?);
+        return words(alloc, "same");
     }
     Err(here.or(there).unwrap())
 }
