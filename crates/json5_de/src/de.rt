@@ -178,15 +178,12 @@ impl<I: Input> Deserializer<I> {
         }
     }
 
-    /// Returns the allocator that `from_str` or `within` got, for what an impl allocates itself. Its contract also says that at
-    /// most 128 brackets count as open.
+    /// Returns the allocator that `from_str` or `within` got, for what an impl allocates itself.
     ///
     /// ```text
     /// let mut ports: Vec<u16> = Vec::new(de.allocator());
     /// ```
-    pub fn allocator(&self) -> Global
-        ensures { self.now.level ≤ max_depth }
-    {
+    pub fn allocator(&self) -> Global {
         self.scanner.allocator()
     }
 
