@@ -20,7 +20,7 @@ use Rattle.json5_de.specs.KeyKinds.{KeyKind, RefusedAsKey, bytes_key, cow_key, d
 use Rattle.json5_de.specs.Objects.{MapAccessState, KeepsPending, OpensMap, SetsPending, GivesMemberKey, GivesMemberValue, ReadsMemberKey, ReadsMemberValue, ReadsAKey, ReadsAMember, MembersLeft, LeavesAValue, LeavesOthers}
 use Rattle.json5_de.specs.ObjectFaults.{RefusesNextKey, RefusesNextValue}
 use Rattle.json5_de.specs.Stages.{is_comma_due, is_pending}
-use Rattle.json5_de.specs.KeyPlaces.{KeyBegins, BeginsIfGiven}
+use Rattle.json5_de.specs.KeyPlaces.{KeyBegins}
 use Rattle.json5_de.specs.Enums.{EnumAccessState}
 use Rattle.json5_de.specs.declared.enums.EnumAccess.{EnumAccess}
 use Rattle.json5_de.specs.declared.enums.Named.{Named}
@@ -86,10 +86,6 @@ module _ {I : Type 0} where
   -- the key that was read last has this name, and begins where the access says
   abbrev pub KeyIsNamed : List ℕ → MapAccess I → Type 0
   KeyIsNamed name m = KeyBegins name m.key_start m.de.now.input m.de.now.unread
-
-  -- the same of a call that says whether there was a key
-  abbrev pub IsItsKey : List ℕ → MapAccess I → Result Bool Error → Type 0
-  IsItsKey name m result = BeginsIfGiven name m.key_start m.de.now.input m.de.now.unread result
 
   -- a key was read and its value wasn't yet
   abbrev pub KeyPending : MapAccess I → Type 0

@@ -12,8 +12,10 @@ use Rattle.json5_grammar.specs.Language.Numbers.{Decimal}
 use Rattle.json5_grammar.specs.Language.Strings.{is_quote}
 use Rattle.json5_grammar.specs.Language.Trees.{Tree, text}
 use Rattle.json5_types.specs.declared.byte_buf.ByteBuf.{ByteBuf}
+use Rattle.json5_types.specs.declared.cow_str.CowStr.{CowStr}
 use Rattle.json5_types.specs.declared.error.Error.{Error}
 use Rattle.json5_types.specs.ByteBufs.{bytes_of}
+use Rattle.json5_types.specs.Cows.{cow_bytes, is_borrowed}
 use Rattle.json5_de.specs.State.{State}
 use Rattle.json5_de.specs.DeserializeLaw.{ReadsValue}
 use Rattle.json5_de.specs.Convert.{unit_of, bool_of, as_number, as_whole, natural_below, integer_below, every_decimal, as_text, every_text, if_escape_free, every_cow, one_character, index_of, digits_bytes}
@@ -131,6 +133,18 @@ ReadsNull old new result = ReadsAs null_kind (λ _. tt) old new result
 
 abbrev pub ReadsBytes : State → State → Result ByteBuf Error → Type 0
 ReadsBytes old new result = ReadsAs bytes_kind bytes_of old new result
+
+abbrev pub ReadsDecimal : State → State → Result Decimal Error → Type 0
+ReadsDecimal old new result = ReadsAs decimal_kind (λ d. d) old new result
+
+abbrev pub ReadsString : State → State → Result (String Global) Error → Type 0
+ReadsString old new result = ReadsAs string_kind string_bytes old new result
+
+abbrev pub ReadsEscapeFree : State → State → Result (Bor (List ℕ)) Error → Type 0
+ReadsEscapeFree old new result = ReadsAs escape_free_kind (λ t. t.now) old new result
+
+abbrev pub ReadsCow : State → State → Result CowStr Error → Type 0
+ReadsCow old new result = ReadsAs cow_kind (λ t. (cow_bytes t, is_borrowed t)) old new result
 
 -- ---- the codes, which follow from the law of a read
 

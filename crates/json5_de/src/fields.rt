@@ -8,18 +8,14 @@ ghost use Rattle.json5_de.specs.Convert.{every_text};
 ghost use Rattle.json5_de.specs.AnyTree.{every_value};
 ghost use Rattle.json5_de.specs.KeyKinds.{RefusedAsKey, string_key};
 ghost use Rattle.json5_de.specs.Keys.{CompletesEscapeFreeKey, ReadsKeyOf};
-ghost use Rattle.json5_de.specs.ObjectFaults.{ReadsKeyAtEntry, ReadsKeyOfMember};
 ghost use Rattle.json5_de.specs.DeserializeLaw.{IsUnprompted};
-ghost use Rattle.json5_de.specs.FieldKeys.{field_key_text, IsSpelledIn, StandsIn};
+ghost use Rattle.json5_de.specs.FieldKeys.{IsSpelledIn, ReadsFieldKey, ReadsFieldKeyAtEntry, ReadsNextFieldKey, StandsIn};
 ghost use Rattle.json5_de.specs.Fields.{FieldRead, FieldRequired, IsOwnAtBracket, RefusesHere};
-ghost use Rattle.json5_de.specs.Objects.{CompletesEscapeFreeMember, ReadsKeyFree, ReadsValueFree, bare_map};
+ghost use Rattle.json5_de.specs.Objects.{ReadsValueFree};
 ghost use Rattle.json5_de.specs.Plans.{PassesMember, ReadsFree, ReadsMembers};
 ghost use Rattle.json5_de.specs.TokenKinds.{every_tree};
-ghost use Rattle.json5_de.specs.ShortWays.{filled_if_given};
-ghost use Rattle.json5_de.specs.KeyPlaces.{BeginsIfGiven};
-ghost use Rattle.json5_grammar.specs.Language.Blanks.{Solid};
 ghost use Rattle.json5_de.specs.StructFaults.{RefusesMembers};
-ghost use Rattle.json5_de.specs.Lending.{map_state_of, at_its_key, beginning_at, RefusesWithOwn, KeepsMap, KeyPending, NoKeyPending, TakesPendingKey, ReadsNextKey, IsItsKey};
+ghost use Rattle.json5_de.specs.Lending.{map_state_of, at_its_key, beginning_at, RefusesWithOwn, KeepsMap, KeyPending, NoKeyPending, TakesPendingKey};
 ghost use Rattle.json5_text.specs.ShortTexts.{IsTextAt};
 ghost use Rattle.json5_text.specs.TextTokens.{IsTextOf};
 
@@ -97,9 +93,7 @@ impl<I: Input> Deserializer<I> {
         field_key: &mut FieldKey<I>,
         start: &mut usize,
     ) -> Result<bool>
-        ensures key { ReadsKeyOfMember field_key_text every_text (RefusedAsKey string_key) comma_due self.old self.new (filled_if_given field_key.new result) }
-        ensures no_memory { CompletesEscapeFreeMember (bare_map self.old comma_due false) result }
-        ensures begins { BeginsIfGiven field_key.new start.new self.new.input self.new.unread result }
+        ensures { ReadsFieldKey comma_due self.old self.new field_key.new start.new result }
     {
         match self.short_step(BracketKind::Object, comma_due) {
             ShortStep::Entry => {}
@@ -122,9 +116,7 @@ impl<I: Input> Deserializer<I> {
         field_key: &mut FieldKey<I>,
         start: &mut usize,
     ) -> Result<bool>
-        ensures key { ReadsKeyOfMember field_key_text every_text (RefusedAsKey string_key) comma_due self.old self.new (filled_if_given field_key.new result) }
-        ensures no_memory { CompletesEscapeFreeMember (bare_map self.old comma_due false) result }
-        ensures begins { BeginsIfGiven field_key.new start.new self.new.input self.new.unread result }
+        ensures { ReadsFieldKey comma_due self.old self.new field_key.new start.new result }
     {
         match self.advance_to_entry(BracketKind::Object, comma_due) {
             Ok(true) => self.read_entry_field_key(field_key, start),
@@ -154,9 +146,7 @@ impl<I: Input> Deserializer<I> {
         field_key: &mut FieldKey<I>,
         start: &mut usize,
     ) -> Result<bool>
-        ensures key { ReadsKeyAtEntry field_key_text every_text (RefusedAsKey string_key) self.old self.new (filled_if_given field_key.new result) }
-        ensures no_memory { Solid self.old.unread → CompletesEscapeFreeKey self.old result }
-        ensures begins { Solid self.old.unread → BeginsIfGiven field_key.new start.new self.new.input self.new.unread result }
+        ensures { ReadsFieldKeyAtEntry self.old self.new field_key.new start.new result }
     {
         let offset = self.offset();
         *start = offset;
@@ -324,9 +314,7 @@ impl<'a, I: Input> MapAccess<'a, I> {
         start: &mut usize,
     ) -> Result<bool>
         requires no_key { NoKeyPending self.old }
-        ensures key { ReadsNextKey field_key_text every_text (RefusedAsKey string_key) self.old self.new (filled_if_given field_key.new result) }
-        ensures no_memory { ReadsKeyFree (map_state_of self.old) result }
-        ensures begins { BeginsIfGiven field_key.new start.new self.new.de.now.input self.new.de.now.unread result }
+        ensures { ReadsNextFieldKey self.old self.new field_key.new start.new result }
     {
         self.de.set_failed(self.failed);
         match self
@@ -346,9 +334,7 @@ impl<'a, I: Input> MapAccess<'a, I> {
     #[inline(always)]
     fn next_field_key(&mut self, field_key: &mut FieldKey<I>) -> Result<bool>
         requires no_key { NoKeyPending self.old }
-        ensures key { ReadsNextKey field_key_text every_text (RefusedAsKey string_key) self.old self.new (filled_if_given field_key.new result) }
-        ensures no_memory { ReadsKeyFree (map_state_of self.old) result }
-        ensures named { IsItsKey field_key.new self.new result }
+        ensures { ReadsNextFieldKey self.old self.new field_key.new self.new.key_start result }
     {
         let mut start = self.key_start;
         match self.read_next_field_key(field_key, &mut start) {

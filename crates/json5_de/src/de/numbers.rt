@@ -2,7 +2,7 @@
 
 ghost use Rattle.std.specs.Prelude.{◌+◌, ◌^◌, ◌≤ℤ◌, pos, nat_abs, Some, IfOk, ◌≡◌, IfErr};
 ghost use Rattle.json5_de.specs.Convert.{IsUpTo, IsWithin, natural_below, integer_below, same_decimal};
-ghost use Rattle.json5_de.specs.TokenKinds.{ReadsAs, whole_kind, natural_kind, integer_kind, decimal_kind};
+ghost use Rattle.json5_de.specs.TokenKinds.{ReadsAs, ReadsDecimal, whole_kind, natural_kind, integer_kind};
 ghost use Rattle.json5_de.specs.ReaderSteps.{WholeAt};
 ghost use Rattle.json5_grammar.specs.Language.Numbers as numbers;
 ghost use Rattle.json5_types.specs.Errors.{LacksMemory};
@@ -30,7 +30,7 @@ impl<I: Input> Deserializer<I> {
     /// As every call that reads a number: see [`Deserializer`].
     #[inline(always)]
     pub fn deserialize_decimal(&mut self) -> Result<Decimal>
-        ensures { ReadsAs decimal_kind (λ d. d) self.old self.new result }
+        ensures { ReadsDecimal self.old self.new result }
     {
         if let Some(decimal) = self.short_decimal() {
             return Ok(decimal);
@@ -42,7 +42,7 @@ impl<I: Input> Deserializer<I> {
     #[cold]
     #[inline(never)]
     fn decimal_slowly(&mut self) -> Result<Decimal>
-        ensures { ReadsAs decimal_kind (λ d. d) self.old self.new result }
+        ensures { ReadsDecimal self.old self.new result }
     {
         self.skip_blank()?;
         let whole = match self.number()? {

@@ -1,11 +1,10 @@
 //! Reading of strings. Their faults are listed once, in the comment of `Deserializer`.
 
-ghost use Rattle.std.specs.Prelude.{◌≡◌, string_bytes, Some, None, MatchOption, false};
+ghost use Rattle.std.specs.Prelude.{◌≡◌, Some, None, MatchOption, false};
 ghost use Rattle.std.specs.Str.{chars};
-ghost use Rattle.json5_types.specs.Cows.{cow_bytes, is_borrowed};
 ghost use Rattle.json5_de.specs.Convert.{one_character};
 ghost use Rattle.json5_de.specs.FoundTexts.{JudgesText};
-ghost use Rattle.json5_de.specs.TokenKinds.{ReadsAs, string_kind, char_kind, escape_free_kind, cow_kind};
+ghost use Rattle.json5_de.specs.TokenKinds.{ReadsAs, ReadsCow, ReadsEscapeFree, ReadsString, char_kind};
 
 use crate::de::Deserializer;
 use crate::de::tokens::FoundText;
@@ -38,7 +37,7 @@ impl<I: Input> Deserializer<I> {
     /// As every call that reads a string: see [`Deserializer`].
     #[inline(always)]
     pub fn deserialize_string(&mut self) -> Result<String>
-        ensures { ReadsAs string_kind string_bytes self.old self.new result }
+        ensures { ReadsString self.old self.new result }
     {
         match self.short_string_owned() {
             Some(text) => Ok(text),
@@ -49,7 +48,7 @@ impl<I: Input> Deserializer<I> {
     /// The same as `deserialize_string`, for any string.
     #[inline(never)]
     fn string_slowly(&mut self) -> Result<String>
-        ensures { ReadsAs string_kind string_bytes self.old self.new result }
+        ensures { ReadsString self.old self.new result }
     {
         self.skip_blank()?;
         self.string_owned()
@@ -99,7 +98,7 @@ impl<'de, I: Borrows<'de>> Deserializer<I> {
     /// As every call that reads a string: see [`Deserializer`].
     #[inline(always)]
     pub fn deserialize_identifier(&mut self) -> Result<CowStr<'de>>
-        ensures { ReadsAs cow_kind (λ t. (cow_bytes t, is_borrowed t)) self.old self.new result }
+        ensures { ReadsCow self.old self.new result }
     {
         match self.short_str() {
             Some(text) => Ok(CowStr::Borrowed(text)),
@@ -110,7 +109,7 @@ impl<'de, I: Borrows<'de>> Deserializer<I> {
     /// The same as `deserialize_identifier`, for any string.
     #[inline(never)]
     fn identifier_slowly(&mut self) -> Result<CowStr<'de>>
-        ensures { ReadsAs cow_kind (λ t. (cow_bytes t, is_borrowed t)) self.old self.new result }
+        ensures { ReadsCow self.old self.new result }
     {
         self.skip_blank()?;
         self.text()
@@ -129,7 +128,7 @@ impl<'de, I: Borrows<'de>> Deserializer<I> {
     /// - The codes of every call that reads a string: see [`Deserializer`].
     #[inline(always)]
     pub fn deserialize_str(&mut self) -> Result<&'de str>
-        ensures { ReadsAs escape_free_kind (λ t. t.now) self.old self.new result }
+        ensures { ReadsEscapeFree self.old self.new result }
     {
         match self.short_str() {
             Some(text) => Ok(text),
@@ -140,7 +139,7 @@ impl<'de, I: Borrows<'de>> Deserializer<I> {
     /// The same as `deserialize_str`, for any string.
     #[inline(never)]
     fn str_slowly(&mut self) -> Result<&'de str>
-        ensures { ReadsAs escape_free_kind (λ t. t.now) self.old self.new result }
+        ensures { ReadsEscapeFree self.old self.new result }
     {
         self.skip_blank()?;
         let start = self.offset();

@@ -1,10 +1,8 @@
 //! `Deserialize` for literals, numbers, strings, bytes and values of any kind. The machine's width has 64 bits.
 
-ghost use Rattle.std.specs.Prelude.{string_bytes, ◌^◌};
-ghost use Rattle.json5_types.specs.ByteBufs.{bytes_of};
-ghost use Rattle.json5_types.specs.Cows.{cow_bytes, is_borrowed};
+ghost use Rattle.std.specs.Prelude.{◌^◌};
 ghost use Rattle.json5_types.specs.ValueMeanings.{value_of};
-ghost use Rattle.json5_de.specs.TokenKinds.{ReadsAs, null_kind, bool_kind, decimal_kind, string_kind, char_kind, escape_free_kind, cow_kind, bytes_kind, natural_kind, integer_kind};
+ghost use Rattle.json5_de.specs.TokenKinds.{ReadsAs, ReadsBytes, ReadsCow, ReadsDecimal, ReadsEscapeFree, ReadsNull, ReadsString, bool_kind, char_kind, natural_kind, integer_kind};
 
 use crate::de::{Deserialize, Deserializer};
 use json5_text::input::{Borrows, Input};
@@ -30,7 +28,7 @@ impl<I: Input> Deserialize<I> for () {
     ghost refuses = { RefusedAs null_kind };
 
     fn deserialize(de: &mut Deserializer<I>) -> Result<()>
-        ensures { ReadsAs null_kind (λ _. tt) de.old de.new result }
+        ensures { ReadsNull de.old de.new result }
     {
         de.deserialize_unit()
     }
@@ -74,7 +72,7 @@ impl<I: Input> Deserialize<I> for Decimal {
     ghost refuses = { RefusedAs decimal_kind };
 
     fn deserialize(de: &mut Deserializer<I>) -> Result<Decimal>
-        ensures { ReadsAs decimal_kind (λ d. d) de.old de.new result }
+        ensures { ReadsDecimal de.old de.new result }
     {
         de.deserialize_decimal()
     }
@@ -119,7 +117,7 @@ impl<I: Input> Deserialize<I> for String {
 
     #[inline(always)]
     fn deserialize(de: &mut Deserializer<I>) -> Result<String>
-        ensures { ReadsAs string_kind string_bytes de.old de.new result }
+        ensures { ReadsString de.old de.new result }
     {
         de.deserialize_string()
     }
@@ -143,7 +141,7 @@ impl<'de, I: Borrows<'de>> Deserialize<I> for &'de str {
 
     #[inline(always)]
     fn deserialize(de: &mut Deserializer<I>) -> Result<&'de str>
-        ensures { ReadsAs escape_free_kind (λ t. t.now) de.old de.new result }
+        ensures { ReadsEscapeFree de.old de.new result }
     {
         de.deserialize_str()
     }
@@ -168,7 +166,7 @@ impl<'de, I: Borrows<'de>> Deserialize<I> for CowStr<'de> {
 
     #[inline(always)]
     fn deserialize(de: &mut Deserializer<I>) -> Result<CowStr<'de>>
-        ensures { ReadsAs cow_kind (λ t. (cow_bytes t, is_borrowed t)) de.old de.new result }
+        ensures { ReadsCow de.old de.new result }
     {
         de.deserialize_identifier()
     }
@@ -190,7 +188,7 @@ impl<I: Input> Deserialize<I> for ByteBuf {
     ghost refuses = { RefusedAs bytes_kind };
 
     fn deserialize(de: &mut Deserializer<I>) -> Result<ByteBuf>
-        ensures { ReadsAs bytes_kind bytes_of de.old de.new result }
+        ensures { ReadsBytes de.old de.new result }
     {
         de.deserialize_byte_buf()
     }

@@ -1,20 +1,20 @@
 use Rattle.std.proofs.Common.{refl, sym}
 use Rattle.json5_de.specs.FieldKeys.{field_key_text}
 use Rattle.json5_de.proofs.KeyPlaces.{begins_there}
-use Rattle.json5_de.proofs.MemberRefusals.{begun_solid, entry_free, name_given}
+use Rattle.json5_de.proofs.MemberRefusals.{begun_solid, name_given}
 use Rattle.json5_de.proofs.de.Deserializer.read_field_key.Goals as goal
 
 pub put-requires : goal.put-requires
 put-requires g c = let (u, took, stands) = c.in-Some.ensures in (u, rw c.input.ensures stands)
 
-pub returns-clause-key : goal.returns-clause-key
-returns-clause-key g c =
-    name_given c.args.comma_due c.args.self.now c.short_step.new.self c.short_key.new.self c.short_key.new.self c.in-Entry.ensures c.in-Some.ensures field_key_text _ (refl, rw c.input.ensures at c.put.ensures)
-
-pub returns-clause-begins : goal.returns-clause-begins
-returns-clause-begins g c =
+pub returns : goal.returns
+returns g c =
     let (u, took, stands) = c.in-Some.ensures in
-    begins_there c.offset.ensures (begun_solid c.args.comma_due c.args.self.now.unread c.short_step.new.self.unread c.in-Entry.ensures.begun) took (sym ((rw c.input.ensures at c.put.ensures) u stands))
+    record {
+      key = name_given c.args.comma_due c.args.self.now c.short_step.new.self c.short_key.new.self c.short_key.new.self c.in-Entry.ensures c.in-Some.ensures field_key_text _ (refl, rw c.input.ensures at c.put.ensures);
+      no_memory = λ u r live key. refl;
+      begins = begins_there c.offset.ensures (begun_solid c.args.comma_due c.args.self.now.unread c.short_step.new.self.unread c.in-Entry.ensures.begun) took (sym ((rw c.input.ensures at c.put.ensures) u stands));
+    }
 
-pub returns-in_default-clause-no_memory : goal.returns-in_default-clause-no_memory
-returns-in_default-clause-no_memory g c = entry_free c.args.comma_due c.args.self.now c.short_step.new.self c.read_entry_field_key.result c.in-Entry.ensures (rw c.in_default.ensures at c.read_entry_field_key.ensures.no_memory)
+pub returns-in_default : goal.returns-in_default
+returns-in_default g c = (rw c.in_default.ensures at c.read_entry_field_key.ensures) c.args.comma_due c.args.self.now c.in-Entry.ensures
