@@ -7,7 +7,10 @@ use Rattle.json5_grammar.specs.Language.Numbers.{Decimal, decimal, whole}
 use Rattle.json5_types.specs.declared.value.Value.{Value, the_lemmas}
 use Rattle.json5_types.specs.declared.value.Value as value
 use Rattle.json5_types.specs.ValueLookups.{datum_depth, items_depth, fields_depth}
-use Rattle.json5_types.specs.ValueMeanings.{number, value_of, items_view, fields_view}
+use Rattle.json5_types.specs.ValueMeanings.{Items, number, value_of, items_view, fields_view}
+use Rattle.json5_write.specs.Brackets.{sign_of}
+use Rattle.json5_write.specs.declared.brackets.BeforeElement.{BeforeElement}
+use Rattle.json5_write.specs.declared.brackets.BeforeElement.TheVariants as before
 use Rattle.json5_write.proofs.ValuesInside.{item_first}
 use Rattle.json5_layouts.specs.LaidBack.{HasNumbers, ItemsHaveNumbers, FieldsHaveNumbers}
 use Rattle.json5_layouts.specs.Styles.{Style, comma_if, closed, laid, items_laid, fields_laid}
@@ -46,6 +49,20 @@ closed_on_line spelling.Json5 layout.Compact d true h = refl
 closed_on_line spelling.Json layout.Compact d true h = refl
 closed_on_line s (layout.Spaces n) d true h = absurd (cc)
 closed_on_line s layout.Tabs d true h = absurd (cc)
+
+-- what is left of an array, from what stands before the next element
+abbrev pub items_left : Style → ℕ → BeforeElement → Items → List ℕ
+items_left s d before.Bracket xs = 91 ∷ items_laid s d false xs
+items_left s d before.Comma xs = items_laid s d true xs
+
+pub next_on_line : (s : Spelling) (l : Layout) (d : ℕ) (b : BeforeElement) (vs : List Value) (i : ℕ) (v : Value) → is_compact l ≡ true → i < length vs → v ≡ get_or vs i v
+    → items_left (style_of s l) d b (items_view (drop i vs)) ≡ (sign_of b ∷ laid (style_of s l) (d + 1) (value_of v)) ++ items_left (style_of s l) d before.Comma (items_view (drop (i + 1) vs))
+next_on_line s l d before.Bracket vs i v h k e =
+    let rest = laid (style_of s l) (d + 1) (value_of v) ++ items_laid (style_of s l) d true (items_view (drop (i + 1) vs)) in
+    ap (λ x. 91 ∷ x) (next_item (style_of s l) d false vs i v k e) ∙ ap (λ x. 91 ∷ (x ++ rest)) (sym (comma_alone_on_line l false (d + 1) h))
+next_on_line s l d before.Comma vs i v h k e =
+    let rest = laid (style_of s l) (d + 1) (value_of v) ++ items_laid (style_of s l) d true (items_view (drop (i + 1) vs)) in
+    next_item (style_of s l) d true vs i v k e ∙ ap (λ x. x ++ rest) (sym (comma_alone_on_line l true (d + 1) h))
 
 -- ---- numbers
 

@@ -84,6 +84,10 @@ pub chars_line_feed : chars (10 ∷ []) ≡ 10 ∷ []
 unfolding chars
 chars_line_feed = refl
 
+pub chars_no_element : chars (91 ∷ 93 ∷ []) ≡ 91 ∷ 93 ∷ []
+unfolding chars
+chars_no_element = refl
+
 pub ruleset signs = (chars_comma, chars_nil, chars_colon, chars_colon_space, chars_line_feed)
 
 pub chars_code_front : chars (92 ∷ 117 ∷ 48 ∷ 48 ∷ []) ≡ 92 ∷ 117 ∷ 48 ∷ 48 ∷ []

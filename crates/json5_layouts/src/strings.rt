@@ -1,10 +1,12 @@
 //! Strings and keys as JSON5 and as JSON.
 
-ghost use Rattle.std.specs.Prelude.{◌≡◌, ◌<◌, false, [], ◌∷◌, ◌++◌, MatchOption};
+ghost use Rattle.std.specs.Prelude.{◌≡◌, ◌<◌, false, [], ◌∷◌, ◌++◌, IsTrue, MatchOption};
 ghost use Rattle.std.specs.Char.{digit_char};
 ghost use Rattle.std.specs.Str.{chars};
 ghost use Rattle.json5_grammar.specs.Language.Characters.{colon_sign, double_quote};
+ghost use Rattle.json5_write.specs.Brackets.{sign_of};
 ghost use Rattle.json5_write.specs.Out.{piece};
+ghost use Rattle.json5_write.specs.Pieces.{between_quotes};
 ghost use Rattle.json5_write.specs.ShortWrites.{Puts};
 ghost use Rattle.json5_layouts.specs.JsonTexts.{control_code, json_escaped, json_escaped_all, json_string};
 ghost use Rattle.json5_layouts.specs.Layouts.{gap_in, string_in, key_in};
@@ -14,8 +16,10 @@ use crate::json_runs::skip_unescaped;
 use crate::layout::{Form, Spelling};
 use crate::lines::colon;
 use json5_write::Printer;
-use json5_write::refusal::Put;
+use json5_write::brackets::BeforeElement;
+use json5_write::escape_free::is_escape_free;
 use json5_write::joined_write::JoinedWrite;
+use json5_write::refusal::Put;
 use std::io::Write;
 
 /// Writes a string.
@@ -27,15 +31,36 @@ pub(crate) fn put_string<W: JoinedWrite + Drop>(
 ) -> Put
     ensures { Puts (piece (string_in spelling (chars text.now))) printer.old result printer.new }
 {
-    match spelling {
-        Spelling::Json5 => printer.put_str(text),
-        Spelling::Json => put_json_string(text, printer),
+    if stands_in(spelling, text) {
+        return printer.put_between_quotes(text);
     }
+    put_by_parts(text, spelling, printer)
+}
+
+/// Writes what stands before an element, and a string.
+#[inline(always)]
+pub(crate) fn put_string_after<W: JoinedWrite + Drop>(
+    before: BeforeElement,
+    text: &str,
+    spelling: Spelling,
+    printer: &mut Printer<W>,
+) -> Put
+    ensures { Puts (piece (sign_of before ∷ string_in spelling (chars text.now))) printer.old result printer.new }
+{
+    if stands_in(spelling, text) {
+        return printer.put_quoted_after(before, text);
+    }
+    printer.put_piece(before.text())?;
+    put_by_parts(text, spelling, printer)
 }
 
 /// Writes a key and the colon after it.
 #[inline(always)]
-pub(crate) fn put_key<W: JoinedWrite + Drop>(text: &str, form: &Form, printer: &mut Printer<W>) -> Put
+pub(crate) fn put_key<W: JoinedWrite + Drop>(
+    text: &str,
+    form: &Form,
+    printer: &mut Printer<W>,
+) -> Put
     ensures { Puts (piece (key_in form.now.spelling (chars text.now) ++ colon_sign ∷ gap_in form.now.layout)) printer.old result printer.new }
 {
     match form.spelling {
@@ -44,25 +69,35 @@ pub(crate) fn put_key<W: JoinedWrite + Drop>(text: &str, form: &Form, printer: &
             printer.put_piece(colon(form.layout))
         }
         Spelling::Json => {
-            put_json_string(text, printer)?;
+            put_string(text, Spelling::Json, printer)?;
             printer.put_piece(colon(form.layout))
         }
     }
 }
 
-/// Writes the text between double quotes.
+/// Whether the text stands between double quotes as it is.
 #[inline(always)]
-fn put_json_string<W: JoinedWrite + Drop>(text: &str, printer: &mut Printer<W>) -> Put
-    ensures { Puts (piece (json_string (chars text.now))) printer.old result printer.new }
+fn stands_in(spelling: Spelling, text: &str) -> bool
+    ensures { IsTrue result → string_in spelling (chars text.now) ≡ between_quotes (chars text.now) }
 {
-    if skip_unescaped(text).is_empty() {
-        return printer.put_between_quotes(text);
+    match spelling {
+        Spelling::Json5 => is_escape_free(text),
+        Spelling::Json => skip_unescaped(text).is_empty(),
     }
-    put_escaped_string(text, printer)
 }
 
-/// The same of a text with an escape.
+/// Writes a string that may have escapes.
 #[inline(never)]
+fn put_by_parts<W: Write + Drop>(text: &str, spelling: Spelling, printer: &mut Printer<W>) -> Put
+    ensures { Puts (piece (string_in spelling (chars text.now))) printer.old result printer.new }
+{
+    match spelling {
+        Spelling::Json5 => printer.put_quoted(text),
+        Spelling::Json => put_escaped_string(text, printer),
+    }
+}
+
+/// Writes the text between double quotes, in parts.
 fn put_escaped_string<W: Write + Drop>(text: &str, printer: &mut Printer<W>) -> Put
     ensures { Puts (piece (json_string (chars text.now))) printer.old result printer.new }
 {

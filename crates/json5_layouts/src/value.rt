@@ -1,10 +1,13 @@
 //! Values in a layout. Calls return small values, so that no frame holds an `Error`.
 
-ghost use Rattle.std.specs.Prelude.{◌≡◌, true, ◌+◌, ◌≤◌, ◌<◌, OnOk};
+ghost use Rattle.std.specs.Prelude.{◌≡◌, true, ◌+◌, ◌≤◌, ◌<◌, ◌∷◌, pos, IfSome, OnOk};
 ghost use Rattle.std.specs.Str.{chars};
 ghost use Rattle.json5_grammar.specs.Language.Documents.{max_depth};
+ghost use Rattle.json5_grammar.specs.Language.Numbers.{whole};
+ghost use Rattle.json5_grammar.specs.Written.NumberText.{number_text, IsNumber};
 ghost use Rattle.json5_types.specs.ValueLookups.{datum_depth, items_depth, fields_depth};
 ghost use Rattle.json5_types.specs.ValueMeanings.{array, object, value_of, items_view, fields_view};
+ghost use Rattle.json5_write.specs.Brackets.{sign_of};
 ghost use Rattle.json5_write.specs.Out.{piece};
 ghost use Rattle.json5_write.specs.ShortWrites.{Puts, PutsTree};
 ghost use Rattle.json5_write.specs.WrittenTrees.{integer};
@@ -13,13 +16,14 @@ ghost use Rattle.json5_layouts.specs.Layouts.{is_compact, laid_in, entry_in};
 
 use crate::layout::{Form, Layout};
 use crate::lines::{Line, end_lines, put_comma};
-use crate::strings::{put_key, put_string};
+use crate::strings::{put_key, put_string, put_string_after};
 use json5_types::value::Value;
 use json5_types::whole::Whole;
 use json5_write::Printer;
+use json5_write::brackets::BeforeElement;
+use json5_write::joined_write::JoinedWrite;
 use json5_write::literals::bool_name;
 use json5_write::refusal::Put;
-use json5_write::joined_write::JoinedWrite;
 
 /// Writes a value within so many brackets.
 #[cycle(laid)]
@@ -89,14 +93,64 @@ fn put_items_on_line<W: JoinedWrite + Drop>(
     ensures text { Puts (piece (laid_in form.now depth (array (items_view items.now)))) printer.old result printer.new }
     ensures numbers { OnOk result (ItemsHaveNumbers (items_view items.now)) }
 {
-    printer.put_piece("[")?;
-    let mut started = false;
+    let mut before = BeforeElement::Bracket;
     for item in items {
-        put_comma(started, printer)?;
-        put_value(item, form, depth + 1, printer)?;
-        started = true;
+        put_item_after(before, item, form, depth + 1, printer)?;
+        before = BeforeElement::Comma;
     }
-    printer.put_piece("]")
+    match before {
+        BeforeElement::Bracket => printer.put_piece("[]"),
+        BeforeElement::Comma => printer.put_piece("]"),
+    }
+}
+
+/// Writes what stands before an element, and the element. A string and a number are put with it.
+#[cycle(laid)]
+#[inline(always)]
+fn put_item_after<W: JoinedWrite + Drop>(
+    before: BeforeElement,
+    item: &Value,
+    form: &Form,
+    depth: usize,
+    printer: &mut Printer<W>,
+) -> Put
+    requires shallow { datum_depth (value_of item.now) + depth ≤ max_depth }
+    ensures text { Puts (piece (sign_of before ∷ laid_in form.now depth (value_of item.now))) printer.old result printer.new }
+    ensures numbers { OnOk result (HasNumbers (value_of item.now)) }
+{
+    match item {
+        Value::Whole(number) => put_whole_after(before, *number, printer),
+        Value::String(text) => put_string_after(before, text.as_str(), form.spelling, printer),
+        _ => {
+            printer.put_piece(before.text())?;
+            put_value(item, form, depth, printer)
+        }
+    }
+}
+
+/// Writes what stands before an element, and a whole number.
+#[inline(always)]
+fn put_whole_after<W: JoinedWrite + Drop>(
+    before: BeforeElement,
+    number: Whole,
+    printer: &mut Printer<W>,
+) -> Put
+    ensures text { Puts (piece (sign_of before ∷ number_text (whole number))) printer.old result printer.new }
+    ensures numbers { OnOk result (IsNumber (whole number)) }
+{
+    if let Some(short) = short_of(number) {
+        return printer.put_number_after(before, short);
+    }
+    printer.put_piece(before.text())?;
+    put_whole(number, printer)
+}
+
+/// The number, if it is of 64 bits and not below zero.
+#[inline(always)]
+fn short_of(number: Whole) -> Option<u64>
+    ensures { IfSome result (λ short. number ≡ pos short) }
+{
+    u64::try_from(number.as_u128()?).ok()
 }
 
 /// Writes an array of which each element begins a line.

@@ -1,18 +1,19 @@
-use Rattle.std.proofs.Common.{◌≡◌, ◌+◌, ◌<◌, ◌≤◌, suc, false, [], ◌∷◌, ◌++◌, length, drop_of_length-le, refl, sym, ap, ◌∙◌, subst, rules, arith, append_assoc, string_bytes}
+use Rattle.std.proofs.Common.{◌≡◌, ◌+◌, ◌<◌, ◌≤◌, suc, true, false, [], ◌∷◌, ◌++◌, length, drop_of_length-le, refl, sym, ap, ◌∙◌, subst, rules, arith, append_assoc, string_bytes}
 use Rattle.std.specs.Str.{chars}
 use Rattle.json5_grammar.specs.Language.Numbers.{decimal, whole}
 use Rattle.json5_types.proofs.ValuesCompared.{view-Null, view-String, view-Array, view-Object}
 use Rattle.json5_types.specs.ValueLookups.{datum_depth, items_depth, fields_depth}
 use Rattle.json5_types.specs.ValueMeanings.{value_of, items_view, fields_view}
+use Rattle.json5_write.specs.Brackets.{sign_of}
 use Rattle.json5_write.specs.Out.{piece}
-use Rattle.json5_write.proofs.OutputsJoined.{Reaches-first, Reaches-next}
+use Rattle.json5_write.proofs.OutputsJoined.{Reaches-none, Reaches-first, Reaches-next}
 use Rattle.json5_write.proofs.PiecesWritten.{chars_null, chars_left_bracket, chars_right_bracket, chars_left_brace, chars_right_brace}
 use Rattle.json5_write.proofs.ShortWritesJoined.{Reaches-stop, Reaches-end}
 use Rattle.json5_layouts.specs.LaidBack.{ItemsHaveNumbers, FieldsHaveNumbers}
 use Rattle.json5_layouts.specs.Styles.{comma_if, closed, laid, items_laid, fields_laid}
 use Rattle.json5_layouts.specs.Layouts.{gap_in, key_in, style_of, laid_in}
-use Rattle.json5_layouts.proofs.ItemsLaid.{comma_alone_on_line, closed_on_line, next_item, next_field, item_within, field_within, items_numbers, fields_numbers, view-Decimal, view-Whole}
-use Rattle.json5_layouts.proofs.PiecesPut.{stop_first, then_second, put_as, wrote_as, refused_as, reaches_as, number_put, number_had, on_ok}
+use Rattle.json5_layouts.proofs.ItemsLaid.{items_left, next_on_line, comma_alone_on_line, closed_on_line, next_item, next_field, item_within, field_within, items_numbers, fields_numbers, view-Decimal, view-Whole}
+use Rattle.json5_layouts.proofs.PiecesPut.{chars_no_element, stop_first, then_second, put_as, wrote_as, refused_as, reaches_as, number_put, number_had, on_ok}
 use Rattle.json5_layouts.proofs.value.+laid.Goals as goal
 
 pub put_value-returns-in-Null-clause-text : goal.put_value-returns-in-Null-clause-text
@@ -149,67 +150,93 @@ put_items-returns-clause-numbers g t c =
 
 -- ---- arrays on one line
 
-pub put_items_on_line-put_value-requires : goal.put_items_on_line-put_value-requires
-put_items_on_line-put_value-requires g t c =
+pub put_items_on_line-put_item_after-requires : goal.put_items_on_line-put_item_after-requires
+put_items_on_line-put_item_after-requires g t c =
     let left : c.loop-item.item-index < length c.args.items.now = search rules in
     let inside = item_within c.args.items.now c.loop-item.item-index c.item-item.result left c.item-item.is in
     λ κs sub. (omega (arith, inside, c.decreases), (search rules, omega (arith, inside, c.requires.shallow)))
 
-pub put_items_on_line-returns-in_err-put_piece-clause-text : goal.put_items_on_line-returns-in_err-put_piece-clause-text
-put_items_on_line-returns-in_err-put_piece-clause-text g t c =
-    let s = style_of c.args.form.now.spelling c.args.form.now.layout in
-    stop_first (91 ∷ []) (items_laid s c.args.depth false (items_view c.args.items.now)) _ _ _ _ c.from_residual.ensures.1 (refused_as _ _ _ _ _ chars_left_bracket c.in_err-put_piece.ensures)
-
 pub put_items_on_line-loop-item-init : goal.put_items_on_line-loop-item-init
-put_items_on_line-loop-item-init g t c =
-    let s = style_of c.args.form.now.spelling c.args.form.now.layout in
-    record { numbers = λ h. h; reaches = Reaches-first (piece (91 ∷ [])) (piece (items_laid s c.args.depth false (items_view c.args.items.now))) _ _ (wrote_as _ _ _ _ chars_left_bracket c.in_ok-put_piece.ensures) }
+put_items_on_line-loop-item-init g t c = record { numbers = λ h. h; reaches = Reaches-none _ _ }
 
-pub put_items_on_line-returns-in_err-put_comma-clause-text : goal.put_items_on_line-returns-in_err-put_comma-clause-text
-put_items_on_line-returns-in_err-put_comma-clause-text g t c =
+pub put_items_on_line-returns-in_err-put_item_after-clause-text : goal.put_items_on_line-returns-in_err-put_item_after-clause-text
+put_items_on_line-returns-in_err-put_item_after-clause-text g t c =
     let l = c.loop-item in
-    let s = style_of c.args.form.now.spelling c.args.form.now.layout in
+    let f = c.args.form.now in
     let left : l.item-index < length c.args.items.now = search rules in
     let v = c.item-item.result in
-    let next = reaches_as _ _ _ _ _ (next_item s c.args.depth l.started c.args.items.now l.item-index v left c.item-item.is) l.invariant.reaches in
-    Reaches-stop _ (piece (comma_if l.started ++ s.line (c.args.depth + 1))) _ _ _ _ _ _ next c.from_residual-in_err-put_comma.ensures.1 (refused_as _ _ _ _ _ (comma_alone_on_line c.args.form.now.layout l.started (c.args.depth + 1) c.requires.on_line) c.in_err-put_comma.ensures)
-
-pub put_items_on_line-returns-in_err-put_value-clause-text : goal.put_items_on_line-returns-in_err-put_value-clause-text
-put_items_on_line-returns-in_err-put_value-clause-text g t c =
-    let l = c.loop-item in
-    let s = style_of c.args.form.now.spelling c.args.form.now.layout in
-    let left : l.item-index < length c.args.items.now = search rules in
-    let v = c.item-item.result in
-    let next = reaches_as _ _ _ _ _ (next_item s c.args.depth l.started c.args.items.now l.item-index v left c.item-item.is) l.invariant.reaches in
-    let after = Reaches-next _ (piece (comma_if l.started ++ s.line (c.args.depth + 1))) _ _ _ _ next (wrote_as _ _ _ _ (comma_alone_on_line c.args.form.now.layout l.started (c.args.depth + 1) c.requires.on_line) c.in_ok-put_comma.ensures) in
-    Reaches-stop _ (piece (laid s (c.args.depth + 1) (value_of v))) _ _ _ _ _ _ after c.from_residual-in_err-put_value.ensures.1 c.in_err-put_value.ensures.text
+    let next = reaches_as _ _ _ _ _ (next_on_line f.spelling f.layout c.args.depth l.before c.args.items.now l.item-index v c.requires.on_line left c.item-item.is) l.invariant.reaches in
+    Reaches-stop _ (piece (sign_of l.before ∷ laid_in f (c.args.depth + 1) (value_of v))) _ _ _ _ _ _ next c.from_residual.ensures.1 c.in_err-put_item_after.ensures.text
 
 pub put_items_on_line-loop-item-preserved : goal.put_items_on_line-loop-item-preserved
 put_items_on_line-loop-item-preserved g t c =
     let l = c.loop-item in
-    let s = style_of c.args.form.now.spelling c.args.form.now.layout in
+    let f = c.args.form.now in
     let left : l.item-index < length c.args.items.now = search rules in
     let v = c.item-item.result in
-    let next = reaches_as _ _ _ _ _ (next_item s c.args.depth l.started c.args.items.now l.item-index v left c.item-item.is) l.invariant.reaches in
-    let after = Reaches-next _ (piece (comma_if l.started ++ s.line (c.args.depth + 1))) _ _ _ _ next (wrote_as _ _ _ _ (comma_alone_on_line c.args.form.now.layout l.started (c.args.depth + 1) c.requires.on_line) c.in_ok-put_comma.ensures) in
+    let next = reaches_as _ _ _ _ _ (next_on_line f.spelling f.layout c.args.depth l.before c.args.items.now l.item-index v c.requires.on_line left c.item-item.is) l.invariant.reaches in
     record {
-      reaches = Reaches-next _ (piece (laid s (c.args.depth + 1) (value_of v))) _ _ _ _ after c.in_ok-put_value.ensures.text;
-      numbers = λ rest. l.invariant.numbers (items_numbers c.args.items.now l.item-index v left c.item-item.is c.in_ok-put_value.ensures.numbers rest);
+      reaches = Reaches-next _ (piece (sign_of l.before ∷ laid_in f (c.args.depth + 1) (value_of v))) _ _ _ _ next c.in_ok-put_item_after.ensures.text;
+      numbers = λ rest. l.invariant.numbers (items_numbers c.args.items.now l.item-index v left c.item-item.is c.in_ok-put_item_after.ensures.numbers rest);
     }
 
-pub put_items_on_line-returns-clause-text : goal.put_items_on_line-returns-clause-text
-put_items_on_line-returns-clause-text g t c =
+pub put_items_on_line-returns-in-Bracket-clause-text : goal.put_items_on_line-returns-in-Bracket-clause-text
+put_items_on_line-returns-in-Bracket-clause-text g t c =
     let l = c.loop-item in
-    let s = style_of c.args.form.now.spelling c.args.form.now.layout in
+    let f = c.args.form.now in
     let none : length c.args.items.now ≤ l.item-index = search rules in
-    let closes = ap (λ x. items_laid s c.args.depth l.started (items_view x)) (drop_of_length-le c.args.items.now none) ∙ ap (λ x. x ++ 93 ∷ []) (closed_on_line c.args.form.now.spelling c.args.form.now.layout c.args.depth l.started c.requires.on_line) in
-    Reaches-end _ (piece (93 ∷ [])) _ _ _ _ (reaches_as _ _ _ _ _ closes l.invariant.reaches) (put_as _ _ _ _ _ chars_right_bracket c.put_piece-2.ensures)
+    let empty = ap (λ x. items_left (style_of f.spelling f.layout) c.args.depth l.before (items_view x)) (drop_of_length-le c.args.items.now none) in
+    let last = rw c.in-Bracket.is at (reaches_as _ _ _ _ _ empty l.invariant.reaches) in
+    Reaches-end _ (piece (91 ∷ 93 ∷ [])) _ _ _ _ last (put_as _ _ _ _ _ chars_no_element c.put_piece.ensures)
 
-pub put_items_on_line-returns-clause-numbers : goal.put_items_on_line-returns-clause-numbers
-put_items_on_line-returns-clause-numbers g t c =
+pub put_items_on_line-returns-in-Bracket-clause-numbers : goal.put_items_on_line-returns-in-Bracket-clause-numbers
+put_items_on_line-returns-in-Bracket-clause-numbers g t c =
     let l = c.loop-item in
     let none : length c.args.items.now ≤ l.item-index = search rules in
-    on_ok c.put_piece-2.result (l.invariant.numbers (subst (λ x. ItemsHaveNumbers (items_view x)) (sym (drop_of_length-le c.args.items.now none)) tt))
+    on_ok c.put_piece.result (l.invariant.numbers (subst (λ x. ItemsHaveNumbers (items_view x)) (sym (drop_of_length-le c.args.items.now none)) tt))
+
+pub put_items_on_line-returns-in-Comma-clause-text : goal.put_items_on_line-returns-in-Comma-clause-text
+put_items_on_line-returns-in-Comma-clause-text g t c =
+    let l = c.loop-item in
+    let f = c.args.form.now in
+    let none : length c.args.items.now ≤ l.item-index = search rules in
+    let empty = ap (λ x. items_left (style_of f.spelling f.layout) c.args.depth l.before (items_view x)) (drop_of_length-le c.args.items.now none) in
+    let closes = ap (λ x. x ++ 93 ∷ []) (closed_on_line f.spelling f.layout c.args.depth true c.requires.on_line) in
+    let last = reaches_as _ _ _ _ _ closes (rw c.in-Comma.is at (reaches_as _ _ _ _ _ empty l.invariant.reaches)) in
+    Reaches-end _ (piece (93 ∷ [])) _ _ _ _ last (put_as _ _ _ _ _ chars_right_bracket c.put_piece-in-Comma.ensures)
+
+pub put_items_on_line-returns-in-Comma-clause-numbers : goal.put_items_on_line-returns-in-Comma-clause-numbers
+put_items_on_line-returns-in-Comma-clause-numbers g t c =
+    let l = c.loop-item in
+    let none : length c.args.items.now ≤ l.item-index = search rules in
+    on_ok c.put_piece-in-Comma.result (l.invariant.numbers (subst (λ x. ItemsHaveNumbers (items_view x)) (sym (drop_of_length-le c.args.items.now none)) tt))
+
+-- ---- an element after what stands before it
+
+pub put_item_after-put_value-requires : goal.put_item_after-put_value-requires
+put_item_after-put_value-requires g t c = λ κs sub. (omega (arith, c.decreases), (search rules, c.requires.shallow))
+
+pub put_item_after-returns-in-Whole-clause-text : goal.put_item_after-returns-in-Whole-clause-text
+put_item_after-returns-in-Whole-clause-text g t c = rw (c.in-Whole.is, view-Whole c.in-Whole.number) c.put_whole_after.ensures.text
+
+pub put_item_after-returns-in-Whole-clause-numbers : goal.put_item_after-returns-in-Whole-clause-numbers
+put_item_after-returns-in-Whole-clause-numbers g t c = rw (c.in-Whole.is, view-Whole c.in-Whole.number) c.put_whole_after.ensures.numbers
+
+pub put_item_after-returns-in-String-clause-text : goal.put_item_after-returns-in-String-clause-text
+put_item_after-returns-in-String-clause-text g t c = rw (c.in-String.is, view-String c.in-String.text, ← c.as_str.ensures.value) c.put_string_after.ensures
+
+pub put_item_after-returns-in-String-clause-numbers : goal.put_item_after-returns-in-String-clause-numbers
+put_item_after-returns-in-String-clause-numbers g t c = rw (c.in-String.is, view-String c.in-String.text) (on_ok c.put_string_after.result tt)
+
+pub put_item_after-returns-in_err-put_piece-in_default-clause-text : goal.put_item_after-returns-in_err-put_piece-in_default-clause-text
+put_item_after-returns-in_err-put_piece-in_default-clause-text g t c =
+    let rest = laid_in c.args.form.now c.args.depth (value_of c.args.item.now) in
+    stop_first (sign_of c.args.before ∷ []) rest _ _ _ _ c.from_residual.ensures.1 (refused_as _ _ _ _ _ c.text.ensures c.in_err-put_piece-in_default.ensures)
+
+pub put_item_after-returns-in_ok-put_piece-in_default-clause-text : goal.put_item_after-returns-in_ok-put_piece-in_default-clause-text
+put_item_after-returns-in_ok-put_piece-in_default-clause-text g t c =
+    let rest = laid_in c.args.form.now c.args.depth (value_of c.args.item.now) in
+    then_second (sign_of c.args.before ∷ []) rest _ _ _ _ (wrote_as _ _ _ _ c.text.ensures c.in_ok-put_piece-in_default.ensures) c.put_value.ensures.text
 
 -- ---- objects
 

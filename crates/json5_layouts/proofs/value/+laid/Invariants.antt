@@ -6,6 +6,7 @@ use Rattle.json5_write.proofs.OutputsJoined.{Reaches}
 use Rattle.json5_layouts.specs.LaidBack.{ItemsHaveNumbers, FieldsHaveNumbers}
 use Rattle.json5_layouts.specs.Styles.{items_laid, fields_laid}
 use Rattle.json5_layouts.specs.Layouts.{style_of, laid_in}
+use Rattle.json5_layouts.proofs.ItemsLaid.{items_left}
 use Rattle.json5_layouts.proofs.value.+laid.Given as goal
 
 abbrev pub invariant-put_items-loop-item : goal.invariant-put_items-loop-item
@@ -16,7 +17,7 @@ invariant-put_items-loop-item g l = record {
 
 abbrev pub invariant-put_items_on_line-loop-item : goal.invariant-put_items_on_line-loop-item
 invariant-put_items_on_line-loop-item g l = record {
-  reaches : Reaches (piece (laid_in l.fn.form l.fn.depth (array (items_view l.items)))) l.fn.printer l.printer (piece (items_laid (style_of l.fn.form.spelling l.fn.form.layout) l.fn.depth l.started (items_view (drop l.item-index l.items))));
+  reaches : Reaches (piece (laid_in l.fn.form l.fn.depth (array (items_view l.items)))) l.fn.printer l.printer (piece (items_left (style_of l.fn.form.spelling l.fn.form.layout) l.fn.depth l.before (items_view (drop l.item-index l.items))));
   numbers : ItemsHaveNumbers (items_view (drop l.item-index l.items)) → ItemsHaveNumbers (items_view l.items);
 }
 
@@ -36,6 +37,9 @@ invariant-put_fields_on_line-loop-key g l = record {
 
 abbrev pub decreases-put_value : goal.decreases-put_value
 decreases-put_value g l = 4 * datum_depth (value_of l.value.now) + 2
+
+abbrev pub decreases-put_item_after : goal.decreases-put_item_after
+decreases-put_item_after g l = 4 * datum_depth (value_of l.item.now) + 3
 
 abbrev pub decreases-put_items : goal.decreases-put_items
 decreases-put_items g l = 4 * items_depth (items_view l.items.now) + 4
