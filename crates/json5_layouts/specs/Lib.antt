@@ -9,3 +9,4 @@ pub mod LaidBack
 pub mod WholeTexts
 pub mod Writable
 pub mod Lines
+pub mod LaidPuts

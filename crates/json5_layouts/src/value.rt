@@ -11,7 +11,8 @@ ghost use Rattle.json5_write.specs.Brackets.{sign_of};
 ghost use Rattle.json5_write.specs.Out.{piece};
 ghost use Rattle.json5_write.specs.ShortWrites.{Puts, PutsTree};
 ghost use Rattle.json5_write.specs.WrittenTrees.{integer};
-ghost use Rattle.json5_layouts.specs.LaidBack.{HasNumbers, ItemsHaveNumbers, FieldsHaveNumbers};
+ghost use Rattle.json5_layouts.specs.LaidBack.{HasNumbers};
+ghost use Rattle.json5_layouts.specs.LaidPuts.{PutsLaid};
 ghost use Rattle.json5_layouts.specs.Layouts.{is_compact, laid_in, entry_in};
 
 use crate::layout::{Form, Layout};
@@ -35,8 +36,7 @@ pub(crate) fn put_value<W: JoinedWrite + Drop>(
     printer: &mut Printer<W>,
 ) -> Put
     requires shallow { datum_depth (value_of value.now) + depth ≤ max_depth }
-    ensures text { Puts (piece (laid_in form.now depth (value_of value.now))) printer.old result printer.new }
-    ensures numbers { OnOk result (HasNumbers (value_of value.now)) }
+    ensures { PutsLaid form.now depth (value_of value.now) printer.old result printer.new }
 {
     match value {
         Value::Null => printer.put_piece("null"),
@@ -71,8 +71,7 @@ fn put_array<W: JoinedWrite + Drop>(
     printer: &mut Printer<W>,
 ) -> Put
     requires shallow { items_depth (items_view items.now) + depth < max_depth }
-    ensures text { Puts (piece (laid_in form.now depth (array (items_view items.now)))) printer.old result printer.new }
-    ensures numbers { OnOk result (ItemsHaveNumbers (items_view items.now)) }
+    ensures { PutsLaid form.now depth (array (items_view items.now)) printer.old result printer.new }
 {
     match form.layout {
         Layout::Compact => put_items_on_line(items, form, depth, printer),
@@ -90,8 +89,7 @@ fn put_items_on_line<W: JoinedWrite + Drop>(
 ) -> Put
     requires shallow { items_depth (items_view items.now) + depth < max_depth }
     requires on_line { is_compact form.now.layout ≡ true }
-    ensures text { Puts (piece (laid_in form.now depth (array (items_view items.now)))) printer.old result printer.new }
-    ensures numbers { OnOk result (ItemsHaveNumbers (items_view items.now)) }
+    ensures { PutsLaid form.now depth (array (items_view items.now)) printer.old result printer.new }
 {
     let mut before = BeforeElement::Bracket;
     for item in items {
@@ -162,8 +160,7 @@ fn put_items<W: JoinedWrite + Drop>(
     printer: &mut Printer<W>,
 ) -> Put
     requires shallow { items_depth (items_view items.now) + depth < max_depth }
-    ensures text { Puts (piece (laid_in form.now depth (array (items_view items.now)))) printer.old result printer.new }
-    ensures numbers { OnOk result (ItemsHaveNumbers (items_view items.now)) }
+    ensures { PutsLaid form.now depth (array (items_view items.now)) printer.old result printer.new }
 {
     printer.put_piece("[")?;
     let line = Line::within(form.layout, depth + 1);
@@ -187,8 +184,7 @@ fn put_object<W: JoinedWrite + Drop>(
     printer: &mut Printer<W>,
 ) -> Put
     requires shallow { fields_depth (fields_view fields.now) + depth < max_depth }
-    ensures text { Puts (piece (laid_in form.now depth (object (fields_view fields.now)))) printer.old result printer.new }
-    ensures numbers { OnOk result (FieldsHaveNumbers (fields_view fields.now)) }
+    ensures { PutsLaid form.now depth (object (fields_view fields.now)) printer.old result printer.new }
 {
     match form.layout {
         Layout::Compact => put_fields_on_line(fields, form, depth, printer),
@@ -206,8 +202,7 @@ fn put_fields_on_line<W: JoinedWrite + Drop>(
 ) -> Put
     requires shallow { fields_depth (fields_view fields.now) + depth < max_depth }
     requires on_line { is_compact form.now.layout ≡ true }
-    ensures text { Puts (piece (laid_in form.now depth (object (fields_view fields.now)))) printer.old result printer.new }
-    ensures numbers { OnOk result (FieldsHaveNumbers (fields_view fields.now)) }
+    ensures { PutsLaid form.now depth (object (fields_view fields.now)) printer.old result printer.new }
 {
     printer.put_piece("{")?;
     let mut started = false;
@@ -228,8 +223,7 @@ fn put_fields<W: JoinedWrite + Drop>(
     printer: &mut Printer<W>,
 ) -> Put
     requires shallow { fields_depth (fields_view fields.now) + depth < max_depth }
-    ensures text { Puts (piece (laid_in form.now depth (object (fields_view fields.now)))) printer.old result printer.new }
-    ensures numbers { OnOk result (FieldsHaveNumbers (fields_view fields.now)) }
+    ensures { PutsLaid form.now depth (object (fields_view fields.now)) printer.old result printer.new }
 {
     printer.put_piece("{")?;
     let line = Line::within(form.layout, depth + 1);
