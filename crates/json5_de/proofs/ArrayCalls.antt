@@ -22,7 +22,11 @@ use Rattle.json5_de.proofs.AccessCalls.{gives_seen, gives_next, refuses_next}
 abbrev pub lent : {I : Type 0} → SeqAccess I → State → SeqAccess I
 lent s after = record s { de = record s.de { now = after } }
 
-kept : {I : Type 0} (old : SeqAccess I) (after : State) (stage : AccessStage) (failed : Bool) → SameText (state_of old).reader after → KeepsAccess old (record (blocking (lent old after) failed) { stage = stage })
+-- and at this stage
+abbrev pub at_stage : {I : Type 0} → SeqAccess I → AccessStage → SeqAccess I
+at_stage s stage = record s { progress = record s.progress { stage = stage } }
+
+kept : {I : Type 0} (old : SeqAccess I) (after : State) (stage : AccessStage) (failed : Bool) → SameText (state_of old).reader after → KeepsAccess old (at_stage (blocking (lent old after) failed) stage)
 kept old after stage failed same = record { same_reference = refl; blocks = refl; start = refl; same_text = same }
 
 module _ {I V C : Type 0} (content : V → C) (convert : Tree → Option C) (refuses : State → Error → State → Type 0) (old : SeqAccess I) where
@@ -43,22 +47,22 @@ module _ {I V C : Type 0} (content : V → C) (convert : Tree → Option C) (ref
   }
 
   -- an element was read, or the bracket is next
-  pub next_given : (after : State) (new : SeqAccess I) (some : Bool) (o : Option V) → new ≡ blocking (lent old after) old.failed → some ≡ is_some o → SameText (state_of old).reader after
-      → GivesElement content convert (bare (state_of old).reader (is_comma_due old.stage)) (bare after (is_comma_due old.stage || is_some o)) o → ReadsNext content convert refuses old (record new { stage = with_element new.stage some }) (Ok o)
+  pub next_given : (after : State) (new : SeqAccess I) (some : Bool) (o : Option V) → new ≡ blocking (lent old after) old.progress.failed → some ≡ is_some o → SameText (state_of old).reader after
+      → GivesElement content convert (bare (state_of old).reader (is_comma_due old.progress.stage)) (bare after (is_comma_due old.progress.stage || is_some o)) o → ReadsNext content convert refuses old (at_stage new (with_element new.progress.stage some)) (Ok o)
   next_given after new some o same is text gives =
-      let last = record (blocking (lent old after) old.failed) { stage = with_element old.stage some } in
-      let comma_due = comma_after_member old.stage some ∙ ap (λ b. is_comma_due old.stage || b) is in
-      subst (λ s. ReadsNext content convert refuses old (record s { stage = with_element s.stage some }) (Ok o)) (sym same)
-      (given last o (kept old after (with_element old.stage some) old.failed text) (gives_seen content convert (state_of old) (state_of last) (state_of old).reader after o refl refl comma_due gives))
+      let last = at_stage (blocking (lent old after) old.progress.failed) (with_element old.progress.stage some) in
+      let comma_due = comma_after_member old.progress.stage some ∙ ap (λ b. is_comma_due old.progress.stage || b) is in
+      subst (λ s. ReadsNext content convert refuses old (at_stage s (with_element s.progress.stage some)) (Ok o)) (sym same)
+      (given last o (kept old after (with_element old.progress.stage some) old.progress.failed text) (gives_seen content convert (state_of old) (state_of last) (state_of old).reader after o refl refl comma_due gives))
 
   -- the call was refused
-  pub next_refused : (after : State) (new : SeqAccess I) (own e : Error) → new ≡ blocking (lent old after) true → PositionedAtBracket (state_of (lent old after)) own e → RefusesElement refuses (is_comma_due old.stage) (state_of old).reader own after → Steady {V = Option V} (state_of old).reader after (Err own)
-      → CompletesElement {V = Option V} convert (bare (state_of old).reader (is_comma_due old.stage)) (Err own) → CompletesClose {V = Option V} square (bare (state_of old).reader (is_comma_due old.stage)) (Err own) → ReadsNext content convert refuses old new (Err e)
+  pub next_refused : (after : State) (new : SeqAccess I) (own e : Error) → new ≡ blocking (lent old after) true → PositionedAtBracket (state_of (lent old after)) own e → RefusesElement refuses (is_comma_due old.progress.stage) (state_of old).reader own after → Steady {V = Option V} (state_of old).reader after (Err own)
+      → CompletesElement {V = Option V} convert (bare (state_of old).reader (is_comma_due old.progress.stage)) (Err own) → CompletesClose {V = Option V} square (bare (state_of old).reader (is_comma_due old.progress.stage)) (Err own) → ReadsNext content convert refuses old new (Err e)
   next_refused after new own e same placed cause steady complete closing =
       let last = blocking (lent old after) true in
-      let at = subst (λ x. PositionedAt (StartsAfter x old.start) own e) steady.same_text placed in
+      let at = subst (λ x. PositionedAt (StartsAfter x old.progress.start) own e) steady.same_text placed in
       subst (λ s. ReadsNext content convert refuses old s (Err e)) (sym same) (record {
-        access = kept old after old.stage true steady.same_text;
+        access = kept old after old.progress.stage true steady.same_text;
         sound = tt;
         complete = λ t r c live element shallow is. placed.kind ∙ complete t r c live element shallow is;
         closing = closing;

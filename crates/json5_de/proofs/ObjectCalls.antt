@@ -25,23 +25,27 @@ use Rattle.json5_de.proofs.MemberRefusals.{gives_key_seen, gives_next_key, refus
 abbrev pub lent : {I : Type 0} → MapAccess I → State → MapAccess I
 lent m after = record m { de = record m.de { now = after } }
 
-kept : {I : Type 0} (old : MapAccess I) (after : State) (stage : AccessStage) (failed : Bool) → SameText (map_state_of old).at.reader after → KeepsMap old (record (blocking_map (lent old after) failed) { stage = stage })
+-- and at this stage
+abbrev pub at_stage : {I : Type 0} → MapAccess I → AccessStage → MapAccess I
+at_stage m stage = record m { progress = record m.progress { stage = stage } }
+
+kept : {I : Type 0} (old : MapAccess I) (after : State) (stage : AccessStage) (failed : Bool) → SameText (map_state_of old).at.reader after → KeepsMap old (at_stage (blocking_map (lent old after) failed) stage)
 kept old after stage failed same = record { same_reference = refl; blocks = refl; start = refl; same_text = same }
 
-module _ {I K C : Type 0} (content : K → C) (convert : KeyConversion C) (refuses : State → Error → State → Type 0) (old : MapAccess I) (no_key : is_pending old.stage ≡ false) where
+module _ {I K C : Type 0} (content : K → C) (convert : KeyConversion C) (refuses : State → Error → State → Type 0) (old : MapAccess I) (no_key : is_pending old.progress.stage ≡ false) where
   shorter : (new : MapAccessState) (o : Option K) → GivesMemberKey content convert (map_state_of old) new o → IfSome o (λ k. length new.at.reader.unread < length (map_state_of old).at.reader.unread)
-  shorter new (Some k) (u, escape_free, took, is, comma_due, pending) = key_shorter (is_comma_due old.stage) (map_state_of old).at.reader.unread new.at.reader.unread u escape_free took.key
+  shorter new (Some k) (u, escape_free, took, is, comma_due, pending) = key_shorter (is_comma_due old.progress.stage) (map_state_of old).at.reader.unread new.at.reader.unread u escape_free took.key
   shorter new None gives = tt
 
   -- a key was read, or the brace is next
-  pub key_given : (after : State) (new : MapAccess I) (some : Bool) (o : Option K) → new ≡ blocking_map (lent old after) old.failed → some ≡ is_some o → SameText (map_state_of old).at.reader after
-      → GivesMemberKey content convert (bare_map (map_state_of old).at.reader (is_comma_due old.stage) false) (bare_map after (is_comma_due old.stage) (is_some o)) o → ReadsNextKey content convert refuses old (record new { stage = with_key new.stage some }) (Ok o)
+  pub key_given : (after : State) (new : MapAccess I) (some : Bool) (o : Option K) → new ≡ blocking_map (lent old after) old.progress.failed → some ≡ is_some o → SameText (map_state_of old).at.reader after
+      → GivesMemberKey content convert (bare_map (map_state_of old).at.reader (is_comma_due old.progress.stage) false) (bare_map after (is_comma_due old.progress.stage) (is_some o)) o → ReadsNextKey content convert refuses old (at_stage new (with_key new.progress.stage some)) (Ok o)
   key_given after new some o same is text inner =
-      let last = record (blocking_map (lent old after) old.failed) { stage = with_key old.stage some } in
-      let pending = key_after_key old.stage some no_key ∙ is in
-      let gives = gives_key_seen content convert (map_state_of old) (map_state_of last) (map_state_of old).at.reader after o refl refl (comma_after_key old.stage some) pending inner in
-      subst (λ m. ReadsNextKey content convert refuses old (record m { stage = with_key m.stage some }) (Ok o)) (sym same) (record {
-        access = kept old after (with_key old.stage some) old.failed text;
+      let last = at_stage (blocking_map (lent old after) old.progress.failed) (with_key old.progress.stage some) in
+      let pending = key_after_key old.progress.stage some no_key ∙ is in
+      let gives = gives_key_seen content convert (map_state_of old) (map_state_of last) (map_state_of old).at.reader after o refl refl (comma_after_key old.progress.stage some) pending inner in
+      subst (λ m. ReadsNextKey content convert refuses old (at_stage m (with_key m.progress.stage some)) (Ok o)) (sym same) (record {
+        access = kept old after (with_key old.progress.stage some) old.progress.failed text;
         pending = record { given = pending; kept = tt };
         sound = gives;
         complete = reads_pair_key content convert (map_state_of old) (map_state_of last) o gives;
@@ -53,14 +57,14 @@ module _ {I K C : Type 0} (content : K → C) (convert : KeyConversion C) (refus
       })
 
   -- the call for one was refused
-  pub key_refused : (after : State) (new : MapAccess I) (own e : Error) → new ≡ blocking_map (lent old after) true → PositionedAtBracket (map_state_of (lent old after)).at own e → RefusesMemberKey refuses (is_comma_due old.stage) (map_state_of old).at.reader own after
-      → Steady {V = Option K} (map_state_of old).at.reader after (Err own) → CompletesMemberKey {V = Option K} convert (bare_map (map_state_of old).at.reader (is_comma_due old.stage) false) (Err own)
-      → CompletesClose {V = Option K} curly (bare (map_state_of old).at.reader (is_comma_due old.stage)) (Err own) → ReadsNextKey content convert refuses old new (Err e)
+  pub key_refused : (after : State) (new : MapAccess I) (own e : Error) → new ≡ blocking_map (lent old after) true → PositionedAtBracket (map_state_of (lent old after)).at own e → RefusesMemberKey refuses (is_comma_due old.progress.stage) (map_state_of old).at.reader own after
+      → Steady {V = Option K} (map_state_of old).at.reader after (Err own) → CompletesMemberKey {V = Option K} convert (bare_map (map_state_of old).at.reader (is_comma_due old.progress.stage) false) (Err own)
+      → CompletesClose {V = Option K} curly (bare (map_state_of old).at.reader (is_comma_due old.progress.stage)) (Err own) → ReadsNextKey content convert refuses old new (Err e)
   key_refused after new own e same placed cause steady complete closing =
       let last = blocking_map (lent old after) true in
-      let at = subst (λ x. PositionedAt (StartsAfter x old.start) own e) steady.same_text placed in
+      let at = subst (λ x. PositionedAt (StartsAfter x old.progress.start) own e) steady.same_text placed in
       subst (λ m. ReadsNextKey content convert refuses old m (Err e)) (sym same) (record {
-        access = kept old after old.stage true steady.same_text;
+        access = kept old after old.progress.stage true steady.same_text;
         pending = record { given = tt; kept = refl };
         sound = tt;
         complete = λ u escape_free r k live key is. placed.kind ∙ complete u escape_free r k live key is;
@@ -71,16 +75,16 @@ module _ {I K C : Type 0} (content : K → C) (convert : KeyConversion C) (refus
         left = leaves_a_value content convert (map_state_of old) (map_state_of last) (Err e) no_key tt (λ u escape_free r k live key is. placed.kind ∙ complete u escape_free r k live key is) closing;
       })
 
-module _ {I V C : Type 0} (content : V → C) (convert : Tree → Option C) (refuses : State → Error → State → Type 0) (old : MapAccess I) (key : is_pending old.stage ≡ true) where
+module _ {I V C : Type 0} (content : V → C) (convert : Tree → Option C) (refuses : State → Error → State → Type 0) (old : MapAccess I) (key : is_pending old.progress.stage ≡ true) where
   -- a value was read
-  pub value_given : (after : State) (new : MapAccess I) (v : V) → new ≡ blocking_map (lent old after) old.failed → SameText (map_state_of old).at.reader after
-      → GivesMemberValue content convert (bare_map (map_state_of old).at.reader false true) (bare_map after true false) v → ReadsNextValue content convert refuses old (record new { stage = stages.Started }) (Ok v)
+  pub value_given : (after : State) (new : MapAccess I) (v : V) → new ≡ blocking_map (lent old after) old.progress.failed → SameText (map_state_of old).at.reader after
+      → GivesMemberValue content convert (bare_map (map_state_of old).at.reader false true) (bare_map after true false) v → ReadsNextValue content convert refuses old (at_stage new stages.Started) (Ok v)
   value_given after new v same text inner =
-      let last = record (blocking_map (lent old after) old.failed) { stage = stages.Started } in
+      let last = at_stage (blocking_map (lent old after) old.progress.failed) stages.Started in
       let gives = gives_value_seen content convert (map_state_of old) (map_state_of last) (map_state_of old).at.reader after v refl refl refl refl inner in
       let (t, took, is, comma_due, pending) = gives in
-      subst (λ m. ReadsNextValue content convert refuses old (record m { stage = stages.Started }) (Ok v)) (sym same) (record {
-        access = kept old after stages.Started old.failed text;
+      subst (λ m. ReadsNextValue content convert refuses old (at_stage m stages.Started) (Ok v)) (sym same) (record {
+        access = kept old after stages.Started old.progress.failed text;
         pending = record { given = refl; kept = tt };
         sound = gives;
         complete = reads_pair_value content convert (map_state_of old) (map_state_of last) v gives;
@@ -95,9 +99,9 @@ module _ {I V C : Type 0} (content : V → C) (convert : Tree → Option C) (ref
       → Steady {V = V} (map_state_of old).at.reader after (Err own) → CompletesMemberValue {V = V} convert (bare_map (map_state_of old).at.reader false true) (Err own) → ReadsNextValue content convert refuses old new (Err e)
   value_refused after new own e same placed cause steady complete =
       let last = blocking_map (lent old after) true in
-      let at = subst (λ x. PositionedAt (StartsAfter x old.start) own e) steady.same_text placed in
+      let at = subst (λ x. PositionedAt (StartsAfter x old.progress.start) own e) steady.same_text placed in
       subst (λ m. ReadsNextValue content convert refuses old m (Err e)) (sym same) (record {
-        access = kept old after old.stage true steady.same_text;
+        access = kept old after old.progress.stage true steady.same_text;
         pending = record { given = tt; kept = refl };
         sound = tt;
         complete = λ t r c live value shallow is. placed.kind ∙ complete t r c live value shallow is;

@@ -14,6 +14,8 @@ use Rattle.json5_value.specs.Brackets.{square, curly}
 use Rattle.json5_de.specs.Arrays.{AccessState, IsStart, Opened, OpensAs, ClosesArray}
 use Rattle.json5_de.specs.Objects.{MapAccessState, ClosesMap, LeftAfter}
 use Rattle.json5_de.specs.Enums.{EnumAccessState, no_content, in_content, ClosesLast, ClosesContent, not_ended, brace_open, ClosesTuple, ClosesStruct, EndsArray, EndsObject, OpensContent, OpensTuple, OpensStruct}
+use Rattle.json5_de.specs.Progress.{EndsAccess, array_at, object_at}
+use Rattle.json5_de.specs.declared.stage.Progress.{Progress}
 use Rattle.json5_de.proofs.BracketSteps.{failed_of}
 use Rattle.json5_de.proofs.ArrayElements as elements
 use Rattle.json5_de.proofs.ArrayElements.{closes_array, refuses_end, more_and_less}
@@ -52,17 +54,18 @@ struct_closed brace old new (Ok tt) k = record {
 struct_closed brace old new (Err e) k = record { bracket = k; read = tt; left = λ x r none l close. k.complete x r l.live (subst (λ p. LeftAfter p no_member old.at.comma_due old.at.reader.unread x) none l.tail) close }
 
 -- at the end of an access
-pub array_ends : (old : AccessState) (new : State) (result : Result (Unit {0}) Error) → ClosesLast square old.comma_due old.reader new result → EndsArray None old new result
-array_ends old new result k = record { alone = λ none. array_closed old new result k; in_variant = λ start some. absurd (cc) }
+module _ (reader : State) (p : Progress) (new : State) (result : Result (Unit {0}) Error) where
+  pub array_ends : EndsAccess square p reader new result → EndsArray p.brace (array_at reader p) new result
+  array_ends k = record {
+    alone = λ none. array_closed (array_at reader p) new result (k.alone none);
+    in_variant = λ start some. tuple_closed start (array_at reader p) new result (k.in_variant start some);
+  }
 
-pub tuple_ends : (brace : ℕ) (old : AccessState) (new : State) (result : Result (Unit {0}) Error) → ClosesContent square old.comma_due brace old.reader new result → EndsArray (Some brace) old new result
-tuple_ends brace old new result k = record { alone = λ none. absurd (cc); in_variant = λ start some. let same : brace ≡ start = cc in subst (λ b. ClosesTuple b old new result) same (tuple_closed brace old new result k) }
-
-pub object_ends : (old : MapAccessState) (new : State) (result : Result (Unit {0}) Error) → ClosesLast curly old.at.comma_due old.at.reader new result → EndsObject None old new result
-object_ends old new result k = record { alone = λ none. object_closed old new result k; in_variant = λ start some. absurd (cc) }
-
-pub struct_ends : (brace : ℕ) (old : MapAccessState) (new : State) (result : Result (Unit {0}) Error) → ClosesContent curly old.at.comma_due brace old.at.reader new result → EndsObject (Some brace) old new result
-struct_ends brace old new result k = record { alone = λ none. absurd (cc); in_variant = λ start some. let same : brace ≡ start = cc in subst (λ b. ClosesStruct b old new result) same (struct_closed brace old new result k) }
+  pub object_ends : EndsAccess curly p reader new result → EndsObject p.brace (object_at reader p) new result
+  object_ends k = record {
+    alone = λ none. object_closed (object_at reader p) new result (k.alone none);
+    in_variant = λ start some. struct_closed start (object_at reader p) new result (k.in_variant start some);
+  }
 
 module _ (b : BracketPair) (signs : AreSigns b) (comma_due : Bool) (brace : ℕ) (old : State) where
   -- the own bracket isn't there

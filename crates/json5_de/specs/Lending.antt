@@ -10,7 +10,7 @@ use Rattle.json5_types.specs.ByteBufs.{bytes_of}
 use Rattle.json5_types.specs.Cows.{cow_bytes, is_borrowed}
 use Rattle.json5_de.specs.State.{State, SameText, GivesUp}
 use Rattle.json5_grammar.specs.Language.Trees.{Tree, Trees, Members}
-use Rattle.json5_de.specs.Arrays.{AccessState, IsFailedAtBracket, OpensArray, PositionedAtBracket, GivesElement, ReadsElement, CompletesClose, ReadsMore, ElementsLeft, LeavesFewer}
+use Rattle.json5_de.specs.Arrays.{AccessState, IsFailedAtBracket, OpensArray, GivesElement, ReadsElement, CompletesClose, ReadsMore, ElementsLeft, LeavesFewer}
 use Rattle.json5_de.specs.DeserializeLaw.{IsUnprompted}
 use Rattle.json5_de.specs.Fields.{IsOwnAtBracket}
 use Rattle.json5_de.specs.AccessCalls.{RefusesNext}
@@ -19,7 +19,7 @@ use Rattle.json5_de.specs.TokenKinds.{null_kind}
 use Rattle.json5_de.specs.KeyKinds.{KeyKind, RefusedAsKey, bytes_key, cow_key, document_key}
 use Rattle.json5_de.specs.Objects.{MapAccessState, KeepsPending, OpensMap, SetsPending, GivesMemberKey, GivesMemberValue, ReadsMemberKey, ReadsMemberValue, ReadsAKey, ReadsAMember, MembersLeft, LeavesAValue, LeavesOthers}
 use Rattle.json5_de.specs.ObjectFaults.{RefusesNextKey, RefusesNextValue}
-use Rattle.json5_de.specs.Stages.{is_comma_due, is_pending}
+use Rattle.json5_de.specs.Progress.{HoldsReader, array_at, holding, object_at}
 use Rattle.json5_de.specs.KeyPlaces.{KeyBegins}
 use Rattle.json5_de.specs.Enums.{EnumAccessState}
 use Rattle.json5_de.specs.declared.enums.EnumAccess.{EnumAccess}
@@ -31,14 +31,14 @@ use Rattle.json5_de.specs.contracts.de.Deserializer.{the_row}
 
 module _ {I : Type 0} where
   abbrev pub state_of : SeqAccess I → AccessState
-  state_of s = record { reader = record s.de.now { failed = s.failed }; start = s.start; comma_due = is_comma_due s.stage }
+  state_of s = array_at s.de.now s.progress
 
   -- the count of bytes before the brace that its end closes too: that of the variant whose content it reads
   abbrev pub brace_of : SeqAccess I → Option ℕ
-  brace_of s = s.brace
+  brace_of s = s.progress.brace
 
   abbrev pub map_brace : MapAccess I → Option ℕ
-  map_brace m = m.brace
+  map_brace m = m.progress.brace
 
   -- the reader itself, as the access holds it
   abbrev pub reader_of_access : SeqAccess I → State
@@ -47,33 +47,20 @@ module _ {I : Type 0} where
   abbrev pub reader_of_map : MapAccess I → State
   reader_of_map m = m.de.now
 
-  -- the access holds this reader
-  abbrev pub Holds : MutBor State → SeqAccess I → Type 0
-  Holds reader s = s.de.ghost_name ≡ reader.ghost_name
-
-  -- the reference that it holds, and that brace
-  abbrev pub holding : SeqAccess I → GName × Option ℕ
-  holding s = (s.de.ghost_name, s.brace)
-
   -- it still holds the same one, and its end closes the same
   abbrev pub HoldsTheSame : SeqAccess I → SeqAccess I → Type 0
-  HoldsTheSame old new = holding new ≡ holding old
+  HoldsTheSame old new = holding new.de new.progress ≡ holding old.de old.progress
 
-  -- the reader itself counts as failed while the access holds it
-  abbrev pub BlocksReader : SeqAccess I → Type 0
-  BlocksReader s = s.de.now.failed ≡ true
+  -- it holds this reader, and blocks it; if `brace` is Some, its end closes that brace too
+  abbrev pub HoldsBlocked : MutBor State → Option ℕ → SeqAccess I → Type 0
+  HoldsBlocked reader brace s = HoldsReader reader brace s.de s.progress
 
   -- the access that blocks its reader, and whether a call was refused
   abbrev pub blocking : SeqAccess I → Bool → SeqAccess I
-  blocking s failed = record s { de = record s.de { now = record s.de.now { failed = true } }; failed = failed }
-
-  -- after a refusal the reader is blocked again, and the refusal is remembered; its fault gets the bracket's position if it had none
-  pub record RefusesIn (old : SeqAccess I) (own : Error) (new : SeqAccess I) (result : Error) : Type 0 where
-    pub placed : PositionedAtBracket (state_of old) own result
-    pub blocks : new ≡ blocking old true
+  blocking s failed = record s { de = record s.de { now = record s.de.now { failed = true } }; progress = record s.progress { failed = failed } }
 
   abbrev pub map_state_of : MapAccess I → MapAccessState
-  map_state_of m = record { at = record { reader = record m.de.now { failed = m.failed }; start = m.start; comma_due = is_comma_due m.stage }; pending = is_pending m.stage }
+  map_state_of m = object_at m.de.now m.progress
 
   -- the same, had its object begun at this offset
   abbrev pub beginning_at : ℕ → MapAccess I → AccessState
@@ -99,24 +86,14 @@ module _ {I : Type 0} where
   TakesPendingKey old new result = SetsPending (λ _. false) (map_state_of old) (map_state_of new) result
 
   -- the same of an access to an object
-  abbrev pub HoldsMap : MutBor State → MapAccess I → Type 0
-  HoldsMap reader m = m.de.ghost_name ≡ reader.ghost_name
-
-  abbrev pub held_with_map : MapAccess I → GName × Option ℕ
-  held_with_map m = (m.de.ghost_name, m.brace)
-
   abbrev pub HoldsTheSameMap : MapAccess I → MapAccess I → Type 0
-  HoldsTheSameMap old new = held_with_map new ≡ held_with_map old
+  HoldsTheSameMap old new = holding new.de new.progress ≡ holding old.de old.progress
 
-  abbrev pub BlocksMapReader : MapAccess I → Type 0
-  BlocksMapReader m = m.de.now.failed ≡ true
+  abbrev pub HoldsMapBlocked : MutBor State → Option ℕ → MapAccess I → Type 0
+  HoldsMapBlocked reader brace m = HoldsReader reader brace m.de m.progress
 
   abbrev pub blocking_map : MapAccess I → Bool → MapAccess I
-  blocking_map m failed = record m { de = record m.de { now = record m.de.now { failed = true } }; failed = failed }
-
-  pub record RefusesInMap (old : MapAccess I) (own : Error) (new : MapAccess I) (result : Error) : Type 0 where
-    pub placed : PositionedAtBracket (map_state_of old).at own result
-    pub blocks : new ≡ blocking_map old true
+  blocking_map m failed = record m { de = record m.de { now = record m.de.now { failed = true } }; progress = record m.progress { failed = failed } }
 
 -- a name that was read, and the reader after it
 abbrev pub named_state_of : State → Named → EnumAccessState
@@ -167,17 +144,6 @@ ReadsBytesKey old new result = KeyReads bytes_key bytes_of old new result
 abbrev pub ReadsCowKey : {I : Type 0} → MapKey I → MapKey I → Result CowStr Error → Type 0
 ReadsCowKey old new result = KeyReads cow_key (λ t. (cow_bytes t, is_borrowed t)) old new result
 
--- the access holds this reader, and blocks it; if `brace` is Some, its end closes that brace too
-pub record HoldsBlocked {I : Type 0} (reader : MutBor State) (brace : Option ℕ) (s : SeqAccess I) : Type 0 where
-  pub same_reference : Holds reader s
-  pub blocks : BlocksReader s
-  pub closes : brace_of s ≡ brace
-
-pub record HoldsMapBlocked {I : Type 0} (reader : MutBor State) (brace : Option ℕ) (m : MapAccess I) : Type 0 where
-  pub same_reference : HoldsMap reader m
-  pub blocks : BlocksMapReader m
-  pub closes : map_brace m ≡ brace
-
 -- an array is opened by an access that holds this reader, and whose end closes no brace; the same of an object
 abbrev pub OpensSeqAccess : {I : Type 0} → MutBor State → State → Result (SeqAccess I) Error → Type 0
 OpensSeqAccess reader old result = OpensArray (HoldsBlocked reader None) state_of old result
@@ -188,13 +154,13 @@ OpensMapAccess reader old result = OpensMap (HoldsMapBlocked reader None) map_st
 -- a call of the access keeps its reference, blocks the reader, and leaves the bracket and the input as they were
 pub record KeepsAccess {I : Type 0} (old new : SeqAccess I) : Type 0 where
   pub same_reference : HoldsTheSame old new
-  pub blocks : BlocksReader new
+  pub blocks : new.de.now.failed ≡ true
   pub start : (state_of new).start ≡ (state_of old).start
   pub same_text : SameText (state_of old).reader (state_of new).reader
 
 pub record KeepsMap {I : Type 0} (old new : MapAccess I) : Type 0 where
   pub same_reference : HoldsTheSameMap old new
-  pub blocks : BlocksMapReader new
+  pub blocks : new.de.now.failed ≡ true
   pub start : (map_state_of new).at.start ≡ (map_state_of old).at.start
   pub same_text : SameText (map_state_of old).at.reader (map_state_of new).at.reader
 

@@ -27,6 +27,7 @@ pub mod KeyPlaces
 pub mod StructFaults
 pub mod MapFaults
 pub mod Stages
+pub mod Progress
 pub mod Lending
 pub mod WholeInputs
 pub mod Refinement

@@ -19,7 +19,7 @@ use crate::de::{Deserialize, Deserializer};
 use crate::map::MapAccess;
 use crate::mismatch::Mismatch;
 use crate::seq::SeqAccess;
-use crate::stage::AccessStage;
+use crate::stage::Progress;
 use json5_text::input::Input;
 use json5_text::strings::is_quote;
 use json5_types::ErrorCode;
@@ -379,10 +379,7 @@ impl<'a, I: Input> EnumAccess<'a, I> {
         de.set_failed(true);
         Ok(SeqAccess {
             de,
-            start,
-            stage: AccessStage::Empty,
-            failed: false,
-            brace: Some(name.start),
+            progress: Progress::new(start, Some(name.start)),
         })
     }
 
@@ -411,11 +408,8 @@ impl<'a, I: Input> EnumAccess<'a, I> {
         de.set_failed(true);
         Ok(MapAccess {
             de,
-            start,
             key_start: start,
-            stage: AccessStage::Empty,
-            failed: false,
-            brace: Some(name.start),
+            progress: Progress::new(start, Some(name.start)),
         })
     }
 }

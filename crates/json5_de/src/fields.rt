@@ -182,10 +182,10 @@ impl<'a, I: Input> MapAccess<'a, I> {
         ensures refused { RefusesWithOwn (beginning_at offset self.old) self.old result self.new }
     {
         self.de.set_failed(true);
-        if self.failed {
+        if self.progress.failed {
             return self.place(Error::new(ErrorCode::Failed));
         }
-        self.failed = true;
+        self.progress.failed = true;
         match Error::custom(self.de.allocator(), message) {
             Ok(error) => self.de.with_position_at(offset, error),
             Err(error) => self.de.with_position_at(offset, error),
@@ -196,7 +196,10 @@ impl<'a, I: Input> MapAccess<'a, I> {
     fn duplicate(&mut self, name: &str) -> Error
         ensures refused { RefusesWithOwn (map_state_of self.old).at self.old result self.new }
     {
-        self.refuse_at(self.start, format_args!("duplicate field `{name}`"))
+        self.refuse_at(
+            self.progress.start,
+            format_args!("duplicate field `{name}`"),
+        )
     }
 
     /// Refuses the member whose key [`read_fields`](MapAccess::read_fields) read last, such as one that the struct doesn't have:
@@ -294,13 +297,13 @@ impl<'a, I: Input> MapAccess<'a, I> {
         ensures value { FieldRequired (map_state_of self.old) (map_state_of self.new) field result }
     {
         self.de.set_failed(true);
-        if self.failed {
+        if self.progress.failed {
             return Err(self.place(Error::new(ErrorCode::Failed)));
         }
         match field {
             Some(value) => Ok(value),
             None => {
-                self.failed = true;
+                self.progress.failed = true;
                 Err(self.own_fault(format_args!("missing field `{name}`")))
             }
         }
@@ -316,17 +319,17 @@ impl<'a, I: Input> MapAccess<'a, I> {
         requires no_key { NoKeyPending self.old }
         ensures { ReadsNextFieldKey self.old self.new field_key.new start.new result }
     {
-        self.de.set_failed(self.failed);
+        self.de.set_failed(self.progress.failed);
         match self
             .de
-            .read_field_key(self.stage.is_comma_due(), field_key, start)
+            .read_field_key(self.progress.stage.is_comma_due(), field_key, start)
         {
             Ok(given) => {
                 self.de.set_failed(true);
-                self.stage = self.stage.with_key(given);
+                self.progress.stage = self.progress.stage.with_key(given);
                 Ok(given)
             }
-            Err(e) => Err(self.refused(e)),
+            Err(e) => Err(self.de.refuse_access(&mut self.progress, e)),
         }
     }
 

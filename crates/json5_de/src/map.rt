@@ -11,13 +11,12 @@ ghost use Rattle.json5_de.specs.Objects.{CompletesFreeMemberValue, ReadsValueFre
 
 use crate::de::{Deserialize, Deserializer};
 use crate::key::DeserializeKey;
-use crate::stage::AccessStage;
+use crate::stage::{AccessStage, Progress};
 use json5_text::input::Input;
+use json5_types::Position;
 use json5_types::error::{Error, Result};
-use json5_types::{ErrorCode, Position};
 use json5_value::brackets::BracketKind;
 use std::alloc::Global;
-use std::mem;
 
 /// The members of an object, one after another: a key, then its value.
 ///
@@ -41,15 +40,9 @@ use std::mem;
 /// - `Failed`, after a call of the access that was refused.
 pub struct MapAccess<'a, I: Input> {
     pub(crate) de: &'a mut Deserializer<I>,
-    /// The count of bytes before the opening brace.
-    pub(crate) start: usize,
     /// The count of bytes before the key that `read_fields` read last.
     pub(crate) key_start: usize,
-    pub(crate) stage: AccessStage,
-    /// Whether a call of the access was refused.
-    pub(crate) failed: bool,
-    /// The count of bytes before the brace of the variant whose content it reads, which its end closes too.
-    pub(crate) brace: Option<usize>,
+    pub(crate) progress: Progress,
 }
 
 /// Dropped before its end, it leaves the reader blocked.
@@ -61,11 +54,8 @@ impl<I: Input> Drop for MapAccess<'_, I> {
     {
         let MapAccess {
             de: _,
-            start: _,
             key_start: _,
-            stage: _,
-            failed: _,
-            brace: _,
+            progress: _,
         } = self;
     }
 }
@@ -98,11 +88,8 @@ impl<I: Input> Deserializer<I> {
         self.set_failed(true);
         Ok(MapAccess {
             de: self,
-            start,
             key_start: start,
-            stage: AccessStage::Empty,
-            failed: false,
-            brace: None,
+            progress: Progress::new(start, None),
         })
     }
 
@@ -159,19 +146,7 @@ impl<I: Input> Deserializer<I> {
 }
 
 impl<'a, I: Input> MapAccess<'a, I> {
-    ghost use Rattle.json5_de.specs.Lending.{map_state_of, KeyPending, NoKeyPending, map_brace, RefusesInMap, ReadsNextKey, ReadsNextValue};
-
-    /// Blocks the reader again after one of its calls was refused, and remembers that. A fault without a position gets that of
-    /// the opening brace.
-    #[cold]
-    #[inline(never)]
-    pub(crate) fn refused(&mut self, fault: Error) -> Error
-        ensures { RefusesInMap self.old fault self.new result }
-    {
-        self.de.set_failed(true);
-        self.failed = true;
-        self.place(fault)
-    }
+    ghost use Rattle.json5_de.specs.Lending.{map_state_of, KeyPending, NoKeyPending, map_brace, ReadsNextKey, ReadsNextValue};
 
     /// Returns the allocator of the reader.
     ///
@@ -202,14 +177,14 @@ impl<'a, I: Input> MapAccess<'a, I> {
         requires no_key { NoKeyPending self.old }
         ensures { ReadsNextKey K.content K.convert K.refuses self.old self.new result }
     {
-        self.de.set_failed(self.failed);
-        match self.de.read_member_key(self.stage.is_comma_due()) {
+        self.de.set_failed(self.progress.failed);
+        match self.de.read_member_key(self.progress.stage.is_comma_due()) {
             Ok(key) => {
                 self.de.set_failed(true);
-                self.stage = self.stage.with_key(key.is_some());
+                self.progress.stage = self.progress.stage.with_key(key.is_some());
                 Ok(key)
             }
-            Err(e) => Err(self.refused(e)),
+            Err(e) => Err(self.de.refuse_access(&mut self.progress, e)),
         }
     }
 
@@ -234,25 +209,15 @@ impl<'a, I: Input> MapAccess<'a, I> {
         ensures reads { ReadsNextValue V.content V.convert V.refuses self.old self.new result }
         ensures no_memory { ReadsValueFree V.convert V.allocation_free (map_state_of self.old) result }
     {
-        self.de.set_failed(self.failed);
+        self.de.set_failed(self.progress.failed);
         match self.de.read_member_value::<V>() {
             Ok(value) => {
                 self.de.set_failed(true);
-                self.stage = AccessStage::Started;
+                self.progress.stage = AccessStage::Started;
                 Ok(value)
             }
-            Err(e) => Err(self.refused(e)),
+            Err(e) => Err(self.de.refuse_access(&mut self.progress, e)),
         }
-    }
-
-    /// The same as `refused`, of the fault that was left.
-    #[cold]
-    #[inline(never)]
-    fn refused_in(&mut self, fault: &mut Error)
-        ensures { RefusesInMap self.old fault.old self.new fault.new }
-    {
-        let own = mem::replace(fault, Error::new(ErrorCode::Failed));
-        *fault = self.refused(own);
     }
 
     /// The same as `next_key`; the error of a refusal is left in `fault`.
@@ -261,15 +226,18 @@ impl<'a, I: Input> MapAccess<'a, I> {
         requires no_key { NoKeyPending self.old }
         ensures { ReadsNextKey K.content K.convert K.refuses self.old self.new (answered result fault.new) }
     {
-        self.de.set_failed(self.failed);
-        match self.de.take_member_key(self.stage.is_comma_due(), fault) {
+        self.de.set_failed(self.progress.failed);
+        match self
+            .de
+            .take_member_key(self.progress.stage.is_comma_due(), fault)
+        {
             Some(key) => {
                 self.de.set_failed(true);
-                self.stage = self.stage.with_key(key.is_some());
+                self.progress.stage = self.progress.stage.with_key(key.is_some());
                 Some(key)
             }
             None => {
-                self.refused_in(fault);
+                self.de.refuse_access_in(&mut self.progress, fault);
                 None
             }
         }
@@ -281,15 +249,15 @@ impl<'a, I: Input> MapAccess<'a, I> {
         requires key { KeyPending self.old }
         ensures { ReadsNextValue V.content V.convert V.refuses self.old self.new (answered result fault.new) }
     {
-        self.de.set_failed(self.failed);
+        self.de.set_failed(self.progress.failed);
         match self.de.take_member_value::<V>(fault) {
             Some(value) => {
                 self.de.set_failed(true);
-                self.stage = AccessStage::Started;
+                self.progress.stage = AccessStage::Started;
                 Some(value)
             }
             None => {
-                self.refused_in(fault);
+                self.de.refuse_access_in(&mut self.progress, fault);
                 None
             }
         }
@@ -305,7 +273,7 @@ impl<'a, I: Input> MapAccess<'a, I> {
     pub fn key_pending(&self) -> bool
         ensures { result ≡ (map_state_of self.now).pending }
     {
-        self.stage.is_pending()
+        self.progress.stage.is_pending()
     }
 
     /// Gives your own fault the position of the opening brace if it has none; a fault that has one stays as it is.
@@ -318,7 +286,7 @@ impl<'a, I: Input> MapAccess<'a, I> {
     pub fn place(&self, error: Error) -> Error
         ensures { PositionedAtBracket (map_state_of self.now).at error result }
     {
-        self.de.with_position_at(self.start, error)
+        self.de.with_position_at(self.progress.start, error)
     }
 
     /// Returns the position of an offset in bytes, such as the `start` of a `Spanned` value: line and column, counted from 0.
@@ -358,17 +326,9 @@ impl<'a, I: Input> MapAccess<'a, I> {
     {
         let MapAccess {
             de,
-            start: _,
             key_start: _,
-            stage,
-            failed,
-            brace,
+            progress,
         } = self;
-        de.set_failed(failed);
-        let comma_due = stage.is_comma_due();
-        match brace {
-            None => de.close_or_fail(BracketKind::Object, comma_due),
-            Some(brace) => de.close_content(BracketKind::Object, comma_due, brace),
-        }
+        de.end_access(BracketKind::Object, progress)
     }
 }

@@ -13,13 +13,12 @@ ghost use Rattle.json5_de.specs.ListFaults.{IsTooShort, LeavesRequired, RefusesR
 ghost use Rattle.json5_de.specs.AccessCalls.{RefusesElement, TakesElement};
 
 use crate::de::{Deserialize, Deserializer};
-use crate::stage::AccessStage;
+use crate::stage::Progress;
 use json5_text::input::Input;
+use json5_types::Position;
 use json5_types::error::{Error, Result};
-use json5_types::{ErrorCode, Position};
 use json5_value::brackets::BracketKind;
 use std::alloc::Global;
-use std::mem;
 
 /// The elements of an array, one after another.
 ///
@@ -41,13 +40,7 @@ use std::mem;
 /// - `Failed`, after a call of the access that was refused.
 pub struct SeqAccess<'a, I: Input> {
     pub(crate) de: &'a mut Deserializer<I>,
-    /// The count of bytes before the opening bracket.
-    pub(crate) start: usize,
-    pub(crate) stage: AccessStage,
-    /// Whether a call of the access was refused.
-    pub(crate) failed: bool,
-    /// The count of bytes before the brace of the variant whose content it reads, which its end closes too.
-    pub(crate) brace: Option<usize>,
+    pub(crate) progress: Progress,
 }
 
 /// Dropped before its end, it leaves the reader blocked.
@@ -57,13 +50,7 @@ impl<I: Input> Drop for SeqAccess<'_, I> {
     fn drop(self)
         ensures { self.exit.0.now ≡ reader_of_access self.entry }
     {
-        let SeqAccess {
-            de: _,
-            start: _,
-            stage: _,
-            failed: _,
-            brace: _,
-        } = self;
+        let SeqAccess { de: _, progress: _ } = self;
     }
 }
 
@@ -133,10 +120,7 @@ impl<I: Input> Deserializer<I> {
         self.set_failed(true);
         Ok(SeqAccess {
             de: self,
-            start,
-            stage: AccessStage::Empty,
-            failed: false,
-            brace: None,
+            progress: Progress::new(start, None),
         })
     }
 
@@ -182,19 +166,7 @@ impl<I: Input> Deserializer<I> {
 }
 
 impl<'a, I: Input> SeqAccess<'a, I> {
-    ghost use Rattle.json5_de.specs.Lending.{state_of, brace_of, KeepsAccess, ReadsNext, RefusesIn};
-
-    /// Blocks the reader again after one of its calls was refused, and remembers that. A fault without a position gets that of
-    /// the opening bracket.
-    #[cold]
-    #[inline(never)]
-    fn refused(&mut self, fault: Error) -> Error
-        ensures { RefusesIn self.old fault self.new result }
-    {
-        self.de.set_failed(true);
-        self.failed = true;
-        self.place(fault)
-    }
+    ghost use Rattle.json5_de.specs.Lending.{state_of, brace_of, KeepsAccess, ReadsNext};
 
     /// Reads the next element, and the comma before it. Returns None if the closing bracket is next, which `end` takes.
     ///
@@ -213,25 +185,15 @@ impl<'a, I: Input> SeqAccess<'a, I> {
     pub fn next_element<T: Deserialize<I>>(&mut self) -> Result<Option<T>>
         ensures { ReadsNext T.content T.convert T.refuses self.old self.new result }
     {
-        self.de.set_failed(self.failed);
-        match self.de.read_element(self.stage.is_comma_due()) {
+        self.de.set_failed(self.progress.failed);
+        match self.de.read_element(self.progress.stage.is_comma_due()) {
             Ok(next) => {
                 self.de.set_failed(true);
-                self.stage = self.stage.with_element(next.is_some());
+                self.progress.stage = self.progress.stage.with_element(next.is_some());
                 Ok(next)
             }
-            Err(e) => Err(self.refused(e)),
+            Err(e) => Err(self.de.refuse_access(&mut self.progress, e)),
         }
-    }
-
-    /// The same as `refused`, of the fault that was left.
-    #[cold]
-    #[inline(never)]
-    fn refused_in(&mut self, fault: &mut Error)
-        ensures { RefusesIn self.old fault.old self.new fault.new }
-    {
-        let own = mem::replace(fault, Error::new(ErrorCode::Failed));
-        *fault = self.refused(own);
     }
 
     /// The same as `next_element`; the error of a refusal is left in `fault`.
@@ -239,15 +201,18 @@ impl<'a, I: Input> SeqAccess<'a, I> {
     pub(crate) fn take_next<T: Deserialize<I>>(&mut self, fault: &mut Error) -> Option<Option<T>>
         ensures { ReadsNext T.content T.convert T.refuses self.old self.new (answered result fault.new) }
     {
-        self.de.set_failed(self.failed);
-        match self.de.take_element(self.stage.is_comma_due(), fault) {
+        self.de.set_failed(self.progress.failed);
+        match self
+            .de
+            .take_element(self.progress.stage.is_comma_due(), fault)
+        {
             Some(next) => {
                 self.de.set_failed(true);
-                self.stage = self.stage.with_element(next.is_some());
+                self.progress.stage = self.progress.stage.with_element(next.is_some());
                 Some(next)
             }
             None => {
-                self.refused_in(fault);
+                self.de.refuse_access_in(&mut self.progress, fault);
                 None
             }
         }
@@ -297,7 +262,7 @@ impl<'a, I: Input> SeqAccess<'a, I> {
     pub fn place(&self, error: Error) -> Error
         ensures { PositionedAtBracket (state_of self.now) error result }
     {
-        self.de.with_position_at(self.start, error)
+        self.de.with_position_at(self.progress.start, error)
     }
 
     /// Returns the position of an offset in bytes, such as the `start` of a `Spanned` element: line and column, counted from 0.
@@ -334,18 +299,7 @@ impl<'a, I: Input> SeqAccess<'a, I> {
     pub fn end(self) -> Result<()>
         ensures { EndsArray (brace_of self.entry) (state_of self.entry) self.exit.0.now result }
     {
-        let SeqAccess {
-            de,
-            start: _,
-            stage,
-            failed,
-            brace,
-        } = self;
-        de.set_failed(failed);
-        let comma_due = stage.is_comma_due();
-        match brace {
-            None => de.close_or_fail(BracketKind::Array, comma_due),
-            Some(brace) => de.close_content(BracketKind::Array, comma_due, brace),
-        }
+        let SeqAccess { de, progress } = self;
+        de.end_access(BracketKind::Array, progress)
     }
 }

@@ -1,7 +1,28 @@
 //! How far an access has come.
 
 ghost use Rattle.std.specs.Prelude.{◌≡◌};
+ghost use Rattle.json5_value.specs.Brackets.{brackets_of};
+ghost use Rattle.json5_de.specs.Progress.{EndsAccess, RefusesAccess, begun};
 ghost use Rattle.json5_de.specs.Stages.{is_comma_due, is_pending, with_element, with_key};
+
+use crate::de::Deserializer;
+use json5_text::input::Input;
+use json5_types::ErrorCode;
+use json5_types::error::{Error, Result};
+use json5_value::brackets::BracketKind;
+use std::mem;
+
+/// Where an access is in its array or object.
+#[derive(Clone, Copy)]
+pub(crate) struct Progress {
+    /// The count of bytes before the opening bracket.
+    pub(crate) start: usize,
+    pub(crate) stage: AccessStage,
+    /// Whether a call of the access was refused.
+    pub(crate) failed: bool,
+    /// The count of bytes before the brace of the variant whose content is read, which the end closes too.
+    pub(crate) brace: Option<usize>,
+}
 
 /// How far the reading of an array or an object has come.
 #[derive(Clone, Copy)]
@@ -52,6 +73,59 @@ impl AccessStage {
             AccessStage::LaterKey
         } else {
             AccessStage::FirstKey
+        }
+    }
+}
+
+impl Progress {
+    /// Nothing was read after the opening bracket.
+    #[inline(always)]
+    pub(crate) fn new(start: usize, brace: Option<usize>) -> Progress
+        ensures { result ≡ begun start brace }
+    {
+        Progress {
+            start,
+            stage: AccessStage::Empty,
+            failed: false,
+            brace,
+        }
+    }
+}
+
+impl<I: Input> Deserializer<I> {
+    /// Blocks the reader again after a call of an access was refused, and the access remembers that. A fault without a position
+    /// gets that of the opening bracket.
+    #[cold]
+    #[inline(never)]
+    pub(crate) fn refuse_access(&mut self, access: &mut Progress, fault: Error) -> Error
+        ensures { RefusesAccess self.old access.old fault self.new access.new result }
+    {
+        self.set_failed(true);
+        access.failed = true;
+        self.with_position_at(access.start, fault)
+    }
+
+    /// The same of the fault that was left.
+    #[cold]
+    #[inline(never)]
+    pub(crate) fn refuse_access_in(&mut self, access: &mut Progress, fault: &mut Error)
+        ensures { RefusesAccess self.old access.old fault.old self.new access.new fault.new }
+    {
+        let own = mem::replace(fault, Error::new(ErrorCode::Failed));
+        *fault = self.refuse_access(access, own);
+    }
+
+    /// Gives the reader back at the end of an access, and takes the closing bracket; in a variant's content, the variant's brace
+    /// too.
+    #[inline(always)]
+    pub(crate) fn end_access(&mut self, kind: BracketKind, access: Progress) -> Result<()>
+        ensures { EndsAccess (brackets_of kind) access self.old self.new result }
+    {
+        self.set_failed(access.failed);
+        let comma_due = access.stage.is_comma_due();
+        match access.brace {
+            None => self.close_or_fail(kind, comma_due),
+            Some(brace) => self.close_content(kind, comma_due, brace),
         }
     }
 }

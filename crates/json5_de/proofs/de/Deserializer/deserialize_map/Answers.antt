@@ -18,7 +18,8 @@ returns-in_err-start g c =
 pub returns : goal.returns
 returns g c =
     let opens = c.in_ok-start.ensures.opens in
-    let (opened, comma_due) = opens.opened in (
+    let (opened, comma_due) = opens.opened in
+    rw c.new.ensures (
       (refl, λ w. refl, tt),
       record {
         lends = tt;

@@ -19,7 +19,8 @@ returns-in_err-start g c =
 pub returns : goal.returns
 returns g c =
     let opens = rw c.set_failed.ensures at c.in_ok-start.ensures.opens in
-    let (opened, comma_due) = opens.opened in (
+    let (opened, comma_due) = opens.opened in
+    rw c.new.ensures (
       (refl, λ w. refl, tt),
       record {
         lends = tt;

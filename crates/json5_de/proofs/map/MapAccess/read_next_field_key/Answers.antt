@@ -16,7 +16,7 @@ given_is_some value false = refl
 pub returns-in-Ok : goal.returns-in-Ok
 returns-in-Ok g c =
     let k = rw (c.set_failed.ensures, c.is_comma_due.ensures) at c.in-Ok.ensures in
-    let new = blocking_map (lent c.args.self.now c.read_field_key.new.self) c.args.self.now.failed in
+    let new = blocking_map (lent c.args.self.now c.read_field_key.new.self) c.args.self.now.progress.failed in
     rw (c.with_key-self.ensures, c.set_failed-in-Ok.ensures) (record {
       key = key_given field_key_text every_text (RefusedAsKey string_key) c.args.self.now c.requires.no_key c.read_field_key.new.self new c.in-Ok.given (if_given c.read_field_key.new.field_key c.in-Ok.given) refl (given_is_some c.read_field_key.new.field_key c.in-Ok.given) k.key.steady.same_text k.key.sound;
       no_memory = λ u t ps r left. refl;
@@ -27,7 +27,7 @@ pub returns-in-Err : goal.returns-in-Err
 returns-in-Err g c =
     let k = rw (c.set_failed.ensures, c.is_comma_due.ensures) at c.in-Err.ensures in
     record {
-      key = key_refused field_key_text every_text (RefusedAsKey string_key) c.args.self.now c.requires.no_key c.read_field_key.new.self c.refused.new.self c.in-Err.e c.refused.result c.refused.ensures.blocks c.refused.ensures.placed k.key.cause k.key.steady k.key.complete k.key.closing;
-      no_memory = key_free {V = Unit {0}} (map_state_of c.args.self.now) (Err c.refused.result) c.requires.no_key k.no_memory;
+      key = rw (c.refuse_access.ensures.reader, c.refuse_access.ensures.remembers) (key_refused field_key_text every_text (RefusedAsKey string_key) c.args.self.now c.requires.no_key c.read_field_key.new.self (blocking_map (lent c.args.self.now c.read_field_key.new.self) true) c.in-Err.e c.refuse_access.result refl c.refuse_access.ensures.placed k.key.cause k.key.steady k.key.complete k.key.closing);
+      no_memory = key_free {V = Unit {0}} (map_state_of c.args.self.now) (Err c.refuse_access.result) c.requires.no_key k.no_memory;
       begins = tt;
     }

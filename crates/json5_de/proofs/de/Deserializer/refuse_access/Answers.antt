@@ -1,5 +1,5 @@
 use Rattle.std.proofs.Common.{rules}
-use Rattle.json5_de.proofs.seq.SeqAccess.refused.Goals as goal
+use Rattle.json5_de.proofs.de.Deserializer.refuse_access.Goals as goal
 
 pub returns : goal.returns
 returns g c = search rules
