@@ -1,5 +1,5 @@
 -- What tidying keeps, from what was read of the answer.
-use Rattle.std.proofs.Common.{◌≡◌, ℕ, List, sym, subst, inl, inr}
+use Rattle.std.proofs.Common.{ℕ, List, sym, subst, inl, inr}
 use Rattle.std.specs.declared.alloc.Global.{Global}
 use Rattle.std.specs.Prelude.{String, string_bytes, Result, Ok, Err, IfOk}
 use Rattle.std.specs.Str.{chars}

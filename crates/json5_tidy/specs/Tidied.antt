@@ -37,3 +37,9 @@ TakesDocument text result = (t : Tree) → Doc max_depth (chars text) t → IfEr
 -- any other text is refused as `format` refuses it
 abbrev pub RefusesText : (text : List ℕ) → Result (String Global) Error → Type 0
 RefusesText text result = IfErr result (IsRefused (chars text))
+
+-- what the tidied text of a text is, or why there is none
+pub record TidiesText (text : List ℕ) (result : Result (String Global) Error) : Type 0 where
+  pub kept : KeepsText text result
+  pub complete : TakesDocument text result
+  pub refused : RefusesText text result

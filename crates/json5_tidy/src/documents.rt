@@ -3,7 +3,7 @@
 ghost use Rattle.std.specs.Prelude.{◌≡◌, IfOk, IfErr, IsTrue, string_bytes};
 ghost use Rattle.std.specs.Str.{chars};
 ghost use Rattle.json5_text.specs.Cursor.{IsOutOfMemory};
-ghost use Rattle.json5_tidy.specs.Tidied.{IsAlike, IsLaidOut, KeepsText, RefusesText, TakesDocument};
+ghost use Rattle.json5_tidy.specs.Tidied.{IsAlike, IsLaidOut, TidiesText};
 
 use json5_format::check_document;
 use json5_layout::{Style, laid_out};
@@ -22,9 +22,7 @@ use std::alloc::Global;
 ///
 /// As [`tidy_with`].
 pub fn tidy(alloc: Global, text: &str) -> Result<String>
-    ensures kept { KeepsText text.now result }
-    ensures complete { TakesDocument text.now result }
-    ensures refused { RefusesText text.now result }
+    ensures { TidiesText text.now result }
 {
     tidy_with(alloc, Style::usual(), text)
 }
@@ -46,9 +44,7 @@ pub fn tidy(alloc: Global, text: &str) -> Result<String>
 ///
 /// As `json5_format::format`, with the same positions.
 pub fn tidy_with(alloc: Global, style: Style, text: &str) -> Result<String>
-    ensures kept { KeepsText text.now result }
-    ensures complete { TakesDocument text.now result }
-    ensures refused { RefusesText text.now result }
+    ensures { TidiesText text.now result }
 {
     match check_document(alloc, text) {
         Ok(()) => laid_out_document(alloc, style, text),

@@ -1,7 +1,7 @@
+use Rattle.std.proofs.Common.{rules}
 use Rattle.std.specs.Str.{chars}
-use Rattle.std.specs.Prelude.{string_bytes}
 use Rattle.json5_tidy.proofs.Kept.{kept}
 use Rattle.json5_tidy.proofs.documents.tidy_with.Goals as goal
 
-pub returns-in-Ok-clause-kept : goal.returns-in-Ok-clause-kept
-returns-in-Ok-clause-kept c = kept (chars c.args.text.now) c.laid_out_document.result c.in-Ok.ensures.sound c.laid_out_document.ensures.laid_out
+pub returns-in-Ok : goal.returns-in-Ok
+returns-in-Ok c = record { kept = kept (chars c.args.text.now) c.laid_out_document.result c.in-Ok.ensures.sound c.laid_out_document.ensures.laid_out; complete = λ t document. c.laid_out_document.ensures.memory; refused = search rules }
