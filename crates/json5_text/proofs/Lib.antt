@@ -1,6 +1,7 @@
 -- Lists the lemmas about the scanner and its tokens.
 pub mod BlankSteps
 pub mod TextCuts
+pub mod Cursors
 pub mod UnicodeScalars
 pub mod ScanFaults
 pub mod ScanTokens

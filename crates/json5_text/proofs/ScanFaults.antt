@@ -1,5 +1,5 @@
 -- From the refusals of the functions below the scanner to the faults of the input.
-use Rattle.std.proofs.Common.{◌≡◌, ℕ, List, ◌++◌, refl, ap, sym, ◌∙◌, append_assoc, Option, Some, None, ◌⊎◌, inl, inr, subst}
+use Rattle.std.proofs.Common.{◌≡◌, ℕ, List, ◌++◌, refl, ap, sym, ◌∙◌, Option, Some, None, ◌⊎◌, inl, inr, subst}
 use Rattle.std.specs.Prelude.{⊤}
 use Rattle.json5_grammar.specs.declared.error_code.ErrorCode.{ErrorCode}
 use Rattle.json5_grammar.specs.Model.Reading.{Read, got, bad, Place, here, inner, IsAt}
@@ -63,8 +63,7 @@ refusal_in {A = A} IsFault s (refusal.UnpairedSurrogate h left) (bad f p) k e = 
 refusal_in {A = A} IsFault s refusal.OutOfMemory res k e = tt
 
 placed_at : (s : Cursor) (place : Option (List ℕ)) (p : Place) (left : ℕ) (err : Error) → IsAt s.unread place p → left_at p ≡ Some left → IsThere s left err → IsPositioned s place err
-placed_at s (Some b) (here q) left err at e (pos, is, there) = λ before split.
-    is ∙ ap Some (there (before ++ b) q (split ∙ ap (λ z. before ++ z) at ∙ sym (append_assoc before b q)) (cc))
+placed_at s (Some b) (here q) left err at e (pos, is, there) = is ∙ ap Some (there b q at (cc))
 placed_at s (Some b) inner left err at e there = absurd at
 placed_at s None (here q) left err at e there = absurd at
 placed_at s None inner left err at e there = absurd (cc)

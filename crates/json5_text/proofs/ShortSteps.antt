@@ -18,6 +18,7 @@ use Rattle.json5_text.specs.Scan.{Leaves, LeavesAt}
 use Rattle.json5_text.specs.ShortWays.{IsStep, FindsStep, IsInFront, Stepped, FindsSign, TakesShortSign}
 use Rattle.json5_text.specs.declared.short_ways.EntryStep.{EntryStep}
 use Rattle.json5_types.proofs.AsciiRuns.{PassesAscii}
+use Rattle.json5_text.proofs.Cursors.{took_same}
 use Rattle.json5_text.proofs.ScanTokens.{left_counted, blanks_passed}
 use Rattle.json5_text.proofs.WholesOfFewDigits.{ends_chars}
 
@@ -81,7 +82,7 @@ pub stepped : {closing : ℕ} {comma_due : Bool} {text : List ℕ} {found : Entr
 stepped {closing = closing} {comma_due = comma_due} old new b k e left is =
     let l = left k.passed (chars k.rest) (sym e ∙ k.split) (k.counted ∙ left_counted k.rest k.text_rest) in
     let step : IsStep closing comma_due b old.unread new.unread = rw (e, is, sym l.1) at k.step in
-    record { step = step; same = l.0.same }
+    record { step = step; same = took_same l.0 }
 
 -- ---- a sign alone
 
@@ -101,4 +102,4 @@ sign_leaves {sign = sign} s k e = record { passed = k.found.front ++ sign ∷ []
 pub sign_taken : {sign left : ℕ} {text : List ℕ} (old new : Cursor) → FindsSign sign text left → chars text ≡ old.unread → LeavesAt old left new → TakesShortSign sign old new true
 sign_taken {sign = sign} old new k e left =
     let l = left (k.found.front ++ sign ∷ []) k.rest (sign_split k e) k.counted in
-    (record { front = k.found.front; split = sym e ∙ k.found.split ∙ ap (λ z. k.found.front ++ sign ∷ z) (sym l.1); blank = k.found.blank }, l.0.same)
+    (record { front = k.found.front; split = sym e ∙ k.found.split ∙ ap (λ z. k.found.front ++ sign ∷ z) (sym l.1); blank = k.found.blank }, took_same l.0)

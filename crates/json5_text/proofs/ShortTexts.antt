@@ -19,7 +19,7 @@ use Rattle.json5_grammar.proofs.BlanksSound.{gap_blanks}
 use Rattle.json5_grammar.proofs.CharacterTests.{front_each, rest_stops}
 use Rattle.json5_grammar.proofs.ValuesSound.{text_stops}
 use Rattle.json5_text.specs.ByteRuns.{is_ascii_start, is_ascii_part, is_plain_ascii, IsAsciiName}
-use Rattle.json5_text.specs.Cursor.{Cursor}
+use Rattle.json5_text.specs.Cursor.{Cursor, input_of}
 use Rattle.json5_text.specs.TextTokens.{IsSliceAt}
 use Rattle.json5_text.specs.Outcome.{bytes_in}
 use Rattle.json5_text.specs.Scan.{InText, Leaves, LeavesAt, SkipsAll}
@@ -33,6 +33,7 @@ use Rattle.json5_text.proofs.AsciiNames.{ascii_start, ascii_part, parts_ascii, p
 use Rattle.json5_types.proofs.AsciiRuns.{chars_split, rest_cut, rest_utf8}
 use Rattle.json5_text.proofs.TextCuts.{fits_left, whole_split, bytes_append}
 use Rattle.json5_text.proofs.ScanRuns.{quote_is}
+use Rattle.json5_text.proofs.Cursors.{took_same}
 use Rattle.json5_text.proofs.ScanTokens.{left_counted, blanks_passed, string_taken}
 
 -- ---- strings
@@ -238,24 +239,24 @@ begins_inside k e f = from_fits k e f.place
 pub ends_inside : {IsRead : List ℕ → List ℕ → List ℕ → Type 0} {text x : List ℕ} {offset end : ℕ} {found : TextBounds} → InText text offset end → chars (drop offset text) ≡ x → Found IsRead x found → found.to ≤ end
 ends_inside k e f = let a = from_fits k e f.place in let b = to_fits k e f.place in omega arith
 
-stands_at : {text x u : List ℕ} {offset end from to : ℕ} (s : Cursor) → InText text offset end → chars text ≡ s.input → chars (drop offset text) ≡ x → IsSliceBefore x u from to → IsSliceAt s.input u (end - from) (end - to)
-stands_at {text = text} {u = u} {offset = offset} {end = end} {from = from} {to = to} s k i e p =
-    let whole = whole_split p.before (u ++ p.rest) k (e ∙ p.split) in
-    let before = chars (take offset text) ++ p.before in
-    let bytes : end ≡ bytes_in before + bytes_in (u ++ p.rest) = k.counted ∙ left_counted text k.is_text ∙ ap bytes_in whole ∙ bytes_append before (u ++ p.rest) in
+stands_at : {text u : List ℕ} {offset end from to : ℕ} (s : Cursor) → InText text offset end → chars text ≡ input_of s → IsSliceBefore s.unread u from to → IsSliceAt (input_of s) u (end - from) (end - to)
+stands_at {text = text} {u = u} {end = end} {from = from} {to = to} s k i p =
+    let before = s.before ++ p.before in
+    let whole : input_of s ≡ before ++ (u ++ p.rest) = ap (λ z. s.before ++ z) p.split ∙ sym (append_assoc s.before p.before (u ++ p.rest)) in
+    let bytes : end ≡ bytes_in before + bytes_in (u ++ p.rest) = k.counted ∙ left_counted text k.is_text ∙ ap bytes_in (i ∙ whole) ∙ bytes_append before (u ++ p.rest) in
     let b = bytes_append u p.rest in
     let f = p.begins in
     let t = p.ends in
-    record { before = before; rest = p.rest; split = sym i ∙ whole; starts = omega arith; ends = omega arith }
+    record { before = before; rest = p.rest; split = whole; starts = omega arith; ends = omega arith }
 
 pub found_leaves : {IsRead : List ℕ → List ℕ → List ℕ → Type 0} {found : TextBounds} (s : Cursor) → Found IsRead s.unread found → Leaves s found.left
 found_leaves s k = record { passed = k.taken; rest = k.rest; split = k.split; counted = k.counted }
 
-pub took_escape_free : {IsRead : List ℕ → List ℕ → List ℕ → Type 0} {text : List ℕ} {offset end : ℕ} {found : TextBounds} (old new : Cursor) → InText text offset end → chars text ≡ old.input → chars (drop offset text) ≡ old.unread → Found IsRead old.unread found
+pub took_escape_free : {IsRead : List ℕ → List ℕ → List ℕ → Type 0} {text : List ℕ} {offset end : ℕ} {found : TextBounds} (old new : Cursor) → InText text offset end → chars text ≡ input_of old → Found IsRead old.unread found
     → LeavesAt old found.left new → TookEscapeFree IsRead old new (record { start = end - found.from; end = end - found.to })
-took_escape_free {IsRead = IsRead} old new k i e f left =
+took_escape_free {IsRead = IsRead} old new k i f left =
     let l = left f.taken f.rest f.split f.counted in
-    record { spelled = f.spelled; read = subst (IsRead old.unread f.spelled) (sym l.1) f.read; stands = stands_at old k i e f.place; same = l.0.same }
+    record { spelled = f.spelled; read = subst (IsRead old.unread f.spelled) (sym l.1) f.read; stands = stands_at old k i f.place; same = took_same l.0 }
 
 -- ---- strings that may have escapes
 

@@ -14,7 +14,7 @@ use Rattle.json5_grammar.specs.Model.ReadNumbers.{number}
 use Rattle.json5_grammar.specs.Language.Values.{is_number}
 use Rattle.json5_grammar.proofs.ValueHeads.{val_head, skip_value}
 use Rattle.json5_text.specs.ByteRuns.{SpellsFewDigits}
-use Rattle.json5_text.specs.Cursor.{Cursor}
+use Rattle.json5_text.specs.Cursor.{Cursor, input_of}
 use Rattle.json5_text.specs.ShortWays.{IsWholeOfFewDigits, TookNumber, TookInRange}
 use Rattle.json5_text.proofs.WholesOfFewDigits.{few_bare, few_minus}
 use Rattle.json5_text.proofs.ScanNumbers.{number_taken}
@@ -60,7 +60,7 @@ number_found x y s r n e p read =
     record { gap = b.gap; literal = k.literal; split = b.split; is_gap = b.blank; is_number = k.is_number; stops = k.stops }
 
 -- what was found in front was taken
-pub number_took : (old new : Cursor) (r : List ℕ) (n : Number) → NumberFound old.unread r n → new.unread ≡ r → new.input ≡ old.input → TookNumber old new n
+pub number_took : (old new : Cursor) (r : List ℕ) (n : Number) → NumberFound old.unread r n → new.unread ≡ r → input_of new ≡ input_of old → TookNumber old new n
 number_took old new r n k u i = record {
   gap = k.gap;
   literal = k.literal;
@@ -77,7 +77,7 @@ not_below a b h = lt_z_no (rw h tt)
 -- the same of a whole number, which is in range
 pub in_range : (old new : Cursor) (min max z : ℤ) (r : List ℕ) → neg_ℤ (pos (10 ^ 19)) ≤ℤ z → z ≤ℤ pos (10 ^ 19) → SFits w128 min → SFits w128 max
     → lt_z (to_z w128 (of_z w128 z)) (to_z w128 (of_z w128 min)) ≡ false → lt_z (to_z w128 (of_z w128 max)) (to_z w128 (of_z w128 z)) ≡ false
-    → NumberFound old.unread r (whole z) → new.unread ≡ r → new.input ≡ old.input → TookInRange min max old new (to_z w128 (of_z w128 z))
+    → NumberFound old.unread r (whole z) → new.unread ≡ r → input_of new ≡ input_of old → TookInRange min max old new (to_z w128 (of_z w128 z))
 in_range old new min max z r l h a b p q k u i =
     let e : to_z w128 (of_z w128 z) ≡ z = kept z l h in
     let low : min ≤ℤ z = not_below z min (rw (e, to_z-of_z w128 min a) at p) in

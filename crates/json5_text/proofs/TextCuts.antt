@@ -65,11 +65,15 @@ halves_at text i u b = record {
   split = sym (ap chars (take-append-drop i text)) ∙ chars-append (take i text) (drop i text) (IsUtf8-take text i u b);
 }
 
-pub boundary_offset : (text : List ℕ) (i : ℕ) → IsUtf8 text → IsCharBoundary text i → IsOffset (chars text) i
-boundary_offset text i u b =
+bytes_at : (text : List ℕ) (i : ℕ) → IsUtf8 text → IsCharBoundary text i → i ≡ bytes_in (chars (take i text))
+bytes_at text i u b =
     let inside : i ≤ length text = b.0 in
-    let same = encodes-chars (take i text) (IsUtf8-take text i u b) in
-    (chars (take i text), chars (drop i text), (halves_at text i u b).split, (let taken = length-take i text in let bytes = ap length same in omega arith))
+    let bytes = ap length (encodes-chars (take i text) (IsUtf8-take text i u b)) in
+    let taken = length-take i text in
+    omega arith
+
+pub boundary_offset : (text : List ℕ) (i : ℕ) → IsUtf8 text → IsCharBoundary text i → IsOffset (chars text) i
+boundary_offset text i u b = (chars (take i text), chars (drop i text), (halves_at text i u b).split, bytes_at text i u b)
 
 -- and cut again after p
 pub halves_after : {text x y : List ℕ} (p q : List ℕ) → Halves text x y → y ≡ p ++ q → Halves text (x ++ p) q
@@ -81,8 +85,11 @@ same_text a b u v e = sym (encodes-chars a u) ∙ ap encode_utf8_all e ∙ encod
 
 -- ---- the scanner's input
 
+pub in_text : {text : List ℕ} {offset end : ℕ} → IsUtf8 text → end ≡ length text → IsCharBoundary text offset → InText text offset end
+in_text {text = text} {offset = offset} is_text counted cut = record { is_text = is_text; counted = counted; cut = cut; split = (halves_at text offset is_text cut).split }
+
 pub halves_in : {text : List ℕ} {offset end : ℕ} → InText text offset end → Halves text (chars (take offset text)) (chars (drop offset text))
-halves_in {text = text} {offset = offset} k = halves_at text offset k.is_text k.cut
+halves_in k = record { is_text = k.is_text; split = k.split }
 
 -- the input is cut where so many bytes are left
 pub cut_left : {text : List ℕ} {offset end left : ℕ} (x y : List ℕ) → InText text offset end → chars text ≡ x ++ y → left ≡ bytes_in y → IsCharBoundary text (end - left)
@@ -101,10 +108,8 @@ fits_left x y k e l = rw (k.counted, l) (left_fits (record { is_text = k.is_text
 pub whole_split : {text : List ℕ} {offset end : ℕ} (p q : List ℕ) → InText text offset end → chars (drop offset text) ≡ p ++ q → chars text ≡ (chars (take offset text) ++ p) ++ q
 whole_split p q k e = (halves_after p q (halves_in k) e).split
 
-pub offset_counted : {text : List ℕ} {offset end : ℕ} → InText text offset end → offset ≡ length (encode_utf8_all (chars text)) - length (encode_utf8_all (chars (drop offset text)))
-offset_counted {text = text} {offset = offset} k =
-    rw (encodes-chars text k.is_text, encodes-chars (drop offset text) (IsUtf8-drop text offset k.is_text k.cut), length-drop offset text)
-    (let h : offset ≤ length text = k.cut.0 in omega arith)
+pub bytes_read : {text : List ℕ} {offset end : ℕ} → InText text offset end → offset ≡ bytes_in (chars (take offset text))
+bytes_read {text = text} {offset = offset} k = bytes_at text offset k.is_text k.cut
 
 -- ---- what comes before a rest
 
@@ -169,14 +174,13 @@ next_is (d ∷ x) c o b e f h = let k = sym h ∙ f ∙ ap (λ z. not (option_eq
 -- what is unread after its first character
 pub next_left : {text : List ℕ} {offset end : ℕ} (c : ℕ) (r : List ℕ) → InText text offset end → chars (drop offset text) ≡ c ∷ r → offset + len_utf8 c ≡ end - bytes_in r
 next_left {text = text} {offset = offset} {end = end} c r k e =
-    let o = offset_counted k in
+    let o = bytes_read k in
     let n = length-append (encode_utf8 c) (encode_utf8_all r) in
     let m = length-encode c in
     let u : bytes_in (chars (drop offset text)) ≡ bytes_in (c ∷ r) = ap bytes_in e in
-    let w = left_fits (halves_in k) in
-    let f = encodes-chars text k.is_text in
+    let w = bytes_apart (halves_in k) in
     let t = k.counted in
-    omega (arith, o, n, m, u, w, ap length f, t)
+    omega (arith, o, n, m, u, w, t)
 
 pub begins_ascii : (s t : List ℕ) → IsUtf8 s → 0 < length s → slice_index s 0 < 128 → t ≡ drop 1 s → StartsWith s (slice_index s 0) t
 begins_ascii s t u l h d = record {

@@ -13,7 +13,7 @@ use Rattle.json5_types.specs.declared.cow_str.CowStr.TheVariants as cow
 use Rattle.json5_text.specs.declared.text_token.TextToken.{TextToken}
 use Rattle.json5_text.specs.TokenResults.{GivesText, IsCow}
 use Rattle.json5_types.specs.Cows.{cow_bytes, is_borrowed}
-use Rattle.json5_text.specs.Cursor.{Cursor}
+use Rattle.json5_text.specs.Cursor.{Cursor, input_of}
 use Rattle.json5_text.specs.TextTokens.{IsSliceAt, Spells}
 use Rattle.json5_text.specs.Outcome.{bytes_in}
 use Rattle.json5_text.specs.Scan.{InText}
@@ -90,11 +90,10 @@ pub unread_fits : {text : List ℕ} {offset end : ℕ} (s : Cursor) (part : List
 unread_fits s part k utf8 e f = fits_left _ _ k (halves_in k).split (left_counted part utf8 ∙ ap bytes_in (e ∙ sym f))
 
 -- the text of the token in front of the unread part is within the whole input
-pub token_inside : {text : List ℕ} {offset end : ℕ} (s : Cursor) (x u : List ℕ) (escape_free : Bool) (t : TextToken) → InText text offset end → chars text ≡ s.input → chars (drop offset text) ≡ s.unread → x ≡ s.unread → IsTokenIn end x t u escape_free → Spells s.input u escape_free t
-token_inside {text = text} {offset = offset} s x u escape_free t inside e f g is =
-    let before = chars (take offset text) in
-    let whole : before ++ x ≡ chars text = ap (λ z. before ++ z) (g ∙ sym f) ∙ sym (halves_in inside).split in
-    subst (λ z. Spells z u escape_free t) (whole ∙ e) (is before (inside.counted ∙ left_counted text inside.is_text ∙ sym (ap bytes_in whole)))
+pub token_inside : {text : List ℕ} {offset end : ℕ} (s : Cursor) (x u : List ℕ) (escape_free : Bool) (t : TextToken) → InText text offset end → chars text ≡ input_of s → x ≡ s.unread → IsTokenIn end x t u escape_free → Spells (input_of s) u escape_free t
+token_inside {text = text} s x u escape_free t inside e f is =
+    let whole : chars text ≡ s.before ++ x = e ∙ ap (λ z. s.before ++ z) (sym f) in
+    subst (λ z. Spells (s.before ++ z) u escape_free t) f (is s.before (inside.counted ∙ left_counted text inside.is_text ∙ ap bytes_in whole))
 
 -- the part of the input that is u
 pub slice_bytes : (text u : List ℕ) (start end : ℕ) → IsUtf8 text → IsSliceAt (chars text) u start end → slice_range text start end ≡ encode_utf8_all u

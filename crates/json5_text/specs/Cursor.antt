@@ -1,5 +1,5 @@
--- What contracts see of a scanner: the whole input and its unread part, each as the list of its characters.
-use Rattle.std.specs.Prelude.{◌≡◌, ◌-◌, ℕ, List, ◌++◌, length, Option, Some, None}
+-- What contracts see of a scanner: what was read and what is unread, each as the list of its characters.
+use Rattle.std.specs.Prelude.{◌≡◌, ℕ, List, ◌++◌, length, Option, Some, None}
 use Rattle.std.specs.Str.{chars, encode_utf8_all}
 use Rattle.json5_grammar.specs.declared.error_code.ErrorCode.{ErrorCode}
 use Rattle.json5_grammar.specs.declared.error_code.ErrorCode.TheVariants as codes
@@ -9,16 +9,20 @@ use Rattle.json5_types.specs.declared.error.Error.{Error}
 use Rattle.json5_types.specs.Errors.{code, custom, kind_of, error_position}
 
 pub record Cursor : Type 0 where
-  pub input : List ℕ
+  pub before : List ℕ
   pub unread : List ℕ
+
+-- the whole input
+abbrev pub input_of : Cursor → List ℕ
+input_of s = s.before ++ s.unread
 
 -- the text whose characters are those of the input
 abbrev pub IsInput : List ℕ → List ℕ → Type 0
 IsInput input text = chars text ≡ input
 
--- the count of bytes before what is unread
+-- the count of bytes that were read
 abbrev pub offset_of : Cursor → ℕ
-offset_of s = length (encode_utf8_all s.input) - length (encode_utf8_all s.unread)
+offset_of s = length (encode_utf8_all s.before)
 
 -- the fault says this code, or, without a code, has a custom message
 abbrev pub Says : Option ErrorCode → Error → Type 0
@@ -28,7 +32,7 @@ Says None e = (text : List ℕ) × (kind_of e ≡ custom text)
 -- the fault has no position, or the one after what is read and p
 abbrev pub IsPositioned : Cursor → Option (List ℕ) → Error → Type 0
 IsPositioned s None e = error_position e ≡ None
-IsPositioned s (Some p) e = (before : List ℕ) → s.input ≡ before ++ s.unread → error_position e ≡ Some (position_after (before ++ p))
+IsPositioned s (Some p) e = error_position e ≡ Some (position_after (s.before ++ p))
 
 abbrev pub IsOutOfMemory : Error → Type 0
 IsOutOfMemory e = kind_of e ≡ code codes.OutOfMemory
@@ -44,7 +48,7 @@ pub record Refused (IsFault : List ℕ → Option ErrorCode → Option (List ℕ
 -- what was taken was in front, and the rest is left
 pub record Took (old : Cursor) (taken : List ℕ) (new : Cursor) : Type 0 where
   pub split : old.unread ≡ taken ++ new.unread
-  pub same : new.input ≡ old.input
+  pub passed : new.before ≡ old.before ++ taken
 
 -- ---- positions in the input by their offsets in bytes
 

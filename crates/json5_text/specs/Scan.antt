@@ -1,5 +1,5 @@
 -- Cuts, fronts and skipped runs of the input, for private contracts of the scanner.
-use Rattle.std.specs.Prelude.{◌≡◌, ◌<◌, ◌≤◌, ℕ, Bool, List, [], ◌∷◌, ◌++◌, length, Option, Some, None, ◌⊎◌, ⊤}
+use Rattle.std.specs.Prelude.{◌≡◌, ◌<◌, ◌≤◌, ℕ, Bool, List, [], ◌∷◌, ◌++◌, length, take, drop, Option, Some, None, ◌⊎◌, ⊤}
 use denote.Ref.{Bor}
 use Rattle.std.specs.Str.{IsUtf8, IsCharBoundary, chars}
 use Rattle.json5_grammar.specs.Language.Characters.{backslash, NotBegun, Each}
@@ -17,6 +17,7 @@ pub record InText (text : List ℕ) (offset end : ℕ) : Type 0 where
   pub is_text : IsUtf8 text
   pub counted : end ≡ length text
   pub cut : IsCharBoundary text offset
+  pub split : chars text ≡ chars (take offset text) ++ chars (drop offset text)
 
 -- a code, and neither a custom message nor that memory ran out
 abbrev pub HasCode : Refusal → Type 0
@@ -56,7 +57,7 @@ InUnread s refusal.OutOfMemory = ⊤
 
 -- the position where so many bytes are left
 abbrev pub IsWhere : Cursor → ℕ → Position → Type 0
-IsWhere s left p = (before rest : List ℕ) → s.input ≡ before ++ rest → left ≡ bytes_in rest → p ≡ position_after before
+IsWhere s left p = (passed rest : List ℕ) → s.unread ≡ passed ++ rest → left ≡ bytes_in rest → p ≡ position_after (s.before ++ passed)
 
 abbrev pub IsThere : Cursor → ℕ → Error → Type 0
 IsThere s left e = (p : Position) × (error_position e ≡ Some p) × IsWhere s left p

@@ -10,7 +10,7 @@ use Rattle.json5_grammar.specs.Language.Trees.{text}
 use Rattle.json5_grammar.specs.Language.Values.{Reads}
 use Rattle.json5_text.specs.declared.short_texts.Span.{Span}
 use Rattle.json5_text.specs.declared.short_texts.TextBounds.{TextBounds}
-use Rattle.json5_text.specs.Cursor.{Cursor}
+use Rattle.json5_text.specs.Cursor.{Cursor, input_of}
 use Rattle.json5_text.specs.TextTokens.{IsSliceAt}
 use Rattle.json5_text.specs.Outcome.{bytes_in}
 
@@ -26,8 +26,8 @@ ReadsEscapeFreeKey x u r = ReadsKey x u true r
 pub record TookEscapeFree (IsRead : List ℕ → List ℕ → List ℕ → Type 0) (old new : Cursor) (span : Span) : Type 0 where
   pub spelled : List ℕ
   pub read : IsRead old.unread spelled new.unread
-  pub stands : IsSliceAt old.input spelled span.start span.end
-  pub same : new.input ≡ old.input
+  pub stands : IsSliceAt (input_of old) spelled span.start span.end
+  pub same : input_of new ≡ input_of old
 
 -- a string without an escape is taken, or nothing
 abbrev pub TakesShortString : Cursor → Cursor → Option Span → Type 0
@@ -38,7 +38,7 @@ pub record TookShortOwned {A : Type 0} (old new : Cursor) (copy : String A) : Ty
   pub spelled : List ℕ
   pub escape_free : Bool
   pub read : Reads old.unread (text spelled escape_free) new.unread
-  pub same : new.input ≡ old.input
+  pub same : input_of new ≡ input_of old
   pub bytes : string_bytes copy ≡ encode_utf8_all spelled
 
 -- a string is taken, its text an owned copy, or nothing

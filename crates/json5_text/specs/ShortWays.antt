@@ -13,7 +13,7 @@ use Rattle.json5_text.specs.declared.short_ways.ShortStep.TheVariants as short
 use Rattle.json5_text.specs.declared.numbers.short.SpacedWhole.{SpacedWhole}
 use Rattle.json5_text.specs.declared.short_ways.EntryStep.{EntryStep}
 use Rattle.json5_text.specs.TokenResults.{GivesValue}
-use Rattle.json5_text.specs.Cursor.{Cursor}
+use Rattle.json5_text.specs.Cursor.{Cursor, input_of}
 use Rattle.json5_text.specs.Outcome.{bytes_in}
 
 -- blanks and then the number were taken
@@ -24,7 +24,7 @@ pub record TookNumber (old new : Cursor) (number : Number) : Type 0 where
   pub is_gap : Gap gap (literal ++ new.unread)
   pub is_number : Num literal number
   pub stops : NotBegun (lengthens literal) new.unread
-  pub same : new.input ≡ old.input
+  pub same : input_of new ≡ input_of old
 
 abbrev pub TookWhole : Cursor → Cursor → ℤ → Type 0
 TookWhole old new number = TookNumber old new (whole number)
@@ -82,7 +82,7 @@ IsStep closing comma_due false x y = StepsTo comma_due x y × NotBegun (λ c. c 
 
 pub record Stepped (closing : ℕ) (comma_due at_closing : Bool) (old new : Cursor) : Type 0 where
   pub step : IsStep closing comma_due at_closing old.unread new.unread
-  pub same : new.input ≡ old.input
+  pub same : input_of new ≡ input_of old
 
 -- a step to an element or a member, or to the closing sign, is taken, or nothing
 abbrev pub TakesShortStep : ℕ → Bool → Cursor → Cursor → ShortStep → Type 0
@@ -114,5 +114,5 @@ pub record FindsSign (sign : ℕ) (text : List ℕ) (left : ℕ) : Type 0 where
 
 -- blanks and the sign are taken, or nothing
 abbrev pub TakesShortSign : ℕ → Cursor → Cursor → Bool → Type 0
-TakesShortSign sign old new true = IsSign sign old.unread new.unread × (new.input ≡ old.input)
+TakesShortSign sign old new true = IsSign sign old.unread new.unread × (input_of new ≡ input_of old)
 TakesShortSign sign old new false = new ≡ old

@@ -13,7 +13,7 @@ use Rattle.json5_types.specs.declared.error.Error.{Error}
 use Rattle.json5_text.specs.declared.text_token.TextToken.{TextToken}
 use Rattle.json5_types.specs.declared.number.Number.{Number}
 use Rattle.json5_types.specs.Cows.{cow_bytes, is_borrowed}
-use Rattle.json5_text.specs.Cursor.{Cursor, Refused, Took}
+use Rattle.json5_text.specs.Cursor.{Cursor, input_of, Refused, Took}
 use Rattle.json5_types.specs.Errors.{LacksMemory}
 use Rattle.json5_text.specs.TextTokens.{Spells}
 use Rattle.json5_types.specs.NumberMeanings.{number_of, keeps_digits, whole_in}
@@ -61,7 +61,7 @@ TakesString old new result = TakesText (λ t u escape_free. (is_borrowed t ≡ e
 
 -- a string is taken to its token
 abbrev pub TakesStringToken : Cursor → Cursor → Result TextToken Error → Type 0
-TakesStringToken old new result = TakesText (λ t u escape_free. Spells old.input u escape_free t) old new result
+TakesStringToken old new result = TakesText (λ t u escape_free. Spells (input_of old) u escape_free t) old new result
 
 -- a name is taken as far as it goes, its text borrowed exactly when it is escape-free; otherwise it takes memory, and so does a refusal
 pub record TakesName (old new : Cursor) (result : Result CowStr Error) : Type 0 where
@@ -73,7 +73,7 @@ pub record TakesName (old new : Cursor) (result : Result CowStr Error) : Type 0 
 
 -- a key is taken; it takes memory if its text isn't escape-free, or if it is refused
 pub record TakesKey (old new : Cursor) (result : Result TextToken Error) : Type 0 where
-  pub taken : IfOk result (λ k. (s u : List ℕ) × (escape_free : Bool) × Took old s new × Key s new.unread u escape_free × Spells old.input u escape_free k)
+  pub taken : IfOk result (λ k. (s u : List ℕ) × (escape_free : Bool) × Took old s new × Key s new.unread u escape_free × Spells (input_of old) u escape_free k)
   pub refused : IfErr result (λ e. LacksMemory e ⊎ Refused FaultyKey old e)
   pub kept : OnErr result (new ≡ old)
   pub complete : (s u r : List ℕ) (escape_free : Bool) → old.unread ≡ s ++ r → Key s r u escape_free → IfErr result LacksMemory

@@ -1,9 +1,9 @@
 //! The scanner: the tokens of an input, one after another.
 
-ghost use Rattle.std.specs.Prelude.{◌≡◌, ℕ, List, [], ◌∷◌, ◌++◌, true, false, ◌==◌, drop, slice_get, IsTrue, ◌⊎◌, Some};
+ghost use Rattle.std.specs.Prelude.{◌≡◌, ℕ, List, [], ◌∷◌, true, false, ◌==◌, take, drop, slice_get, IsTrue, ◌⊎◌, Some};
 ghost use Rattle.std.specs.Str.{all_scalars, chars, encode_utf8_all};
 ghost use Rattle.json5_grammar.specs.Language.Characters.{NotBegun};
-ghost use Rattle.json5_text.specs.Cursor.{Cursor, offset_of, IsInput, Took, Locates};
+ghost use Rattle.json5_text.specs.Cursor.{Cursor, input_of, offset_of, IsInput, Took, Locates};
 ghost use Rattle.json5_text.specs.Scan.{InText, Leaves, LeavesAt, InUnread, IsWhere, MadeOf};
 ghost use Rattle.json5_text.specs.TokenCalls.{PassesBlanks, TakesWord, TakesNumber, TakesOwned, TakesStringToken, TakesKey, PassesString, PassesName, PassesNumber, TakesString, TakesName};
 ghost use Rattle.json5_text.specs.TextTokens.{IsSliceAt, IsTextOf, IsCowOf};
@@ -83,7 +83,7 @@ pub struct Scanner<I: Input> {
 impl<I: Input> Model for Scanner<I> {
     ghost Value = { Cursor };
 
-    ghost view = { λ s. record { input = chars (I.text s.input); unread = chars (drop s.offset (I.text s.input)) } };
+    ghost view = { λ s. record { before = chars (take s.offset (I.text s.input)); unread = chars (drop s.offset (I.text s.input)) } };
 
     ghost invariant = { λ s. InText (I.text s.input) s.offset s.end };
 }
@@ -91,7 +91,7 @@ impl<I: Input> Model for Scanner<I> {
 impl<I: Input> Scanner<I> {
     /// Makes a scanner at the start of a text. What it allocates comes from `alloc`.
     pub fn new(alloc: Global, input: I) -> Scanner<I>
-        ensures { result ≡ record { input = chars (I.text input); unread = chars (I.text input) } }
+        ensures { result ≡ record { before = []; unread = chars (I.text input) } }
     {
         let end = input.as_text().len();
         Scanner {
@@ -110,7 +110,7 @@ impl<I: Input> Scanner<I> {
     /// Returns the input.
     #[inline(always)]
     pub fn input(&self) -> I
-        ensures { IsInput self.now.input (I.text result) }
+        ensures { IsInput (input_of self.now) (I.text result) }
     {
         self.input
     }
@@ -118,7 +118,6 @@ impl<I: Input> Scanner<I> {
     /// Returns how many bytes of the text were read. A character begins there, or the text ends.
     pub fn offset(&self) -> usize
         ensures counted { result ≡ offset_of self.now }
-        ensures suffix { (before : List ℕ) × (self.now.input ≡ before ++ self.now.unread) }
         ensures scalars { all_scalars self.now.unread ≡ true }
     {
         self.offset
@@ -288,7 +287,7 @@ impl<I: Input> Scanner<I> {
 
     /// Returns the unread part of the input.
     pub(crate) fn rest<'t>(&self, text: &'t str) -> &'t str
-        requires { chars text.now ≡ self.now.input }
+        requires { chars text.now ≡ input_of self.now }
         ensures { chars result.now ≡ self.now.unread }
     {
         &text[self.offset..]
@@ -305,7 +304,7 @@ impl<I: Input> Scanner<I> {
     /// Returns the text of a token that this scanner took. Of another scanner's token it may be any part of the text that is read,
     /// or empty where no character begins at the token's offsets.
     pub fn text_of<'t>(&'t self, token: &'t TextToken) -> &'t str
-        ensures { IsTextOf self.now.input token.now result.now }
+        ensures { IsTextOf (input_of self.now) token.now result.now }
     {
         match token {
             TextToken::EscapeFree(span) => self.text_of_span(*span),
@@ -317,7 +316,7 @@ impl<I: Input> Scanner<I> {
     /// one of the span's offsets is past the end or within a character.
     #[inline(always)]
     pub fn text_of_span(&self, span: Span) -> &str
-        ensures { IsTextAt self.now.input span result.now }
+        ensures { IsTextAt (input_of self.now) span result.now }
     {
         between(self.input.as_text(), span.start, span.end)
     }
@@ -325,7 +324,7 @@ impl<I: Input> Scanner<I> {
     /// Returns the position of an offset in bytes, or that of the text's end where no character begins at the offset. Line and
     /// column count from 0, the column in characters.
     pub fn position_of(&self, offset: usize) -> Position
-        ensures { Locates self.now.input offset result }
+        ensures { Locates (input_of self.now) offset result }
     {
         // A goal below needs what is known of the field: it is the length of the input.
         let _end = self.end;
@@ -434,7 +433,7 @@ impl<'de, I: Borrows<'de>> Scanner<I> {
     /// Returns the text of a token that this scanner took, borrowed where the token has no escape; of another scanner's token as in
     /// [`text_of`](Scanner::text_of).
     pub fn borrowed_text_of(&self, token: TextToken) -> CowStr<'de>
-        ensures { IsCowOf self.now.input token result }
+        ensures { IsCowOf (input_of self.now) token result }
     {
         match token {
             TextToken::EscapeFree(span) => CowStr::Borrowed(self.borrowed_text_of_span(span)),
@@ -445,7 +444,7 @@ impl<'de, I: Borrows<'de>> Scanner<I> {
     /// The same as `text_of_span`, for as long as the input lives.
     #[inline(always)]
     pub fn borrowed_text_of_span(&self, span: Span) -> &'de str
-        ensures { IsTextAt self.now.input span result.now }
+        ensures { IsTextAt (input_of self.now) span result.now }
     {
         between(self.input.as_borrowed(), span.start, span.end)
     }

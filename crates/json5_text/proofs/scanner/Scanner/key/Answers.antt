@@ -2,6 +2,7 @@ use Rattle.std.proofs.Common.{ap, refl, sym, subst}
 use Rattle.std.specs.Str.{chars}
 use Rattle.json5_grammar.specs.Language.Names.{Key}
 use Rattle.json5_text.specs.Cursor.{Cursor}
+use Rattle.json5_text.proofs.Cursors.{input_seen}
 use Rattle.json5_text.specs.ScanKeys.{key_ahead}
 use Rattle.json5_text.specs.TokenFaults.{FaultyKey}
 use Rattle.json5_text.proofs.ScanFaults.{refusal_in, refused}
@@ -41,7 +42,7 @@ returns g c =
         given.escape_free,
         l.0,
         subst (λ z. Key k.key z given.spelled given.escape_free) (sym l.1) k.is_key,
-        token_inside c.args.self.now (chars c.rest.result.now) given.spelled given.escape_free c.in-Ok.token c.self.invariant (ap (λ (s : Cursor). s.input) c.self.view_is) (ap (λ (s : Cursor). s.unread) c.self.view_is) c.rest.ensures given.is_text,
+        token_inside c.args.self.now (chars c.rest.result.now) given.spelled given.escape_free c.in-Ok.token c.self.invariant (input_seen c.self.invariant c.self.view_is) c.rest.ensures given.is_text,
       );
       refused = tt;
       kept = tt;

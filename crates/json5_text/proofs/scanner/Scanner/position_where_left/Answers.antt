@@ -1,4 +1,4 @@
-use Rattle.std.proofs.Common.{◌-◌, take, ap, sym, ◌∙◌, subst}
+use Rattle.std.proofs.Common.{◌-◌, ◌++◌, take, ap, sym, ◌∙◌, subst}
 use Rattle.std.specs.Str.{chars, IsCharBoundary}
 use Rattle.json5_grammar.specs.Faults.Positions.{position_after}
 use Rattle.json5_text.specs.Cursor.{Cursor}
@@ -17,7 +17,9 @@ from_offset-requires g c =
     (cut_left _ c.requires.rest c.self.invariant (whole_split c.requires.passed c.requires.rest c.self.invariant e) c.requires.counted)
 
 pub returns : goal.returns
-returns g c = λ before rest split counted.
+returns g c = λ passed rest split counted.
+    let e = ap (λ (s : Cursor). s.unread) c.self.view_is ∙ split in
     c.from_offset.ensures
     ∙ ap (λ z. position_after (chars (take (c.self.inside.end - c.args.left) z))) c.as_text.ensures
-    ∙ ap position_after (take_left before rest c.self.invariant (ap (λ (s : Cursor). s.input) c.self.view_is ∙ split) counted)
+    ∙ ap position_after (take_left _ rest c.self.invariant (whole_split passed rest c.self.invariant e) counted)
+    ∙ ap (λ (s : Cursor). position_after (s.before ++ passed)) c.self.view_is

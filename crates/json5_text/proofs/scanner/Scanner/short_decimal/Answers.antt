@@ -3,6 +3,7 @@ use Rattle.std.specs.Str.{chars}
 use Rattle.std.proofs.lemmas.List.{append_assoc}
 use Rattle.json5_grammar.specs.Language.Numbers.{decimal, finite}
 use Rattle.json5_types.proofs.NumberZeros.{held}
+use Rattle.json5_text.proofs.Cursors.{took_same}
 use Rattle.json5_text.proofs.ScanTokens.{left_counted, leaves_rest}
 use Rattle.json5_text.proofs.ShortWays.{number_found, number_took}
 use Rattle.json5_text.proofs.scanner.Scanner.short_decimal.Goals as goal
@@ -23,4 +24,4 @@ returns g c =
     let n = decimal (finite found.negative c.front_decimal.new.digits found.exponent) in
     let k = number_found _ c.args.self.now.unread _ (chars r) n c.rest.ensures c.skip_ascii-text.ensures.passed gives.read in
     let l = c.set_remaining.ensures (k.gap ++ k.literal) (chars r) (k.split ∙ sym (append_assoc k.gap k.literal (chars r))) (left_counted r gives.text) in
-    rw (c.into_decimal.ensures, held found.exponent found.ensures.normal.in_range) (number_took c.args.self.now c.set_remaining.new.self (chars r) n k l.1 l.0.same)
+    rw (c.into_decimal.ensures, held found.exponent found.ensures.normal.in_range) (number_took c.args.self.now c.set_remaining.new.self (chars r) n k l.1 (took_same l.0))

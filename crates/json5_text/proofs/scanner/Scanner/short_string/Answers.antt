@@ -1,6 +1,7 @@
 use Rattle.std.proofs.Common.{ap}
 use Rattle.std.specs.Str.{chars}
 use Rattle.json5_text.specs.Cursor.{Cursor}
+use Rattle.json5_text.proofs.Cursors.{input_seen}
 use Rattle.json5_text.proofs.ShortTexts.{string_read, spaced, begins_inside, ends_inside, found_leaves, took_escape_free}
 use Rattle.json5_text.proofs.scanner.Scanner.short_string.Goals as goal
 
@@ -21,5 +22,5 @@ set_remaining-requires g c =
 
 pub returns : goal.returns
 returns g c =
-    took_escape_free c.args.self.now c.set_remaining.new.self c.self.invariant (ap (λ (s : Cursor). s.input) c.self.view_is) (ap (λ (s : Cursor). s.unread) c.self.view_is)
+    took_escape_free c.args.self.now c.set_remaining.new.self c.self.invariant (input_seen c.self.invariant c.self.view_is)
     (spaced (chars c.rest.result.now) c.args.self.now.unread (chars c.skip_ascii.result.now) string_read c.rest.ensures c.skip_ascii.ensures.passed c.in_ok-found.ensures) c.set_remaining.ensures

@@ -3,6 +3,7 @@ use Rattle.std.specs.Str.{chars}
 use Rattle.std.proofs.lemmas.List.{append_assoc}
 use Rattle.json5_grammar.specs.Language.Numbers.{whole}
 use Rattle.json5_text.specs.Scan.{Leaves}
+use Rattle.json5_text.proofs.Cursors.{took_same}
 use Rattle.json5_text.proofs.ScanTokens.{left_counted}
 use Rattle.json5_text.proofs.ShortWays.{number_found, in_range}
 use Rattle.json5_text.proofs.scanner.Scanner.short_whole.Goals as goal
@@ -18,4 +19,4 @@ returns g c =
     let a = c.in_ok-found.ensures in
     let k = number_found _ c.args.self.now.unread _ (chars a.rest) (whole c.in_ok-found.found.number) c.rest.ensures a.passed a.short.gives.read in
     let l = c.set_remaining.ensures (k.gap ++ k.literal) (chars a.rest) (k.split ∙ sym (append_assoc k.gap k.literal (chars a.rest))) (a.counted ∙ left_counted a.rest a.short.gives.text) in
-    in_range c.args.self.now c.set_remaining.new.self c.args.min c.args.max c.in_ok-found.found.number (chars a.rest) a.short.low a.short.high c.ranges.min c.ranges.max c.if-found-min.false c.if-max-found.false k l.1 l.0.same
+    in_range c.args.self.now c.set_remaining.new.self c.args.min c.args.max c.in_ok-found.found.number (chars a.rest) a.short.low a.short.high c.ranges.min c.ranges.max c.if-found-min.false c.if-max-found.false k l.1 (took_same l.0)

@@ -5,6 +5,7 @@ use Rattle.json5_grammar.specs.Model.ReadBlanks.{skip, between}
 use Rattle.json5_text.specs.ByteRuns.{BeginsSolid}
 use Rattle.json5_text.specs.TokenFaults.{FaultyBlanks}
 use Rattle.json5_text.proofs.AsciiBlanks.{at_solid_text}
+use Rattle.json5_text.proofs.Cursors.{took_of}
 use Rattle.json5_text.proofs.ScanFaults.{refusal_in, coded}
 use Rattle.json5_text.proofs.ScanTokens.{left_counted, leaves_rest, blanks_passed, blanks_faulty}
 use Rattle.json5_text.proofs.scanner.Scanner.skip_blank.Goals as goal
@@ -13,7 +14,7 @@ pub returns-then-begins_solid : goal.returns-then-begins_solid
 returns-then-begins_solid g c =
     let solid = subst BeginsSolid c.as_bytes.ensures.value (c.begins_solid.ensures c.if-begins_solid.true) in
     let k = blanks_passed _ _ _ c.rest.ensures (at_solid_text c.rest.result.now c.rest.utf8 solid) in
-    record { passed = (k.gap, record { split = k.split ∙ ap (λ z. k.gap ++ z) c.rest.ensures; same = refl }, subst (Gap k.gap) c.rest.ensures k.blank, subst Solid c.rest.ensures k.solid); refused = tt; kept = tt }
+    record { passed = (k.gap, took_of (k.split ∙ ap (λ z. k.gap ++ z) c.rest.ensures) refl, subst (Gap k.gap) c.rest.ensures k.blank, subst Solid c.rest.ensures k.solid); refused = tt; kept = tt }
 
 pub fault-requires : goal.fault-requires
 fault-requires g c = refusal_in FaultyBlanks c.args.self.now c.in-Err.refusal (skip between (chars c.rest-2.result.now)) (blanks_faulty _ _ c.rest-2.ensures) c.in-Err.ensures.refused

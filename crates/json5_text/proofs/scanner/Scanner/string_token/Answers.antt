@@ -1,6 +1,7 @@
 use Rattle.std.proofs.Common.{ap, refl}
 use Rattle.std.specs.Str.{chars}
 use Rattle.json5_text.specs.Cursor.{Cursor}
+use Rattle.json5_text.proofs.Cursors.{input_seen}
 use Rattle.json5_text.specs.ScanTexts.{string_at}
 use Rattle.json5_text.specs.TokenFaults.{FaultyString}
 use Rattle.json5_text.proofs.ScanFaults.{refusal_in, refused}
@@ -37,7 +38,7 @@ returns g c =
         given.escape_free,
         l.0,
         k.is_string,
-        token_inside c.args.self.now (chars c.rest.result.now) given.spelled given.escape_free c.in-Ok.token c.self.invariant (ap (λ (s : Cursor). s.input) c.self.view_is) (ap (λ (s : Cursor). s.unread) c.self.view_is) c.rest.ensures given.is_text,
+        token_inside c.args.self.now (chars c.rest.result.now) given.spelled given.escape_free c.in-Ok.token c.self.invariant (input_seen c.self.invariant c.self.view_is) c.rest.ensures given.is_text,
       );
       refused = tt;
       kept = tt;
