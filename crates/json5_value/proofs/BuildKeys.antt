@@ -1,4 +1,5 @@
 -- The steps that keep a key.
+use Rattle.json5_text.proofs.Cursors.{took_of, took_same}
 use Rattle.std.proofs.Common.{◌≡◌, ℕ, ◌<◌, length, Bool, true, false, cond, List, [], ◌∷◌, ◌++◌, refl, ap, sym, ◌∙◌, subst, inl, inr, Option, Some, None}
 use Rattle.std.specs.Prelude.{◌==◌, slice_get, Result, Ok, Err, is_some, not}
 use Rattle.std.specs.Str.{all_scalars}
@@ -21,7 +22,7 @@ use Rattle.json5_types.specs.declared.error.Error.{Error}
 use Rattle.json5_text.specs.declared.short_texts.Span.{Span}
 use Rattle.json5_text.specs.declared.text_token.TextToken.{TextToken}
 use Rattle.json5_text.specs.declared.text_token.TextToken.TheVariants as token
-use Rattle.json5_text.specs.Cursor.{Cursor}
+use Rattle.json5_text.specs.Cursor.{input_of, Cursor}
 use Rattle.json5_types.specs.Errors.{code, kind_of, error_position}
 use Rattle.json5_text.specs.ShortTexts.{TakesShortKey}
 use Rattle.json5_text.specs.TokenCalls.{TakesKey}
@@ -29,7 +30,7 @@ use Rattle.json5_text.specs.TokenFaults.{FaultyKey, at_quote, at_name}
 use Rattle.json5_text.proofs.UnicodeScalars.{key_scalars}
 use Rattle.json5_value.specs.Entries.{entry_front, entry_start, next_entry}
 use Rattle.json5_value.specs.OwnedReads.{BlamesOrMemory, Keeps, IsFoundKey, next_key}
-use Rattle.json5_value.specs.ModelSteps.{IsInside, RefusesRead, Gave, RefusesToken}
+use Rattle.json5_value.specs.ModelSteps.{RefusesRead, Gave, RefusesToken}
 use Rattle.json5_value.proofs.EntryValues.{key_missing, key_string, key_name}
 use Rattle.json5_value.proofs.NoFailedCode.{key_lacks}
 use Rattle.json5_value.proofs.RestsShorter.{next_shorter}
@@ -52,7 +53,7 @@ some_from (Some c) b e is = (c, refl)
 pub no_key_left : {V : Type 0} {Is : V → List ℕ × Bool → Type 0} (old : Cursor) (next : Option ℕ) (none : Bool) (e : Error) → next ≡ slice_get old.unread 0 → is_some next ≡ not none → none ≡ true → kind_of e ≡ code codes.EofParsingObject → error_position e ≡ None → Keeps Is (key old.unread) old old (Err e)
 no_key_left old next none e peeked test is says place =
     not_taken old old (key old.unread) e
-    (inr (blames_made old.input (key old.unread) e codes.EofParsingObject inner (ap key (none_next old.unread (sym peeked ∙ none_from next none test is)) ∙ key_missing) (λ e. absurd (cc)) says place))
+    (inr (blames_made (input_of old) (key old.unread) e codes.EofParsingObject inner (ap key (none_next old.unread (sym peeked ∙ none_from next none test is)) ∙ key_missing) (λ e. absurd (cc)) says place))
     refl
 
 key_refuses : (c : ℕ) (r x : List ℕ) (reason : Option ErrorCode) (place : Option (List ℕ)) → x ≡ c ∷ r → FaultyKey x reason place → Refuses (key x) x reason place
@@ -62,26 +63,26 @@ key_refuses c r x reason place e (at_name h f) =
     subst (λ z. Refuses z x reason place) (ap identifier e ∙ sym (key_name c r (subst (NotBegun is_quote) e h)) ∙ ap key (sym e)) (name_refuses x reason place f)
 
 -- a key was found, or refused
-pub key_taken : (old new : Cursor) (next : Option ℕ) (none : Bool) (result : Result TextToken Error) → next ≡ slice_get old.unread 0 → is_some next ≡ not none → none ≡ false → IsInside old → all_scalars old.unread ≡ true → TakesKey old new result
-    → Keeps (IsFoundKey old.input) (key old.unread) old new result
-key_taken old new next none (Ok k) peeked test is ready scalars t =
+pub key_taken : (old new : Cursor) (next : Option ℕ) (none : Bool) (result : Result TextToken Error) → next ≡ slice_get old.unread 0 → is_some next ≡ not none → none ≡ false → all_scalars old.unread ≡ true → TakesKey old new result
+    → Keeps (IsFoundKey (input_of old)) (key old.unread) old new result
+key_taken old new next none (Ok k) peeked test is scalars t =
     let (s, u, escape_free, took, spelled, same_text) = t.taken in
     takes old new (key old.unread) (u, escape_free) k (same_text, chars-encodes u (key_scalars old.unread new.unread took.split scalars spelled)) (gave_text old new (key old.unread) (u, escape_free) s (ap key took.split ∙ key_complete spelled) took)
-key_taken old new next none (Err e) peeked test is ready scalars t = not_taken old new (key old.unread) e (by_cause t.refused) (same_of t.kept)
+key_taken old new next none (Err e) peeked test is scalars t = not_taken old new (key old.unread) e (by_cause t.refused) (same_of t.kept)
   where
-    by_cause : RefusesToken FaultyKey old e → BlamesOrMemory old.input (key old.unread) e
+    by_cause : RefusesToken FaultyKey old e → BlamesOrMemory (input_of old) (key old.unread) e
     by_cause (inl memory) = inl memory.kind
     by_cause (inr f) =
         let (c, found) = some_from next none test is in
         let (r, x) = some_next old.unread c (sym peeked ∙ found) in
-        inr (blames_refused old (key old.unread) e ready key_lacks (λ reason place g. key_refuses c r old.unread reason place x g) f)
+        inr (blames_refused old (key old.unread) e key_lacks (λ reason place g. key_refuses c r old.unread reason place x g) f)
 
 -- a key without an escape was taken at once
-pub key_found : (old new : Cursor) (span : Span) → Solid old.unread → all_scalars old.unread ≡ true → TakesShortKey old new (Some span) → Keeps (IsFoundKey old.input) (key old.unread) old new (Ok (token.EscapeFree span))
+pub key_found : (old new : Cursor) (span : Span) → Solid old.unread → all_scalars old.unread ≡ true → TakesShortKey old new (Some span) → Keeps (IsFoundKey (input_of old)) (key old.unread) old new (Ok (token.EscapeFree span))
 key_found old new span solid scalars k =
     let split = key_spelled old.unread k.spelled new.unread solid k.read in
     takes old new (key old.unread) (k.spelled, true) (token.EscapeFree span) ((refl, k.stands), chars-encodes k.spelled (key_scalars old.unread new.unread split scalars k.read.key))
-    (gave_text old new (key old.unread) (k.spelled, true) k.read.spelling (ap key split ∙ key_complete k.read.key) (record { split = split; same = k.same }))
+    (gave_text old new (key old.unread) (k.spelled, true) k.read.spelling (ap key split ∙ key_complete k.read.key) (took_of split k.same))
 
 -- ---- the next key
 
@@ -118,8 +119,8 @@ next_is true x = by_comma (separator of_object x)
 
 module _ (comma_due : Bool) (old : Cursor) where
   -- what comes before the key is refused
-  pub entry_refused : (e : Error) → RefusesRead old.input (next_entry of_object comma_due old.unread) e → RefusesRead old.input (next_key comma_due old.unread) e
-  entry_refused e b = blames_as old.input old.input (next_entry of_object comma_due old.unread) (next_key comma_due old.unread) e refl (λ c p is. next_is comma_due old.unread ∙ ap (λ m. and_then m key_or_end) is) b
+  pub entry_refused : (e : Error) → RefusesRead (input_of old) (next_entry of_object comma_due old.unread) e → RefusesRead (input_of old) (next_key comma_due old.unread) e
+  entry_refused e b = blames_as (input_of old) (input_of old) (next_entry of_object comma_due old.unread) (next_key comma_due old.unread) e refl (λ c p is. next_is comma_due old.unread ∙ ap (λ m. and_then m key_or_end) is) b
 
   pub brace_closed : (goes : Bool) (new : Cursor) → goes ≡ false → Gave (next_entry of_object comma_due old.unread) goes old new → Gave (next_key comma_due old.unread) None old new
   brace_closed goes new e g = gave_text old new (next_key comma_due old.unread) None g.taken (next_is comma_due old.unread ∙ ap (λ m. and_then m key_or_end) (g.reads ∙ ap (λ b. got b new.unread) e)) g.took
@@ -129,14 +130,14 @@ module _ (comma_due : Bool) (old : Cursor) where
     key_comes = next_is comma_due old.unread ∙ ap (λ m. and_then m key_or_end) (g.reads ∙ ap (λ b. got b mid.unread) is)
 
     -- the key is refused, or its colon is
-    pub key_refused : (e : Error) → BlamesOrMemory mid.input (key mid.unread) e → BlamesOrMemory old.input (next_key comma_due old.unread) e
+    pub key_refused : (e : Error) → BlamesOrMemory (input_of mid) (key mid.unread) e → BlamesOrMemory (input_of old) (next_key comma_due old.unread) e
     key_refused e (inl memory) = inl memory
-    key_refused e (inr b) = inr (blames_as mid.input old.input (key mid.unread) (next_key comma_due old.unread) e g.took.same (λ c p is. key_comes ∙ ap (λ m. and_then m key_and_colon) is) b)
+    key_refused e (inr b) = inr (blames_as (input_of mid) (input_of old) (key mid.unread) (next_key comma_due old.unread) e (took_same g.took) (λ c p is. key_comes ∙ ap (λ m. and_then m key_and_colon) is) b)
 
     module _ (last : Cursor) (a : List ℕ × Bool) (k : Gave (key mid.unread) a mid last) where
-      pub colon_refused : (e : Error) → RefusesRead last.input (colon_after last.unread) e → RefusesRead old.input (next_key comma_due old.unread) e
+      pub colon_refused : (e : Error) → RefusesRead (input_of last) (colon_after last.unread) e → RefusesRead (input_of old) (next_key comma_due old.unread) e
       colon_refused e b =
-          blames_as last.input old.input (colon_after last.unread) (next_key comma_due old.unread) e (k.took.same ∙ g.took.same)
+          blames_as (input_of last) (input_of old) (colon_after last.unread) (next_key comma_due old.unread) e ((took_same k.took) ∙ (took_same g.took))
           (λ c p is. key_comes ∙ ap (λ m. and_then m key_and_colon) k.reads ∙ ap (λ m. and_then m (λ u y. got (Some a) y)) is) b
 
       pub name_taken : (new : Cursor) (u : Unit {0}) → Gave (colon_after last.unread) u last new → Gave (next_key comma_due old.unread) (Some a) old new

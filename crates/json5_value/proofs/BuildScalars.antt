@@ -1,4 +1,5 @@
 -- How a value that is kept begins: as a value of one token, or with an opening bracket.
+use Rattle.json5_text.proofs.Cursors.{took_same}
 use Rattle.std.proofs.Common.{◌≡◌, ℕ, Bool, true, false, List, [], ◌∷◌, refl, ap, sym, ◌∙◌, subst, arith, inl, inr, Option, Some, None, String, string_bytes}
 use Rattle.std.specs.Prelude.{◌||◌, slice_get, Ok, Err}
 use Rattle.std.specs.declared.alloc.Global.{Global}
@@ -20,7 +21,7 @@ use Rattle.json5_grammar.proofs.ValuesSound.{text_stops}
 use Rattle.json5_grammar.proofs.ValueSteps.{read_quote, read_numeral, read_missing}
 use Rattle.json5_types.specs.declared.error.Error.{Error}
 use Rattle.json5_types.specs.declared.value.Value.{Value}
-use Rattle.json5_text.specs.Cursor.{Cursor, Took}
+use Rattle.json5_text.specs.Cursor.{input_of, Cursor, Took}
 use Rattle.json5_types.specs.Errors.{code, kind_of, error_position}
 use Rattle.json5_text.specs.TokenFaults.{FaultyNumber, FaultyString}
 use Rattle.json5_types.specs.declared.value.Value as value
@@ -39,7 +40,7 @@ use Rattle.json5_value.specs.BuildSteps.{BeginsValue}
 use Rattle.json5_value.specs.TreeMeanings.{datum_of}
 use Rattle.json5_value.specs.OwnedReads.{Keeps, IsOfTree, KeepsValue, KeepsShort, ReadsScalar, as_datum, tree_at, datum_at, datum_of_literal}
 use Rattle.json5_value.specs.Kinds.{kind_at, word_of}
-use Rattle.json5_value.specs.ModelSteps.{IsInside, RefusesRead, Gave, Steps, RefusesToken, value_at}
+use Rattle.json5_value.specs.ModelSteps.{RefusesRead, Gave, Steps, RefusesToken, value_at}
 use Rattle.json5_value.proofs.NoFailedCode.{Lacks, faulty_number_lacks, faulty_string_lacks}
 use Rattle.json5_value.proofs.SkipScalars.{tests_of}
 use Rattle.json5_value.proofs.ModelSteps.{same_of, none_next, some_next, blames_as, blames_made, blames_refused}
@@ -67,11 +68,11 @@ forget_bad {A = A} (bad d q) c p e = let a : d ≡ c = cc in let b : q ≡ p = c
     renamed : (m : Read A) → m ≡ bad d q → d ≡ c → q ≡ p → m ≡ bad c p
     renamed m is a b = subst (λ z. m ≡ bad z p) a (subst (λ z. m ≡ bad d z) b is)
 
-pub tree_blamed : (room : ℕ) (old : Cursor) (e : Error) → RefusesRead old.input (value_at room old) e → RefusesRead old.input (tree_at room old) e
-tree_blamed room old e b = blames_as old.input old.input (value_at room old) (tree_at room old) e refl (λ c p is. forget_bad (tree_at room old) c p is) b
+pub tree_blamed : (room : ℕ) (old : Cursor) (e : Error) → RefusesRead (input_of old) (value_at room old) e → RefusesRead (input_of old) (tree_at room old) e
+tree_blamed room old e b = blames_as (input_of old) (input_of old) (value_at room old) (tree_at room old) e refl (λ c p is. forget_bad (tree_at room old) c p is) b
 
-pub datum_blamed : (room : ℕ) (old : Cursor) (e : Error) → RefusesRead old.input (tree_at room old) e → RefusesRead old.input (datum_at room old) e
-datum_blamed room old e b = blames_as old.input old.input (tree_at room old) (datum_at room old) e refl (λ c p is. ap as_datum is) b
+pub datum_blamed : (room : ℕ) (old : Cursor) (e : Error) → RefusesRead (input_of old) (tree_at room old) e → RefusesRead (input_of old) (datum_at room old) e
+datum_blamed room old e b = blames_as (input_of old) (input_of old) (tree_at room old) (datum_at room old) e refl (λ c p is. ap as_datum is) b
 
 -- a value of this tree was taken
 pub scalar_taken : (room : ℕ) (old new : Cursor) (s : List ℕ) (t : Tree) (v : Value) → depth t ≡ 0 → Took old s new → Val s t → Stops s new.unread → value_of v ≡ datum_of t → Keeps IsOfTree (tree_at room old) old new (Ok v)
@@ -93,14 +94,14 @@ text_taken room old new t scalars (s, u, escape_free, took, str, bytes) =
 pub scalar_refused : (old new : Cursor) (e : Error) → ((room : ℕ) → Steps (value_at room old) old new (Err e)) → ReadsScalar old new (Err e)
 scalar_refused old new e k = record { given = tt; refused = inr (λ room. datum_blamed room old e (tree_blamed room old e (k room).refused)); same_text = (k 0).same_text }
 
-module _ (old new : Cursor) (c : ℕ) (first : slice_get old.unread 0 ≡ Some c) (found : ValueKind) (at : found ≡ kind_at c) (e : Error) (ready : IsInside old) (kept : new ≡ old) where
+module _ (old new : Cursor) (c : ℕ) (first : slice_get old.unread 0 ≡ Some c) (found : ValueKind) (at : found ≡ kind_at c) (e : Error) (kept : new ≡ old) where
   -- memory ran out in a token, or it is refused as reading does
   token_refused : {A : Type 0} {F : _} (m : Read A) → Lacks F → ((reason : Option ErrorCode) (place : Option (List ℕ)) → F old.unread reason place → Refuses m old.unread reason place) → ((room : ℕ) → value_at room old ≡ forget m) → RefusesToken F old e
       → ReadsScalar old new (Err e)
   token_refused m l k is (inl memory) = record { given = tt; refused = inl memory.kind; same_text = same_of kept }
   token_refused m l k is (inr f) = record {
     given = tt;
-    refused = inr (λ room. datum_blamed room old e (tree_blamed room old e (blames_as old.input old.input m (value_at room old) e refl (λ r p b. is room ∙ ap forget b) (blames_refused old m e ready l k f))));
+    refused = inr (λ room. datum_blamed room old e (tree_blamed room old e (blames_as (input_of old) (input_of old) m (value_at room old) e refl (λ r p b. is room ∙ ap forget b) (blames_refused old m e l k f))));
     same_text = same_of kept;
   }
 
@@ -129,12 +130,12 @@ datum_got (bad c p) x r e = absurd (cc)
 pub nothing_left : (old : Cursor) (found : Option ℕ) (e : Error) → found ≡ slice_get old.unread 0 → found ≡ None → kind_of e ≡ code codes.EofParsingValue → error_position e ≡ None → BeginsValue old old (Err e)
 nothing_left old found e peeked is says place = record {
   begun = tt;
-  refused = inr (λ room. datum_blamed room old e (tree_blamed room old e (blames_made old.input (value_at room old) e codes.EofParsingValue inner (ap (λ z. forget (read room z)) (none_next old.unread (sym peeked ∙ is)) ∙ read_missing room) (λ e. absurd (cc)) says place)));
+  refused = inr (λ room. datum_blamed room old e (tree_blamed room old e (blames_made (input_of old) (value_at room old) e codes.EofParsingValue inner (ap (λ z. forget (read room z)) (none_next old.unread (sym peeked ∙ is)) ∙ read_missing room) (λ e. absurd (cc)) says place)));
   same_text = refl;
 }
 
 pub value_begun : (old new : Cursor) (v : Value) → KeepsValue old new v → BeginsValue old new (Ok (next.Ended v))
-value_begun old new v k = record { begun = k; refused = tt; same_text = (k 0).took.same }
+value_begun old new v k = record { begun = k; refused = tt; same_text = (took_same (k 0).took) }
 
 pub bracket_in_front : (old : Cursor) (c : ℕ) (k : BracketKind) → slice_get old.unread 0 ≡ Some c → OpensKind c (Some k) → BeginsValue old old (Ok (next.Opens k))
 bracket_in_front old c k first opens = record { begun = (refl, first ∙ ap (λ z. Some z) opens); refused = tt; same_text = refl }

@@ -1,10 +1,11 @@
 -- The turns of the loop that reads a value of any kind: continuing an array or an object.
+use Rattle.json5_text.proofs.Cursors.{took_same}
 use Rattle.std.proofs.Common.{◌≡◌, ℕ, ◌-◌, ◌<◌, Bool, true, List, [], ◌∷◌, ◌++◌, length, refl, ap, sym, ◌∙◌, subst, arith, length-append, ◌⊎◌, inl, inr, Some, None, Vec, String}
 use Rattle.std.specs.Prelude.{Result, Ok, Err}
 use Rattle.std.specs.declared.alloc.Global.{Global}
 use Rattle.json5_grammar.specs.Model.Reading.{Read, got, and_then}
 use Rattle.json5_types.specs.declared.error.Error.{Error}
-use Rattle.json5_text.specs.Cursor.{Cursor, Took, IsOutOfMemory}
+use Rattle.json5_text.specs.Cursor.{input_of, Cursor, Took, IsOutOfMemory}
 use Rattle.json5_types.specs.declared.value.Value.{Value}
 use Rattle.json5_types.specs.declared.value.Value as value
 use Rattle.json5_types.specs.ValueMeanings.{Datum, value_of}
@@ -39,7 +40,7 @@ module _ (m : ℕ → Read Datum) (at : ℕ) (comma_due : Bool) (fs : List Unfin
         (value_reached start_of value_in room old w (m (room - length fs - 1)) fs at q h f new (datum_at (room - length fs - 1) new) s is took (reads (room - length fs - 1))));
     front = front;
     refused = tt;
-    same_text = took.same;
+    same_text = took_same took;
     shorter = less;
     no_longer = no_more_left old new s took;
   }
@@ -50,17 +51,17 @@ module _ (m : ℕ → Read Datum) (at : ℕ) (comma_due : Bool) (fs : List Unfin
     goes = λ room w q h. closed start_of value_in room old w (m (room - length fs - 1)) fs at q h new (value_of v) s took (reads (room - length fs - 1));
     front = tt;
     refused = tt;
-    same_text = took.same;
+    same_text = took_same took;
     shorter = less;
     no_longer = no_more_left old new s took;
   }
 
-  pub turn_refused : (after : List Unfinished) (new : Cursor) (own e : Error) → IsOutOfMemory own ⊎ ((d : ℕ) → RefusesRead old.input (m d) own) → SameText old new → PositionedAt (StartsAfter new.input at) own e → TurnsBuildingInside m at comma_due fs after old new (Err e)
+  pub turn_refused : (after : List Unfinished) (new : Cursor) (own e : Error) → IsOutOfMemory own ⊎ ((d : ℕ) → RefusesRead (input_of old) (m d) own) → SameText old new → PositionedAt (StartsAfter (input_of new) at) own e → TurnsBuildingInside m at comma_due fs after old new (Err e)
   turn_refused after new own e (inl memory) g k = record { goes = tt; front = tt; refused = inl (k.kind ∙ memory); same_text = g; shorter = tt; no_longer = tt }
   turn_refused after new own e (inr b) g k = record {
     goes = tt;
     front = tt;
-    refused = inr (λ room w q h. inside_blamed start_of value_in room old w (m (room - length fs - 1)) fs at q h new.input own e (b (room - length fs - 1)) k g);
+    refused = inr (λ room w q h. inside_blamed start_of value_in room old w (m (room - length fs - 1)) fs at q h (input_of new) own e (b (room - length fs - 1)) k g);
     same_text = g;
     shorter = tt;
     no_longer = tt;
@@ -83,7 +84,7 @@ module _ (before : List Value) (elements : Vec Value Global) (at : ℕ) (comma_d
       let (l, less) = t.goes in
       turn_closed (array_at before comma_due old) at comma_due fs old new (value.Array elements) l.taken l.took (λ d. l.reads d ∙ ap (λ x. got x new.unread) (sym (view-Array elements))) less
 
-  pub elements_refused : (own e : Error) → TakesElements comma_due before elements.items old new (Err own) → PositionedAt (StartsAfter new.input at) own e → TurnsBuildingInside (array_at before comma_due old) at comma_due fs fs old new (Err e)
+  pub elements_refused : (own e : Error) → TakesElements comma_due before elements.items old new (Err own) → PositionedAt (StartsAfter (input_of new) at) own e → TurnsBuildingInside (array_at before comma_due old) at comma_due fs fs old new (Err e)
   elements_refused own e t k = turn_refused (array_at before comma_due old) at comma_due fs old fs new own e t.refused t.same_text k
 
 -- ---- objects
@@ -100,7 +101,7 @@ module _ (before : List (String Global × Value)) (members : Vec (String Global 
       let (l, less) = t.goes in
       turn_closed (object_at before comma_due old) at comma_due fs old new (value.Object members) l.taken l.took (λ d. l.reads d ∙ ap (λ x. got x new.unread) (sym (view-Object members))) less
 
-  pub members_refused : (own e : Error) → TakesMembers comma_due before members.items old new (Err own) → PositionedAt (StartsAfter new.input at) own e → TurnsBuildingInside (object_at before comma_due old) at comma_due fs fs old new (Err e)
+  pub members_refused : (own e : Error) → TakesMembers comma_due before members.items old new (Err own) → PositionedAt (StartsAfter (input_of new) at) own e → TurnsBuildingInside (object_at before comma_due old) at comma_due fs fs old new (Err e)
   members_refused own e t k = turn_refused (object_at before comma_due old) at comma_due fs old fs new own e t.refused t.same_text k
 
 -- ---- a value in an array or an object that is unfinished
@@ -120,7 +121,7 @@ turns_as m n at comma_due fs after old new (Ok found) same k = record {
     InsideOf room w q z = BuildingInside room w fs at (λ d. z) q old
 turns_as m n at comma_due fs after old new (Err e) same k = record { goes = tt; front = tt; refused = by_cause k.refused; same_text = k.same_text; shorter = tt; no_longer = tt }
   where
-    by_cause : IsOutOfMemory e ⊎ ((room : ℕ) (w : Read Datum) (q : List ℕ) → BuildingInside room w fs at n q old → RefusesRead old.input w e) → IsOutOfMemory e ⊎ ((room : ℕ) (w : Read Datum) (q : List ℕ) → BuildingInside room w fs at m q old → RefusesRead old.input w e)
+    by_cause : IsOutOfMemory e ⊎ ((room : ℕ) (w : Read Datum) (q : List ℕ) → BuildingInside room w fs at n q old → RefusesRead (input_of old) w e) → IsOutOfMemory e ⊎ ((room : ℕ) (w : Read Datum) (q : List ℕ) → BuildingInside room w fs at m q old → RefusesRead (input_of old) w e)
     by_cause (inl memory) = inl memory
     by_cause (inr b) = inr (λ room w q h. b room w q (subst (λ z. BuildingInside room w fs at (λ d. z) q old) (same (room - length fs - 1)) h))
 

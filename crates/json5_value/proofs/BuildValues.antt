@@ -1,4 +1,5 @@
 -- The turns of the loop that reads a value of any kind: how a value in it begins, and how the whole ends.
+use Rattle.json5_text.proofs.Cursors.{took_of, took_same}
 use Rattle.std.proofs.Common.{◌≡◌, ℕ, suc, ◌-◌, ◌<◌, false, List, [], ◌∷◌, ◌++◌, length, refl, ap, sym, ◌∙◌, subst, arith, ◌⊎◌, inl, inr, Some, Vec, String}
 use Rattle.std.specs.Prelude.{Result, Ok, Err}
 use Rattle.std.specs.declared.alloc.Global.{Global}
@@ -11,7 +12,7 @@ use Rattle.json5_grammar.specs.Model.ReadValues.{read}
 use Rattle.json5_grammar.proofs.ValuesSound.{read_sound}
 use Rattle.json5_grammar.proofs.ValueSteps.{read_too_deep}
 use Rattle.json5_types.specs.declared.error.Error.{Error}
-use Rattle.json5_text.specs.Cursor.{Cursor, IsOutOfMemory}
+use Rattle.json5_text.specs.Cursor.{input_of, Cursor, IsOutOfMemory}
 use Rattle.json5_types.specs.declared.value.Value.{Value}
 use Rattle.json5_types.specs.ValueMeanings.{Datum, value_of}
 use Rattle.json5_value.specs.declared.brackets.BracketKind.{BracketKind}
@@ -25,10 +26,9 @@ use Rattle.json5_value.specs.BuildSteps.{AtBracket, IsInFront, Begun, BeginsValu
 use Rattle.json5_value.specs.OwnedReads.{BlamesEach, BlamesOrMemory, as_datum, tree_at, datum_at, ReadsDatum}
 use Rattle.json5_value.specs.Nesting.{Nested, Within}
 use Rattle.json5_value.specs.Opening.{OpenedAt, OpensBracket}
-use Rattle.json5_value.specs.ModelSteps.{IsInside, SameText, RefusesRead, value_at}
+use Rattle.json5_value.specs.ModelSteps.{SameText, RefusesRead, value_at}
 use Rattle.json5_value.proofs.BuildRests.{array_opened, object_opened}
 use Rattle.json5_value.proofs.Nesting.{value_ended, value_opened, here_blamed, starts, ends_inside}
-use Rattle.json5_value.proofs.SkipInvariant.{ready_opened}
 use Rattle.json5_value.proofs.BuildScalars.{datum_got, forget_bad, tree_blamed, datum_blamed}
 use Rattle.json5_value.proofs.ModelSteps.{some_next}
 
@@ -39,13 +39,13 @@ pub room_left : (room : ℕ) (stack : Vec Unfinished Global) (count left : ℕ) 
 room_left room stack count left is less = let same = stack.ok in omega (arith, is, less, same)
 
 -- after the value's bracket, m is left of the value
-module _ (room : ℕ) (k : BracketKind) (fs : List Unfinished) (f : OpenBracket) (m : ℕ → Read Datum) (old mid : Cursor) (ready : IsInside old) (o : OpenedAt (room - length fs) f old mid)
+module _ (room : ℕ) (k : BracketKind) (fs : List Unfinished) (f : OpenBracket) (m : ℕ → Read Datum) (old mid : Cursor) (o : OpenedAt (room - length fs) f old mid)
     (reads : (d : ℕ) → as_datum (read (suc d) (opening (bracket_of f.kind) ∷ mid.unread)) ≡ placed (opening (bracket_of f.kind) ∷ mid.unread) (m d)) where
   inside_of : (w : Read Datum) → Building room w fs (next.Opens k) old → BuildingInside room w fs f.start m old.unread mid
   inside_of w h =
       let d = o.room_left in
       let more : room - length fs ≡ suc (room - length fs - 1) = omega (arith, d) in
-      value_opened start_of value_in room old mid w (datum_at (room - length fs) old) (m (room - length fs - 1)) fs f.start h (ready_opened (room - length fs) f old mid ready o) o.counted o.same_text o.room_left
+      value_opened start_of value_in room old mid w (datum_at (room - length fs) old) (m (room - length fs - 1)) fs f.start h o.counted o.same_text o.room_left
       (ap (λ k. as_datum (read k old.unread)) more ∙ ap (λ z. as_datum (read (suc (room - length fs - 1)) z)) o.sign ∙ reads (room - length fs - 1) ∙ ap (λ z. placed z (m (room - length fs - 1))) (sym o.sign))
 
   first_bracket : (after : List Unfinished) (new : Cursor) (result : Result Next Error) → length mid.unread < length old.unread → TurnsBuildingInside m f.start false fs after mid new result → TurnsBuilding room k fs after old new result
@@ -58,23 +58,23 @@ module _ (room : ℕ) (k : BracketKind) (fs : List Unfinished) (f : OpenBracket)
   }
   first_bracket after new (Err e) less t = record { goes = tt; front = tt; refused = by_cause t.refused; same_text = t.same_text ∙ o.same_text; shorter = tt }
     where
-      by_cause : IsOutOfMemory e ⊎ ((room : ℕ) (w : Read Datum) (q : List ℕ) → BuildingInside room w fs f.start m q mid → RefusesRead mid.input w e) → IsOutOfMemory e ⊎ ((w : Read Datum) → Building room w fs (next.Opens k) old → RefusesRead old.input w e)
+      by_cause : IsOutOfMemory e ⊎ ((room : ℕ) (w : Read Datum) (q : List ℕ) → BuildingInside room w fs f.start m q mid → RefusesRead (input_of mid) w e) → IsOutOfMemory e ⊎ ((w : Read Datum) → Building room w fs (next.Opens k) old → RefusesRead (input_of old) w e)
       by_cause (inl memory) = inl memory
       by_cause (inr k) = inr (λ w h. subst (λ z. RefusesRead z w e) o.same_text (k room w old.unread (inside_of w h)))
 
 -- an array without elements or an object without members so far is what follows its bracket
-pub array_begun : (room : ℕ) (k : BracketKind) (fs after : List Unfinished) (f : OpenBracket) (elements : Vec Value Global) (old mid new : Cursor) (result : Result Next Error) → IsInside old → OpenedAt (room - length fs) f old mid → f.kind ≡ bracket.Array → elements.items ≡ []
+pub array_begun : (room : ℕ) (k : BracketKind) (fs after : List Unfinished) (f : OpenBracket) (elements : Vec Value Global) (old mid new : Cursor) (result : Result Next Error) → OpenedAt (room - length fs) f old mid → f.kind ≡ bracket.Array → elements.items ≡ []
     → TurnsBuildingInside (array_at elements.items false mid) f.start false fs after mid new result → TurnsBuilding room k fs after old new result
-array_begun room k fs after f elements old mid new result ready o is none t =
-    first_bracket room k fs f (array_at elements.items false mid) old mid ready o
+array_begun room k fs after f elements old mid new result o is none t =
+    first_bracket room k fs f (array_at elements.items false mid) old mid o
     (subst (λ vs. (d : ℕ) → as_datum (read (suc d) (opening (bracket_of f.kind) ∷ mid.unread)) ≡ placed (opening (bracket_of f.kind) ∷ mid.unread) (array_at vs false mid d)) (sym none)
     (subst (λ z. (d : ℕ) → as_datum (read (suc d) (opening (bracket_of z) ∷ mid.unread)) ≡ placed (opening (bracket_of z) ∷ mid.unread) (array_at [] false mid d)) (sym is) (λ d. array_opened d mid.unread)))
     after new result (let sign = o.sign in omega (arith, ap length sign)) t
 
-pub object_begun : (room : ℕ) (k : BracketKind) (fs after : List Unfinished) (f : OpenBracket) (members : Vec (String Global × Value) Global) (old mid new : Cursor) (result : Result Next Error) → IsInside old → OpenedAt (room - length fs) f old mid → f.kind ≡ bracket.Object
+pub object_begun : (room : ℕ) (k : BracketKind) (fs after : List Unfinished) (f : OpenBracket) (members : Vec (String Global × Value) Global) (old mid new : Cursor) (result : Result Next Error) → OpenedAt (room - length fs) f old mid → f.kind ≡ bracket.Object
     → members.items ≡ [] → TurnsBuildingInside (object_at members.items false mid) f.start false fs after mid new result → TurnsBuilding room k fs after old new result
-object_begun room k fs after f members old mid new result ready o is none t =
-    first_bracket room k fs f (object_at members.items false mid) old mid ready o
+object_begun room k fs after f members old mid new result o is none t =
+    first_bracket room k fs f (object_at members.items false mid) old mid o
     (subst (λ vs. (d : ℕ) → as_datum (read (suc d) (opening (bracket_of f.kind) ∷ mid.unread)) ≡ placed (opening (bracket_of f.kind) ∷ mid.unread) (object_at vs false mid d)) (sym none)
     (subst (λ z. (d : ℕ) → as_datum (read (suc d) (opening (bracket_of z) ∷ mid.unread)) ≡ placed (opening (bracket_of z) ∷ mid.unread) (object_at [] false mid d)) (sym is) (λ d. object_opened d mid.unread)))
     after new result (let sign = o.sign in omega (arith, ap length sign)) t
@@ -89,7 +89,7 @@ bracket_refused room left k fs old new e is front o = record {
       let none : room - length fs ≡ 0 = sym is ∙ o.full in
       let bad_value : value_at (room - length fs) old ≡ bad (Some codes.TooDeep) (here old.unread) =
       ap (λ d. forget (read d old.unread)) none ∙ ap (λ z. forget (read 0 z)) x ∙ read_too_deep (bracket_of k) r ∙ ap (λ z. bad (Some codes.TooDeep) (here z)) (sym x) in
-      let blamed : RefusesRead old.input (value_at (room - length fs) old) e = subst (λ d. RefusesRead old.input (value_at d old) e) is o.refused in
+      let blamed : RefusesRead (input_of old) (value_at (room - length fs) old) e = subst (λ d. RefusesRead (input_of old) (value_at d old) e) is o.refused in
       here_blamed start_of value_in room old w (datum_at (room - length fs) old) fs e h (Some codes.TooDeep) old.unread
       (ap as_datum (forget_bad (tree_at (room - length fs) old) (Some codes.TooDeep) (here old.unread) bad_value))
       (datum_blamed (room - length fs) old e (tree_blamed (room - length fs) old e blamed)));
@@ -100,14 +100,14 @@ bracket_refused room left k fs old new e is front o = record {
 -- ---- the whole
 
 -- nothing is open at the start
-pub starts_building : (room : ℕ) (fs : List Unfinished) (old new : Cursor) (n : Next) → fs ≡ [] → IsInside old → Begun old new n → Building room (datum_at room old) fs n new × IsInFront n new × SameText old new
-starts_building room fs old new (next.Ended v) none ready k =
+pub starts_building : (room : ℕ) (fs : List Unfinished) (old new : Cursor) (n : Next) → fs ≡ [] → Begun old new n → Building room (datum_at room old) fs n new × IsInFront n new × SameText old new
+starts_building room fs old new (next.Ended v) none k =
     let g = k room in
-    (subst (λ gs. Building room (datum_at room old) gs (next.Ended v) new) (sym none) (value_ended start_of value_in room old new (datum_at room old) (datum_at room old) [] (value_of v) (starts start_of value_in room old (datum_at room old) ready) g), tt, g.took.same)
-starts_building room fs old new (next.Opens k) none ready (same, at) =
+    (subst (λ gs. Building room (datum_at room old) gs (next.Ended v) new) (sym none) (value_ended start_of value_in room old new (datum_at room old) (datum_at room old) [] (value_of v) (starts start_of value_in room old (datum_at room old)) g), tt, (took_same g.took))
+starts_building room fs old new (next.Opens k) none (same, at) =
     subst (λ (s : Cursor). Building room (datum_at room old) fs (next.Opens k) s × IsInFront (next.Opens k) s × SameText old s) (sym same) (
       subst (λ gs. Building room (datum_at room old) gs (next.Opens k) old) (sym none)
-          (subst (λ d. Within start_of value_in room (datum_at room old) [] (datum_at d old) old) (omega arith) (starts start_of value_in room old (datum_at room old) ready)),
+          (subst (λ d. Within start_of value_in room (datum_at room old) [] (datum_at d old) old) (omega arith) (starts start_of value_in room old (datum_at room old))),
       at,
       refl,
     )
@@ -115,33 +115,33 @@ starts_building room fs old new (next.Opens k) none ready (same, at) =
 pub not_begun : (room : ℕ) (old new : Cursor) (e : Error) → BeginsValue old new (Err e) → ReadsDatum room old new (Err e)
 not_begun room old new e k = record { given = tt; refused = by_cause k.refused; same_text = k.same_text }
   where
-    by_cause : BlamesEach old.input (λ d. datum_at d old) e → BlamesOrMemory old.input (datum_at room old) e
+    by_cause : BlamesEach (input_of old) (λ d. datum_at d old) e → BlamesOrMemory (input_of old) (datum_at room old) e
     by_cause (inl memory) = inl memory
     by_cause (inr b) = inr (b room)
 
 pub turn_not_read : (room : ℕ) (k : BracketKind) (old now new : Cursor) (fs after : List Unfinished) (e : Error) → Building room (datum_at room old) fs (next.Opens k) now → SameText old now → TurnsBuilding room k fs after now new (Err e) → ReadsDatum room old new (Err e)
 turn_not_read room k old now new fs after e h same t = record { given = tt; refused = by_cause t.refused; same_text = t.same_text ∙ same }
   where
-    by_cause : IsOutOfMemory e ⊎ ((w : Read Datum) → Building room w fs (next.Opens k) now → RefusesRead now.input w e) → BlamesOrMemory old.input (datum_at room old) e
+    by_cause : IsOutOfMemory e ⊎ ((w : Read Datum) → Building room w fs (next.Opens k) now → RefusesRead (input_of now) w e) → BlamesOrMemory (input_of old) (datum_at room old) e
     by_cause (inl memory) = inl memory
     by_cause (inr b) = inr (subst (λ z. RefusesRead z (datum_at room old) e) same (b (datum_at room old) h))
 
 -- the value itself ended
 pub value_read : (room : ℕ) (old now : Cursor) (fs : List Unfinished) (v : Value) → fs ≡ [] → SameText old now → Building room (datum_at room old) fs (next.Ended v) now → ReadsDatum room old now (Ok v)
 value_read room old now fs v none same h =
-    let reads : datum_at room old ≡ got (value_of v) now.unread = subst (λ gs. Nested start_of value_in now.input room gs (got (value_of v) now.unread) (datum_at room old)) none h.nested in
+    let reads : datum_at room old ≡ got (value_of v) now.unread = subst (λ gs. Nested start_of value_in (input_of now) room gs (got (value_of v) now.unread) (datum_at room old)) none h.nested in
     let (t, is, view) = datum_got (read room old.unread) (value_of v) now.unread reads in
     let k = read_sound room old.unread now.unread t is in
-    record { given = record { reads = reads; taken = k.0; took = record { split = k.1; same = same } }; refused = tt; same_text = same }
+    record { given = record { reads = reads; taken = k.0; took = took_of k.1 same }; refused = tt; same_text = same }
 
 -- what is round a value that ended
 pub ended_inside : (room : ℕ) (w : Read Datum) (now : Cursor) (gs fs : List Unfinished) (f : Unfinished) (v : Value) → gs ≡ fs ++ f ∷ [] → Building room w gs (next.Ended v) now → (q : List ℕ) × BuildingInside room w fs (start_of f) (value_in_at f v now) q now
 ended_inside room w now gs fs f v is h = ends_inside start_of value_in room now w gs fs f (value_of v) is h
 
 pub member_not_read : (room : ℕ) (old now new : Cursor) (fs : List Unfinished) (at : ℕ) (m : ℕ → Read Datum) (q : List ℕ) (e : Error) → BuildingInside room (datum_at room old) fs at m q now → SameText old now
-    → IsOutOfMemory e ⊎ ((room : ℕ) (w : Read Datum) (q : List ℕ) → BuildingInside room w fs at m q now → RefusesRead now.input w e) → SameText now new → ReadsDatum room old new (Err e)
+    → IsOutOfMemory e ⊎ ((room : ℕ) (w : Read Datum) (q : List ℕ) → BuildingInside room w fs at m q now → RefusesRead (input_of now) w e) → SameText now new → ReadsDatum room old new (Err e)
 member_not_read room old now new fs at m q e h same b g = record { given = tt; refused = by_cause b; same_text = g ∙ same }
   where
-    by_cause : IsOutOfMemory e ⊎ ((room : ℕ) (w : Read Datum) (q : List ℕ) → BuildingInside room w fs at m q now → RefusesRead now.input w e) → BlamesOrMemory old.input (datum_at room old) e
+    by_cause : IsOutOfMemory e ⊎ ((room : ℕ) (w : Read Datum) (q : List ℕ) → BuildingInside room w fs at m q now → RefusesRead (input_of now) w e) → BlamesOrMemory (input_of old) (datum_at room old) e
     by_cause (inl memory) = inl memory
     by_cause (inr k) = inr (subst (λ z. RefusesRead z (datum_at room old) e) same (k room (datum_at room old) q h))

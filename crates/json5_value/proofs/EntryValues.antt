@@ -10,7 +10,7 @@ use Rattle.json5_grammar.specs.Model.ReadTexts.{key, string, identifier}
 use Rattle.json5_grammar.specs.Language.Strings.{is_quote}
 use Rattle.json5_types.specs.declared.error.Error.{Error}
 use Rattle.json5_types.specs.Errors.{code, kind_of, error_position}
-use Rattle.json5_text.specs.Cursor.{Cursor}
+use Rattle.json5_text.specs.Cursor.{input_of, Cursor}
 use Rattle.json5_value.specs.Entries.{entry_front, entry_start, key_and_colon, next_entry}
 use Rattle.json5_value.specs.ModelSteps.{SameText, RefusesRead, Gave, Steps}
 use Rattle.json5_value.proofs.EntrySteps.{start_or_end}
@@ -61,7 +61,7 @@ next_is k true x = by_comma (separator k x)
     by_comma (got false y) = refl
     by_comma (bad c p) = refl
 
-pub next_refused : (k : BracketKind) (comma_due : Bool) (old new : Cursor) (e : Error) → RefusesRead old.input (next_entry k comma_due old.unread) e → SameText old new → Steps (next_value k comma_due old.unread) old new (Err e)
+pub next_refused : (k : BracketKind) (comma_due : Bool) (old new : Cursor) (e : Error) → RefusesRead (input_of old) (next_entry k comma_due old.unread) e → SameText old new → Steps (next_value k comma_due old.unread) old new (Err e)
 next_refused k comma_due old new e b g = same_step old new (next_value k comma_due old.unread) _ (Err e) (next_is k comma_due old.unread) (first_step_refused old new (next_entry k comma_due old.unread) (head_or_end k) e b g)
 
 pub next_closed : (k : BracketKind) (comma_due goes : Bool) (old new : Cursor) → goes ≡ false → Gave (next_entry k comma_due old.unread) goes old new → Steps (next_value k comma_due old.unread) old new (Ok false)
@@ -91,7 +91,7 @@ module _ (k : BracketKind) (comma_due goes : Bool) (old mid : Cursor) (e : k ≡
   of_member new result s = next_found k of_object comma_due goes old mid new result e is g (same_step mid new (member_head mid.unread) _ result (head_named mid.unread) s)
 
   -- its name is refused
-  pub name_refused : (new : Cursor) (own : Error) → RefusesRead mid.input (key_and_colon mid.unread) own → SameText mid new → Steps (next_value k comma_due old.unread) old new (Err own)
+  pub name_refused : (new : Cursor) (own : Error) → RefusesRead (input_of mid) (key_and_colon mid.unread) own → SameText mid new → Steps (next_value k comma_due old.unread) old new (Err own)
   name_refused new own b f = of_member new (Err own) (first_step_refused mid new (key_and_colon mid.unread) (λ u y. got true y) own b f)
 
   -- its value is next
@@ -104,7 +104,7 @@ module _ (k : BracketKind) (comma_due goes : Bool) (old mid : Cursor) (e : k ≡
 pub key_at_end : (old : Cursor) (next : Option ℕ) (e : Error) → next ≡ slice_get old.unread 0 → next ≡ None → kind_of e ≡ code codes.EofParsingObject → error_position e ≡ None → Steps (forget (key old.unread)) old old (Err e)
 key_at_end old next e peeked is kind place =
     refused_step old old (forget (key old.unread)) e
-    (blames_made old.input (forget (key old.unread)) e codes.EofParsingObject inner (ap forget (ap key (none_next old.unread (sym peeked ∙ is)) ∙ key_missing)) (λ e. absurd (cc)) kind place)
+    (blames_made (input_of old) (forget (key old.unread)) e codes.EofParsingObject inner (ap forget (ap key (none_next old.unread (sym peeked ∙ is)) ∙ key_missing)) (λ e. absurd (cc)) kind place)
     refl
 
 pub key_string : (c : ℕ) (r : List ℕ) → is_quote c ≡ true → key (c ∷ r) ≡ string (c ∷ r)

@@ -1,14 +1,15 @@
 -- The brackets that are open around a value, and what they make of what is read within them.
+use Rattle.json5_text.proofs.Cursors.{took_same}
 use Rattle.std.proofs.Common.{◌≡◌, ℕ, ◌-◌, ◌<◌, List, [], ◌∷◌, ◌++◌, length, refl, ap, sym, ◌∙◌, subst, arith, length-append, ◌⊎◌, inl, inr, Option, Some, None}
 use Rattle.json5_grammar.specs.declared.error_code.ErrorCode.{ErrorCode}
 use Rattle.json5_grammar.specs.Model.Reading.{Read, Place, here, inner, got, bad, and_then, placed}
 use Rattle.json5_types.specs.declared.error.Error.{Error}
 use Rattle.json5_types.specs.Errors.{kind_of, or_position}
-use Rattle.json5_text.specs.Cursor.{Cursor, Took, Says, IsOutOfMemory}
+use Rattle.json5_text.specs.Cursor.{input_of, Cursor, Took, Says, IsOutOfMemory}
 use Rattle.json5_value.specs.Nesting.{Nested, Within, WithinInner}
 use Rattle.json5_value.specs.Offsets.{StartsAfter, PositionedAt, CountsTo}
-use Rattle.json5_value.specs.ModelSteps.{IsInside, SameText, HasPositionAt, RefusesRead, Gave}
-use Rattle.json5_value.proofs.ModelSteps.{ready_after, blames_as}
+use Rattle.json5_value.specs.ModelSteps.{SameText, HasPositionAt, RefusesRead, Gave}
+use Rattle.json5_value.proofs.ModelSteps.{blames_as}
 
 -- ---- positions
 
@@ -88,70 +89,65 @@ module _ {F D : Type 0} (start : F → ℕ) (after : F → ℕ → D → List �
     -- a value of it is reached
     pub value_reached : (f : F) (new : Cursor) (v : Read D) (s : List ℕ) → at ≡ start f → Took old s new → m ≡ and_then v (after f (room - length fs - 1)) → Within start after room w (fs ++ f ∷ []) v new
     value_reached f new v s is took reads = record {
-      ready = ready_after old new s h.ready took;
       fits = let k = h.fits in omega (arith, k, length-append fs (f ∷ []));
-      nested = subst (λ z. Nested start after z room (fs ++ f ∷ []) v w) (sym took.same)
-          (nested_push old.input room (room - length fs - 1) fs f q v w refl (subst (λ n. CountsTo old.input n q) is h.counted)
-          (nested_as old.input old.input room fs (placed q m) (placed q (and_then v (after f (room - length fs - 1)))) w refl (ap (placed q) reads) h.nested));
+      nested = subst (λ z. Nested start after z room (fs ++ f ∷ []) v w) (sym (took_same took))
+          (nested_push (input_of old) room (room - length fs - 1) fs f q v w refl (subst (λ n. CountsTo (input_of old) n q) is h.counted)
+          (nested_as (input_of old) (input_of old) room fs (placed q m) (placed q (and_then v (after f (room - length fs - 1)))) w refl (ap (placed q) reads) h.nested));
     }
 
     -- something of it was passed over
     pub moved : (new : Cursor) (n : Read D) (s : List ℕ) → Took old s new → m ≡ n → WithinInner start after room w fs at n q new
     moved new n s took reads = record {
-      ready = ready_after old new s h.ready took;
       fits = h.fits;
-      counted = subst (λ z. CountsTo z at q) (sym took.same) h.counted;
-      nested = nested_as old.input new.input room fs (placed q m) (placed q n) w (sym took.same) (ap (placed q) reads) h.nested;
+      counted = subst (λ z. CountsTo z at q) (sym (took_same took)) h.counted;
+      nested = nested_as (input_of old) (input_of new) room fs (placed q m) (placed q n) w (sym (took_same took)) (ap (placed q) reads) h.nested;
     }
 
     -- it is closed
     pub closed : (new : Cursor) (x : D) (s : List ℕ) → Took old s new → m ≡ got x new.unread → Within start after room w fs (got x new.unread) new
     closed new x s took reads = record {
-      ready = ready_after old new s h.ready took;
       fits = let k = h.fits in omega (arith, k);
-      nested = nested_as old.input new.input room fs (placed q m) (got x new.unread) w (sym took.same) (ap (placed q) reads) h.nested;
+      nested = nested_as (input_of old) (input_of new) room fs (placed q m) (got x new.unread) w (sym (took_same took)) (ap (placed q) reads) h.nested;
     }
 
     -- it is refused
-    pub inside_blamed : (input : List ℕ) (own e : Error) → RefusesRead old.input m own → PositionedAt (StartsAfter input at) own e → input ≡ old.input → RefusesRead old.input w e
+    pub inside_blamed : (input : List ℕ) (own e : Error) → RefusesRead (input_of old) m own → PositionedAt (StartsAfter input at) own e → input ≡ (input_of old) → RefusesRead (input_of old) w e
     inside_blamed input own e b k same =
-        blames_whole old.input room fs q m w e h.nested (blames_placed old.input q at m own e h.counted (subst (λ z. PositionedAt (StartsAfter z at) own e) same k) b)
+        blames_whole (input_of old) room fs q m w e h.nested (blames_placed (input_of old) q at m own e h.counted (subst (λ z. PositionedAt (StartsAfter z at) own e) same k) b)
 
   -- ---- a value
 
   -- it ended, or was read at once
   pub value_ended : (room : ℕ) (old new : Cursor) (w m : Read D) (fs : List F) (x : D) → Within start after room w fs m old → Gave m x old new → Within start after room w fs (got x new.unread) new
   value_ended room old new w m fs x h g = record {
-    ready = ready_after old new g.taken h.ready g.took;
     fits = h.fits;
-    nested = nested_as old.input new.input room fs m (got x new.unread) w (sym g.took.same) g.reads h.nested;
+    nested = nested_as (input_of old) (input_of new) room fs m (got x new.unread) w (sym (took_same g.took)) g.reads h.nested;
   }
 
   -- it was opened
-  pub value_opened : (room : ℕ) (old mid : Cursor) (w m n : Read D) (fs : List F) (at : ℕ) → Within start after room w fs m old → IsInside mid → CountsTo old.input at old.unread → SameText old mid → 0 < room - length fs → m ≡ placed old.unread n
+  pub value_opened : (room : ℕ) (old mid : Cursor) (w m n : Read D) (fs : List F) (at : ℕ) → Within start after room w fs m old → CountsTo (input_of old) at old.unread → SameText old mid → 0 < room - length fs → m ≡ placed old.unread n
       → WithinInner start after room w fs at n old.unread mid
-  value_opened room old mid w m n fs at h ready counted same left reads = record {
-    ready = ready;
+  value_opened room old mid w m n fs at h counted same left reads = record {
     fits = omega (arith, left);
     counted = subst (λ z. CountsTo z at old.unread) (sym same) counted;
-    nested = nested_as old.input mid.input room fs m (placed old.unread n) w (sym same) reads h.nested;
+    nested = nested_as (input_of old) (input_of mid) room fs m (placed old.unread n) w (sym same) reads h.nested;
   }
 
   -- it is refused with a fault that has a position
-  pub here_blamed : (room : ℕ) (old : Cursor) (w m : Read D) (fs : List F) (e : Error) → Within start after room w fs m old → (reason : Option ErrorCode) (q : List ℕ) → m ≡ bad reason (here q) → RefusesRead old.input m e → RefusesRead old.input w e
+  pub here_blamed : (room : ℕ) (old : Cursor) (w m : Read D) (fs : List F) (e : Error) → Within start after room w fs m old → (reason : Option ErrorCode) (q : List ℕ) → m ≡ bad reason (here q) → RefusesRead (input_of old) m e → RefusesRead (input_of old) w e
   here_blamed room old w m fs e h reason q is b =
-      blames_as old.input old.input m w e refl (λ c p k. nested_fault old.input room fs w reason q (nested_as old.input old.input room fs m (bad reason (here q)) w refl is h.nested) ∙ sym is ∙ k) b
+      blames_as (input_of old) (input_of old) m w e refl (λ c p k. nested_fault (input_of old) room fs w reason q (nested_as (input_of old) (input_of old) room fs m (bad reason (here q)) w refl is h.nested) ∙ sym is ∙ k) b
 
   -- ---- the whole
 
   -- nothing is open at the start
-  pub starts : (room : ℕ) (s : Cursor) (m : Read D) → IsInside s → Within start after room m [] m s
-  starts room s m ready = record { ready = ready; fits = omega arith; nested = refl }
+  pub starts : (room : ℕ) (s : Cursor) (m : Read D) → Within start after room m [] m s
+  starts room s m = record { fits = omega arith; nested = refl }
 
   -- a value ended in the innermost
   pub ends_inside : (room : ℕ) (now : Cursor) (w : Read D) (gs fs : List F) (f : F) (x : D) → gs ≡ fs ++ f ∷ [] → Within start after room w gs (got x now.unread) now
       → (q : List ℕ) × WithinInner start after room w fs (start f) (after f (room - length fs - 1) x now.unread) q now
   ends_inside room now w gs fs f x is h =
-      let (q, counted, nested) = nested_pop now.input room (room - length fs - 1) fs f (got x now.unread) w refl (subst (λ z. Nested start after now.input room z (got x now.unread) w) is h.nested) in
+      let (q, counted, nested) = nested_pop (input_of now) room (room - length fs - 1) fs f (got x now.unread) w refl (subst (λ z. Nested start after (input_of now) room z (got x now.unread) w) is h.nested) in
       let k = h.fits in
-      (q, record { ready = h.ready; fits = omega (arith, k, ap length is, length-append fs (f ∷ [])); counted = counted; nested = nested })
+      (q, record { fits = omega (arith, k, ap length is, length-append fs (f ∷ [])); counted = counted; nested = nested })

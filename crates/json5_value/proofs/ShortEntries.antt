@@ -1,4 +1,5 @@
 -- What is taken at once takes what reading on lists takes.
+use Rattle.json5_text.proofs.Cursors.{took_of, took_same}
 use Rattle.std.proofs.Common.{◌≡◌, ℕ, Bool, true, false, List, [], ◌∷◌, ◌++◌, refl, ap, sym, ◌∙◌, subst, append_assoc, arith, inl, inr, Option, Some, None, String}
 use Rattle.std.specs.Prelude.{◌==◌, Result, Ok, is_some}
 use Rattle.std.specs.declared.alloc.Global.{Global}
@@ -103,7 +104,7 @@ colon_read : (x r : List ℕ) → IsSign 58 x r → colon_after x ≡ skip betwe
 colon_read x r s = ap (λ m. and_then m (λ u y. and_then (colon_at y) (λ v z. skip between z))) (sign_read 58 x r colon_solid s)
 
 pub colon_took : (old new : Cursor) → (k : TakesShortSign 58 old new true) → Took old (k.0.front ++ 58 ∷ []) new
-colon_took old new k = record { split = k.0.split ∙ sym (append_assoc k.0.front (58 ∷ []) new.unread); same = k.1 }
+colon_took old new k = took_of (k.0.split ∙ sym (append_assoc k.0.front (58 ∷ []) new.unread)) (k.1)
 
 -- a step where no comma is due passes over the blanks
 blanks_read : (b : Bool) (x y : List ℕ) → IsStep 125 false b x y → (skip between x ≡ got tt y) × Taken x y
@@ -112,8 +113,8 @@ blanks_read false x y (g, n) = (ap (skip between) g.split ∙ gap_read g.is_gap 
 
 -- the blanks after it
 pub blanks_stepped : (old new : Cursor) (step : ShortStep) → (step ≡ steps.Other → ⊥) → TakesShortStep 125 false old new step → Steps (skip between old.unread) old new (Ok tt)
-blanks_stepped old new steps.Entry other s = let (reads, (taken, split)) = blanks_read false old.unread new.unread s.step in took_step old new (skip between old.unread) tt taken reads (record { split = split; same = s.same })
-blanks_stepped old new steps.Closing other s = let (reads, (taken, split)) = blanks_read true old.unread new.unread s.step in took_step old new (skip between old.unread) tt taken reads (record { split = split; same = s.same })
+blanks_stepped old new steps.Entry other s = let (reads, (taken, split)) = blanks_read false old.unread new.unread s.step in took_step old new (skip between old.unread) tt taken reads (took_of split s.same)
+blanks_stepped old new steps.Closing other s = let (reads, (taken, split)) = blanks_read true old.unread new.unread s.step in took_step old new (skip between old.unread) tt taken reads (took_of split s.same)
 blanks_stepped old new steps.Other other s = absurd (other refl)
 
 pub colon_stepped : (old mid new : Cursor) (result : Result (Unit {0}) Error) → TakesShortSign 58 old mid true → Steps (skip between mid.unread) mid new result → Steps (colon_after old.unread) old new result
@@ -128,14 +129,14 @@ key_spelled x u r solid k = (one_gap k.front (k.spelling ++ r) [] x (blanks.Gap.
 pub key_stepped : (old new : Cursor) (span : Span) → Solid old.unread → TakesShortKey old new (Some span) → Steps (forget (key old.unread)) old new (Ok tt)
 key_stepped old new span solid k =
     let split = key_spelled old.unread k.spelled new.unread solid k.read in
-    took_step old new (forget (key old.unread)) tt k.read.spelling (ap (λ z. forget (key z)) split ∙ ap forget (key_complete k.read.key)) (record { split = split; same = k.same })
+    took_step old new (forget (key old.unread)) tt k.read.spelling (ap (λ z. forget (key z)) split ∙ ap forget (key_complete k.read.key)) (took_of split k.same)
 
 -- ---- entries
 
 pub entry_gave : (k : OwnKind) (b : BracketPair) (comma_due : Bool) (old new : Cursor) → b ≡ brackets_of k → Stepped b.closing comma_due false old new → Gave (next_entry (bracket_of k) comma_due old.unread) true old new
 entry_gave k b comma_due old new e s =
     let (reads, (taken, split)) = goes_read (bracket_of k) comma_due old.unread new.unread s.step.0 (subst (λ c. NotBegun (λ d. d == c) new.unread) (closing_is k b e) s.step.1) in
-    record { reads = reads; taken = taken; took = record { split = split; same = s.same } }
+    record { reads = reads; taken = taken; took = took_of split s.same }
 
 -- the sign is next, so it is taken
 pub sign_eaten : (c : ℕ) (r : List ℕ) (mid new : Cursor) (b : Bool) → mid.unread ≡ c ∷ r → (b ≡ true → Took mid (c ∷ []) new) → (b ≡ false → (new ≡ mid) × NotBegun (λ d. d == c) mid.unread) → Took mid (c ∷ []) new
@@ -149,7 +150,7 @@ closing_gave k b comma_due old mid new ate e s taken kept =
     let took = sign_eaten b.closing r mid new ate at taken kept in
     let same : r ≡ new.unread = cc (sym at ∙ took.split) in
     let (reads, (text, split)) = ends_read (bracket_of k) comma_due old.unread new.unread (subst (λ c. IsEnd c comma_due old.unread new.unread) (closing_is k b e) (subst (IsEnd b.closing comma_due old.unread) same end)) in
-    record { reads = reads; taken = text; took = record { split = split; same = took.same ∙ s.same } }
+    record { reads = reads; taken = text; took = took_of split ((took_same took) ∙ s.same) }
 
 -- ---- strings
 
@@ -166,7 +167,7 @@ string_passed old new span at k room =
     record {
       reads = ap (λ z. forget (read room z)) split ∙ ap forget (read_complete k.read.value new.unread k.read.stops room (omega arith));
       taken = k.read.phrase;
-      took = record { split = split; same = k.same };
+      took = took_of split k.same;
     }
 
 pub string_short : (old new : Cursor) (o : Option Span) (b : Bool) → AtKind kinds.String old → TakesShortString old new o → b ≡ is_some o → PassesShort old new b
@@ -177,7 +178,7 @@ string_short old new (Some span) b at k e = subst (PassesShort old new) (sym e) 
 
 pub literal_short : (old new : Cursor) (l : Literal) (b : Bool) → AtKind (kinds.Literal l) old → TakesShortWord (word_of l) old new b → PassesShort old new b
 literal_short old new l false at same = same
-literal_short old new l true at took = λ room. (literal_value room old new at.char at.first (kind_at at.char) refl l (Ok tt) at.ready at.is (record { taken = took; refused = tt; kept = tt })).given
+literal_short old new l true at took = λ room. (literal_value room old new at.char at.first (kind_at at.char) refl l (Ok tt) at.is (record { taken = took; refused = tt; kept = tt })).given
 
 -- ---- numbers
 
@@ -186,12 +187,12 @@ number_took : (old new : Cursor) (n : Number) → AtKind kinds.Number old → (k
 number_took old new n at k =
     let (r, x) = some_next old.unread at.char at.first in
     let (none, phrase) = gap_before [] k.gap (k.literal ++ new.unread) at.char r blanks.Blanks.empty (begins_value_solid at.char (number_begins at.char (tests_of at.char (kind_at at.char) kinds.Number refl at.is))) k.is_gap (value_solid new.unread (val_head (is_number k.is_number))) (sym x ∙ k.split) in
-    record { split = x ∙ sym phrase; same = k.same }
+    took_of (x ∙ sym phrase) k.same
 
 pub number_short : (old new : Cursor) (b : Bool) → AtKind kinds.Number old → TakesShortNumber old new b → PassesShort old new b
 number_short old new false at same = same
 number_short old new true at (n, k) = λ room.
-    (number_value room old new at.char at.first (kind_at at.char) refl (Ok (whole_in n)) at.ready at.is (record {
+    (number_value room old new at.char at.first (kind_at at.char) refl (Ok (whole_in n)) at.is (record {
       taken = (k.literal, n, number_took old new n at k, k.is_number, k.stops, refl);
       refused = tt;
       kept = tt;
@@ -205,7 +206,7 @@ str_of (is_text k) = k
 
 pub string_kept : (room : ℕ) (old new : Cursor) (t : String Global) → AtKind kinds.String old → all_scalars old.unread ≡ true → TookShortOwned old new t → Keeps IsOfTree (tree_at room old) old new (Ok (value.String t))
 string_kept room old new t at scalars k =
-    text_taken room old new t scalars (k.read.phrase, k.spelled, k.escape_free, record { split = string_split old new at k.read; same = k.same }, str_of k.read.value, k.bytes)
+    text_taken room old new t scalars (k.read.phrase, k.spelled, k.escape_free, took_of (string_split old new at k.read) k.same, str_of k.read.value, k.bytes)
 
 -- ---- numbers, which are kept
 

@@ -1,4 +1,5 @@
 -- How a value that is passed over begins: as a scalar, or with an opening bracket.
+use Rattle.json5_text.proofs.Cursors.{took_same}
 use Rattle.std.proofs.Common.{◌≡◌, ◌≢◌, ℕ, ◌<◌, Bool, true, false, cond, ◌||◌, List, [], ◌∷◌, length, refl, ap, sym, ◌∙◌, subst, arith, length-append, Option, Some, None}
 use Rattle.std.specs.Prelude.{◌==◌, ℤ, slice_get, Result, Ok, Err}
 use Rattle.json5_grammar.specs.declared.error_code.ErrorCode.TheVariants as codes
@@ -21,7 +22,7 @@ use Rattle.std.proofs.lemmas.Bool.{or_parts, both_ways}
 use Rattle.std.proofs.lemmas.List.{append-nil}
 use Rattle.json5_types.specs.declared.error.Error.{Error}
 use Rattle.json5_types.specs.Errors.{code, kind_of, error_position}
-use Rattle.json5_text.specs.Cursor.{IsPositioned}
+use Rattle.json5_text.specs.Cursor.{input_of, IsPositioned}
 use Rattle.json5_text.specs.TokenCalls.{TakesWord, PassesString, PassesNumber}
 use Rattle.json5_text.specs.Cursor.{Cursor, Took, offset_of}
 use Rattle.json5_value.specs.declared.kinds.Literal.{Literal}
@@ -34,8 +35,8 @@ use Rattle.json5_value.specs.Kinds.{kind_at, word_of, ends_of, differs_of}
 use Rattle.json5_value.specs.declared.brackets.BracketKind.{BracketKind as OwnKind}
 use Rattle.json5_value.specs.Opening.{AtScalar, OpenedAt, OpensBracket, OpensKind}
 use Rattle.json5_value.specs.SkipSteps.{SkipsOrOpens}
-use Rattle.json5_value.specs.ModelSteps.{IsInside, SameText, RefusesRead, Gave, Steps, value_at}
-use Rattle.json5_value.proofs.ModelSteps.{same_step, refused_step, forget_got, blames_made, none_next, some_next, counted_before}
+use Rattle.json5_value.specs.ModelSteps.{SameText, RefusesRead, Gave, Steps, value_at}
+use Rattle.json5_value.proofs.ModelSteps.{same_step, refused_step, forget_got, blames_made, none_next, some_next}
 use Rattle.json5_value.proofs.TokenSteps.{string_step, number_step, word_step, without}
 
 -- ---- what a character begins
@@ -89,43 +90,43 @@ literal_differs literal.True e = absurd (cc)
 literal_differs literal.False e = absurd (cc)
 
 module _ (room : ℕ) (old new : Cursor) (c : ℕ) (first : slice_get old.unread 0 ≡ Some c) (found : ValueKind) (at : found ≡ kind_at c) where
-  pub literal_value : (l : Literal) (result : Result (Unit {0}) Error) → IsInside old → found ≡ kind.Literal l → TakesWord (word_of l) (ends_of l) (differs_of l) old new result → Steps (value_at room old) old new result
-  literal_value l result ready is k =
+  pub literal_value : (l : Literal) (result : Result (Unit {0}) Error) → found ≡ kind.Literal l → TakesWord (word_of l) (ends_of l) (differs_of l) old new result → Steps (value_at room old) old new result
+  literal_value l result is k =
       let (r, x) = some_next old.unread c first in
       let whole : old.unread ≡ letter_of l ∷ r = x ∙ ap (λ z. z ∷ r) (literal_first l c (tests_of c found (kind.Literal l) at is)) in
       same_step old new (value_at room old) (word_at (ends_of l) (differs_of l) tt (word_of l) old.unread) result
       (ap (λ z. forget (read room z)) whole ∙ literal_read l room r ∙ ap (word_at (ends_of l) (differs_of l) tt (word_of l)) (sym whole))
-      (word_step (word_of l) (ends_of l) (differs_of l) old new result (literal_ends l) (literal_differs l) ready k)
+      (word_step (word_of l) (ends_of l) (differs_of l) old new result (literal_ends l) (literal_differs l) k)
 
-  pub string_value : (result : Result (Unit {0}) Error) → IsInside old → found ≡ kind.String → PassesString old new result → Steps (value_at room old) old new result
-  string_value result ready is k =
+  pub string_value : (result : Result (Unit {0}) Error) → found ≡ kind.String → PassesString old new result → Steps (value_at room old) old new result
+  string_value result is k =
       let (r, x) = some_next old.unread c first in
       let quote : is_quote c ≡ true = tests_of c found kind.String at is in
-      same_step old new (value_at room old) (forget (string old.unread)) result (ap (λ z. forget (read room z)) x ∙ read_quote room c r quote ∙ ap (λ z. forget (string z)) (sym x)) (string_step old new result c r ready x quote k)
+      same_step old new (value_at room old) (forget (string old.unread)) result (ap (λ z. forget (read room z)) x ∙ read_quote room c r quote ∙ ap (λ z. forget (string z)) (sym x)) (string_step old new result c r x quote k)
 
-  pub number_value : (result : Result (Option ℤ) Error) → IsInside old → found ≡ kind.Number → PassesNumber old new result → Steps (value_at room old) old new (without result)
-  number_value result ready is k =
+  pub number_value : (result : Result (Option ℤ) Error) → found ≡ kind.Number → PassesNumber old new result → Steps (value_at room old) old new (without result)
+  number_value result is k =
       let (r, x) = some_next old.unread c first in
       let begins : (is_sign c || begins_number c) ≡ true = tests_of c found kind.Number at is in
-      same_step old new (value_at room old) (forget (reading.number old.unread)) (without result) (ap (λ z. forget (read room z)) x ∙ read_numeral room c r begins ∙ ap (λ z. forget (reading.number z)) (sym x)) (number_step old new result c r ready x begins k)
+      same_step old new (value_at room old) (forget (reading.number old.unread)) (without result) (ap (λ z. forget (read room z)) x ∙ read_numeral room c r begins ∙ ap (λ z. forget (reading.number z)) (sym x)) (number_step old new result c r x begins k)
 
   -- a character that begins no value
-  pub other_value : (e : Error) → IsInside old → found ≡ kind.Other → ((c == 91) || (c == 123)) ≡ false → kind_of e ≡ code codes.ExpectedValue → IsPositioned old (Some []) e → new ≡ old → Steps (value_at room old) old new (Err e)
-  other_value e ready is none says placed up =
+  pub other_value : (e : Error) → found ≡ kind.Other → ((c == 91) || (c == 123)) ≡ false → kind_of e ≡ code codes.ExpectedValue → IsPositioned old (Some []) e → new ≡ old → Steps (value_at room old) old new (Err e)
+  other_value e is none says placed up =
       let (r, x) = some_next old.unread c first in
       let t = tests_of c found kind.Other at is in
       let b = or_parts (c == 91) (c == 123) none in
       refused_step old new (value_at room old) e
-      (blames_made old.input (value_at room old) e codes.ExpectedValue (here old.unread)
+      (blames_made (input_of old) (value_at room old) e codes.ExpectedValue (here old.unread)
       (ap (λ z. forget (read room z)) x ∙ read_nothing room c r t.0 t.1 t.2 t.3 t.4 b.0 b.1 ∙ ap (λ z. bad (Some codes.ExpectedValue) (here z)) (sym x))
-      (λ e. absurd (cc)) says (ready.before, ready.inside, placed ready.before ready.inside ∙ ap (λ z. Some (position_after z)) (append-nil ready.before)))
-      (ap (λ (s : Cursor). s.input) up)
+      (λ e. absurd (cc)) says (old.before, refl, placed ∙ ap (λ z. Some (position_after z)) (append-nil old.before)))
+      (ap (λ (s : Cursor). (input_of s)) up)
 
 -- nothing is left
 pub value_missing : (room : ℕ) (old : Cursor) (next : Option ℕ) (e : Error) → next ≡ slice_get old.unread 0 → next ≡ None → kind_of e ≡ code codes.EofParsingValue → error_position e ≡ None → SkipsOrOpens room old old (Err e)
 value_missing room old next e peeked is kind place = record {
   begun = tt;
-  refused = blames_made old.input (value_at room old) e codes.EofParsingValue inner (ap (λ z. forget (read room z)) (none_next old.unread (sym peeked ∙ is)) ∙ read_missing room) (λ e. absurd (cc)) kind place;
+  refused = blames_made (input_of old) (value_at room old) e codes.EofParsingValue inner (ap (λ z. forget (read room z)) (none_next old.unread (sym peeked ∙ is)) ∙ read_missing room) (λ e. absurd (cc)) kind place;
   same_text = refl;
   shorter = tt;
 }
@@ -141,38 +142,38 @@ value_shorter d x r u e = let (t, is) = forget_got (read d x) u r e in shorter t
 pub scalar_passed : (room : ℕ) (old new : Cursor) (u : Unit {0}) → Gave (value_at room old) u old new → SkipsOrOpens room old new (Ok None)
 scalar_passed room old new u g = record { begun = g; refused = tt; same_text = tt; shorter = value_shorter room old.unread new.unread u g.reads }
 
-pub scalar_refused : (room : ℕ) (old new : Cursor) (e : Error) → RefusesRead old.input (value_at room old) e → SameText old new → SkipsOrOpens room old new (Err e)
+pub scalar_refused : (room : ℕ) (old new : Cursor) (e : Error) → RefusesRead (input_of old) (value_at room old) e → SameText old new → SkipsOrOpens room old new (Err e)
 scalar_refused room old new e b g = record { begun = tt; refused = b; same_text = g; shorter = tt }
 
 -- ---- brackets
 
 -- one bracket too many
-pub bracket_too_deep : (room : ℕ) (old : Cursor) (k : BracketKind) (e : Error) → IsInside old → slice_get old.unread 0 ≡ Some (opening k) → room ≡ 0 → kind_of e ≡ code codes.TooDeep → IsPositioned old (Some []) e → OpensBracket room old old (Err e)
-bracket_too_deep room old k e ready first none kind placed =
+pub bracket_too_deep : (room : ℕ) (old : Cursor) (k : BracketKind) (e : Error) → slice_get old.unread 0 ≡ Some (opening k) → room ≡ 0 → kind_of e ≡ code codes.TooDeep → IsPositioned old (Some []) e → OpensBracket room old old (Err e)
+bracket_too_deep room old k e first none kind placed =
     let (r, x) = some_next old.unread (opening k) first in
     record {
       opened = tt;
-      refused = blames_made old.input (value_at room old) e codes.TooDeep (here old.unread)
+      refused = blames_made (input_of old) (value_at room old) e codes.TooDeep (here old.unread)
           (ap (λ z. forget (read room z)) x ∙ ap (λ d. forget (read d (opening k ∷ r))) none ∙ read_too_deep k r ∙ ap (λ z. bad (Some codes.TooDeep) (here z)) (sym x))
           (λ e. absurd (cc)) kind
-          (ready.before, ready.inside, placed ready.before ready.inside ∙ ap (λ z. Some (position_after z)) (append-nil ready.before));
+          (old.before, refl, placed ∙ ap (λ z. Some (position_after z)) (append-nil old.before));
       same_text = refl;
       full = none;
     }
 
 -- the bracket is taken
-pub bracket_opened : (room : ℕ) (old new : Cursor) (bracket : OpenBracket) (c : ℕ) (b : Bool) → IsInside old → slice_get old.unread 0 ≡ Some (opening (bracket_of bracket.kind)) → 0 < room
+pub bracket_opened : (room : ℕ) (old new : Cursor) (bracket : OpenBracket) (c : ℕ) (b : Bool) → slice_get old.unread 0 ≡ Some (opening (bracket_of bracket.kind)) → 0 < room
     → bracket.start ≡ offset_of old → c ≡ opening (bracket_of bracket.kind)
     → (b ≡ true → Took old (c ∷ []) new) → (b ≡ false → (new ≡ old) × NotBegun (λ d. d == c) old.unread) → OpensBracket room old new (Ok bracket)
-bracket_opened room old new bracket c true ready first left counted is taken kept =
+bracket_opened room old new bracket c true first left counted is taken kept =
     let took = taken refl in
     record {
-      opened = record { sign = took.split ∙ ap (λ z. z ∷ new.unread) is; counted = (ready.before, ready.inside, counted_before old ready.before bracket.start counted ready.inside); room_left = left; same_text = took.same };
+      opened = record { sign = took.split ∙ ap (λ z. z ∷ new.unread) is; counted = (old.before, refl, counted); room_left = left; same_text = took_same took };
       refused = tt;
       same_text = tt;
       full = tt;
     }
-bracket_opened room old new bracket c false ready first left counted is taken kept =
+bracket_opened room old new bracket c false first left counted is taken kept =
     let (r, x) = some_next old.unread (opening (bracket_of bracket.kind)) first in
     absurd (not_kept r (x ∙ ap (λ z. z ∷ r) (sym is)) (kept refl).1)
   where
@@ -184,5 +185,5 @@ pub opens : (room : ℕ) (old new : Cursor) (bracket : OpenBracket) → OpenedAt
 opens room old new bracket o = record { begun = o; refused = tt; same_text = tt; shorter = let sign = o.sign in omega (arith, ap length sign) }
 
 -- the character opens no bracket
-pub at_scalar : (s : Cursor) (c : ℕ) (o : Option OwnKind) → IsInside s → slice_get s.unread 0 ≡ Some c → o ≡ None → OpensKind c o → AtScalar c s
-at_scalar s c o ready first none opens = record { ready = ready; first = first; other = λ e. subst (OpensKind c) none opens }
+pub at_scalar : (s : Cursor) (c : ℕ) (o : Option OwnKind) → slice_get s.unread 0 ≡ Some c → o ≡ None → OpensKind c o → AtScalar c s
+at_scalar s c o first none opens = record { first = first; other = λ e. subst (OpensKind c) none opens }

@@ -1,4 +1,5 @@
 -- What is left of an object after the members that were taken.
+use Rattle.json5_text.proofs.Cursors.{took_same}
 use Rattle.std.proofs.Common.{◌≡◌, ℕ, ◌<◌, Bool, true, false, List, [], ◌∷◌, ◌++◌, length, refl, ap, sym, ◌∙◌, subst, arith, length-append, inl, inr, Some, None, String, string_bytes}
 use Rattle.std.specs.Prelude.{Ok, Err}
 use Rattle.std.specs.declared.alloc.Global.{Global}
@@ -11,7 +12,7 @@ use Rattle.json5_types.specs.declared.error.Error.{Error}
 use Rattle.json5_types.specs.declared.value.Value.{Value}
 use Rattle.json5_types.specs.Errors.{LacksMemory}
 use Rattle.json5_text.specs.declared.text_token.TextToken.{TextToken}
-use Rattle.json5_text.specs.Cursor.{Cursor, Took, IsOutOfMemory}
+use Rattle.json5_text.specs.Cursor.{input_of, Cursor, Took, IsOutOfMemory}
 use Rattle.json5_text.specs.TextTokens.{Spells}
 use Rattle.json5_types.specs.ValueMeanings.{Datum, object, field, fields_view, value_of}
 use Rattle.json5_value.specs.declared.brackets.BracketKind.{BracketKind}
@@ -20,34 +21,32 @@ use Rattle.json5_value.specs.BuildSteps.{Begun, BeginsValue, members_before, obj
 use Rattle.json5_value.specs.Entries.{next_entry}
 use Rattle.json5_value.specs.OwnedReads.{BlamesEach, BlamesOrMemory, OwnsKey, IsFoundKey, datum_at, next_key}
 use Rattle.json5_value.specs.TakenEntries.{LeavesLess, TakesMembers, member_left}
-use Rattle.json5_value.specs.ModelSteps.{IsInside, SameText, Gave}
+use Rattle.json5_value.specs.ModelSteps.{SameText, Gave}
 use Rattle.json5_value.proofs.BuildKeys.{brace_closed, name_taken, key_shorter}
 use Rattle.json5_value.proofs.BuildRests.{object_turn, object_step, no_more_members, object_grown}
 use Rattle.json5_value.proofs.TakenElements.{Passes, datum_shorter}
-use Rattle.json5_value.proofs.ModelSteps.{blames_as, ready_after, took_both}
+use Rattle.json5_value.proofs.ModelSteps.{blames_as, took_both}
 
 -- the next member's key was taken, and its value is in front
 pub record KeyReached (comma_due : Bool) (k : TextToken) (now mid : Cursor) : Type 0 where
   pub found : List ℕ × Bool
-  pub is_key : IsFoundKey mid.input k found
+  pub is_key : IsFoundKey (input_of mid) k found
   pub given : Gave (next_key comma_due now.unread) (Some found) now mid
 
-pub reached_ready : (comma_due : Bool) (k : TextToken) (now mid : Cursor) → IsInside now → KeyReached comma_due k now mid → IsInside mid
-reached_ready comma_due k now mid ready r = ready_after now mid r.given.taken ready r.given.took
 
 pub key_reached : (comma_due goes : Bool) (k : TextToken) (now mid last new : Cursor) (u : Unit {0}) → goes ≡ true → Gave (next_entry of_object comma_due now.unread) goes now mid
-    → (a : List ℕ × Bool) × IsFoundKey mid.input k a × Gave (key mid.unread) a mid last → Gave (colon_after last.unread) u last new → KeyReached comma_due k now new
+    → (a : List ℕ × Bool) × IsFoundKey (input_of mid) k a × Gave (key mid.unread) a mid last → Gave (colon_after last.unread) u last new → KeyReached comma_due k now new
 key_reached comma_due goes k now mid last new u is g (a, is_found, taken) c = record {
   found = a;
-  is_key = subst (λ i. IsFoundKey i k a) (sym (c.took.same ∙ taken.took.same)) is_found;
+  is_key = subst (λ i. IsFoundKey i k a) (sym ((took_same c.took) ∙ (took_same taken.took))) is_found;
   given = name_taken comma_due now goes mid is g last a taken new u c;
 }
 
 -- its text was copied, or memory ran out
-text_of : (comma_due : Bool) (k : TextToken) (now mid new : Cursor) (text : String Global) (r : KeyReached comma_due k now mid) → SameText mid new → OwnsKey new.input k (Ok text) → chars (string_bytes text) ≡ r.found.0
+text_of : (comma_due : Bool) (k : TextToken) (now mid new : Cursor) (text : String Global) (r : KeyReached comma_due k now mid) → SameText mid new → OwnsKey (input_of new) k (Ok text) → chars (string_bytes text) ≡ r.found.0
 text_of comma_due k now mid new text r same owns = ap chars (owns r.found.0 r.found.1 (subst (λ i. Spells i r.found.0 r.found.1 k) (sym same) r.is_key.0)) ∙ r.is_key.1
 
-pub text_lacks : (comma_due : Bool) (k : TextToken) (now mid new : Cursor) (e : Error) → KeyReached comma_due k now mid → SameText mid new → OwnsKey new.input k (Err e) → LacksMemory e
+pub text_lacks : (comma_due : Bool) (k : TextToken) (now mid new : Cursor) (e : Error) → KeyReached comma_due k now mid → SameText mid new → OwnsKey (input_of new) k (Err e) → LacksMemory e
 text_lacks comma_due k now mid new e r same owns = owns r.found.0 r.found.1 (subst (λ i. Spells i r.found.0 r.found.1 k) (sym same) r.is_key.0)
 
 module _ (b : Bool) (before : List (String Global × Value)) (start : Cursor) (fs : List (String Global × Value)) (comma_due : Bool) (now : Cursor)
@@ -68,28 +67,28 @@ module _ (b : Bool) (before : List (String Global × Value)) (start : Cursor) (f
       let l = leaves_less (λ d. got (object (fields_view fs)) mid.unread) mid c.taken
       (λ d. turned d ∙ ap (λ m. and_then m (object_turn (members_before fs) d)) c.reads ∙ ap (λ xs. got (object xs) mid.unread) (no_more_members fs)) c.took
       (λ is. key_shorter comma_due None now.unread mid.unread c.reads is) in
-      record { goes = l; refused = tt; same_text = l.0.took.same }
+      record { goes = l; refused = tt; same_text = took_same l.0.took }
 
   -- what comes before the value is refused
-  pub name_refused : (new : Cursor) (e : Error) → BlamesOrMemory now.input (next_key comma_due now.unread) e → SameText now new → TakesMembers b before fs start new (Err e)
-  name_refused new e blames same = record { goes = tt; refused = by_cause blames; same_text = same ∙ p.leaves.took.same }
+  pub name_refused : (new : Cursor) (e : Error) → BlamesOrMemory (input_of now) (next_key comma_due now.unread) e → SameText now new → TakesMembers b before fs start new (Err e)
+  name_refused new e blames same = record { goes = tt; refused = by_cause blames; same_text = same ∙ (took_same p.leaves.took) }
     where
-      by_cause : BlamesOrMemory now.input (next_key comma_due now.unread) e → BlamesEach start.input (object_at before b start) e
+      by_cause : BlamesOrMemory (input_of now) (next_key comma_due now.unread) e → BlamesEach (input_of start) (object_at before b start) e
       by_cause (inl memory) = inl memory
-      by_cause (inr r) = inr (λ d. blames_as now.input start.input (next_key comma_due now.unread) (object_at before b start d) e p.leaves.took.same (λ c q is. turned d ∙ ap (λ m. and_then m (object_turn (members_before fs) d)) is) r)
+      by_cause (inr r) = inr (λ d. blames_as (input_of now) (input_of start) (next_key comma_due now.unread) (object_at before b start d) e (took_same p.leaves.took) (λ c q is. turned d ∙ ap (λ m. and_then m (object_turn (members_before fs) d)) is) r)
 
   module _ (k : TextToken) (mid new : Cursor) (r : KeyReached comma_due k now mid) where
     -- the value is refused
     pub value_refused : (e : Error) → BeginsValue mid new (Err e) → TakesMembers b before fs start new (Err e)
-    value_refused e v = record { goes = tt; refused = by_cause v.refused; same_text = v.same_text ∙ r.given.took.same ∙ p.leaves.took.same }
+    value_refused e v = record { goes = tt; refused = by_cause v.refused; same_text = v.same_text ∙ (took_same r.given.took) ∙ (took_same p.leaves.took) }
       where
-        by_cause : BlamesEach mid.input (λ d. datum_at d mid) e → BlamesEach start.input (object_at before b start) e
+        by_cause : BlamesEach (input_of mid) (λ d. datum_at d mid) e → BlamesEach (input_of start) (object_at before b start) e
         by_cause (inl memory) = inl memory
-        by_cause (inr f) = inr (λ d. blames_as mid.input start.input (datum_at d mid) (object_at before b start d) e (r.given.took.same ∙ p.leaves.took.same)
+        by_cause (inr f) = inr (λ d. blames_as (input_of mid) (input_of start) (datum_at d mid) (object_at before b start d) e ((took_same r.given.took) ∙ (took_same p.leaves.took))
             (λ c q is. turned d ∙ ap (λ m. and_then m (object_turn (members_before fs) d)) r.given.reads ∙ ap (λ m. and_then m (λ x z. object_with (λ xs. members_before fs (field r.found.0 x xs)) (pairs_after d z))) is) (f d))
 
     pub memory_lost : (after : List (String Global × Value)) (e : Error) → IsOutOfMemory e → SameText mid new → TakesMembers b before after start new (Err e)
-    memory_lost after e memory same = record { goes = tt; refused = inl memory; same_text = same ∙ r.given.took.same ∙ p.leaves.took.same }
+    memory_lost after e memory same = record { goes = tt; refused = inl memory; same_text = same ∙ (took_same r.given.took) ∙ (took_same p.leaves.took) }
 
     value_comes : LeavesLess b (object_at before b start) (member_left fs r.found.0 mid) start mid
     value_comes =
@@ -97,22 +96,22 @@ module _ (b : Bool) (before : List (String Global × Value)) (start : Cursor) (f
         (λ is. key_shorter comma_due (Some r.found) now.unread mid.unread r.given.reads is)
 
     -- a value in brackets is in front
-    pub bracket_left : (text : String Global) (kind : BracketKind) → OwnsKey new.input k (Ok text) → Begun mid new (next.Opens kind) → TakesMembers b before fs start new (Ok (Some (text, kind)))
+    pub bracket_left : (text : String Global) (kind : BracketKind) → OwnsKey (input_of new) k (Ok text) → Begun mid new (next.Opens kind) → TakesMembers b before fs start new (Ok (Some (text, kind)))
     bracket_left text kind owns (same, at) =
         let l = value_comes in
-        let is = text_of comma_due k now mid new text r (ap (λ (s : Cursor). s.input) same) owns in
+        let is = text_of comma_due k now mid new text r (ap (λ (s : Cursor). (input_of s)) same) owns in
         subst (λ (s : Cursor). TakesMembers b before fs start s (Ok (Some (text, kind)))) (sym same) (record {
           goes = ((record { reads = λ d. l.0.reads d ∙ ap (λ u. member_left fs u mid d) (sym is); taken = l.0.taken; took = l.0.took }, l.1), at);
           refused = tt;
-          same_text = l.0.took.same;
+          same_text = took_same l.0.took;
         })
 
     -- a member was taken
     module _ (v : Value) (value : Begun mid new (next.Ended v)) where
-      pub member_taken : (text : String Global) (gs : List (String Global × Value)) → OwnsKey new.input k (Ok text) → gs ≡ fs ++ (text, v) ∷ [] → Passes (object_at before b start) (object_at gs true new) b true start new
+      pub member_taken : (text : String Global) (gs : List (String Global × Value)) → OwnsKey (input_of new) k (Ok text) → gs ≡ fs ++ (text, v) ∷ [] → Passes (object_at before b start) (object_at gs true new) b true start new
       member_taken text gs owns grown =
           let l = value_comes in
-          let is = text_of comma_due k now mid new text r (value 0).took.same owns in
+          let is = text_of comma_due k now mid new text r (took_same (value 0).took) owns in
           record {
             leaves = record {
               reads = λ d. l.0.reads d
@@ -123,7 +122,6 @@ module _ (b : Bool) (before : List (String Global × Value)) (start : Cursor) (f
               took = took_both start mid new l.0.taken (value 0).taken l.0.took (value 0).took;
             };
             due = λ e. refl;
-            ready = ready_after mid new (value 0).taken (ready_after now mid r.given.taken p.ready r.given.took) (value 0).took;
           }
 
       pub members_down : length new.unread < length now.unread

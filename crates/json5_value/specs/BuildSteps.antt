@@ -8,7 +8,7 @@ use Rattle.json5_grammar.specs.Model.ReadSteps.{trees_of, trees_after, read_pair
 use Rattle.json5_grammar.specs.Language.Trees.{Trees, Members}
 use Rattle.json5_types.specs.declared.error.Error.{Error}
 use Rattle.json5_types.specs.declared.value.Value.{Value}
-use Rattle.json5_text.specs.Cursor.{Cursor, IsOutOfMemory}
+use Rattle.json5_text.specs.Cursor.{input_of, Cursor, IsOutOfMemory}
 use Rattle.json5_types.specs.ValueMeanings.{Datum, Items, Fields, array, object, item, field, value_of}
 use Rattle.json5_value.specs.declared.brackets.BracketKind.{BracketKind}
 use Rattle.json5_value.specs.declared.unfinished.Next.{Next}
@@ -99,14 +99,14 @@ Begun old new (next.Opens k) = (new ≡ old) × AtBracket k old
 
 pub record BeginsValue (old new : Cursor) (result : Result Next Error) : Type 0 where
   pub begun : IfOk result (Begun old new)
-  pub refused : IfErr result (BlamesEach old.input (λ room. datum_at room old))
+  pub refused : IfErr result (BlamesEach (input_of old) (λ room. datum_at room old))
   pub same_text : SameText old new
 
 -- a turn from the bracket in front on succeeds; or what is refused makes a fault of the whole, or memory ran out
 pub record TurnsBuilding (room : ℕ) (k : BracketKind) (fs after : List Unfinished) (old new : Cursor) (result : Result Next Error) : Type 0 where
   pub goes : IfOk result (λ n. (w : Read Datum) → Building room w fs (next.Opens k) old → Building room w after n new)
   pub front : IfOk result (λ n. IsInFront n new)
-  pub refused : IfErr result (λ e. IsOutOfMemory e ⊎ ((w : Read Datum) → Building room w fs (next.Opens k) old → RefusesRead old.input w e))
+  pub refused : IfErr result (λ e. IsOutOfMemory e ⊎ ((w : Read Datum) → Building room w fs (next.Opens k) old → RefusesRead (input_of old) w e))
   pub same_text : SameText old new
   pub shorter : IfOk result (λ n. length new.unread < length old.unread)
 
@@ -114,7 +114,7 @@ pub record TurnsBuilding (room : ℕ) (k : BracketKind) (fs after : List Unfinis
 pub record TurnsBuildingInside (m : ℕ → Read Datum) (start : ℕ) (comma_due : Bool) (fs after : List Unfinished) (old new : Cursor) (result : Result Next Error) : Type 0 where
   pub goes : IfOk result (λ n. (room : ℕ) (w : Read Datum) (q : List ℕ) → BuildingInside room w fs start m q old → Building room w after n new)
   pub front : IfOk result (λ n. IsInFront n new)
-  pub refused : IfErr result (λ e. IsOutOfMemory e ⊎ ((room : ℕ) (w : Read Datum) (q : List ℕ) → BuildingInside room w fs start m q old → RefusesRead old.input w e))
+  pub refused : IfErr result (λ e. IsOutOfMemory e ⊎ ((room : ℕ) (w : Read Datum) (q : List ℕ) → BuildingInside room w fs start m q old → RefusesRead (input_of old) w e))
   pub same_text : SameText old new
   pub shorter : IfOk result (λ n. comma_due ≡ true → length new.unread < length old.unread)
   pub no_longer : IfOk result (λ n. length new.unread ≤ length old.unread)

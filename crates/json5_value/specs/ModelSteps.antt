@@ -7,16 +7,11 @@ use Rattle.json5_grammar.specs.Model.Reading.{Read, Place, here, inner, got, bad
 use Rattle.json5_grammar.specs.Model.ReadSteps.{forget}
 use Rattle.json5_grammar.specs.Model.ReadValues.{read}
 use Rattle.json5_types.specs.declared.error.Error.{Error}
-use Rattle.json5_text.specs.Cursor.{Cursor, Took, Says, Refused, IsOutOfMemory}
+use Rattle.json5_text.specs.Cursor.{input_of, Cursor, Took, Says, Refused, IsOutOfMemory}
 use Rattle.json5_types.specs.Errors.{LacksMemory, code, kind_of, error_position}
 
--- the unread part is the end of the input
-pub record IsInside (s : Cursor) : Type 0 where
-  pub before : List ℕ
-  pub inside : s.input ≡ before ++ s.unread
-
 abbrev pub SameText : Cursor → Cursor → Type 0
-SameText old new = new.input ≡ old.input
+SameText old new = (input_of new) ≡ (input_of old)
 
 -- the fault isn't that of a reader that had failed
 abbrev pub IsUnprompted : Error → Type 0
@@ -44,7 +39,7 @@ pub record Gave {A : Type 0} (reading : Read A) (a : A) (old new : Cursor) : Typ
 -- a step does what reading on lists does
 pub record Steps {A : Type 0} (reading : Read A) (old new : Cursor) (result : Result A Error) : Type 0 where
   pub given : IfOk result (λ a. Gave reading a old new)
-  pub refused : IfErr result (RefusesRead old.input reading)
+  pub refused : IfErr result (RefusesRead (input_of old) reading)
   pub same_text : OnErr result (SameText old new)
 
 -- what a call answers that leaves the error of a refusal

@@ -11,7 +11,7 @@ use Rattle.json5_types.specs.declared.error.Error.{Error}
 use Rattle.json5_text.specs.declared.short_texts.Span.{Span}
 use Rattle.json5_text.specs.declared.text_token.TextToken.{TextToken}
 use Rattle.json5_types.specs.declared.value.Value.{Value}
-use Rattle.json5_text.specs.Cursor.{Cursor, IsOutOfMemory}
+use Rattle.json5_text.specs.Cursor.{input_of, Cursor, IsOutOfMemory}
 use Rattle.json5_types.specs.Errors.{LacksMemory}
 use Rattle.json5_text.specs.ShortTexts.{IsTextAt}
 use Rattle.json5_text.specs.TextTokens.{Spells}
@@ -33,7 +33,7 @@ BlamesEach input reading e = IsOutOfMemory e ⊎ ((room : ℕ) → RefusesRead i
 -- a step keeps what reading on lists gives
 pub record Keeps {V A : Type 0} (Is : V → A → Type 0) (reading : Read A) (old new : Cursor) (result : Result V Error) : Type 0 where
   pub given : IfOk result (λ v. (a : A) × Is v a × Gave reading a old new)
-  pub refused : IfErr result (BlamesOrMemory old.input reading)
+  pub refused : IfErr result (BlamesOrMemory (input_of old) reading)
   pub same_text : OnErr result (SameText old new)
 
 -- ---- keys
@@ -87,7 +87,7 @@ KeepsShort old new result = MatchOption result (new ≡ old) (KeepsValue old new
 -- a value that is no collection is read
 pub record ReadsScalar (old new : Cursor) (result : Result Value Error) : Type 0 where
   pub given : IfOk result (KeepsValue old new)
-  pub refused : IfErr result (BlamesEach old.input (λ room. datum_at room old))
+  pub refused : IfErr result (BlamesEach (input_of old) (λ room. datum_at room old))
   pub same_text : OnErr result (SameText old new)
 
 -- ---- the whole
@@ -95,5 +95,5 @@ pub record ReadsScalar (old new : Cursor) (result : Result Value Error) : Type 0
 -- the value in front was read
 pub record ReadsDatum (room : ℕ) (old new : Cursor) (result : Result Value Error) : Type 0 where
   pub given : IfOk result (λ v. Gave (datum_at room old) (value_of v) old new)
-  pub refused : IfErr result (BlamesOrMemory old.input (datum_at room old))
+  pub refused : IfErr result (BlamesOrMemory (input_of old) (datum_at room old))
   pub same_text : SameText old new

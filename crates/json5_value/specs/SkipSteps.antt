@@ -3,7 +3,7 @@ use Rattle.std.specs.Prelude.{◌≡◌, ℕ, ◌-◌, ◌<◌, Bool, true, fals
 use Rattle.json5_grammar.specs.Model.Reading.{Read, got}
 use Rattle.json5_grammar.specs.Model.ReadSteps.{next_value, rest_of_bracket}
 use Rattle.json5_types.specs.declared.error.Error.{Error}
-use Rattle.json5_text.specs.Cursor.{Cursor}
+use Rattle.json5_text.specs.Cursor.{input_of, Cursor}
 use Rattle.json5_value.specs.declared.brackets.BracketKind.{BracketKind}
 use Rattle.json5_value.specs.declared.brackets.OpenBracket.{OpenBracket}
 use Rattle.json5_value.specs.declared.skip.Turn.{Turn}
@@ -27,7 +27,7 @@ SkippedOrOpened room old new (Some bracket) = OpenedAt room bracket old new
 
 pub record SkipsOrOpens (room : ℕ) (old new : Cursor) (result : Result (Option OpenBracket) Error) : Type 0 where
   pub begun : IfOk result (SkippedOrOpened room old new)
-  pub refused : IfErr result (RefusesRead old.input (value_at room old))
+  pub refused : IfErr result (RefusesRead (input_of old) (value_at room old))
   pub same_text : OnErr result (SameText old new)
   pub shorter : IfOk result (λ o. length new.unread < length old.unread)
 
@@ -67,13 +67,13 @@ Turned k comma_due room old new turn.Closed = Gave (next_value (bracket_of k) co
 -- the same, or what is refused makes a fault of what is left of the bracket
 pub record TakesTurn (k : BracketKind) (comma_due : Bool) (room : ℕ) (old new : Cursor) (result : Result Turn Error) : Type 0 where
   pub goes : IfOk result (Turned k comma_due room old new)
-  pub refused : IfErr result (RefusesRead old.input (rest_of_bracket (bracket_of k) comma_due room old.unread))
+  pub refused : IfErr result (RefusesRead (input_of old) (rest_of_bracket (bracket_of k) comma_due room old.unread))
   pub same_text : OnErr result (SameText old new)
 
 -- the rest of the outermost bracket, which was opened before q, was passed over; or what is refused makes a fault of the whole
 pub record SkipsBracket (room : ℕ) (bracket : OpenBracket) (old new : Cursor) (result : Result (Unit {0}) Error) : Type 0 where
   pub goes : OnOk result ((w : Read (Unit {0})) (q : List ℕ) → SkippingInside room w [] bracket false q old → Skipping room w [] false new)
-  pub refused : IfErr result (λ e. (w : Read (Unit {0})) (q : List ℕ) → SkippingInside room w [] bracket false q old → RefusesRead old.input w e)
+  pub refused : IfErr result (λ e. (w : Read (Unit {0})) (q : List ℕ) → SkippingInside room w [] bracket false q old → RefusesRead (input_of old) w e)
   pub same_text : SameText old new
 
 -- ---- the whole
@@ -81,5 +81,5 @@ pub record SkipsBracket (room : ℕ) (bracket : OpenBracket) (old new : Cursor) 
 -- the value in front was passed over
 pub record SkipsValue (room : ℕ) (old new : Cursor) (result : Result (Unit {0}) Error) : Type 0 where
   pub given : IfOk result (λ u. Gave (value_at room old) tt old new)
-  pub refused : IfErr result (RefusesRead old.input (value_at room old))
+  pub refused : IfErr result (RefusesRead (input_of old) (value_at room old))
   pub same_text : SameText old new

@@ -6,7 +6,7 @@ use Rattle.json5_grammar.specs.Model.Reading.{Read, got, and_then}
 use Rattle.json5_grammar.specs.Model.ReadSteps.{trees_after, pairs_after}
 use Rattle.json5_types.specs.declared.error.Error.{Error}
 use Rattle.json5_types.specs.declared.value.Value.{Value}
-use Rattle.json5_text.specs.Cursor.{Cursor, Took}
+use Rattle.json5_text.specs.Cursor.{input_of, Cursor, Took}
 use Rattle.json5_types.specs.ValueMeanings.{Datum, array, item, items_view, object, field, fields_view}
 use Rattle.json5_value.specs.declared.brackets.BracketKind.{BracketKind}
 use Rattle.json5_value.specs.BuildSteps.{AtBracket, elements_before, array_with, array_at, members_before, object_with, object_at}
@@ -37,7 +37,7 @@ LeavesElements comma_due m vs old new None = LeavesLess comma_due m (λ d. got (
 -- the elements before became those after
 pub record TakesElements (comma_due : Bool) (before after : List Value) (old new : Cursor) (result : Result (Option BracketKind) Error) : Type 0 where
   pub goes : IfOk result (LeavesElements comma_due (array_at before comma_due old) after old new)
-  pub refused : IfErr result (BlamesEach old.input (array_at before comma_due old))
+  pub refused : IfErr result (BlamesEach (input_of old) (array_at before comma_due old))
   pub same_text : SameText old new
 
 -- ---- members
@@ -54,5 +54,5 @@ LeavesMembers comma_due m fs old new None = LeavesLess comma_due m (λ d. got (o
 -- the members before became those after
 pub record TakesMembers (comma_due : Bool) (before after : List (String Global × Value)) (old new : Cursor) (result : Result (Option (String Global × BracketKind)) Error) : Type 0 where
   pub goes : IfOk result (LeavesMembers comma_due (object_at before comma_due old) after old new)
-  pub refused : IfErr result (BlamesEach old.input (object_at before comma_due old))
+  pub refused : IfErr result (BlamesEach (input_of old) (object_at before comma_due old))
   pub same_text : SameText old new

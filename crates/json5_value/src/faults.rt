@@ -1,7 +1,7 @@
 //! Faults at the next character and at a bracket.
 
 ghost use Rattle.std.specs.Prelude.{◌≡◌, [], Some, None};
-ghost use Rattle.json5_text.specs.Cursor.{Refused, IsPositioned};
+ghost use Rattle.json5_text.specs.Cursor.{input_of, Refused, IsPositioned};
 ghost use Rattle.json5_types.specs.Errors.{FaultKind, kind_of, SaysAt};
 ghost use Rattle.json5_value.specs.Offsets.{PositionedAt, StartsAfter};
 ghost use Rattle.json5_value.specs.ModelSteps.{Unexpected, answered};
@@ -40,7 +40,7 @@ pub fn fault_here<I: Input>(scanner: &Scanner<I>, code: ErrorCode) -> Error
 #[cold]
 #[inline(never)]
 pub fn with_position_at<I: Input>(scanner: &Scanner<I>, start: usize, error: Error) -> Error
-    ensures { PositionedAt (StartsAfter scanner.now.input start) error result }
+    ensures { PositionedAt (StartsAfter (input_of scanner.now) start) error result }
 {
     match error.position() {
         Some(_) => error,
@@ -52,7 +52,7 @@ pub fn with_position_at<I: Input>(scanner: &Scanner<I>, start: usize, error: Err
 #[cold]
 #[inline(never)]
 pub(crate) fn place_fault<I: Input>(scanner: &Scanner<I>, start: usize, fault: &mut Error)
-    ensures { PositionedAt (StartsAfter scanner.now.input start) fault.old fault.new }
+    ensures { PositionedAt (StartsAfter (input_of scanner.now) start) fault.old fault.new }
 {
     let own = mem::replace(fault, Error::new(ErrorCode::Failed));
     *fault = with_position_at(scanner, start, own);

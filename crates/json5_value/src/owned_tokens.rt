@@ -2,8 +2,9 @@
 
 ghost use Rattle.json5_grammar.specs.Language.Blanks.{Solid};
 ghost use Rattle.json5_grammar.specs.Model.ReadTexts.{key};
+ghost use Rattle.json5_text.specs.Cursor.{input_of};
 ghost use Rattle.json5_value.specs.OwnedReads.{Keeps, OwnsKey, OwnsText, IsFoundKey};
-ghost use Rattle.json5_value.specs.ModelSteps.{IsInside, answered};
+ghost use Rattle.json5_value.specs.ModelSteps.{answered};
 
 use crate::faults::{leave_code, leave_error};
 use json5_text::input::Input;
@@ -19,7 +20,7 @@ use json5_types::error::{Error, Result};
 ///
 /// - `OutOfMemory`, without a position, where a request for memory was refused.
 pub fn key_owned<I: Input>(scanner: &Scanner<I>, key: TextToken) -> Result<String>
-    ensures { OwnsKey scanner.now.input key result }
+    ensures { OwnsKey (input_of scanner.now) key result }
 {
     if let TextToken::Escaped(text) = key {
         return Ok(text);
@@ -35,7 +36,7 @@ pub(crate) fn own_text<I: Input>(
     span: Span,
     fault: &mut Error,
 ) -> Option<String>
-    ensures { OwnsText scanner.now.input span (answered result fault.new) }
+    ensures { OwnsText (input_of scanner.now) span (answered result fault.new) }
 {
     match String::from_str(scanner.allocator(), scanner.text_of_span(span)) {
         Ok(text) => Some(text),
@@ -53,7 +54,7 @@ pub(crate) fn own_key<I: Input>(
     key: TextToken,
     fault: &mut Error,
 ) -> Option<String>
-    ensures { OwnsKey scanner.now.input key (answered result fault.new) }
+    ensures { OwnsKey (input_of scanner.now) key (answered result fault.new) }
 {
     match key {
         TextToken::EscapeFree(span) => own_text(scanner, span, fault),
@@ -64,8 +65,7 @@ pub(crate) fn own_key<I: Input>(
 /// Takes a key, whatever it is.
 #[inline(never)]
 fn take_key_slowly<I: Input>(scanner: &mut Scanner<I>, fault: &mut Error) -> Option<TextToken>
-    requires { IsInside scanner.old }
-    ensures { Keeps (IsFoundKey scanner.old.input) (key scanner.old.unread) scanner.old scanner.new (answered result fault.new) }
+    ensures { Keeps (IsFoundKey (input_of scanner.old)) (key scanner.old.unread) scanner.old scanner.new (answered result fault.new) }
 {
     if scanner.peek().is_none() {
         leave_code(ErrorCode::EofParsingObject, fault);
@@ -79,9 +79,8 @@ fn take_key_slowly<I: Input>(scanner: &mut Scanner<I>, fault: &mut Error) -> Opt
 /// Takes a key.
 #[inline(always)]
 pub(crate) fn take_key<I: Input>(scanner: &mut Scanner<I>, fault: &mut Error) -> Option<TextToken>
-    requires ready { IsInside scanner.old }
     requires solid { Solid scanner.old.unread }
-    ensures { Keeps (IsFoundKey scanner.old.input) (key scanner.old.unread) scanner.old scanner.new (answered result fault.new) }
+    ensures { Keeps (IsFoundKey (input_of scanner.old)) (key scanner.old.unread) scanner.old scanner.new (answered result fault.new) }
 {
     // Goals below need what `offset` promises: what is unread is the end of the input.
     let _offset = scanner.offset();

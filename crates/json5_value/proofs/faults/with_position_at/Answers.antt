@@ -1,10 +1,11 @@
+use Rattle.json5_text.specs.Cursor.{input_of}
 use Rattle.std.proofs.Common.{sym, ◌∙◌}
 use Rattle.json5_value.proofs.FaultPositions.{place_kept, place_given}
 use Rattle.json5_value.proofs.faults.with_position_at.Goals as goal
 
 pub returns-in-Some : goal.returns-in-Some
-returns-in-Some g c = place_kept c.args.scanner.now.input c.args.start c.args.error _ (sym c.position.ensures ∙ c.in-Some.is)
+returns-in-Some g c = place_kept (input_of c.args.scanner.now) c.args.start c.args.error _ (sym c.position.ensures ∙ c.in-Some.is)
 
 pub returns-in-None : goal.returns-in-None
 returns-in-None g c =
-    place_given c.args.scanner.now.input c.args.start c.args.error c.at.result c.position_of.result (sym c.position.ensures ∙ c.in-None.is) c.at.ensures.kind c.at.ensures.place c.position_of.ensures.inside
+    place_given (input_of c.args.scanner.now) c.args.start c.args.error c.at.result c.position_of.result (sym c.position.ensures ∙ c.in-None.is) c.at.ensures.kind c.at.ensures.place c.position_of.ensures.inside
