@@ -11,7 +11,7 @@ use Rattle.std.proofs.Math.Seq.{take-append_seam, drop-append_seam}
 use Rattle.std.proofs.lemmas.List.{length-append, length-drop, length-take, take-append-drop}
 use Rattle.std.proofs.lemmas.Str.{chars_past_char, IsUtf8-past_char, length-encode, len_utf8_bounds, encode_ascii, length-encode, IsCharBoundary-after_ascii, encodes-chars, scalars-chars, chars-encodes, encodes-append, chars-append, IsUtf8-take, IsUtf8-drop, IsCharBoundary-at_seam}
 use Rattle.json5_text.specs.Outcome.{bytes_in}
-use Rattle.json5_text.specs.Cursor.{IsOffset}
+use Rattle.json5_text.specs.Cursor.{Cursor, IsInside, IsOffset}
 use Rattle.json5_text.specs.Scan.{InText, StartsWith}
 use Rattle.std.proofs.lemmas.Bool.{and_parts}
 
@@ -83,6 +83,9 @@ same_text a b u v e = sym (encodes-chars a u) ∙ ap encode_utf8_all e ∙ encod
 
 pub halves_in : {text : List ℕ} {offset end : ℕ} → InText text offset end → Halves text (chars (take offset text)) (chars (drop offset text))
 halves_in {text = text} {offset = offset} k = halves_at text offset k.is_text k.cut
+
+pub inside_of : {text : List ℕ} {offset end : ℕ} {s : Cursor} → InText text offset end → ◌≡◌ {A = Cursor} (record { input = chars text; unread = chars (drop offset text) }) s → IsInside s
+inside_of {text = text} {offset = offset} k seen = subst IsInside seen (chars (take offset text), (halves_in k).split)
 
 -- the input is cut where so many bytes are left
 pub cut_left : {text : List ℕ} {offset end left : ℕ} (x y : List ℕ) → InText text offset end → chars text ≡ x ++ y → left ≡ bytes_in y → IsCharBoundary text (end - left)

@@ -16,6 +16,10 @@ pub record Cursor : Type 0 where
 abbrev pub IsInput : List ℕ → List ℕ → Type 0
 IsInput input text = chars text ≡ input
 
+-- the unread part is the end of the input
+abbrev pub IsInside : Cursor → Type 0
+IsInside s = (before : List ℕ) × (s.input ≡ before ++ s.unread)
+
 -- the count of bytes before what is unread
 abbrev pub offset_of : Cursor → ℕ
 offset_of s = length (encode_utf8_all s.input) - length (encode_utf8_all s.unread)

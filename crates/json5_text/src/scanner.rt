@@ -1,9 +1,9 @@
 //! The scanner: the tokens of an input, one after another.
 
-ghost use Rattle.std.specs.Prelude.{◌≡◌, ℕ, List, [], ◌∷◌, ◌++◌, true, false, ◌==◌, drop, slice_get, IsTrue, ◌⊎◌, Some};
+ghost use Rattle.std.specs.Prelude.{◌≡◌, ℕ, List, [], ◌∷◌, true, false, ◌==◌, drop, slice_get, IsTrue, ◌⊎◌, Some};
 ghost use Rattle.std.specs.Str.{all_scalars, chars, encode_utf8_all};
 ghost use Rattle.json5_grammar.specs.Language.Characters.{NotBegun};
-ghost use Rattle.json5_text.specs.Cursor.{Cursor, offset_of, IsInput, Took, Locates};
+ghost use Rattle.json5_text.specs.Cursor.{Cursor, IsInside, offset_of, IsInput, Took, Locates};
 ghost use Rattle.json5_text.specs.Scan.{InText, Leaves, LeavesAt, InUnread, IsWhere, MadeOf};
 ghost use Rattle.json5_text.specs.TokenCalls.{PassesBlanks, TakesWord, TakesNumber, TakesOwned, TakesStringToken, TakesKey, PassesString, PassesName, PassesNumber, TakesString, TakesName};
 ghost use Rattle.json5_text.specs.TextTokens.{IsSliceAt, IsTextOf, IsCowOf};
@@ -118,7 +118,7 @@ impl<I: Input> Scanner<I> {
     /// Returns how many bytes of the text were read. A character begins there, or the text ends.
     pub fn offset(&self) -> usize
         ensures counted { result ≡ offset_of self.now }
-        ensures suffix { (before : List ℕ) × (self.now.input ≡ before ++ self.now.unread) }
+        ensures suffix { IsInside self.now }
         ensures scalars { all_scalars self.now.unread ≡ true }
     {
         self.offset

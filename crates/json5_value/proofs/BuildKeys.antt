@@ -29,7 +29,7 @@ use Rattle.json5_text.specs.TokenFaults.{FaultyKey, at_quote, at_name}
 use Rattle.json5_text.proofs.UnicodeScalars.{key_scalars}
 use Rattle.json5_value.specs.Entries.{entry_front, entry_start, next_entry}
 use Rattle.json5_value.specs.OwnedReads.{BlamesOrMemory, Keeps, IsFoundKey, next_key}
-use Rattle.json5_value.specs.ModelSteps.{IsInside, RefusesRead, Gave, RefusesToken}
+use Rattle.json5_value.specs.ModelSteps.{RefusesRead, Gave, RefusesToken}
 use Rattle.json5_value.proofs.EntryValues.{key_missing, key_string, key_name}
 use Rattle.json5_value.proofs.NoFailedCode.{key_lacks}
 use Rattle.json5_value.proofs.RestsShorter.{next_shorter}
@@ -62,19 +62,19 @@ key_refuses c r x reason place e (at_name h f) =
     subst (λ z. Refuses z x reason place) (ap identifier e ∙ sym (key_name c r (subst (NotBegun is_quote) e h)) ∙ ap key (sym e)) (name_refuses x reason place f)
 
 -- a key was found, or refused
-pub key_taken : (old new : Cursor) (next : Option ℕ) (none : Bool) (result : Result TextToken Error) → next ≡ slice_get old.unread 0 → is_some next ≡ not none → none ≡ false → IsInside old → all_scalars old.unread ≡ true → TakesKey old new result
+pub key_taken : (old new : Cursor) (next : Option ℕ) (none : Bool) (result : Result TextToken Error) → next ≡ slice_get old.unread 0 → is_some next ≡ not none → none ≡ false → all_scalars old.unread ≡ true → TakesKey old new result
     → Keeps (IsFoundKey old.input) (key old.unread) old new result
-key_taken old new next none (Ok k) peeked test is ready scalars t =
+key_taken old new next none (Ok k) peeked test is scalars t =
     let (s, u, escape_free, took, spelled, same_text) = t.taken in
     takes old new (key old.unread) (u, escape_free) k (same_text, chars-encodes u (key_scalars old.unread new.unread took.split scalars spelled)) (gave_text old new (key old.unread) (u, escape_free) s (ap key took.split ∙ key_complete spelled) took)
-key_taken old new next none (Err e) peeked test is ready scalars t = not_taken old new (key old.unread) e (by_cause t.refused) (same_of t.kept)
+key_taken old new next none (Err e) peeked test is scalars t = not_taken old new (key old.unread) e (by_cause t.refused) (same_of t.kept)
   where
     by_cause : RefusesToken FaultyKey old e → BlamesOrMemory old.input (key old.unread) e
     by_cause (inl memory) = inl memory.kind
     by_cause (inr f) =
         let (c, found) = some_from next none test is in
         let (r, x) = some_next old.unread c (sym peeked ∙ found) in
-        inr (blames_refused old (key old.unread) e ready key_lacks (λ reason place g. key_refuses c r old.unread reason place x g) f)
+        inr (blames_refused old (key old.unread) e t.inside key_lacks (λ reason place g. key_refuses c r old.unread reason place x g) f)
 
 -- a key without an escape was taken at once
 pub key_found : (old new : Cursor) (span : Span) → Solid old.unread → all_scalars old.unread ≡ true → TakesShortKey old new (Some span) → Keeps (IsFoundKey old.input) (key old.unread) old new (Ok (token.EscapeFree span))

@@ -20,7 +20,7 @@ use Rattle.json5_grammar.proofs.ValuesSound.{text_stops}
 use Rattle.json5_grammar.proofs.ValueSteps.{read_quote, read_numeral, read_missing}
 use Rattle.json5_types.specs.declared.error.Error.{Error}
 use Rattle.json5_types.specs.declared.value.Value.{Value}
-use Rattle.json5_text.specs.Cursor.{Cursor, Took}
+use Rattle.json5_text.specs.Cursor.{IsInside, Cursor, Took}
 use Rattle.json5_types.specs.Errors.{code, kind_of, error_position}
 use Rattle.json5_text.specs.TokenFaults.{FaultyNumber, FaultyString}
 use Rattle.json5_types.specs.declared.value.Value as value
@@ -39,7 +39,7 @@ use Rattle.json5_value.specs.BuildSteps.{BeginsValue}
 use Rattle.json5_value.specs.TreeMeanings.{datum_of}
 use Rattle.json5_value.specs.OwnedReads.{Keeps, IsOfTree, KeepsValue, KeepsShort, ReadsScalar, as_datum, tree_at, datum_at, datum_of_literal}
 use Rattle.json5_value.specs.Kinds.{kind_at, word_of}
-use Rattle.json5_value.specs.ModelSteps.{IsInside, RefusesRead, Gave, Steps, RefusesToken, value_at}
+use Rattle.json5_value.specs.ModelSteps.{RefusesRead, Gave, Steps, RefusesToken, value_at}
 use Rattle.json5_value.proofs.NoFailedCode.{Lacks, faulty_number_lacks, faulty_string_lacks}
 use Rattle.json5_value.proofs.SkipScalars.{tests_of}
 use Rattle.json5_value.proofs.ModelSteps.{same_of, none_next, some_next, blames_as, blames_made, blames_refused}
@@ -93,14 +93,14 @@ text_taken room old new t scalars (s, u, escape_free, took, str, bytes) =
 pub scalar_refused : (old new : Cursor) (e : Error) → ((room : ℕ) → Steps (value_at room old) old new (Err e)) → ReadsScalar old new (Err e)
 scalar_refused old new e k = record { given = tt; refused = inr (λ room. datum_blamed room old e (tree_blamed room old e (k room).refused)); same_text = (k 0).same_text }
 
-module _ (old new : Cursor) (c : ℕ) (first : slice_get old.unread 0 ≡ Some c) (found : ValueKind) (at : found ≡ kind_at c) (e : Error) (ready : IsInside old) (kept : new ≡ old) where
+module _ (old new : Cursor) (c : ℕ) (first : slice_get old.unread 0 ≡ Some c) (found : ValueKind) (at : found ≡ kind_at c) (e : Error) (inside : IsInside old) (kept : new ≡ old) where
   -- memory ran out in a token, or it is refused as reading does
   token_refused : {A : Type 0} {F : _} (m : Read A) → Lacks F → ((reason : Option ErrorCode) (place : Option (List ℕ)) → F old.unread reason place → Refuses m old.unread reason place) → ((room : ℕ) → value_at room old ≡ forget m) → RefusesToken F old e
       → ReadsScalar old new (Err e)
   token_refused m l k is (inl memory) = record { given = tt; refused = inl memory.kind; same_text = same_of kept }
   token_refused m l k is (inr f) = record {
     given = tt;
-    refused = inr (λ room. datum_blamed room old e (tree_blamed room old e (blames_as old.input old.input m (value_at room old) e refl (λ r p b. is room ∙ ap forget b) (blames_refused old m e ready l k f))));
+    refused = inr (λ room. datum_blamed room old e (tree_blamed room old e (blames_as old.input old.input m (value_at room old) e refl (λ r p b. is room ∙ ap forget b) (blames_refused old m e inside l k f))));
     same_text = same_of kept;
   }
 

@@ -25,10 +25,9 @@ use Rattle.json5_value.specs.BuildSteps.{AtBracket, IsInFront, Begun, BeginsValu
 use Rattle.json5_value.specs.OwnedReads.{BlamesEach, BlamesOrMemory, as_datum, tree_at, datum_at, ReadsDatum}
 use Rattle.json5_value.specs.Nesting.{Nested, Within}
 use Rattle.json5_value.specs.Opening.{OpenedAt, OpensBracket}
-use Rattle.json5_value.specs.ModelSteps.{IsInside, SameText, RefusesRead, value_at}
+use Rattle.json5_value.specs.ModelSteps.{SameText, RefusesRead, value_at}
 use Rattle.json5_value.proofs.BuildRests.{array_opened, object_opened}
 use Rattle.json5_value.proofs.Nesting.{value_ended, value_opened, here_blamed, starts, ends_inside}
-use Rattle.json5_value.proofs.SkipInvariant.{ready_opened}
 use Rattle.json5_value.proofs.BuildScalars.{datum_got, forget_bad, tree_blamed, datum_blamed}
 use Rattle.json5_value.proofs.ModelSteps.{some_next}
 
@@ -39,13 +38,13 @@ pub room_left : (room : ℕ) (stack : Vec Unfinished Global) (count left : ℕ) 
 room_left room stack count left is less = let same = stack.ok in omega (arith, is, less, same)
 
 -- after the value's bracket, m is left of the value
-module _ (room : ℕ) (k : BracketKind) (fs : List Unfinished) (f : OpenBracket) (m : ℕ → Read Datum) (old mid : Cursor) (ready : IsInside old) (o : OpenedAt (room - length fs) f old mid)
+module _ (room : ℕ) (k : BracketKind) (fs : List Unfinished) (f : OpenBracket) (m : ℕ → Read Datum) (old mid : Cursor) (o : OpenedAt (room - length fs) f old mid)
     (reads : (d : ℕ) → as_datum (read (suc d) (opening (bracket_of f.kind) ∷ mid.unread)) ≡ placed (opening (bracket_of f.kind) ∷ mid.unread) (m d)) where
   inside_of : (w : Read Datum) → Building room w fs (next.Opens k) old → BuildingInside room w fs f.start m old.unread mid
   inside_of w h =
       let d = o.room_left in
       let more : room - length fs ≡ suc (room - length fs - 1) = omega (arith, d) in
-      value_opened start_of value_in room old mid w (datum_at (room - length fs) old) (m (room - length fs - 1)) fs f.start h (ready_opened (room - length fs) f old mid ready o) o.counted o.same_text o.room_left
+      value_opened start_of value_in room old mid w (datum_at (room - length fs) old) (m (room - length fs - 1)) fs f.start h o.counted o.same_text o.room_left
       (ap (λ k. as_datum (read k old.unread)) more ∙ ap (λ z. as_datum (read (suc (room - length fs - 1)) z)) o.sign ∙ reads (room - length fs - 1) ∙ ap (λ z. placed z (m (room - length fs - 1))) (sym o.sign))
 
   first_bracket : (after : List Unfinished) (new : Cursor) (result : Result Next Error) → length mid.unread < length old.unread → TurnsBuildingInside m f.start false fs after mid new result → TurnsBuilding room k fs after old new result
@@ -63,18 +62,18 @@ module _ (room : ℕ) (k : BracketKind) (fs : List Unfinished) (f : OpenBracket)
       by_cause (inr k) = inr (λ w h. subst (λ z. RefusesRead z w e) o.same_text (k room w old.unread (inside_of w h)))
 
 -- an array without elements or an object without members so far is what follows its bracket
-pub array_begun : (room : ℕ) (k : BracketKind) (fs after : List Unfinished) (f : OpenBracket) (elements : Vec Value Global) (old mid new : Cursor) (result : Result Next Error) → IsInside old → OpenedAt (room - length fs) f old mid → f.kind ≡ bracket.Array → elements.items ≡ []
+pub array_begun : (room : ℕ) (k : BracketKind) (fs after : List Unfinished) (f : OpenBracket) (elements : Vec Value Global) (old mid new : Cursor) (result : Result Next Error) → OpenedAt (room - length fs) f old mid → f.kind ≡ bracket.Array → elements.items ≡ []
     → TurnsBuildingInside (array_at elements.items false mid) f.start false fs after mid new result → TurnsBuilding room k fs after old new result
-array_begun room k fs after f elements old mid new result ready o is none t =
-    first_bracket room k fs f (array_at elements.items false mid) old mid ready o
+array_begun room k fs after f elements old mid new result o is none t =
+    first_bracket room k fs f (array_at elements.items false mid) old mid o
     (subst (λ vs. (d : ℕ) → as_datum (read (suc d) (opening (bracket_of f.kind) ∷ mid.unread)) ≡ placed (opening (bracket_of f.kind) ∷ mid.unread) (array_at vs false mid d)) (sym none)
     (subst (λ z. (d : ℕ) → as_datum (read (suc d) (opening (bracket_of z) ∷ mid.unread)) ≡ placed (opening (bracket_of z) ∷ mid.unread) (array_at [] false mid d)) (sym is) (λ d. array_opened d mid.unread)))
     after new result (let sign = o.sign in omega (arith, ap length sign)) t
 
-pub object_begun : (room : ℕ) (k : BracketKind) (fs after : List Unfinished) (f : OpenBracket) (members : Vec (String Global × Value) Global) (old mid new : Cursor) (result : Result Next Error) → IsInside old → OpenedAt (room - length fs) f old mid → f.kind ≡ bracket.Object
+pub object_begun : (room : ℕ) (k : BracketKind) (fs after : List Unfinished) (f : OpenBracket) (members : Vec (String Global × Value) Global) (old mid new : Cursor) (result : Result Next Error) → OpenedAt (room - length fs) f old mid → f.kind ≡ bracket.Object
     → members.items ≡ [] → TurnsBuildingInside (object_at members.items false mid) f.start false fs after mid new result → TurnsBuilding room k fs after old new result
-object_begun room k fs after f members old mid new result ready o is none t =
-    first_bracket room k fs f (object_at members.items false mid) old mid ready o
+object_begun room k fs after f members old mid new result o is none t =
+    first_bracket room k fs f (object_at members.items false mid) old mid o
     (subst (λ vs. (d : ℕ) → as_datum (read (suc d) (opening (bracket_of f.kind) ∷ mid.unread)) ≡ placed (opening (bracket_of f.kind) ∷ mid.unread) (object_at vs false mid d)) (sym none)
     (subst (λ z. (d : ℕ) → as_datum (read (suc d) (opening (bracket_of z) ∷ mid.unread)) ≡ placed (opening (bracket_of z) ∷ mid.unread) (object_at [] false mid d)) (sym is) (λ d. object_opened d mid.unread)))
     after new result (let sign = o.sign in omega (arith, ap length sign)) t
@@ -100,14 +99,14 @@ bracket_refused room left k fs old new e is front o = record {
 -- ---- the whole
 
 -- nothing is open at the start
-pub starts_building : (room : ℕ) (fs : List Unfinished) (old new : Cursor) (n : Next) → fs ≡ [] → IsInside old → Begun old new n → Building room (datum_at room old) fs n new × IsInFront n new × SameText old new
-starts_building room fs old new (next.Ended v) none ready k =
+pub starts_building : (room : ℕ) (fs : List Unfinished) (old new : Cursor) (n : Next) → fs ≡ [] → Begun old new n → Building room (datum_at room old) fs n new × IsInFront n new × SameText old new
+starts_building room fs old new (next.Ended v) none k =
     let g = k room in
-    (subst (λ gs. Building room (datum_at room old) gs (next.Ended v) new) (sym none) (value_ended start_of value_in room old new (datum_at room old) (datum_at room old) [] (value_of v) (starts start_of value_in room old (datum_at room old) ready) g), tt, g.took.same)
-starts_building room fs old new (next.Opens k) none ready (same, at) =
+    (subst (λ gs. Building room (datum_at room old) gs (next.Ended v) new) (sym none) (value_ended start_of value_in room old new (datum_at room old) (datum_at room old) [] (value_of v) (starts start_of value_in room old (datum_at room old)) g), tt, g.took.same)
+starts_building room fs old new (next.Opens k) none (same, at) =
     subst (λ (s : Cursor). Building room (datum_at room old) fs (next.Opens k) s × IsInFront (next.Opens k) s × SameText old s) (sym same) (
       subst (λ gs. Building room (datum_at room old) gs (next.Opens k) old) (sym none)
-          (subst (λ d. Within start_of value_in room (datum_at room old) [] (datum_at d old) old) (omega arith) (starts start_of value_in room old (datum_at room old) ready)),
+          (subst (λ d. Within start_of value_in room (datum_at room old) [] (datum_at d old) old) (omega arith) (starts start_of value_in room old (datum_at room old))),
       at,
       refl,
     )

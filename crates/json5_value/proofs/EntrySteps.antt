@@ -9,11 +9,11 @@ use Rattle.json5_grammar.specs.Model.ReadBlanks.{skip, between}
 use Rattle.json5_grammar.specs.Model.ReadSteps.{eof_in, colon_after, comma_at, separator}
 use Rattle.json5_grammar.specs.Model.ReadValues.{colon_at}
 use Rattle.json5_types.specs.declared.error.Error.{Error}
-use Rattle.json5_text.specs.Cursor.{Cursor, Took, Refused}
+use Rattle.json5_text.specs.Cursor.{IsInside, Cursor, Took, Refused}
 use Rattle.json5_value.specs.Entries.{entry_front, entry_start, due_comma, next_entry}
-use Rattle.json5_value.specs.ModelSteps.{IsInside, SameText, RefusesRead, Gave, Steps, Unexpected}
+use Rattle.json5_value.specs.ModelSteps.{SameText, RefusesRead, Gave, Steps, Unexpected}
 use Rattle.json5_value.proofs.UnexpectedCharacters.{no_comma, no_colon}
-use Rattle.json5_value.proofs.ModelSteps.{same_of, ready_next, then_step, first_step_refused, same_step, took_step, refused_step, took_nothing, refused_there}
+use Rattle.json5_value.proofs.ModelSteps.{same_of, then_step, first_step_refused, same_step, took_step, refused_step, took_nothing, refused_there}
 
 -- ---- colons
 
@@ -22,11 +22,11 @@ pub colon_blanks : (old new : Cursor) (e : Error) → RefusesRead old.input (ski
 colon_blanks old new e b g = first_step_refused old new (skip between old.unread) _ e b g
 
 -- the colon is missing
-pub colon_missing : (old mid at : Cursor) (u : Unit {0}) (e : Error) → IsInside old → Gave (skip between old.unread) u old mid → at ≡ mid → NotBegun (λ d. d == 58) mid.unread → Refused (Unexpected codes.EofParsingObject codes.ExpectedColon) at e
+pub colon_missing : (old mid at : Cursor) (u : Unit {0}) (e : Error) → Gave (skip between old.unread) u old mid → at ≡ mid → NotBegun (λ d. d == 58) mid.unread → Refused (Unexpected codes.EofParsingObject codes.ExpectedColon) at e → IsInside at
     → Steps (colon_after old.unread) old at (Err e)
-colon_missing old mid at u e r g same n f =
+colon_missing old mid at u e g same n f inside =
     then_step old mid at (skip between old.unread) u _ (Err e) g
-    (first_step_refused mid at (colon_at mid.unread) (λ v z. skip between z) e (no_colon mid e (ready_next old mid r g) n (refused_there mid at e same f)) (same_of same))
+    (first_step_refused mid at (colon_at mid.unread) (λ v z. skip between z) e (no_colon mid e (subst IsInside same inside) n (refused_there mid at e same f)) (same_of same))
 
 -- the colon is passed over, and then blanks
 pub colon_passed : (old mid at new : Cursor) (u : Unit {0}) (result : Result (Unit {0}) Error) → Gave (skip between old.unread) u old mid → Took mid (58 ∷ []) at → Steps (skip between at.unread) at new result → Steps (colon_after old.unread) old new result
@@ -59,13 +59,13 @@ comma_closed k old mid at new u c g same is t =
     let there = subst (λ (s : Cursor). Took s (c ∷ []) new) same t in
     after_blanks k old mid new u (Ok false) g (took_step mid new (comma_at k mid.unread) false (c ∷ []) (ap (comma_at k) (there.split ∙ ap (λ z. z ∷ new.unread) is) ∙ closes_here k new.unread) there)
 
-pub comma_missing : (k : BracketKind) (old mid at last : Cursor) (u : Unit {0}) (c : ℕ) (ends : _) (e : Error) → IsInside old → Gave (skip between old.unread) u old mid → at ≡ mid → NotBegun (λ d. d == 44) mid.unread → last ≡ at → c ≡ closing k → NotBegun (λ d. d == c) at.unread
-    → ends ≡ eof_in k → Refused (Unexpected ends codes.ExpectedComma) last e → Steps (separator k old.unread) old last (Err e)
-comma_missing k old mid at last u c ends e r g same n same2 is n2 eof f =
+pub comma_missing : (k : BracketKind) (old mid at last : Cursor) (u : Unit {0}) (c : ℕ) (ends : _) (e : Error) → Gave (skip between old.unread) u old mid → at ≡ mid → NotBegun (λ d. d == 44) mid.unread → last ≡ at → c ≡ closing k → NotBegun (λ d. d == c) at.unread
+    → ends ≡ eof_in k → Refused (Unexpected ends codes.ExpectedComma) last e → IsInside last → Steps (separator k old.unread) old last (Err e)
+comma_missing k old mid at last u c ends e g same n same2 is n2 eof f inside =
     let there : last ≡ mid = same2 ∙ same in
     let no_close : NotBegun (λ d. d == closing k) mid.unread = subst (λ z. NotBegun (λ d. d == z) mid.unread) is (subst (λ (s : Cursor). NotBegun (λ d. d == c) s.unread) same n2) in
     after_blanks k old mid last u (Err e) g
-    (refused_step mid last (comma_at k mid.unread) e (no_comma k mid e (ready_next old mid r g) n no_close (subst (λ z. Refused (Unexpected z codes.ExpectedComma) mid e) eof (refused_there mid last e there f))) (same_of there))
+    (refused_step mid last (comma_at k mid.unread) e (no_comma k mid e (subst IsInside there inside) n no_close (subst (λ z. Refused (Unexpected z codes.ExpectedComma) mid e) eof (refused_there mid last e there f))) (same_of there))
 
 -- a comma is due
 pub after_comma_due : (k : BracketKind) (comma_due : Bool) (old new : Cursor) (result : Result Bool Error) → comma_due ≡ true → Steps (separator k old.unread) old new result → Steps (due_comma k comma_due old.unread) old new result

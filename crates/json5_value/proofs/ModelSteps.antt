@@ -9,9 +9,9 @@ use Rattle.json5_grammar.specs.Model.Reading.{Read, Place, here, inner, got, bad
 use Rattle.json5_grammar.specs.Model.ReadSteps.{forget}
 use Rattle.json5_grammar.proofs.Refusals.{Refuses}
 use Rattle.json5_types.specs.declared.error.Error.{Error}
-use Rattle.json5_text.specs.Cursor.{Cursor, Took, IsPositioned, Refused, IsOutOfMemory, Says, offset_of}
+use Rattle.json5_text.specs.Cursor.{Cursor, IsInside, Took, IsPositioned, Refused, IsOutOfMemory, Says, offset_of}
 use Rattle.json5_types.specs.Errors.{code, kind_of}
-use Rattle.json5_value.specs.ModelSteps.{IsInside, SameText, HasPositionAt, RefusesRead, Gave, Steps, RefusesToken}
+use Rattle.json5_value.specs.ModelSteps.{SameText, HasPositionAt, RefusesRead, Gave, Steps, RefusesToken}
 use Rattle.json5_value.proofs.NoFailedCode.{Lacks, other_says, memory_other}
 
 -- ---- the next character
@@ -38,8 +38,8 @@ counted_before s before offset e split =
 pub same_of : {s t : Cursor} → s ≡ t → s.input ≡ t.input
 same_of e = ap (λ (s : Cursor). s.input) e
 
-stands_at : (s : Cursor) (place : Option (List ℕ)) (p : Place) (e : Error) → IsInside s → IsAt s.unread place p → IsPositioned s place e → HasPositionAt s.input p e
-stands_at s (Some b) (here q) e r at k = (r.before ++ b, r.inside ∙ ap (λ z. r.before ++ z) at ∙ sym (append_assoc r.before b q), k r.before r.inside)
+pub stands_at : (s : Cursor) (place : Option (List ℕ)) (p : Place) (e : Error) → IsInside s → IsAt s.unread place p → IsPositioned s place e → HasPositionAt s.input p e
+stands_at s (Some b) (here q) e (before, whole) at k = (before ++ b, whole ∙ ap (λ z. before ++ z) at ∙ sym (append_assoc before b q), k before whole)
 stands_at s (Some b) inner e r at k = absurd at
 stands_at s None (here q) e r at k = absurd at
 stands_at s None inner e r at k = k
@@ -74,12 +74,6 @@ blames_made input m e c p is other kind there = record { reason = Some c; place 
 
 -- ---- one step after another
 
--- after characters were taken the rest is still the end of the input
-pub ready_after : (old new : Cursor) (s : List ℕ) → IsInside old → Took old s new → IsInside new
-ready_after old new s r t = record {
-  before = r.before ++ s;
-  inside = t.same ∙ r.inside ∙ ap (λ z. r.before ++ z) t.split ∙ sym (append_assoc r.before s new.unread);
-}
 
 pub took_both : (old mid new : Cursor) (s w : List ℕ) → Took old s mid → Took mid w new → Took old (s ++ w) new
 took_both old mid new s w a b = record {
@@ -135,10 +129,4 @@ refused_there {F = F} mid at e same f = subst (λ (s : Cursor). Refused F s e) s
 
 -- ---- after a step
 
--- after a step the rest is still the end of the input
-pub ready_next : {A : Type 0} {m : Read A} {a : A} (old mid : Cursor) → IsInside old → Gave m a old mid → IsInside mid
-ready_next old mid r g = ready_after old mid g.taken r g.took
 
--- also after the sign that was eaten
-pub ready_sign : {A : Type 0} {m : Read A} {a : A} (old mid new : Cursor) (s : List ℕ) → IsInside old → Gave m a old mid → Took mid s new → IsInside new
-ready_sign old mid new s r g t = ready_after mid new s (ready_next old mid r g) t

@@ -7,8 +7,8 @@ use Rattle.json5_types.specs.Errors.{kind_of, or_position}
 use Rattle.json5_text.specs.Cursor.{Cursor, Took, Says, IsOutOfMemory}
 use Rattle.json5_value.specs.Nesting.{Nested, Within, WithinInner}
 use Rattle.json5_value.specs.Offsets.{StartsAfter, PositionedAt, CountsTo}
-use Rattle.json5_value.specs.ModelSteps.{IsInside, SameText, HasPositionAt, RefusesRead, Gave}
-use Rattle.json5_value.proofs.ModelSteps.{ready_after, blames_as}
+use Rattle.json5_value.specs.ModelSteps.{SameText, HasPositionAt, RefusesRead, Gave}
+use Rattle.json5_value.proofs.ModelSteps.{blames_as}
 
 -- ---- positions
 
@@ -88,7 +88,6 @@ module _ {F D : Type 0} (start : F → ℕ) (after : F → ℕ → D → List �
     -- a value of it is reached
     pub value_reached : (f : F) (new : Cursor) (v : Read D) (s : List ℕ) → at ≡ start f → Took old s new → m ≡ and_then v (after f (room - length fs - 1)) → Within start after room w (fs ++ f ∷ []) v new
     value_reached f new v s is took reads = record {
-      ready = ready_after old new s h.ready took;
       fits = let k = h.fits in omega (arith, k, length-append fs (f ∷ []));
       nested = subst (λ z. Nested start after z room (fs ++ f ∷ []) v w) (sym took.same)
           (nested_push old.input room (room - length fs - 1) fs f q v w refl (subst (λ n. CountsTo old.input n q) is h.counted)
@@ -98,7 +97,6 @@ module _ {F D : Type 0} (start : F → ℕ) (after : F → ℕ → D → List �
     -- something of it was passed over
     pub moved : (new : Cursor) (n : Read D) (s : List ℕ) → Took old s new → m ≡ n → WithinInner start after room w fs at n q new
     moved new n s took reads = record {
-      ready = ready_after old new s h.ready took;
       fits = h.fits;
       counted = subst (λ z. CountsTo z at q) (sym took.same) h.counted;
       nested = nested_as old.input new.input room fs (placed q m) (placed q n) w (sym took.same) (ap (placed q) reads) h.nested;
@@ -107,7 +105,6 @@ module _ {F D : Type 0} (start : F → ℕ) (after : F → ℕ → D → List �
     -- it is closed
     pub closed : (new : Cursor) (x : D) (s : List ℕ) → Took old s new → m ≡ got x new.unread → Within start after room w fs (got x new.unread) new
     closed new x s took reads = record {
-      ready = ready_after old new s h.ready took;
       fits = let k = h.fits in omega (arith, k);
       nested = nested_as old.input new.input room fs (placed q m) (got x new.unread) w (sym took.same) (ap (placed q) reads) h.nested;
     }
@@ -122,16 +119,14 @@ module _ {F D : Type 0} (start : F → ℕ) (after : F → ℕ → D → List �
   -- it ended, or was read at once
   pub value_ended : (room : ℕ) (old new : Cursor) (w m : Read D) (fs : List F) (x : D) → Within start after room w fs m old → Gave m x old new → Within start after room w fs (got x new.unread) new
   value_ended room old new w m fs x h g = record {
-    ready = ready_after old new g.taken h.ready g.took;
     fits = h.fits;
     nested = nested_as old.input new.input room fs m (got x new.unread) w (sym g.took.same) g.reads h.nested;
   }
 
   -- it was opened
-  pub value_opened : (room : ℕ) (old mid : Cursor) (w m n : Read D) (fs : List F) (at : ℕ) → Within start after room w fs m old → IsInside mid → CountsTo old.input at old.unread → SameText old mid → 0 < room - length fs → m ≡ placed old.unread n
+  pub value_opened : (room : ℕ) (old mid : Cursor) (w m n : Read D) (fs : List F) (at : ℕ) → Within start after room w fs m old → CountsTo old.input at old.unread → SameText old mid → 0 < room - length fs → m ≡ placed old.unread n
       → WithinInner start after room w fs at n old.unread mid
-  value_opened room old mid w m n fs at h ready counted same left reads = record {
-    ready = ready;
+  value_opened room old mid w m n fs at h counted same left reads = record {
     fits = omega (arith, left);
     counted = subst (λ z. CountsTo z at old.unread) (sym same) counted;
     nested = nested_as old.input mid.input room fs m (placed old.unread n) w (sym same) reads h.nested;
@@ -145,8 +140,8 @@ module _ {F D : Type 0} (start : F → ℕ) (after : F → ℕ → D → List �
   -- ---- the whole
 
   -- nothing is open at the start
-  pub starts : (room : ℕ) (s : Cursor) (m : Read D) → IsInside s → Within start after room m [] m s
-  starts room s m ready = record { ready = ready; fits = omega arith; nested = refl }
+  pub starts : (room : ℕ) (s : Cursor) (m : Read D) → Within start after room m [] m s
+  starts room s m = record { fits = omega arith; nested = refl }
 
   -- a value ended in the innermost
   pub ends_inside : (room : ℕ) (now : Cursor) (w : Read D) (gs fs : List F) (f : F) (x : D) → gs ≡ fs ++ f ∷ [] → Within start after room w gs (got x now.unread) now
@@ -154,4 +149,4 @@ module _ {F D : Type 0} (start : F → ℕ) (after : F → ℕ → D → List �
   ends_inside room now w gs fs f x is h =
       let (q, counted, nested) = nested_pop now.input room (room - length fs - 1) fs f (got x now.unread) w refl (subst (λ z. Nested start after now.input room z (got x now.unread) w) is h.nested) in
       let k = h.fits in
-      (q, record { ready = h.ready; fits = omega (arith, k, ap length is, length-append fs (f ∷ [])); counted = counted; nested = nested })
+      (q, record { fits = omega (arith, k, ap length is, length-append fs (f ∷ [])); counted = counted; nested = nested })

@@ -177,7 +177,7 @@ string_short old new (Some span) b at k e = subst (PassesShort old new) (sym e) 
 
 pub literal_short : (old new : Cursor) (l : Literal) (b : Bool) → AtKind (kinds.Literal l) old → TakesShortWord (word_of l) old new b → PassesShort old new b
 literal_short old new l false at same = same
-literal_short old new l true at took = λ room. (literal_value room old new at.char at.first (kind_at at.char) refl l (Ok tt) at.ready at.is (record { taken = took; refused = tt; kept = tt })).given
+literal_short old new l true at took = λ room. (literal_value room old new at.char at.first (kind_at at.char) refl l (Ok tt) at.is (record { taken = took; refused = tt; kept = tt; inside = tt })).given
 
 -- ---- numbers
 
@@ -191,10 +191,11 @@ number_took old new n at k =
 pub number_short : (old new : Cursor) (b : Bool) → AtKind kinds.Number old → TakesShortNumber old new b → PassesShort old new b
 number_short old new false at same = same
 number_short old new true at (n, k) = λ room.
-    (number_value room old new at.char at.first (kind_at at.char) refl (Ok (whole_in n)) at.ready at.is (record {
+    (number_value room old new at.char at.first (kind_at at.char) refl (Ok (whole_in n)) at.is (record {
       taken = (k.literal, n, number_took old new n at k, k.is_number, k.stops, refl);
       refused = tt;
       kept = tt;
+      inside = tt;
       memory = λ s r n split num stops. refl;
     })).given
 

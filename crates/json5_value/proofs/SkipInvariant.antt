@@ -12,7 +12,7 @@ use Rattle.json5_value.specs.Brackets.{bracket_of}
 use Rattle.json5_value.specs.Nesting.{Nested, Within}
 use Rattle.json5_value.specs.Opening.{OpenedAt}
 use Rattle.json5_value.specs.SkipSteps.{start_of, rest_in, rest_at, Skipping, SkippingInside}
-use Rattle.json5_value.specs.ModelSteps.{IsInside, SameText, Gave, value_at}
+use Rattle.json5_value.specs.ModelSteps.{SameText, Gave, value_at}
 use Rattle.json5_value.proofs.Nesting.{value_reached, closed, value_opened, starts, ends_inside}
 use Rattle.json5_value.proofs.ModelSteps.{forget_got}
 
@@ -49,26 +49,20 @@ module _ (room : ℕ) (w : Read (Unit {0})) (q : List ℕ) (comma_due : Bool) (f
 
 -- ---- how a value within brackets begins
 
--- after an opening bracket the rest is still the end of the input
-pub ready_opened : (room : ℕ) (f : OpenBracket) (old mid : Cursor) → IsInside old → OpenedAt room f old mid → IsInside mid
-ready_opened room f old mid r o = record {
-  before = r.before ++ opening (bracket_of f.kind) ∷ [];
-  inside = o.same_text ∙ r.inside ∙ ap (λ z. r.before ++ z) o.sign ∙ sym (append_assoc r.before (opening (bracket_of f.kind) ∷ []) mid.unread);
-}
 
 pub inside_of : (room : ℕ) (w : Read (Unit {0})) (bs : List OpenBracket) (f : OpenBracket) (old mid : Cursor) → Skipping room w bs true old → OpenedAt (room - length bs) f old mid → SkippingInside room w bs f false old.unread mid
 inside_of room w bs f old mid h o =
     let d = o.room_left in
     let more : room - length bs ≡ suc (room - length bs - 1) = omega (arith, d) in
-    value_opened start_of rest_in room old mid w (value_at (room - length bs) old) (rest_at room bs f false mid) bs f.start h (ready_opened (room - length bs) f old mid h.ready o) o.counted o.same_text o.room_left
+    value_opened start_of rest_in room old mid w (value_at (room - length bs) old) (rest_at room bs f false mid) bs f.start h o.counted o.same_text o.room_left
     (ap (λ k. forget (read k old.unread)) more ∙ ap (λ z. forget (read (suc (room - length bs - 1)) z)) o.sign ∙ read_opened (bracket_of f.kind) (room - length bs - 1) mid.unread
     ∙ ap (λ z. placed z (rest_of_bracket (bracket_of f.kind) false (room - length bs - 1) mid.unread)) (sym o.sign))
 
 -- ---- the whole
 
 -- nothing is open at the start
-pub begins : (room : ℕ) (s : Cursor) → IsInside s → Skipping room (value_at room s) [] true s
-begins room s ready = subst (λ d. Within start_of rest_in room (value_at room s) [] (value_at d s) s) (omega arith) (starts start_of rest_in room s (value_at room s) ready)
+pub begins : (room : ℕ) (s : Cursor) → Skipping room (value_at room s) [] true s
+begins room s = subst (λ d. Within start_of rest_in room (value_at room s) [] (value_at d s) s) (omega arith) (starts start_of rest_in room s (value_at room s))
 
 -- a value ended in the innermost bracket
 pub ended_inside : (room : ℕ) (now : Cursor) (w : Read (Unit {0})) (bs fs : List OpenBracket) (f : OpenBracket) → bs ≡ fs ++ f ∷ [] → Skipping room w bs false now → (q : List ℕ) × SkippingInside room w fs f true q now

@@ -23,7 +23,7 @@ use Rattle.json5_types.specs.declared.error.Error.{Error}
 use Rattle.json5_types.specs.Errors.{code, kind_of, error_position}
 use Rattle.json5_text.specs.Cursor.{IsPositioned}
 use Rattle.json5_text.specs.TokenCalls.{TakesWord, PassesString, PassesNumber}
-use Rattle.json5_text.specs.Cursor.{Cursor, Took, offset_of}
+use Rattle.json5_text.specs.Cursor.{IsInside, Cursor, Took, offset_of}
 use Rattle.json5_value.specs.declared.kinds.Literal.{Literal}
 use Rattle.json5_value.specs.declared.kinds.Literal.TheVariants as literal
 use Rattle.json5_value.specs.declared.kinds.ValueKind.{ValueKind}
@@ -34,8 +34,8 @@ use Rattle.json5_value.specs.Kinds.{kind_at, word_of, ends_of, differs_of}
 use Rattle.json5_value.specs.declared.brackets.BracketKind.{BracketKind as OwnKind}
 use Rattle.json5_value.specs.Opening.{AtScalar, OpenedAt, OpensBracket, OpensKind}
 use Rattle.json5_value.specs.SkipSteps.{SkipsOrOpens}
-use Rattle.json5_value.specs.ModelSteps.{IsInside, SameText, RefusesRead, Gave, Steps, value_at}
-use Rattle.json5_value.proofs.ModelSteps.{same_step, refused_step, forget_got, blames_made, none_next, some_next, counted_before}
+use Rattle.json5_value.specs.ModelSteps.{SameText, RefusesRead, Gave, Steps, value_at}
+use Rattle.json5_value.proofs.ModelSteps.{stands_at, same_step, refused_step, forget_got, blames_made, none_next, some_next, counted_before}
 use Rattle.json5_value.proofs.TokenSteps.{string_step, number_step, word_step, without}
 
 -- ---- what a character begins
@@ -89,36 +89,36 @@ literal_differs literal.True e = absurd (cc)
 literal_differs literal.False e = absurd (cc)
 
 module _ (room : ℕ) (old new : Cursor) (c : ℕ) (first : slice_get old.unread 0 ≡ Some c) (found : ValueKind) (at : found ≡ kind_at c) where
-  pub literal_value : (l : Literal) (result : Result (Unit {0}) Error) → IsInside old → found ≡ kind.Literal l → TakesWord (word_of l) (ends_of l) (differs_of l) old new result → Steps (value_at room old) old new result
-  literal_value l result ready is k =
+  pub literal_value : (l : Literal) (result : Result (Unit {0}) Error) → found ≡ kind.Literal l → TakesWord (word_of l) (ends_of l) (differs_of l) old new result → Steps (value_at room old) old new result
+  literal_value l result is k =
       let (r, x) = some_next old.unread c first in
       let whole : old.unread ≡ letter_of l ∷ r = x ∙ ap (λ z. z ∷ r) (literal_first l c (tests_of c found (kind.Literal l) at is)) in
       same_step old new (value_at room old) (word_at (ends_of l) (differs_of l) tt (word_of l) old.unread) result
       (ap (λ z. forget (read room z)) whole ∙ literal_read l room r ∙ ap (word_at (ends_of l) (differs_of l) tt (word_of l)) (sym whole))
-      (word_step (word_of l) (ends_of l) (differs_of l) old new result (literal_ends l) (literal_differs l) ready k)
+      (word_step (word_of l) (ends_of l) (differs_of l) old new result (literal_ends l) (literal_differs l) k)
 
-  pub string_value : (result : Result (Unit {0}) Error) → IsInside old → found ≡ kind.String → PassesString old new result → Steps (value_at room old) old new result
-  string_value result ready is k =
+  pub string_value : (result : Result (Unit {0}) Error) → found ≡ kind.String → PassesString old new result → Steps (value_at room old) old new result
+  string_value result is k =
       let (r, x) = some_next old.unread c first in
       let quote : is_quote c ≡ true = tests_of c found kind.String at is in
-      same_step old new (value_at room old) (forget (string old.unread)) result (ap (λ z. forget (read room z)) x ∙ read_quote room c r quote ∙ ap (λ z. forget (string z)) (sym x)) (string_step old new result c r ready x quote k)
+      same_step old new (value_at room old) (forget (string old.unread)) result (ap (λ z. forget (read room z)) x ∙ read_quote room c r quote ∙ ap (λ z. forget (string z)) (sym x)) (string_step old new result c r x quote k)
 
-  pub number_value : (result : Result (Option ℤ) Error) → IsInside old → found ≡ kind.Number → PassesNumber old new result → Steps (value_at room old) old new (without result)
-  number_value result ready is k =
+  pub number_value : (result : Result (Option ℤ) Error) → found ≡ kind.Number → PassesNumber old new result → Steps (value_at room old) old new (without result)
+  number_value result is k =
       let (r, x) = some_next old.unread c first in
       let begins : (is_sign c || begins_number c) ≡ true = tests_of c found kind.Number at is in
-      same_step old new (value_at room old) (forget (reading.number old.unread)) (without result) (ap (λ z. forget (read room z)) x ∙ read_numeral room c r begins ∙ ap (λ z. forget (reading.number z)) (sym x)) (number_step old new result c r ready x begins k)
+      same_step old new (value_at room old) (forget (reading.number old.unread)) (without result) (ap (λ z. forget (read room z)) x ∙ read_numeral room c r begins ∙ ap (λ z. forget (reading.number z)) (sym x)) (number_step old new result c r x begins k)
 
   -- a character that begins no value
-  pub other_value : (e : Error) → IsInside old → found ≡ kind.Other → ((c == 91) || (c == 123)) ≡ false → kind_of e ≡ code codes.ExpectedValue → IsPositioned old (Some []) e → new ≡ old → Steps (value_at room old) old new (Err e)
-  other_value e ready is none says placed up =
+  pub other_value : (e : Error) → found ≡ kind.Other → ((c == 91) || (c == 123)) ≡ false → kind_of e ≡ code codes.ExpectedValue → IsPositioned old (Some []) e → IsInside old → new ≡ old → Steps (value_at room old) old new (Err e)
+  other_value e is none says placed inside up =
       let (r, x) = some_next old.unread c first in
       let t = tests_of c found kind.Other at is in
       let b = or_parts (c == 91) (c == 123) none in
       refused_step old new (value_at room old) e
       (blames_made old.input (value_at room old) e codes.ExpectedValue (here old.unread)
       (ap (λ z. forget (read room z)) x ∙ read_nothing room c r t.0 t.1 t.2 t.3 t.4 b.0 b.1 ∙ ap (λ z. bad (Some codes.ExpectedValue) (here z)) (sym x))
-      (λ e. absurd (cc)) says (ready.before, ready.inside, placed ready.before ready.inside ∙ ap (λ z. Some (position_after z)) (append-nil ready.before)))
+      (λ e. absurd (cc)) says (stands_at old (Some []) (here old.unread) e inside refl placed))
       (ap (λ (s : Cursor). s.input) up)
 
 -- nothing is left
@@ -147,32 +147,32 @@ scalar_refused room old new e b g = record { begun = tt; refused = b; same_text 
 -- ---- brackets
 
 -- one bracket too many
-pub bracket_too_deep : (room : ℕ) (old : Cursor) (k : BracketKind) (e : Error) → IsInside old → slice_get old.unread 0 ≡ Some (opening k) → room ≡ 0 → kind_of e ≡ code codes.TooDeep → IsPositioned old (Some []) e → OpensBracket room old old (Err e)
-bracket_too_deep room old k e ready first none kind placed =
+pub bracket_too_deep : (room : ℕ) (old : Cursor) (k : BracketKind) (e : Error) → slice_get old.unread 0 ≡ Some (opening k) → room ≡ 0 → kind_of e ≡ code codes.TooDeep → IsPositioned old (Some []) e → IsInside old → OpensBracket room old old (Err e)
+bracket_too_deep room old k e first none kind placed inside =
     let (r, x) = some_next old.unread (opening k) first in
     record {
       opened = tt;
       refused = blames_made old.input (value_at room old) e codes.TooDeep (here old.unread)
           (ap (λ z. forget (read room z)) x ∙ ap (λ d. forget (read d (opening k ∷ r))) none ∙ read_too_deep k r ∙ ap (λ z. bad (Some codes.TooDeep) (here z)) (sym x))
           (λ e. absurd (cc)) kind
-          (ready.before, ready.inside, placed ready.before ready.inside ∙ ap (λ z. Some (position_after z)) (append-nil ready.before));
+          (stands_at old (Some []) (here old.unread) e inside refl placed);
       same_text = refl;
       full = none;
     }
 
 -- the bracket is taken
-pub bracket_opened : (room : ℕ) (old new : Cursor) (bracket : OpenBracket) (c : ℕ) (b : Bool) → IsInside old → slice_get old.unread 0 ≡ Some (opening (bracket_of bracket.kind)) → 0 < room
-    → bracket.start ≡ offset_of old → c ≡ opening (bracket_of bracket.kind)
+pub bracket_opened : (room : ℕ) (old new : Cursor) (bracket : OpenBracket) (c : ℕ) (b : Bool) → slice_get old.unread 0 ≡ Some (opening (bracket_of bracket.kind)) → 0 < room
+    → IsInside old → bracket.start ≡ offset_of old → c ≡ opening (bracket_of bracket.kind)
     → (b ≡ true → Took old (c ∷ []) new) → (b ≡ false → (new ≡ old) × NotBegun (λ d. d == c) old.unread) → OpensBracket room old new (Ok bracket)
-bracket_opened room old new bracket c true ready first left counted is taken kept =
+bracket_opened room old new bracket c true first left suffix counted is taken kept =
     let took = taken refl in
     record {
-      opened = record { sign = took.split ∙ ap (λ z. z ∷ new.unread) is; counted = (ready.before, ready.inside, counted_before old ready.before bracket.start counted ready.inside); room_left = left; same_text = took.same };
+      opened = record { sign = took.split ∙ ap (λ z. z ∷ new.unread) is; counted = (suffix.0, suffix.1, counted_before old suffix.0 bracket.start counted suffix.1); room_left = left; same_text = took.same };
       refused = tt;
       same_text = tt;
       full = tt;
     }
-bracket_opened room old new bracket c false ready first left counted is taken kept =
+bracket_opened room old new bracket c false first left suffix counted is taken kept =
     let (r, x) = some_next old.unread (opening (bracket_of bracket.kind)) first in
     absurd (not_kept r (x ∙ ap (λ z. z ∷ r) (sym is)) (kept refl).1)
   where
@@ -184,5 +184,5 @@ pub opens : (room : ℕ) (old new : Cursor) (bracket : OpenBracket) → OpenedAt
 opens room old new bracket o = record { begun = o; refused = tt; same_text = tt; shorter = let sign = o.sign in omega (arith, ap length sign) }
 
 -- the character opens no bracket
-pub at_scalar : (s : Cursor) (c : ℕ) (o : Option OwnKind) → IsInside s → slice_get s.unread 0 ≡ Some c → o ≡ None → OpensKind c o → AtScalar c s
-at_scalar s c o ready first none opens = record { ready = ready; first = first; other = λ e. subst (OpensKind c) none opens }
+pub at_scalar : (s : Cursor) (c : ℕ) (o : Option OwnKind) → slice_get s.unread 0 ≡ Some c → o ≡ None → OpensKind c o → AtScalar c s
+at_scalar s c o first none opens = record { first = first; other = λ e. subst (OpensKind c) none opens }

@@ -13,11 +13,11 @@ use Rattle.json5_value.specs.Brackets.{bracket_of}
 use Rattle.json5_value.specs.Opening.{OpenedAt}
 use Rattle.json5_value.specs.Offsets.{StartsAfter, PositionedAt}
 use Rattle.json5_value.specs.SkipSteps.{start_of, rest_in, rest_at, Skipping, SkippingInside, SkipsOrOpens, Turned, TakesTurn, SkipsBracket, SkipsValue}
-use Rattle.json5_value.specs.ModelSteps.{IsInside, SameText, RefusesRead, Gave, value_at}
+use Rattle.json5_value.specs.ModelSteps.{SameText, RefusesRead, Gave, value_at}
 use Rattle.json5_value.proofs.Nesting.{inside_blamed, moved}
-use Rattle.json5_value.proofs.SkipInvariant.{no_more_left, value_is, value_next, closed_next, inside_of, ready_opened, begins, ended_inside, ends_whole}
+use Rattle.json5_value.proofs.SkipInvariant.{no_more_left, value_is, value_next, closed_next, inside_of, begins, ended_inside, ends_whole}
 use Rattle.json5_value.proofs.SkipScalars.{value_shorter}
-use Rattle.json5_value.proofs.ModelSteps.{blames_as, ready_after, ready_next, took_both}
+use Rattle.json5_value.proofs.ModelSteps.{blames_as, took_both}
 
 -- ---- one turn
 
@@ -53,15 +53,13 @@ gave_more k comma_due more old new b is g = subst (λ z. Gave (next_value (brack
 -- around it, and so many may still be opened in it
 pub record PassesWithin (room : ℕ) (f g : OpenBracket) (cs : List OpenBracket) (comma_due : Bool) (left : ℕ) (start now : Cursor) : Type 0 where
   pub goes : (w : Read (Unit {0})) (q : List ℕ) → SkippingInside room w [] f false q start → (p : List ℕ) × SkippingInside room w cs g comma_due p now
-  pub ready : IsInside now
   pub place : length cs < room
   pub is_left : left ≡ room - (length cs + 1)
   pub same_text : SameText start now
 
-pub within_start : (room : ℕ) (f : OpenBracket) (cs : List OpenBracket) (left : ℕ) (start : Cursor) → cs ≡ [] → left ≡ room - 1 → IsInside start → 0 < room → PassesWithin room f f cs false left start start
-within_start room f cs left start none is_left ready some = record {
+pub within_start : (room : ℕ) (f : OpenBracket) (cs : List OpenBracket) (left : ℕ) (start : Cursor) → cs ≡ [] → left ≡ room - 1 → 0 < room → PassesWithin room f f cs false left start start
+within_start room f cs left start none is_left some = record {
   goes = λ w q h. (q, subst (λ z. SkippingInside room w z f false q start) (sym none) h);
-  ready = ready;
   place = omega (arith, some, ap length none);
   is_left = omega (arith, is_left, ap length none);
   same_text = refl;
@@ -99,7 +97,6 @@ module _ (room : ℕ) (f g : OpenBracket) (cs : List OpenBracket) (comma_due : B
       let longer = length-append ds (outer ∷ []) in
       record {
         goes = λ w q h. let (z, inside) = p.goes w q h in ended_inside room new w cs ds outer is (closed_next room w z comma_due g cs now new inside v);
-        ready = ready_next now new p.ready v;
         place = omega (arith, there, ap length is, longer);
         is_left = omega (arith, there, is_left, is_more, ap length is, longer);
         same_text = v.took.same ∙ p.same_text;
@@ -116,7 +113,6 @@ module _ (room : ℕ) (f g : OpenBracket) (cs : List OpenBracket) (comma_due : B
               (took_both now mid new v.taken k.taken v.took k.took)
               (value_is room cs g comma_due now true mid refl v ∙ ap (λ m. and_then m (rest_in g deep)) (ap (λ d. value_at d mid) (sym deep_is) ∙ k.reads)),
         );
-    ready = ready_after mid new k.taken (ready_next now mid p.ready v) k.took;
     place = p.place;
     is_left = p.is_left;
     same_text = k.took.same ∙ v.took.same ∙ p.same_text;
@@ -139,7 +135,6 @@ module _ (room : ℕ) (f g : OpenBracket) (cs : List OpenBracket) (comma_due : B
         goes = λ w q h.
             let (z, inside) = p.goes w q h in
             (mid.unread, inside_of room w after inner mid new (subst (λ bs. Skipping room w bs true mid) (sym grown) (value_next room w z comma_due g cs now mid inside v)) (subst (λ n. OpenedAt n inner mid new) same o));
-        ready = ready_opened left inner mid new (ready_next now mid p.ready v) o;
         place = omega (arith, more, there, is_left);
         is_left = omega (arith, more, is_left, is_less);
         same_text = o.same_text ∙ v.took.same ∙ p.same_text;
@@ -154,11 +149,11 @@ module _ (room : ℕ) (f g : OpenBracket) (cs : List OpenBracket) (comma_due : B
 -- ---- the whole value
 
 -- its bracket was opened, and the rest passed over or refused
-pub bracket_passed : (room : ℕ) (bracket : OpenBracket) (old mid new : Cursor) (result : Result (Unit {0}) Error) → IsInside old → OpenedAt room bracket old mid → SkipsBracket room bracket mid new result → SkipsValue room old new result
-bracket_passed room bracket old mid new result ready o k = by_result result k
+pub bracket_passed : (room : ℕ) (bracket : OpenBracket) (old mid new : Cursor) (result : Result (Unit {0}) Error) → OpenedAt room bracket old mid → SkipsBracket room bracket mid new result → SkipsValue room old new result
+bracket_passed room bracket old mid new result o k = by_result result k
   where
     within : SkippingInside room (value_at room old) [] bracket false old.unread mid
-    within = inside_of room (value_at room old) [] bracket old mid (begins room old ready) (subst (λ n. OpenedAt n bracket old mid) (omega arith) o)
+    within = inside_of room (value_at room old) [] bracket old mid (begins room old) (subst (λ n. OpenedAt n bracket old mid) (omega arith) o)
 
     by_result : (result : Result (Unit {0}) Error) → SkipsBracket room bracket mid new result → SkipsValue room old new result
     by_result (Ok u) k = let same = k.same_text ∙ o.same_text in record { given = ends_whole room old new [] refl same (k.goes (value_at room old) old.unread within); refused = tt; same_text = same }

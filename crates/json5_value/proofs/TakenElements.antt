@@ -18,13 +18,13 @@ use Rattle.json5_value.specs.BuildSteps.{Begun, BeginsValue, elements_before, ar
 use Rattle.json5_value.specs.Entries.{next_entry}
 use Rattle.json5_value.specs.OwnedReads.{BlamesEach, datum_at}
 use Rattle.json5_value.specs.TakenEntries.{Leaves, LeavesLess, TakesElements, element_left}
-use Rattle.json5_value.specs.ModelSteps.{IsInside, SameText, Gave, Steps}
+use Rattle.json5_value.specs.ModelSteps.{SameText, Gave, Steps}
 use Rattle.json5_value.proofs.BuildRests.{array_turn, array_step, no_more_elements, array_grown}
 use Rattle.json5_value.proofs.BuildScalars.{datum_got}
 use Rattle.json5_value.proofs.EntryValues.{next_refused}
 use Rattle.json5_value.proofs.SkipScalars.{value_shorter}
 use Rattle.json5_value.proofs.RestsShorter.{next_shorter}
-use Rattle.json5_value.proofs.ModelSteps.{blames_as, ready_after, took_both}
+use Rattle.json5_value.proofs.ModelSteps.{blames_as, took_both}
 
 -- ---- a value
 
@@ -45,7 +45,6 @@ datum_shorter room old new v g =
 pub record Passes (m n : ℕ → Read Datum) (at_start comma_due : Bool) (start now : Cursor) : Type 0 where
   pub leaves : Leaves m n start now
   pub due : at_start ≡ true → comma_due ≡ true
-  pub ready : IsInside now
 
 module _ (b : Bool) (before : List Value) (start : Cursor) (vs : List Value) (comma_due : Bool) (now : Cursor) (p : Passes (array_at before b start) (array_at vs comma_due now) b comma_due start now) where
   entered : (goes : Bool) (mid : Cursor) (d : ℕ) → Gave (next_value of_array comma_due now.unread) goes now mid → array_at before b start d ≡ array_turn (elements_before vs) d goes mid.unread
@@ -114,7 +113,6 @@ module _ (b : Bool) (before : List Value) (start : Cursor) (vs : List Value) (co
           took = took_both start mid new l.0.taken (k 0).taken l.0.took (k 0).took;
         };
         due = λ e. refl;
-        ready = ready_after mid new (k 0).taken (ready_after now mid g.taken p.ready g.took) (k 0).took;
       }
 
   pub goes_down : (mid new : Cursor) (v : Value) → Gave (next_value of_array comma_due now.unread) true now mid → Begun mid new (next.Ended v) → length new.unread < length now.unread

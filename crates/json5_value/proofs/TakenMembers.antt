@@ -20,11 +20,11 @@ use Rattle.json5_value.specs.BuildSteps.{Begun, BeginsValue, members_before, obj
 use Rattle.json5_value.specs.Entries.{next_entry}
 use Rattle.json5_value.specs.OwnedReads.{BlamesEach, BlamesOrMemory, OwnsKey, IsFoundKey, datum_at, next_key}
 use Rattle.json5_value.specs.TakenEntries.{LeavesLess, TakesMembers, member_left}
-use Rattle.json5_value.specs.ModelSteps.{IsInside, SameText, Gave}
+use Rattle.json5_value.specs.ModelSteps.{SameText, Gave}
 use Rattle.json5_value.proofs.BuildKeys.{brace_closed, name_taken, key_shorter}
 use Rattle.json5_value.proofs.BuildRests.{object_turn, object_step, no_more_members, object_grown}
 use Rattle.json5_value.proofs.TakenElements.{Passes, datum_shorter}
-use Rattle.json5_value.proofs.ModelSteps.{blames_as, ready_after, took_both}
+use Rattle.json5_value.proofs.ModelSteps.{blames_as, took_both}
 
 -- the next member's key was taken, and its value is in front
 pub record KeyReached (comma_due : Bool) (k : TextToken) (now mid : Cursor) : Type 0 where
@@ -32,8 +32,6 @@ pub record KeyReached (comma_due : Bool) (k : TextToken) (now mid : Cursor) : Ty
   pub is_key : IsFoundKey mid.input k found
   pub given : Gave (next_key comma_due now.unread) (Some found) now mid
 
-pub reached_ready : (comma_due : Bool) (k : TextToken) (now mid : Cursor) → IsInside now → KeyReached comma_due k now mid → IsInside mid
-reached_ready comma_due k now mid ready r = ready_after now mid r.given.taken ready r.given.took
 
 pub key_reached : (comma_due goes : Bool) (k : TextToken) (now mid last new : Cursor) (u : Unit {0}) → goes ≡ true → Gave (next_entry of_object comma_due now.unread) goes now mid
     → (a : List ℕ × Bool) × IsFoundKey mid.input k a × Gave (key mid.unread) a mid last → Gave (colon_after last.unread) u last new → KeyReached comma_due k now new
@@ -123,7 +121,6 @@ module _ (b : Bool) (before : List (String Global × Value)) (start : Cursor) (f
               took = took_both start mid new l.0.taken (value 0).taken l.0.took (value 0).took;
             };
             due = λ e. refl;
-            ready = ready_after mid new (value 0).taken (ready_after now mid r.given.taken p.ready r.given.took) (value 0).took;
           }
 
       pub members_down : length new.unread < length now.unread

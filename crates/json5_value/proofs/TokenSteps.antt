@@ -26,31 +26,31 @@ use Rattle.json5_grammar.proofs.StringsRead.{string_complete, string_refused}
 use Rattle.json5_grammar.proofs.StringsSound.{StringSound, string_sound}
 use Rattle.json5_grammar.proofs.WordsRead.{differs_at, ends_in, word_complete}
 use Rattle.json5_types.specs.declared.error.Error.{Error}
-use Rattle.json5_text.specs.Cursor.{Cursor, Took}
+use Rattle.json5_text.specs.Cursor.{IsInside, Cursor, Took}
 use Rattle.json5_text.specs.TokenCalls.{PassesBlanks, PassesString, PassesName, PassesNumber, TakesWord}
 use Rattle.json5_types.specs.NumberMeanings.{whole_in}
 use Rattle.json5_text.specs.TokenFaults.{FaultyBlanks, FaultyWord, word_differs, word_ends, FaultyNumber, no_number, number_missing, FaultyString, no_quote, string_missing, FaultyName, no_name, name_missing}
 use Rattle.json5_text.specs.TokenFaults as tokens
-use Rattle.json5_value.specs.ModelSteps.{IsInside, RefusesRead, Gave, Steps, RefusesToken}
+use Rattle.json5_value.specs.ModelSteps.{RefusesRead, Gave, Steps, RefusesToken}
 use Rattle.json5_value.proofs.NoFailedCode.{Lacks, in_blanks_other, word_lacks, faulty_number_lacks, faulty_string_lacks, faulty_name_lacks}
 use Rattle.json5_value.proofs.ModelSteps.{same_of, blames_refused, blames_token, forget_got, forget_refuses}
 
 -- ---- tokens
 
-token_step : {A : Type 0} {F : List ℕ → Option ErrorCode → Option (List ℕ) → Type 0} (P : List ℕ → List ℕ → Type 0) (m : Read A) (old new : Cursor) (result : Result (Unit {0}) Error) → IsInside old → Lacks F
+token_step : {A : Type 0} {F : List ℕ → Option ErrorCode → Option (List ℕ) → Type 0} (P : List ℕ → List ℕ → Type 0) (m : Read A) (old new : Cursor) (result : Result (Unit {0}) Error) → Lacks F
     → ((reason : Option ErrorCode) (place : Option (List ℕ)) → F old.unread reason place → Refuses m old.unread reason place)
     → ((s r : List ℕ) → P s r → old.unread ≡ s ++ r → (a : A) × (m ≡ got a r))
     → ((a : A) (r : List ℕ) → m ≡ got a r → IsOk result)
-    → OnOk result ((s : List ℕ) × Took old s new × P s new.unread) → IfErr result (RefusesToken F old) → OnErr result (new ≡ old)
+    → OnOk result ((s : List ℕ) × Took old s new × P s new.unread) → IfErr result (RefusesToken F old) → OnErr result (new ≡ old) → OnErr result (IsInside old)
     → Steps (forget m) old new result
-token_step P m old new (Ok u) r l k reads memory (s, took, is) refused failed = record {
+token_step P m old new (Ok u) l k reads memory (s, took, is) refused failed inside = record {
   given = record { reads = ap forget (reads s new.unread is took.split).1; taken = s; took = took };
   refused = tt;
   same_text = tt;
 }
-token_step P m old new (Err e) r l k reads memory taken refused failed = record {
+token_step P m old new (Err e) l k reads memory taken refused failed inside = record {
   given = tt;
-  refused = blames_token old (forget m) e r l (λ reason place f. forget_refuses m old.unread reason place (k reason place f)) (λ u y is. let (a, same) = forget_got m u y is in false≢true (memory a y same)) refused;
+  refused = blames_token old (forget m) e inside l (λ reason place f. forget_refuses m old.unread reason place (k reason place f)) (λ u y is. let (a, same) = forget_got m u y is in false≢true (memory a y same)) refused;
   same_text = same_of failed;
 }
 
@@ -60,13 +60,13 @@ pub gap_given : (old new : Cursor) (result : Result (Unit {0}) Error) → Passes
 gap_given old new (Ok u) k = let (w, took, gap, solid) = k.passed in record { reads = ap (skip between) took.split ∙ gap_read gap solid; taken = w; took = took }
 gap_given old new (Err e) k = tt
 
-pub gap_blamed : (old new : Cursor) (result : Result (Unit {0}) Error) → IsInside old → PassesBlanks old new result → IfErr result (RefusesRead old.input (skip between old.unread))
-gap_blamed old new (Ok u) r k = tt
-gap_blamed old new (Err e) r k = blames_refused old (skip between old.unread) e r (λ x reason place (b, part, shown, fault). in_blanks_other fault) (λ reason place (b, part, shown, fault). blank_refused fault) k.refused
+pub gap_blamed : (old new : Cursor) (result : Result (Unit {0}) Error) → PassesBlanks old new result → IfErr result (RefusesRead old.input (skip between old.unread))
+gap_blamed old new (Ok u) k = tt
+gap_blamed old new (Err e) k = blames_refused old (skip between old.unread) e k.inside (λ x reason place (b, part, shown, fault). in_blanks_other fault) (λ reason place (b, part, shown, fault). blank_refused fault) k.refused
 
-pub blanks_step : (old new : Cursor) (result : Result (Unit {0}) Error) → IsInside old → PassesBlanks old new result → Steps (skip between old.unread) old new result
-blanks_step old new (Ok u) r k = record { given = gap_given old new (Ok u) k; refused = tt; same_text = tt }
-blanks_step old new (Err e) r k = record { given = tt; refused = gap_blamed old new (Err e) r k; same_text = same_of k.kept }
+pub blanks_step : (old new : Cursor) (result : Result (Unit {0}) Error) → PassesBlanks old new result → Steps (skip between old.unread) old new result
+blanks_step old new (Ok u) k = record { given = gap_given old new (Ok u) k; refused = tt; same_text = tt }
+blanks_step old new (Err e) k = record { given = tt; refused = gap_blamed old new (Err e) k; same_text = same_of k.kept }
 
 -- ---- strings
 
@@ -79,12 +79,12 @@ string_fault_refuses c r h y reason place e (tokens.FaultyString.faulty f) = str
 string_fault_refuses c r h y reason place e (no_quote d q k) = absurd (no_other_quote c d r q y e refl h k)
 string_fault_refuses c r h y reason place e string_missing = absurd (cc)
 
-pub string_step : (old new : Cursor) (result : Result (Unit {0}) Error) (c : ℕ) (r : List ℕ) → IsInside old → old.unread ≡ c ∷ r → is_quote c ≡ true → PassesString old new result → Steps (forget (string old.unread)) old new result
-string_step old new result c r ready x h k =
-    token_step (λ s r. (u : List ℕ) × (escape_free : Bool) × Str s u escape_free) (string old.unread) old new result ready faulty_string_lacks (λ reason place f. string_fault_refuses c r h old.unread reason place x f)
+pub string_step : (old new : Cursor) (result : Result (Unit {0}) Error) (c : ℕ) (r : List ℕ) → old.unread ≡ c ∷ r → is_quote c ≡ true → PassesString old new result → Steps (forget (string old.unread)) old new result
+string_step old new result c r x h k =
+    token_step (λ s r. (u : List ℕ) × (escape_free : Bool) × Str s u escape_free) (string old.unread) old new result faulty_string_lacks (λ reason place f. string_fault_refuses c r h old.unread reason place x f)
     (λ s y k e. ((k.0, k.1), ap string e ∙ string_complete y k.2))
     (λ a y is. let (s, split, str) = from_sound a y (subst (StringSound (c ∷ r)) (sym (ap string x) ∙ is) (string_sound c r h)) in k.memory s a.0 y a.1 (x ∙ split) str)
-    (reordered result k.taken) k.refused k.kept
+    (reordered result k.taken) k.refused k.kept k.inside
   where
     from_sound : (a : List ℕ × Bool) (y : List ℕ) → StringSound (c ∷ r) (got a y) → (s : List ℕ) × (c ∷ r ≡ s ++ y) × Str s a.0 a.1
     from_sound a y k = k
@@ -113,12 +113,12 @@ abbrev pub without : {A : Type 0} → Result A Error → Result (Unit {0}) Error
 without (Ok a) = Ok tt
 without (Err e) = Err e
 
-pub number_step : (old new : Cursor) (result : Result (Option ℤ) Error) (c : ℕ) (r : List ℕ) → IsInside old → old.unread ≡ c ∷ r → (is_sign c || begins_number c) ≡ true → PassesNumber old new result → Steps (forget (reading.number old.unread)) old new (without result)
-number_step old new result c r ready x h k =
-    token_step (λ s r. (n : numbers.Number) × Num s n × NotBegun (lengthens s) r) (reading.number old.unread) old new (without result) ready faulty_number_lacks (λ reason place f. number_fault_refuses c r h old.unread reason place x f)
+pub number_step : (old new : Cursor) (result : Result (Option ℤ) Error) (c : ℕ) (r : List ℕ) → old.unread ≡ c ∷ r → (is_sign c || begins_number c) ≡ true → PassesNumber old new result → Steps (forget (reading.number old.unread)) old new (without result)
+number_step old new result c r x h k =
+    token_step (λ s r. (n : numbers.Number) × Num s n × NotBegun (lengthens s) r) (reading.number old.unread) old new (without result) faulty_number_lacks (λ reason place f. number_fault_refuses c r h old.unread reason place x f)
     (λ s y k e. (k.0, ap reading.number e ∙ complete k.1 y k.2))
     (λ n y is. let (s, split, num, stops) = from_sound n y (subst (SoundNumber (c ∷ r)) (sym (ap reading.number x) ∙ is) (sound (c ∷ r) h)) in ok result (k.memory s y n (x ∙ split) num stops))
-    (reordered result k.taken) (refused result k.refused) (kept result k.kept)
+    (reordered result k.taken) (refused result k.refused) (kept result k.kept) (kept result k.inside)
   where
     from_sound : (n : numbers.Number) (y : List ℕ) → SoundNumber (c ∷ r) (got n y) → (s : List ℕ) × (c ∷ r ≡ s ++ y) × Num s n × NotBegun (lengthens s) y
     from_sound n y k = k
@@ -136,7 +136,7 @@ number_step old new result c r ready x h k =
     refused (Ok v) k = tt
     refused (Err e) k = k
 
-    kept : (result : Result (Option ℤ) Error) → OnErr result (new ≡ old) → OnErr (without result) (new ≡ old)
+    kept : {P : Type 0} (result : Result (Option ℤ) Error) → OnErr result P → OnErr (without result) P
     kept (Ok v) k = tt
     kept (Err e) k = k
 
@@ -171,12 +171,12 @@ name_refuses x reason place (tokens.FaultyName.faulty f) = name_refused f
 name_refuses x reason place (no_name c r h) = (here (c ∷ r), name_not_begun c r h, refl)
 name_refuses x reason place name_missing = (inner, name_missing_read, tt)
 
-pub name_step : (old new : Cursor) (result : Result (Unit {0}) Error) → IsInside old → PassesName old new result → Steps (forget (identifier old.unread)) old new result
-name_step old new result ready k =
-    token_step (λ s r. (u : List ℕ) × (escape_free : Bool) × Ident s u escape_free × (c : ℕ) × (y : List ℕ) × (r ≡ c ∷ y) × (goes_on_name c ≡ false)) (identifier old.unread) old new result ready faulty_name_lacks (name_refuses old.unread)
+pub name_step : (old new : Cursor) (result : Result (Unit {0}) Error) → PassesName old new result → Steps (forget (identifier old.unread)) old new result
+name_step old new result k =
+    token_step (λ s r. (u : List ℕ) × (escape_free : Bool) × Ident s u escape_free × (c : ℕ) × (y : List ℕ) × (r ≡ c ∷ y) × (goes_on_name c ≡ false)) (identifier old.unread) old new result faulty_name_lacks (name_refuses old.unread)
     (λ s y k e. ((k.0, k.1), ap identifier (e ∙ ap (λ q. s ++ q) k.5) ∙ name_complete k.3 k.4 k.2 k.6 ∙ ap (got (k.0, k.1)) (sym k.5)))
     (λ a y is. let (s, c, r, split, i, h) = name_read old.unread a y is in k.memory s a.0 r c a.1 split i h)
-    (reordered result k.taken k.stops) k.refused k.kept
+    (reordered result k.taken k.stops) k.refused k.kept k.inside
   where
     reordered : (result : Result (Unit {0}) Error) → OnOk result ((s u : List ℕ) × (escape_free : Bool) × Took old s new × Ident s u escape_free) → OnOk result ((c : ℕ) × (r : List ℕ) × (new.unread ≡ c ∷ r) × (goes_on_name c ≡ false))
         → OnOk result ((s : List ℕ) × Took old s new × ((u : List ℕ) × (escape_free : Bool) × Ident s u escape_free × (c : ℕ) × (y : List ℕ) × (new.unread ≡ c ∷ y) × (goes_on_name c ≡ false)))
@@ -189,6 +189,6 @@ pub word_refuses : (w : List ℕ) (ends differs : ErrorCode) (x : List ℕ) (rea
 word_refuses w ends differs x reason place (word_differs p q r c d e h) = (here (c ∷ r), ap (λ z. word_at ends differs tt z (p ++ c ∷ r)) e ∙ differs_at ends differs tt p q r d c h, refl)
 word_refuses w ends differs x reason place (word_ends p q d e) = (inner, ap (λ z. word_at ends differs tt z p) e ∙ ends_in ends differs tt p q d, tt)
 
-pub word_step : (w : List ℕ) (ends differs : ErrorCode) (old new : Cursor) (result : Result (Unit {0}) Error) → ends ≢ codes.Failed → differs ≢ codes.Failed → IsInside old → TakesWord w ends differs old new result → Steps (word_at ends differs (tt {0}) w old.unread) old new result
-word_step w ends differs old new (Ok u) a b ready k = let took = k.taken in record { given = record { reads = ap (word_at ends differs tt w) took.split ∙ word_complete ends differs tt w new.unread; taken = w; took = took }; refused = tt; same_text = tt }
-word_step w ends differs old new (Err e) a b ready k = record { given = tt; refused = blames_refused old (word_at ends differs tt w old.unread) e ready (word_lacks w ends differs a b) (word_refuses w ends differs old.unread) k.refused; same_text = same_of k.kept }
+pub word_step : (w : List ℕ) (ends differs : ErrorCode) (old new : Cursor) (result : Result (Unit {0}) Error) → ends ≢ codes.Failed → differs ≢ codes.Failed → TakesWord w ends differs old new result → Steps (word_at ends differs (tt {0}) w old.unread) old new result
+word_step w ends differs old new (Ok u) a b k = let took = k.taken in record { given = record { reads = ap (word_at ends differs tt w) took.split ∙ word_complete ends differs tt w new.unread; taken = w; took = took }; refused = tt; same_text = tt }
+word_step w ends differs old new (Err e) a b k = record { given = tt; refused = blames_refused old (word_at ends differs tt w old.unread) e k.inside (word_lacks w ends differs a b) (word_refuses w ends differs old.unread) k.refused; same_text = same_of k.kept }

@@ -13,13 +13,13 @@ use Rattle.json5_grammar.specs.Model.ReadSteps.{eof_in, comma_at}
 use Rattle.json5_grammar.specs.Model.ReadValues.{colon_at}
 use Rattle.json5_grammar.proofs.Refusals.{Refuses}
 use Rattle.json5_types.specs.declared.error.Error.{Error}
-use Rattle.json5_text.specs.Cursor.{Cursor, Refused}
+use Rattle.json5_text.specs.Cursor.{IsInside, Cursor, Refused}
 use Rattle.json5_types.specs.Errors.{code, kind_of, error_position}
 use Rattle.json5_value.specs.declared.brackets.BracketPair.{BracketPair}
 use Rattle.json5_value.specs.declared.brackets.BracketKind.{BracketKind as OwnKind}
 use Rattle.json5_value.specs.declared.brackets.BracketKind.TheVariants as kind
 use Rattle.json5_value.specs.Brackets.{bracket_of, brackets_of}
-use Rattle.json5_value.specs.ModelSteps.{IsInside, RefusesRead, Unexpected, at_end, at_char}
+use Rattle.json5_value.specs.ModelSteps.{RefusesRead, Unexpected, at_end, at_char}
 use Rattle.json5_value.proofs.NoFailedCode.{Lacks}
 use Rattle.json5_value.proofs.ModelSteps.{none_next, some_next, blames_refused}
 
@@ -34,6 +34,10 @@ refused_end {ends = ends} {differs = differs} s e next peeked is kind place = re
   says = kind;
   placed = place;
 }
+
+-- nothing is unread at the end
+pub end_inside : (s : Cursor) → slice_get s.unread 0 ≡ None → IsInside s
+end_inside s none = (s.input, sym (append-nil s.input) ∙ ap (λ y. s.input ++ y) (sym (none_next s.unread none)))
 
 -- a character is refused
 pub refused_char : {ends differs : ErrorCode} (s : Cursor) (e : Error) (next : Option ℕ) (c : ℕ) (p : Position) → next ≡ slice_get s.unread 0 → next ≡ Some c → kind_of e ≡ code differs → error_position e ≡ Some p
@@ -76,7 +80,7 @@ eof_other of_object e = absurd (cc)
 
 -- neither a comma nor the closing bracket
 pub no_comma : (k : BracketKind) (s : Cursor) (e : Error) → IsInside s → NotBegun (λ d. d == 44) s.unread → NotBegun (λ d. d == closing k) s.unread → Refused (Unexpected (eof_in k) codes.ExpectedComma) s e → RefusesRead s.input (comma_at k s.unread) e
-no_comma k s e ready a b f = blames_refused s (comma_at k s.unread) e ready (unexpected_lacks (eof_other k) (λ e. absurd (cc))) (λ reason place g. comma_refuses k s.unread reason place a b g) f
+no_comma k s e r a b f = blames_refused s (comma_at k s.unread) e r (unexpected_lacks (eof_other k) (λ e. absurd (cc))) (λ reason place g. comma_refuses k s.unread reason place a b g) f
 
 colon_refuses : (x : List ℕ) (reason : Option ErrorCode) (place : Option (List ℕ)) → NotBegun (λ d. d == 58) x → Unexpected codes.EofParsingObject codes.ExpectedColon x reason place → Refuses (colon_at x) x reason place
 colon_refuses x reason place a at_end = (inner, refl, tt)
@@ -84,4 +88,4 @@ colon_refuses x reason place a (at_char c r) = (here (c ∷ r), rw a refl, refl)
 
 -- no colon
 pub no_colon : (s : Cursor) (e : Error) → IsInside s → NotBegun (λ d. d == 58) s.unread → Refused (Unexpected codes.EofParsingObject codes.ExpectedColon) s e → RefusesRead s.input (colon_at s.unread) e
-no_colon s e ready a f = blames_refused s (colon_at s.unread) e ready (unexpected_lacks (λ e. absurd (cc)) (λ e. absurd (cc))) (λ reason place g. colon_refuses s.unread reason place a g) f
+no_colon s e r a f = blames_refused s (colon_at s.unread) e r (unexpected_lacks (λ e. absurd (cc)) (λ e. absurd (cc))) (λ reason place g. colon_refuses s.unread reason place a g) f

@@ -10,11 +10,6 @@ use Rattle.json5_types.specs.declared.error.Error.{Error}
 use Rattle.json5_text.specs.Cursor.{Cursor, Took, Says, Refused, IsOutOfMemory}
 use Rattle.json5_types.specs.Errors.{LacksMemory, code, kind_of, error_position}
 
--- the unread part is the end of the input
-pub record IsInside (s : Cursor) : Type 0 where
-  pub before : List ℕ
-  pub inside : s.input ≡ before ++ s.unread
-
 abbrev pub SameText : Cursor → Cursor → Type 0
 SameText old new = new.input ≡ old.input
 

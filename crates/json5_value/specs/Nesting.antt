@@ -3,7 +3,6 @@ use Rattle.std.specs.Prelude.{◌≡◌, ℕ, ◌-◌, ◌<◌, ◌≤◌, List,
 use Rattle.json5_grammar.specs.Model.Reading.{Read, and_then, placed}
 use Rattle.json5_text.specs.Cursor.{Cursor}
 use Rattle.json5_value.specs.Offsets.{CountsTo}
-use Rattle.json5_value.specs.ModelSteps.{IsInside}
 
 -- these are open, the outermost first; at most d brackets may be open at once; and what m reads makes w of the whole
 abbrev pub Nested : {F D : Type 0} → (F → ℕ) → (F → ℕ → D → List ℕ → Read D) → List ℕ → ℕ → List F → Read D → Read D → Type 0
@@ -12,13 +11,11 @@ Nested {F = F} {D = D} start after input d (f ∷ fs) m w = (q : List ℕ) × (v
 
 -- within these what is read next makes w of the whole
 pub record Within {F D : Type 0} (start : F → ℕ) (after : F → ℕ → D → List ℕ → Read D) (room : ℕ) (w : Read D) (fs : List F) (m : Read D) (now : Cursor) : Type 0 where
-  pub ready : IsInside now
   pub fits : length fs ≤ room
   pub nested : Nested start after now.input room fs m w
 
 -- the same within one more, which was opened before q
 pub record WithinInner {F D : Type 0} (start : F → ℕ) (after : F → ℕ → D → List ℕ → Read D) (room : ℕ) (w : Read D) (fs : List F) (at : ℕ) (m : Read D) (q : List ℕ) (now : Cursor) : Type 0 where
-  pub ready : IsInside now
   pub fits : length fs < room
   pub counted : CountsTo now.input at q
   pub nested : Nested start after now.input room fs (placed q m) w

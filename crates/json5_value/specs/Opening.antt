@@ -10,7 +10,7 @@ use Rattle.json5_value.specs.declared.kinds.ValueKind.TheVariants as kind
 use Rattle.json5_value.specs.Brackets.{bracket_of}
 use Rattle.json5_value.specs.Kinds.{kind_at}
 use Rattle.json5_value.specs.Offsets.{CountsTo}
-use Rattle.json5_value.specs.ModelSteps.{IsInside, SameText, RefusesRead, value_at}
+use Rattle.json5_value.specs.ModelSteps.{SameText, RefusesRead, value_at}
 
 -- the character opens brackets of this kind, or none
 abbrev pub OpensKind : ℕ → Option BracketKind → Type 0
@@ -19,14 +19,12 @@ OpensKind c None = ((c == opening of_array) || (c == opening of_object)) ≡ fal
 
 -- no value that is a collection begins here with this character
 pub record AtScalar (c : ℕ) (s : Cursor) : Type 0 where
-  pub ready : IsInside s
   pub first : slice_get s.unread 0 ≡ Some c
   pub other : kind_at c ≡ kind.Other → OpensKind c None
 
 -- one of this kind begins here
 pub record AtKind (k : ValueKind) (s : Cursor) : Type 0 where
   pub char : ℕ
-  pub ready : IsInside s
   pub first : slice_get s.unread 0 ≡ Some char
   pub is : kind_at char ≡ k
 

@@ -4,7 +4,7 @@ ghost use Rattle.std.specs.Prelude.{◌≡◌, Some, slice_get};
 ghost use Rattle.json5_grammar.specs.Faults.Fronts.{opening};
 ghost use Rattle.json5_value.specs.Brackets.{bracket_of, brackets_of};
 ghost use Rattle.json5_value.specs.Opening.{OpensBracket, OpensKind};
-ghost use Rattle.json5_value.specs.ModelSteps.{IsInside, answered};
+ghost use Rattle.json5_value.specs.ModelSteps.{answered};
 
 use crate::faults::leave_here;
 use json5_text::input::Input;
@@ -97,7 +97,6 @@ pub(crate) fn open_bracket<I: Input>(
     kind: BracketKind,
     fault: &mut Error,
 ) -> Option<OpenBracket>
-    requires ready { IsInside scanner.old }
     requires sign { slice_get scanner.old.unread 0 ≡ Some (opening (bracket_of kind)) }
     ensures { OpensBracket room scanner.old scanner.new (answered result fault.new) }
 {

@@ -7,7 +7,7 @@ ghost use Rattle.json5_grammar.specs.Model.ReadSteps.{forget, colon_after, next_
 ghost use Rattle.json5_grammar.specs.Model.ReadTexts.{key};
 ghost use Rattle.json5_value.specs.Brackets.{bracket_of};
 ghost use Rattle.json5_value.specs.Entries.{due_comma, next_entry};
-ghost use Rattle.json5_value.specs.ModelSteps.{IsInside, Steps, answered};
+ghost use Rattle.json5_value.specs.ModelSteps.{Steps, answered};
 
 use crate::brackets::BracketKind;
 use crate::faults::{leave_code, leave_error, unexpected_here};
@@ -21,7 +21,6 @@ use json5_types::error::Error;
 /// Passes over blanks.
 #[inline(never)]
 fn skip_blank<I: Input>(scanner: &mut Scanner<I>, fault: &mut Error) -> Option<()>
-    requires { IsInside scanner.old }
     ensures { Steps (skip between scanner.old.unread) scanner.old scanner.new (answered result fault.new) }
 {
     leave_error(scanner.skip_blank(), fault)
@@ -30,7 +29,6 @@ fn skip_blank<I: Input>(scanner: &mut Scanner<I>, fault: &mut Error) -> Option<(
 /// The same as `skip_colon`, whatever is in front.
 #[inline(never)]
 fn skip_colon_slowly<I: Input>(scanner: &mut Scanner<I>, fault: &mut Error) -> Option<()>
-    requires { IsInside scanner.old }
     ensures { Steps (colon_after scanner.old.unread) scanner.old scanner.new (answered result fault.new) }
 {
     skip_blank(scanner, fault)?;
@@ -48,7 +46,6 @@ fn skip_colon_slowly<I: Input>(scanner: &mut Scanner<I>, fault: &mut Error) -> O
 /// Passes over blanks, a colon and blanks.
 #[inline(always)]
 pub(crate) fn skip_colon<I: Input>(scanner: &mut Scanner<I>, fault: &mut Error) -> Option<()>
-    requires { IsInside scanner.old }
     ensures { Steps (colon_after scanner.old.unread) scanner.old scanner.new (answered result fault.new) }
 {
     if !scanner.short_sign(b':') {
@@ -63,7 +60,6 @@ pub(crate) fn skip_colon<I: Input>(scanner: &mut Scanner<I>, fault: &mut Error) 
 /// The same as `skip_key`, whatever is in front.
 #[inline(never)]
 fn skip_key_slowly<I: Input>(scanner: &mut Scanner<I>, fault: &mut Error) -> Option<()>
-    requires { IsInside scanner.old }
     ensures { Steps (forget (key scanner.old.unread)) scanner.old scanner.new (answered result fault.new) }
 {
     let Some(c) = scanner.peek() else {
@@ -79,7 +75,6 @@ fn skip_key_slowly<I: Input>(scanner: &mut Scanner<I>, fault: &mut Error) -> Opt
 /// Passes over a key.
 #[inline(always)]
 fn skip_key<I: Input>(scanner: &mut Scanner<I>, fault: &mut Error) -> Option<()>
-    requires ready { IsInside scanner.old }
     requires solid { Solid scanner.old.unread }
     ensures { Steps (forget (key scanner.old.unread)) scanner.old scanner.new (answered result fault.new) }
 {
@@ -96,7 +91,6 @@ fn skip_comma<I: Input>(
     comma_due: bool,
     fault: &mut Error,
 ) -> Option<bool>
-    requires { IsInside scanner.old }
     ensures { Steps (due_comma (bracket_of kind) comma_due scanner.old.unread) scanner.old scanner.new (answered result fault.new) }
 {
     if !comma_due {
@@ -122,7 +116,6 @@ fn next_entry_slowly<I: Input>(
     comma_due: bool,
     fault: &mut Error,
 ) -> Option<bool>
-    requires { IsInside scanner.old }
     ensures { Steps (next_entry (bracket_of kind) comma_due scanner.old.unread) scanner.old scanner.new (answered result fault.new) }
 {
     let more = skip_comma(scanner, kind, comma_due, fault)?;
@@ -141,7 +134,6 @@ pub(crate) fn next_entry<I: Input>(
     comma_due: bool,
     fault: &mut Error,
 ) -> Option<bool>
-    requires { IsInside scanner.old }
     ensures { Steps (next_entry (bracket_of kind) comma_due scanner.old.unread) scanner.old scanner.new (answered result fault.new) }
 {
     let closing = kind.brackets().closing;
@@ -163,7 +155,6 @@ pub(crate) fn next_value<I: Input>(
     comma_due: bool,
     fault: &mut Error,
 ) -> Option<bool>
-    requires { IsInside scanner.old }
     ensures { Steps (next_value (bracket_of kind) comma_due scanner.old.unread) scanner.old scanner.new (answered result fault.new) }
 {
     let more = next_entry(scanner, kind, comma_due, fault)?;

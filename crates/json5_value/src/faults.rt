@@ -1,7 +1,7 @@
 //! Faults at the next character and at a bracket.
 
 ghost use Rattle.std.specs.Prelude.{◌≡◌, [], Some, None};
-ghost use Rattle.json5_text.specs.Cursor.{Refused, IsPositioned};
+ghost use Rattle.json5_text.specs.Cursor.{IsInside, Refused, IsPositioned};
 ghost use Rattle.json5_types.specs.Errors.{FaultKind, kind_of, SaysAt};
 ghost use Rattle.json5_value.specs.Offsets.{PositionedAt, StartsAfter};
 ghost use Rattle.json5_value.specs.ModelSteps.{Unexpected, answered};
@@ -17,7 +17,8 @@ use std::mem;
 #[cold]
 #[inline(never)]
 pub fn unexpected_here<I: Input>(scanner: &Scanner<I>, ends: ErrorCode, differs: ErrorCode) -> Error
-    ensures { Refused (Unexpected ends differs) scanner.now result }
+    ensures refused { Refused (Unexpected ends differs) scanner.now result }
+    ensures inside { IsInside scanner.now }
 {
     match scanner.peek() {
         Some(_) => Error::new_at(scanner.position_of(scanner.offset()), differs),
@@ -31,6 +32,7 @@ pub fn unexpected_here<I: Input>(scanner: &Scanner<I>, ends: ErrorCode, differs:
 pub fn fault_here<I: Input>(scanner: &Scanner<I>, code: ErrorCode) -> Error
     ensures kind { kind_of result ≡ FaultKind.code code }
     ensures placed { IsPositioned scanner.now (Some []) result }
+    ensures inside { IsInside scanner.now }
 {
     let offset = scanner.offset();
     Error::new_at(scanner.position_of(offset), code)
@@ -73,6 +75,7 @@ pub(crate) fn leave_code(code: ErrorCode, fault: &mut Error)
 pub(crate) fn leave_here<I: Input>(scanner: &Scanner<I>, code: ErrorCode, fault: &mut Error)
     ensures kind { kind_of fault.new ≡ FaultKind.code code }
     ensures placed { IsPositioned scanner.now (Some []) fault.new }
+    ensures inside { IsInside scanner.now }
 {
     *fault = fault_here(scanner, code);
 }

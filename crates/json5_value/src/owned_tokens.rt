@@ -3,7 +3,7 @@
 ghost use Rattle.json5_grammar.specs.Language.Blanks.{Solid};
 ghost use Rattle.json5_grammar.specs.Model.ReadTexts.{key};
 ghost use Rattle.json5_value.specs.OwnedReads.{Keeps, OwnsKey, OwnsText, IsFoundKey};
-ghost use Rattle.json5_value.specs.ModelSteps.{IsInside, answered};
+ghost use Rattle.json5_value.specs.ModelSteps.{answered};
 
 use crate::faults::{leave_code, leave_error};
 use json5_text::input::Input;
@@ -64,7 +64,6 @@ pub(crate) fn own_key<I: Input>(
 /// Takes a key, whatever it is.
 #[inline(never)]
 fn take_key_slowly<I: Input>(scanner: &mut Scanner<I>, fault: &mut Error) -> Option<TextToken>
-    requires { IsInside scanner.old }
     ensures { Keeps (IsFoundKey scanner.old.input) (key scanner.old.unread) scanner.old scanner.new (answered result fault.new) }
 {
     if scanner.peek().is_none() {
@@ -79,7 +78,6 @@ fn take_key_slowly<I: Input>(scanner: &mut Scanner<I>, fault: &mut Error) -> Opt
 /// Takes a key.
 #[inline(always)]
 pub(crate) fn take_key<I: Input>(scanner: &mut Scanner<I>, fault: &mut Error) -> Option<TextToken>
-    requires ready { IsInside scanner.old }
     requires solid { Solid scanner.old.unread }
     ensures { Keeps (IsFoundKey scanner.old.input) (key scanner.old.unread) scanner.old scanner.new (answered result fault.new) }
 {

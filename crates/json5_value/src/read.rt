@@ -2,7 +2,7 @@
 
 ghost use Rattle.json5_value.specs.BuildSteps.{AtBracket, TurnsBuilding};
 ghost use Rattle.json5_value.specs.OwnedReads.{ReadsDatum};
-ghost use Rattle.json5_value.specs.ModelSteps.{IsInside, answered};
+ghost use Rattle.json5_value.specs.ModelSteps.{answered};
 
 use crate::brackets::{BracketKind, open_bracket};
 use crate::unfinished::{Next, Unfinished, attach_value, begin_value, resume_array, resume_object};
@@ -20,7 +20,6 @@ fn open_value<I: Input>(
     kind: BracketKind,
     fault: &mut Error,
 ) -> Option<Next>
-    requires ready { IsInside scanner.old }
     requires sign { AtBracket kind scanner.old }
     ensures { TurnsBuilding room kind stack.old.items stack.new.items scanner.old scanner.new (answered result fault.new) }
 {
@@ -37,7 +36,6 @@ fn open_value<I: Input>(
 
 /// The same as `read_value`, with the error of a refusal left in `fault`.
 fn take_value<I: Input>(scanner: &mut Scanner<I>, room: usize, fault: &mut Error) -> Option<Value>
-    requires { IsInside scanner.old }
     ensures { ReadsDatum room scanner.old scanner.new (answered result fault.new) }
 {
     let mut stack = Vec::new(scanner.allocator());
@@ -69,8 +67,6 @@ fn take_value<I: Input>(scanner: &mut Scanner<I>, room: usize, fault: &mut Error
 pub fn read_value<I: Input>(scanner: &mut Scanner<I>, room: usize) -> Result<Value>
     ensures { ReadsDatum room scanner.old scanner.new result }
 {
-    // Goals below need what `offset` promises: what is unread is the end of the input.
-    let _offset = scanner.offset();
     let mut fault = Error::new(ErrorCode::Failed);
     match take_value(scanner, room, &mut fault) {
         Some(value) => Ok(value),

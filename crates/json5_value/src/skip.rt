@@ -3,7 +3,7 @@
 ghost use Rattle.std.specs.Prelude.{◌<◌, ◌≤◌};
 ghost use Rattle.json5_grammar.specs.Language.Documents.{max_depth};
 ghost use Rattle.json5_value.specs.SkipSteps.{SkipsOrOpens, TakesTurn, SkipsBracket, SkipsValue};
-ghost use Rattle.json5_value.specs.ModelSteps.{IsInside, answered};
+ghost use Rattle.json5_value.specs.ModelSteps.{answered};
 
 use crate::brackets::{BracketKind, OpenBracket, kind_opened, open_bracket};
 use crate::entries::next_value;
@@ -36,7 +36,6 @@ fn skip_or_open<I: Input>(
     room: usize,
     fault: &mut Error,
 ) -> Option<Option<OpenBracket>>
-    requires { IsInside scanner.old }
     ensures { SkipsOrOpens room scanner.old scanner.new (answered result fault.new) }
 {
     let Some(c) = scanner.peek() else {
@@ -63,7 +62,6 @@ fn skip_turn<I: Input>(
     comma_due: bool,
     fault: &mut Error,
 ) -> Option<Turn>
-    requires { IsInside scanner.old }
     ensures { TakesTurn kind comma_due room scanner.old scanner.new (answered result fault.new) }
 {
     let more = next_value(scanner, kind, comma_due, fault)?;
@@ -84,7 +82,6 @@ fn skip_bracket<I: Input>(
     outermost: OpenBracket,
     fault: &mut Error,
 ) -> Option<()>
-    requires ready { IsInside scanner.old }
     requires room { room ≤ max_depth }
     requires place { 0 < room }
     ensures { SkipsBracket room outermost scanner.old scanner.new (answered result fault.new) }
@@ -122,7 +119,6 @@ fn skip_bracket<I: Input>(
 /// The same as `skip_value`, with the error of a refusal left in `fault`.
 #[inline(always)]
 fn pass_value<I: Input>(scanner: &mut Scanner<I>, room: usize, fault: &mut Error) -> Option<()>
-    requires ready { IsInside scanner.old }
     requires room { room ≤ max_depth }
     ensures { SkipsValue room scanner.old scanner.new (answered result fault.new) }
 {
@@ -142,8 +138,6 @@ pub fn skip_value<I: Input>(scanner: &mut Scanner<I>, room: usize) -> Result<()>
     requires { room ≤ max_depth }
     ensures { SkipsValue room scanner.old scanner.new result }
 {
-    // Goals below need what `offset` promises: what is unread is the end of the input.
-    let _offset = scanner.offset();
     let mut fault = Error::new(ErrorCode::Failed);
     match pass_value(scanner, room, &mut fault) {
         Some(()) => Ok(()),

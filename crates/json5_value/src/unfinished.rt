@@ -4,7 +4,7 @@
 ghost use Rattle.json5_value.specs.BuildSteps.{ArrayGoesOn, BeginsValue, GoesOnAfter, ObjectGoesOn};
 ghost use Rattle.json5_value.specs.TakenEntries.{TakesElements, TakesMembers};
 ghost use Rattle.json5_value.specs.Opening.{AtScalar};
-ghost use Rattle.json5_value.specs.ModelSteps.{IsInside, answered};
+ghost use Rattle.json5_value.specs.ModelSteps.{answered};
 
 use crate::brackets::{BracketKind, kind_opened};
 use crate::entries::{next_entry, skip_colon};
@@ -55,7 +55,6 @@ fn begin_slowly<I: Input>(scanner: &mut Scanner<I>, c: char, fault: &mut Error) 
 /// Takes the value in front, if it is no collection.
 #[inline(always)]
 pub(crate) fn begin_value<I: Input>(scanner: &mut Scanner<I>, fault: &mut Error) -> Option<Next>
-    requires { IsInside scanner.old }
     ensures { BeginsValue scanner.old scanner.new (answered result fault.new) }
 {
     let Some(c) = scanner.peek() else {
@@ -80,7 +79,6 @@ fn take_elements<I: Input>(
     comma_due: bool,
     fault: &mut Error,
 ) -> Option<Option<BracketKind>>
-    requires { IsInside scanner.old }
     ensures { TakesElements comma_due elements.old.items elements.new.items scanner.old scanner.new (answered result fault.new) }
 {
     let mut due = comma_due;
@@ -111,7 +109,6 @@ fn take_members<I: Input>(
     comma_due: bool,
     fault: &mut Error,
 ) -> Option<Option<(String, BracketKind)>>
-    requires { IsInside scanner.old }
     ensures { TakesMembers comma_due members.old.items members.new.items scanner.old scanner.new (answered result fault.new) }
 {
     let mut due = comma_due;
@@ -142,7 +139,6 @@ pub(crate) fn resume_array<I: Input>(
     comma_due: bool,
     fault: &mut Error,
 ) -> Option<Next>
-    requires { IsInside scanner.old }
     ensures { ArrayGoesOn start elements.items comma_due stack.old.items stack.new.items scanner.old scanner.new (answered result fault.new) }
 {
     let mut elements = elements;
@@ -169,7 +165,6 @@ pub(crate) fn resume_object<I: Input>(
     comma_due: bool,
     fault: &mut Error,
 ) -> Option<Next>
-    requires { IsInside scanner.old }
     ensures { ObjectGoesOn start members.items comma_due stack.old.items stack.new.items scanner.old scanner.new (answered result fault.new) }
 {
     let mut members = members;
@@ -199,7 +194,6 @@ pub(crate) fn attach_value<I: Input>(
     value: Value,
     fault: &mut Error,
 ) -> Option<Next>
-    requires { IsInside scanner.old }
     ensures { GoesOnAfter unfinished value stack.old.items stack.new.items scanner.old scanner.new (answered result fault.new) }
 {
     match unfinished {

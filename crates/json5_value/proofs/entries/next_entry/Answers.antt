@@ -2,7 +2,7 @@ use Rattle.std.proofs.Common.{sym, subst}
 use Rattle.json5_text.specs.Cursor.{Cursor}
 use Rattle.json5_value.specs.Brackets.{bracket_of}
 use Rattle.json5_value.specs.Entries.{next_entry}
-use Rattle.json5_value.specs.ModelSteps.{IsInside, Steps, answered}
+use Rattle.json5_value.specs.ModelSteps.{Steps, answered}
 use Rattle.json5_value.proofs.ShortEntries.{entry_gave, closing_gave}
 use Rattle.json5_value.proofs.entries.next_entry.Goals as goal
 
@@ -15,9 +15,6 @@ returns-in-Closing g c = record {
   refused = tt;
   same_text = tt;
 }
-
-pub next_entry_slowly-requires : goal.next_entry_slowly-requires
-next_entry_slowly-requires g c = subst IsInside (sym (rw c.in-Other.is at c.short_step.ensures)) c.requires
 
 pub returns-in-Other : goal.returns-in-Other
 returns-in-Other g c =

@@ -1,14 +1,10 @@
 use Rattle.json5_value.specs.Brackets.{bracket_of}
 use Rattle.json5_value.proofs.EntrySteps.{closed_for_comma, entry_blanks, entry_found}
 use Rattle.json5_value.proofs.UnexpectedCharacters.{closing_is}
-use Rattle.json5_value.proofs.ModelSteps.{ready_next}
 use Rattle.json5_value.proofs.entries.next_entry_slowly.Goals as goal
 
 pub returns-then-not-more : goal.returns-then-not-more
 returns-then-not-more g c = closed_for_comma (bracket_of c.args.kind) c.args.comma_due c.in_ok-more.more c.args.scanner.now c.skip_comma.new.scanner c.if-not-more.true c.in_ok-more.ensures.given
-
-pub skip_blank-requires : goal.skip_blank-requires
-skip_blank-requires g c = ready_next c.args.scanner.now c.skip_comma.new.scanner c.requires c.in_ok-more.ensures.given
 
 pub returns-in_err-skip_blank : goal.returns-in_err-skip_blank
 returns-in_err-skip_blank g c =

@@ -4,7 +4,7 @@ use Rattle.json5_grammar.specs.Model.ReadTexts.{key}
 use Rattle.json5_value.specs.Brackets.{bracket_of}
 use Rattle.json5_value.proofs.BuildKeys.{next_solid}
 use Rattle.json5_value.proofs.EntryValues.{next_refused, next_closed, element_reached, name_refused, member_reached}
-use Rattle.json5_value.proofs.ModelSteps.{first_refused, ready_next, then_step}
+use Rattle.json5_value.proofs.ModelSteps.{first_refused, then_step}
 use Rattle.json5_value.proofs.entries.next_value.Goals as goal
 
 pub returns-in_err-more : goal.returns-in_err-more
@@ -17,20 +17,15 @@ returns-then-not-more g c = next_closed (bracket_of c.args.kind) c.args.comma_du
 pub returns-in-Array : goal.returns-in-Array
 returns-in-Array g c = element_reached (bracket_of c.args.kind) c.args.comma_due c.in_ok-more.more c.args.scanner.now c.next_entry.new.scanner (ap bracket_of c.in-Array.is) c.if-not-more.false c.in_ok-more.ensures.given
 
-pub skip_key-requires-clause-ready : goal.skip_key-requires-clause-ready
-skip_key-requires-clause-ready g c = ready_next c.args.scanner.now c.next_entry.new.scanner c.requires c.in_ok-more.ensures.given
 
-pub skip_key-requires-clause-solid : goal.skip_key-requires-clause-solid
-skip_key-requires-clause-solid g c = next_solid c.args.comma_due c.in_ok-more.more c.args.scanner.now.unread c.next_entry.new.scanner.unread (rw c.in-Object.is at c.in_ok-more.ensures.given.reads) c.if-not-more.false
+pub skip_key-requires : goal.skip_key-requires
+skip_key-requires g c = record { solid = next_solid c.args.comma_due c.in_ok-more.more c.args.scanner.now.unread c.next_entry.new.scanner.unread (rw c.in-Object.is at c.in_ok-more.ensures.given.reads) c.if-not-more.false }
 
 pub returns-in_err-skip_key-in-Object : goal.returns-in_err-skip_key-in-Object
 returns-in_err-skip_key-in-Object g c =
     let mid = c.next_entry.new.scanner in
     rw c.from_residual-in_err-skip_key-in-Object.ensures (name_refused (bracket_of c.args.kind) c.args.comma_due c.in_ok-more.more c.args.scanner.now mid (ap bracket_of c.in-Object.is) c.if-not-more.false c.in_ok-more.ensures.given
     c.skip_key.new.scanner c.skip_key.new.fault (first_refused mid (forget (key mid.unread)) (λ u r. colon_after r) c.skip_key.new.fault c.in_err-skip_key-in-Object.ensures.refused) c.in_err-skip_key-in-Object.ensures.same_text)
-
-pub skip_colon-requires : goal.skip_colon-requires
-skip_colon-requires g c = ready_next c.next_entry.new.scanner c.skip_key.new.scanner (ready_next c.args.scanner.now c.next_entry.new.scanner c.requires c.in_ok-more.ensures.given) c.in_ok-skip_key-in-Object.ensures.given
 
 pub returns-in_err-skip_colon-in-Object : goal.returns-in_err-skip_colon-in-Object
 returns-in_err-skip_colon-in-Object g c =

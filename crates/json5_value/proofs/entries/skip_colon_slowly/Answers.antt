@@ -1,7 +1,6 @@
 use Rattle.std.proofs.Common.{refl}
 use Rattle.json5_value.specs.ModelSteps.{answered}
 use Rattle.json5_value.proofs.EntrySteps.{colon_blanks, colon_missing, colon_passed}
-use Rattle.json5_value.proofs.ModelSteps.{ready_sign}
 use Rattle.json5_value.proofs.entries.skip_colon_slowly.Goals as goal
 
 pub returns-in_err-skip_blank : goal.returns-in_err-skip_blank
@@ -10,10 +9,7 @@ returns-in_err-skip_blank g c = rw c.from_residual.ensures (colon_blanks c.args.
 pub returns-then-not-eat : goal.returns-then-not-eat
 returns-then-not-eat g c =
     let kept = c.if-not-eat.ensures.kept refl in
-    colon_missing c.args.scanner.now c.skip_blank.new.scanner c.eat.new.self tt c.unexpected_here.result c.requires c.in_ok-skip_blank.ensures.given kept.0 kept.1 c.unexpected_here.ensures
-
-pub skip_blank-requires-2 : goal.skip_blank-requires-2
-skip_blank-requires-2 g c = ready_sign c.args.scanner.now c.skip_blank.new.scanner c.eat.new.self _ c.requires c.in_ok-skip_blank.ensures.given (c.if-not-eat.ensures.taken refl)
+    colon_missing c.args.scanner.now c.skip_blank.new.scanner c.eat.new.self tt c.unexpected_here.result c.in_ok-skip_blank.ensures.given kept.0 kept.1 c.unexpected_here.ensures.refused c.unexpected_here.ensures.inside
 
 pub returns : goal.returns
 returns g c =

@@ -28,6 +28,6 @@ returns g c =
     let kept = c.if-eat.ensures.kept refl in
     let left = c.if-eat-2.ensures.kept refl in
     after_comma_due (bracket_of c.args.kind) c.args.comma_due c.args.scanner.now c.eat-2.new.self (Err c.unexpected_here.result) c.if-not-comma_due.false
-    (comma_missing (bracket_of c.args.kind) c.args.scanner.now c.skip_blank.new.scanner c.eat.new.self c.eat-2.new.self tt c.brackets-brackets.result.closing c.brackets-brackets.result.ends c.unexpected_here.result c.requires
+    (comma_missing (bracket_of c.args.kind) c.args.scanner.now c.skip_blank.new.scanner c.eat.new.self c.eat-2.new.self tt c.brackets-brackets.result.closing c.brackets-brackets.result.ends c.unexpected_here.result
     c.in_ok-skip_blank.ensures.given kept.0 kept.1 left.0 (closing_is c.args.kind c.brackets-brackets.result c.brackets-brackets.ensures) left.1 (ends_is c.args.kind c.brackets-brackets.result c.brackets-brackets.ensures)
-    c.unexpected_here.ensures)
+    c.unexpected_here.ensures.refused c.unexpected_here.ensures.inside)

@@ -6,4 +6,4 @@ returns-then-is_none g c = no_key_left c.args.scanner.now c.peek.result c.is_non
 
 pub returns : goal.returns
 returns g c =
-    rw c.leave_error.ensures (key_taken c.args.scanner.now c.key.new.self c.peek.result c.is_none.result c.key.result c.peek.ensures c.is_none.ensures c.if-is_none.false c.requires c.offset-offset.ensures.scalars c.key.ensures)
+    rw c.leave_error.ensures (key_taken c.args.scanner.now c.key.new.self c.peek.result c.is_none.result c.key.result c.peek.ensures c.is_none.ensures c.if-is_none.false c.offset-offset.ensures.scalars c.key.ensures)

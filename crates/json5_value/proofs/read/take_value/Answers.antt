@@ -9,13 +9,11 @@ pub returns-in_err-next : goal.returns-in_err-next
 returns-in_err-next g c = rw c.from_residual.ensures (not_begun c.args.room c.args.scanner.now c.begin_value.new.scanner c.begin_value.new.fault c.in_err-next.ensures)
 
 pub loop-next-init : goal.loop-next-init
-loop-next-init g c = starts_building c.args.room c.new-stack.result.items c.args.scanner.now c.begin_value.new.scanner c.in_ok-next.next c.new-stack.ensures.items c.requires c.in_ok-next.ensures.begun
+loop-next-init g c = starts_building c.args.room c.new-stack.result.items c.args.scanner.now c.begin_value.new.scanner c.in_ok-next.next c.new-stack.ensures.items c.in_ok-next.ensures.begun
 
-pub open_value-requires-clause-ready : goal.open_value-requires-clause-ready
-open_value-requires-clause-ready g c = c.loop-next.invariant.0.ready
 
-pub open_value-requires-clause-sign : goal.open_value-requires-clause-sign
-open_value-requires-clause-sign g c = rw c.in-Opens.is at c.loop-next.invariant.1
+pub open_value-requires : goal.open_value-requires
+open_value-requires g c = record { sign = rw c.in-Opens.is at c.loop-next.invariant.1 }
 
 pub returns-in_err-next-in-Opens : goal.returns-in_err-next-in-Opens
 returns-in_err-next-in-Opens g c =

@@ -15,7 +15,7 @@ returns-in_err-leave_error-in-Literal g c =
     let l = c.in-Literal.literal in
     let e = c.leave_error.new.fault in
     let k = subst (TakesWord (word_of l) (ends_of l) (differs_of l) old new) (sym c.in_err-leave_error-in-Literal.ensures) c.skip_literal.ensures in
-    rw c.from_residual.ensures (scalar_refused old new e (λ room. literal_value room old new c.args.c c.requires.first c.kind_at.result c.kind_at.ensures l (Err e) c.requires.ready c.in-Literal.is k))
+    rw c.from_residual.ensures (scalar_refused old new e (λ room. literal_value room old new c.args.c c.requires.first c.kind_at.result c.kind_at.ensures l (Err e) c.in-Literal.is k))
 
 pub returns-in_ok-leave_error-in-Literal : goal.returns-in_ok-leave_error-in-Literal
 returns-in_ok-leave_error-in-Literal g c =
@@ -31,7 +31,7 @@ returns-in_err-text-in-String g c =
     let new = c.string_owned.new.self in
     let e = c.leave_error-in-String.new.fault in
     let k = subst (TakesOwned old new) (sym c.in_err-text-in-String.ensures) c.string_owned.ensures in
-    rw c.from_residual-in_err-text-in-String.ensures (text_refused old new c.args.c c.requires.first c.kind_at.result c.kind_at.ensures e c.requires.ready k.kept c.in-String.is k.refused)
+    rw c.from_residual-in_err-text-in-String.ensures (text_refused old new c.args.c c.requires.first c.kind_at.result c.kind_at.ensures e k.inside k.kept c.in-String.is k.refused)
 
 pub returns-in_ok-text-in-String : goal.returns-in_ok-text-in-String
 returns-in_ok-text-in-String g c =
@@ -46,7 +46,7 @@ returns-in_err-number-in-Number g c =
     let new = c.number.new.self in
     let e = c.leave_error-in-Number.new.fault in
     let k = subst (TakesNumber old new) (sym c.in_err-number-in-Number.ensures) c.number.ensures in
-    rw c.from_residual-in_err-number-in-Number.ensures (number_refused old new c.args.c c.requires.first c.kind_at.result c.kind_at.ensures e c.requires.ready k.kept c.in-Number.is k.refused)
+    rw c.from_residual-in_err-number-in-Number.ensures (number_refused old new c.args.c c.requires.first c.kind_at.result c.kind_at.ensures e k.inside k.kept c.in-Number.is k.refused)
 
 pub returns-in_ok-number-in-Number : goal.returns-in_ok-number-in-Number
 returns-in_ok-number-in-Number g c =
@@ -61,4 +61,4 @@ pub returns-in-Other : goal.returns-in-Other
 returns-in-Other g c =
     let old = c.args.scanner.now in
     let e = c.leave_here.new.fault in
-    scalar_refused old old e (λ room. other_value room old old c.args.c c.requires.first c.kind_at.result c.kind_at.ensures e c.requires.ready c.in-Other.is (c.requires.other (sym c.kind_at.ensures ∙ c.in-Other.is)) c.leave_here.ensures.kind c.leave_here.ensures.placed refl)
+    scalar_refused old old e (λ room. other_value room old old c.args.c c.requires.first c.kind_at.result c.kind_at.ensures e c.in-Other.is (c.requires.other (sym c.kind_at.ensures ∙ c.in-Other.is)) c.leave_here.ensures.kind c.leave_here.ensures.placed c.leave_here.ensures.inside refl)

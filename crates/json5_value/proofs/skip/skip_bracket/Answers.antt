@@ -4,7 +4,7 @@ use Rattle.json5_value.proofs.SkipTurns.{within_start, bracket_refused, whole_cl
 use Rattle.json5_value.proofs.skip.skip_bracket.Goals as goal
 
 pub loop-comma_due-init : goal.loop-comma_due-init
-loop-comma_due-init g c = within_start c.args.room c.args.outermost c.new-brackets.result.items _ c.args.scanner.now c.new-brackets.ensures refl c.requires.ready c.requires.place
+loop-comma_due-init g c = within_start c.args.room c.args.outermost c.new-brackets.result.items _ c.args.scanner.now c.new-brackets.ensures refl c.requires.place
 
 pub loop-comma_due-smaller-in-Some-Ended : goal.loop-comma_due-smaller-in-Some-Ended
 loop-comma_due-smaller-in-Some-Ended g c =

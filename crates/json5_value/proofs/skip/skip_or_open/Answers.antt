@@ -16,13 +16,13 @@ pub returns-in-Some-kind_opened : goal.returns-in-Some-kind_opened
 returns-in-Some-kind_opened g c = opens c.args.room c.args.scanner.now c.open_bracket.new.scanner c.in_ok-bracket.bracket c.in_ok-bracket.ensures.opened
 
 pub short_scalar-requires : goal.short_scalar-requires
-short_scalar-requires g c = at_scalar c.args.scanner.now c.in-Some.c c.kind_opened.result c.requires (sym c.peek.ensures ∙ c.in-Some.is) c.in_default-kind_opened.is c.kind_opened.ensures
+short_scalar-requires g c = at_scalar c.args.scanner.now c.in-Some.c c.kind_opened.result (sym c.peek.ensures ∙ c.in-Some.is) c.in_default-kind_opened.is c.kind_opened.ensures
 
 pub returns-then-short_scalar : goal.returns-then-short_scalar
 returns-then-short_scalar g c = scalar_passed c.args.room c.args.scanner.now c.short_scalar.new.scanner tt ((rw c.if-short_scalar.true at c.short_scalar.ensures) c.args.room)
 
 pub skip_scalar-requires : goal.skip_scalar-requires
-skip_scalar-requires g c = subst (AtScalar c.in-Some.c) (sym (rw c.if-short_scalar.false at c.short_scalar.ensures)) (at_scalar c.args.scanner.now c.in-Some.c c.kind_opened.result c.requires (sym c.peek.ensures ∙ c.in-Some.is) c.in_default-kind_opened.is c.kind_opened.ensures)
+skip_scalar-requires g c = subst (AtScalar c.in-Some.c) (sym (rw c.if-short_scalar.false at c.short_scalar.ensures)) (at_scalar c.args.scanner.now c.in-Some.c c.kind_opened.result (sym c.peek.ensures ∙ c.in-Some.is) c.in_default-kind_opened.is c.kind_opened.ensures)
 
 pub returns-in_err-skip_scalar : goal.returns-in_err-skip_scalar
 returns-in_err-skip_scalar g c =

@@ -1,6 +1,5 @@
 use Rattle.json5_value.specs.declared.skip.Turn.TheVariants as turns
 use Rattle.json5_value.proofs.SkipTurns.{turn_refused, value_refused, turn_taken, gave_more}
-use Rattle.json5_value.proofs.ModelSteps.{ready_next}
 use Rattle.json5_value.proofs.skip.skip_turn.Goals as goal
 
 pub returns-in_err-more : goal.returns-in_err-more
@@ -10,9 +9,6 @@ returns-in_err-more g c =
 pub returns-then-not-more : goal.returns-then-not-more
 returns-then-not-more g c =
     turn_taken c.args.kind c.args.comma_due c.args.room c.args.scanner.now c.next_value.new.scanner turns.Closed (gave_more c.args.kind c.args.comma_due c.in_ok-more.more c.args.scanner.now c.next_value.new.scanner _ c.if-not-more.true c.in_ok-more.ensures.given)
-
-pub skip_or_open-requires : goal.skip_or_open-requires
-skip_or_open-requires g c = ready_next c.args.scanner.now c.next_value.new.scanner c.requires c.in_ok-more.ensures.given
 
 pub returns-in_err-bracket : goal.returns-in_err-bracket
 returns-in_err-bracket g c =

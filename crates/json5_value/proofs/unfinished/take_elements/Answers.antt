@@ -2,7 +2,6 @@ use Rattle.std.proofs.Common.{rules, refl}
 use Rattle.json5_grammar.specs.Faults.Fronts.{of_array}
 use Rattle.json5_value.proofs.TakenElements.{bracket_left, array_ended, entry_refused, value_refused, memory_lost, element_taken, goes_down}
 use Rattle.json5_value.proofs.EntryValues.{element_reached, next_closed}
-use Rattle.json5_value.proofs.ModelSteps.{ready_next}
 use Rattle.json5_value.proofs.unfinished.take_elements.Goals as goal
 
 pub returns-in_err-more : goal.returns-in_err-more
@@ -15,9 +14,6 @@ returns-then-not-more g c =
     let l = c.loop-more in
     let mid = c.next_entry.new.scanner in
     array_ended c.args.comma_due c.args.elements.now.items c.args.scanner.now l.elements.items l.due l.scanner l.invariant mid (next_closed of_array l.due c.in_ok-more.more l.scanner mid c.if-not-more.true c.in_ok-more.ensures.given).given
-
-pub begin_value-requires : goal.begin_value-requires
-begin_value-requires g c = ready_next c.loop-more.scanner c.next_entry.new.scanner c.loop-more.invariant.ready c.in_ok-more.ensures.given
 
 pub returns-in_err-value : goal.returns-in_err-value
 returns-in_err-value g c =

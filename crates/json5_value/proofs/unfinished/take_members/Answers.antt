@@ -1,7 +1,6 @@
 use Rattle.std.proofs.Common.{◌∙◌, inr}
 use Rattle.json5_value.proofs.BuildKeys.{entry_refused, key_refused, colon_refused, next_solid}
-use Rattle.json5_value.proofs.TakenMembers.{reached_ready, key_reached, text_lacks, object_ended, name_refused, value_refused, memory_lost, bracket_left, member_taken, members_down}
-use Rattle.json5_value.proofs.ModelSteps.{ready_next}
+use Rattle.json5_value.proofs.TakenMembers.{key_reached, text_lacks, object_ended, name_refused, value_refused, memory_lost, bracket_left, member_taken, members_down}
 use Rattle.json5_value.proofs.unfinished.take_members.Goals as goal
 
 pub returns-in_err-more : goal.returns-in_err-more
@@ -15,11 +14,8 @@ returns-then-not-more g c =
     let l = c.loop-more in
     object_ended c.args.comma_due c.args.members.now.items c.args.scanner.now l.members.items l.due l.scanner l.invariant c.in_ok-more.more c.next_entry.new.scanner c.if-not-more.true c.in_ok-more.ensures.given
 
-pub take_key-requires-clause-ready : goal.take_key-requires-clause-ready
-take_key-requires-clause-ready g c = ready_next c.loop-more.scanner c.next_entry.new.scanner c.loop-more.invariant.ready c.in_ok-more.ensures.given
-
-pub take_key-requires-clause-solid : goal.take_key-requires-clause-solid
-take_key-requires-clause-solid g c = next_solid c.loop-more.due c.in_ok-more.more c.loop-more.scanner.unread c.next_entry.new.scanner.unread c.in_ok-more.ensures.given.reads c.if-not-more.false
+pub take_key-requires : goal.take_key-requires
+take_key-requires g c = record { solid = next_solid c.loop-more.due c.in_ok-more.more c.loop-more.scanner.unread c.next_entry.new.scanner.unread c.in_ok-more.ensures.given.reads c.if-not-more.false }
 
 pub returns-in_err-key : goal.returns-in_err-key
 returns-in_err-key g c =
@@ -29,9 +25,6 @@ returns-in_err-key g c =
     let k = c.in_err-key.ensures in
     rw c.from_residual-in_err-key.ensures (name_refused c.args.comma_due c.args.members.now.items c.args.scanner.now l.members.items l.due l.scanner l.invariant c.take_key.new.scanner e
     (key_refused l.due l.scanner c.in_ok-more.more mid c.if-not-more.false c.in_ok-more.ensures.given e k.refused) (k.same_text ∙ c.in_ok-more.ensures.given.took.same))
-
-pub skip_colon-requires : goal.skip_colon-requires
-skip_colon-requires g c = let (a, found, k) = c.in_ok-key.ensures.given in ready_next c.next_entry.new.scanner c.take_key.new.scanner (ready_next c.loop-more.scanner c.next_entry.new.scanner c.loop-more.invariant.ready c.in_ok-more.ensures.given) k
 
 pub returns-in_err-skip_colon : goal.returns-in_err-skip_colon
 returns-in_err-skip_colon g c =
@@ -43,12 +36,6 @@ returns-in_err-skip_colon g c =
     let b = c.in_err-skip_colon.ensures in
     rw c.from_residual-in_err-skip_colon.ensures (name_refused c.args.comma_due c.args.members.now.items c.args.scanner.now l.members.items l.due l.scanner l.invariant c.skip_colon.new.scanner e
     (inr (colon_refused l.due l.scanner c.in_ok-more.more mid c.if-not-more.false c.in_ok-more.ensures.given last a k e b.refused)) (b.same_text ∙ k.took.same ∙ c.in_ok-more.ensures.given.took.same))
-
-pub begin_value-requires : goal.begin_value-requires
-begin_value-requires g c =
-    let l = c.loop-more in
-    reached_ready l.due c.in_ok-key.key l.scanner c.skip_colon.new.scanner l.invariant.ready
-    (key_reached l.due c.in_ok-more.more c.in_ok-key.key l.scanner c.next_entry.new.scanner c.take_key.new.scanner c.skip_colon.new.scanner tt c.if-not-more.false c.in_ok-more.ensures.given c.in_ok-key.ensures.given c.in_ok-skip_colon.ensures.given)
 
 pub returns-in_err-next : goal.returns-in_err-next
 returns-in_err-next g c =

@@ -4,6 +4,7 @@ use Rattle.json5_grammar.specs.Model.ReadTexts.{identifier}
 use Rattle.json5_text.specs.TokenFaults.{FaultyName}
 use Rattle.json5_text.proofs.ScanFaults.{refusal_in, refused}
 use Rattle.json5_text.proofs.ScanTokens.{left_counted, leaves_rest, name_taken, name_faulty, escape_free_name_memory}
+use Rattle.json5_text.proofs.TextCuts.{inside_of}
 use Rattle.json5_text.proofs.scanner.Scanner.identifier.Goals as goal
 
 pub fault-requires : goal.fault-requires
@@ -15,6 +16,7 @@ returns-in-Err g c = record {
   stops = tt;
   refused = refused FaultyName c.args.self.now c.fault.result c.in-Err.refusal (identifier (chars c.rest.result.now)) (name_faulty _ _ c.rest.ensures) c.in-Err.ensures.refused c.fault.ensures;
   kept = refl;
+  inside = inside_of c.self.invariant c.self.view_is;
   escape_free = λ s u r d split is_name stops. absurd (escape_free_name_memory (chars c.rest.result.now) c.args.self.now.unread s u r d c.in-Err.refusal c.rest.ensures c.in-Err.ensures.refused c.in-Err.ensures.memory split is_name stops);
 }
 
@@ -34,5 +36,6 @@ returns g c =
       stops = (k.stops.0, k.stops.1, l.1 ∙ k.stops.2, k.stops.3);
       refused = tt;
       kept = tt;
+      inside = tt;
       escape_free = λ s u r d split is_name stops. refl;
     }

@@ -8,6 +8,7 @@ use Rattle.json5_text.proofs.ScanFaults.{refusal_in, refused}
 use Rattle.json5_text.proofs.TextTokens.{unread_fits, token_inside}
 use Rattle.json5_text.proofs.ScanKeys.{key_taken, key_faulty, key_memory, escape_free_key_memory, made_of_memory}
 use Rattle.json5_text.proofs.ScanTokens.{left_counted, leaves_rest}
+use Rattle.json5_text.proofs.TextCuts.{inside_of}
 use Rattle.json5_text.proofs.scanner.Scanner.key.Goals as goal
 
 pub fault-requires : goal.fault-requires
@@ -18,6 +19,7 @@ returns-in-Err g c = record {
   taken = tt;
   refused = refused FaultyKey c.args.self.now c.fault.result c.in-Err.refusal (key_ahead (chars c.rest.result.now)) (key_faulty _ _ c.rest.ensures) c.in-Err.ensures.refused c.fault.ensures;
   kept = refl;
+  inside = inside_of c.self.invariant c.self.view_is;
   complete = λ s u r escape_free split is_key. made_of_memory c.args.self.now c.in-Err.refusal c.fault.result
       (key_memory (chars c.rest.result.now) c.args.self.now.unread s u r escape_free c.in-Err.refusal c.rest.ensures c.in-Err.ensures.refused split is_key) c.fault.ensures;
   escape_free = λ s u r split is_key. absurd (escape_free_key_memory (chars c.rest.result.now) c.args.self.now.unread s u r c.in-Err.refusal c.rest.ensures c.in-Err.ensures.refused c.in-Err.ensures.memory split is_key);
@@ -45,6 +47,7 @@ returns g c =
       );
       refused = tt;
       kept = tt;
+      inside = tt;
       complete = λ s u r escape_free split is_key. tt;
       escape_free = λ s u r split is_key. refl;
     }

@@ -8,6 +8,7 @@ use Rattle.json5_text.specs.TokenFaults.{FaultyNumber}
 use Rattle.json5_text.proofs.ScanFaults.{refusal_in, refused}
 use Rattle.json5_text.proofs.ScanNumbers.{number_taken, number_faulty, number_memory}
 use Rattle.json5_text.proofs.ScanTokens.{left_counted, leaves_rest}
+use Rattle.json5_text.proofs.TextCuts.{inside_of}
 use Rattle.json5_text.proofs.scanner.Scanner.number.Goals as goal
 
 pub fault-requires : goal.fault-requires
@@ -18,6 +19,7 @@ returns-in-Err g c = record {
   taken = tt;
   refused = refused FaultyNumber c.args.self.now c.fault.result c.in-Err.refusal (number (chars c.rest.result.now)) (number_faulty _ _ c.rest.ensures) c.in-Err.ensures.refused c.fault.ensures;
   kept = refl;
+  inside = inside_of c.self.invariant c.self.view_is;
   memory = λ s r n split num stops free. absurd (number_memory (chars c.rest.result.now) c.args.self.now.unread s r n c.in-Err.refusal c.rest.ensures c.in-Err.ensures.refused c.in-Err.ensures.memory split num stops free);
 }
 
@@ -30,4 +32,4 @@ pub returns : goal.returns
 returns g c =
     let k = number_taken (chars c.rest.result.now) c.args.self.now.unread (chars c.in-Ok.rest.now) (number_of c.in-Ok.token) c.rest.ensures c.in-Ok.ensures.read in
     let l = c.set_remaining.ensures k.literal (chars c.in-Ok.rest.now) k.split (left_counted c.in-Ok.rest.now c.in-Ok.ensures.text) in
-    record { taken = (k.literal, l.0, k.is_number, subst (NotBegun (lengthens k.literal)) (sym l.1) k.stops); refused = tt; kept = tt; memory = λ s r n split num stops free. refl }
+    record { taken = (k.literal, l.0, k.is_number, subst (NotBegun (lengthens k.literal)) (sym l.1) k.stops); refused = tt; kept = tt; inside = tt; memory = λ s r n split num stops free. refl }

@@ -4,6 +4,7 @@ use Rattle.json5_grammar.specs.Model.ReadTexts.{identifier}
 use Rattle.json5_text.specs.TokenFaults.{FaultyName}
 use Rattle.json5_text.proofs.ScanFaults.{refusal_in, refused}
 use Rattle.json5_text.proofs.ScanTokens.{left_counted, leaves_rest, name_taken, name_faulty, name_never}
+use Rattle.json5_text.proofs.TextCuts.{inside_of}
 use Rattle.json5_text.proofs.scanner.Scanner.skip_identifier.Goals as goal
 
 pub fault-requires : goal.fault-requires
@@ -15,6 +16,7 @@ returns-in-Err g c = record {
   stops = tt;
   refused = refused FaultyName c.args.self.now c.fault.result c.in-Err.refusal (identifier (chars c.rest.result.now)) (name_faulty _ _ c.rest.ensures) c.in-Err.ensures.refused c.fault.ensures;
   kept = refl;
+  inside = inside_of c.self.invariant c.self.view_is;
   memory = λ s u r d escape_free split is_name stops. absurd (name_never (chars c.rest.result.now) c.args.self.now.unread s u r d escape_free c.in-Err.refusal c.rest.ensures c.in-Err.ensures.refused c.in-Err.ensures.known split is_name stops);
 }
 
@@ -34,5 +36,6 @@ returns g c =
       stops = (k.stops.0, k.stops.1, l.1 ∙ k.stops.2, k.stops.3);
       refused = tt;
       kept = tt;
+      inside = tt;
       memory = λ s u r d escape_free split is_name stops. refl;
     }

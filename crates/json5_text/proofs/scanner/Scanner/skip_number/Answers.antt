@@ -7,6 +7,7 @@ use Rattle.json5_text.specs.TokenFaults.{FaultyNumber}
 use Rattle.json5_text.proofs.ScanFaults.{refusal_in, refused}
 use Rattle.json5_text.proofs.ScanNumbers.{number_taken, number_faulty, number_never}
 use Rattle.json5_text.proofs.ScanTokens.{left_counted, leaves_rest}
+use Rattle.json5_text.proofs.TextCuts.{inside_of}
 use Rattle.json5_text.proofs.scanner.Scanner.skip_number.Goals as goal
 
 pub fault-requires : goal.fault-requires
@@ -17,6 +18,7 @@ returns-in-Err g c = record {
   taken = tt;
   refused = refused FaultyNumber c.args.self.now c.fault.result c.in-Err.refusal (number (chars c.rest.result.now)) (number_faulty _ _ c.rest.ensures) c.in-Err.ensures.refused c.fault.ensures;
   kept = refl;
+  inside = inside_of c.self.invariant c.self.view_is;
   memory = λ s r n split num stops. absurd (number_never (chars c.rest.result.now) c.args.self.now.unread s r n c.in-Err.refusal c.rest.ensures c.in-Err.ensures.refused c.in-Err.ensures.known split num stops);
 }
 
@@ -35,5 +37,6 @@ returns g c =
       taken = (k.literal, given.number, l.0, k.is_number, subst (NotBegun (lengthens k.literal)) (sym l.1) k.stops, given.same);
       refused = tt;
       kept = tt;
+      inside = tt;
       memory = λ s r n split num stops. refl;
     }

@@ -4,6 +4,7 @@ use Rattle.json5_text.specs.ScanTexts.{string_at}
 use Rattle.json5_text.specs.TokenFaults.{FaultyString}
 use Rattle.json5_text.proofs.ScanFaults.{refusal_in, refused}
 use Rattle.json5_text.proofs.ScanTokens.{left_counted, leaves_rest, string_taken, string_faulty, string_never}
+use Rattle.json5_text.proofs.TextCuts.{inside_of}
 use Rattle.json5_text.proofs.scanner.Scanner.skip_string.Goals as goal
 
 pub fault-requires : goal.fault-requires
@@ -14,6 +15,7 @@ returns-in-Err g c = record {
   taken = tt;
   refused = refused FaultyString c.args.self.now c.fault.result c.in-Err.refusal (string_at (chars c.rest.result.now)) (string_faulty _ _ c.rest.ensures) c.in-Err.ensures.refused c.fault.ensures;
   kept = refl;
+  inside = inside_of c.self.invariant c.self.view_is;
   memory = λ s u r escape_free split is_string. absurd (string_never (chars c.rest.result.now) c.args.self.now.unread s u r escape_free c.in-Err.refusal c.rest.ensures c.in-Err.ensures.refused c.in-Err.ensures.known split is_string);
 }
 
@@ -32,5 +34,6 @@ returns g c =
       taken = (k.string, given.value.0, given.value.1, l.0, k.is_string);
       refused = tt;
       kept = tt;
+      inside = tt;
       memory = λ s u r escape_free split is_string. refl;
     }

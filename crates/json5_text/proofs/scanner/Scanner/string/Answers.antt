@@ -4,6 +4,7 @@ use Rattle.json5_text.specs.ScanTexts.{string_at}
 use Rattle.json5_text.specs.TokenFaults.{FaultyString}
 use Rattle.json5_text.proofs.ScanFaults.{refusal_in, refused}
 use Rattle.json5_text.proofs.ScanTokens.{left_counted, leaves_rest, string_taken, string_faulty, escape_free_memory}
+use Rattle.json5_text.proofs.TextCuts.{inside_of}
 use Rattle.json5_text.proofs.scanner.Scanner.string.Goals as goal
 
 pub fault-requires : goal.fault-requires
@@ -14,6 +15,7 @@ returns-in-Err g c = record {
   taken = tt;
   refused = refused FaultyString c.args.self.now c.fault.result c.in-Err.refusal (string_at (chars c.rest.result.now)) (string_faulty _ _ c.rest.ensures) c.in-Err.ensures.refused c.fault.ensures;
   kept = refl;
+  inside = inside_of c.self.invariant c.self.view_is;
   escape_free = λ s u r split is_string. absurd (escape_free_memory (chars c.rest.result.now) c.args.self.now.unread s u r c.in-Err.refusal c.rest.ensures c.in-Err.ensures.refused c.in-Err.ensures.memory split is_string);
 }
 
@@ -32,5 +34,6 @@ returns g c =
       taken = (k.string, given.spelled, given.escape_free, l.0, k.is_string, (given.is_text.borrowed, given.is_text.bytes));
       refused = tt;
       kept = tt;
+      inside = tt;
       escape_free = λ s u r split is_string. refl;
     }

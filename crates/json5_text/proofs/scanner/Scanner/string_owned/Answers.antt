@@ -4,6 +4,7 @@ use Rattle.json5_text.specs.ScanTexts.{string_at}
 use Rattle.json5_text.specs.TokenFaults.{FaultyString}
 use Rattle.json5_text.proofs.ScanFaults.{refusal_in, refused}
 use Rattle.json5_text.proofs.ScanTokens.{left_counted, leaves_rest, string_taken, string_faulty}
+use Rattle.json5_text.proofs.TextCuts.{inside_of}
 use Rattle.json5_text.proofs.scanner.Scanner.string_owned.Goals as goal
 
 pub fault-requires : goal.fault-requires
@@ -14,6 +15,7 @@ returns-in-Err g c = record {
   taken = tt;
   refused = refused FaultyString c.args.self.now c.fault.result c.in-Err.refusal (string_at (chars c.rest.result.now)) (string_faulty _ _ c.rest.ensures) c.in-Err.ensures c.fault.ensures;
   kept = refl;
+  inside = inside_of c.self.invariant c.self.view_is;
 }
 
 pub set_remaining-requires : goal.set_remaining-requires
@@ -31,4 +33,5 @@ returns g c =
       taken = (k.string, given.spelled, given.escape_free, l.0, k.is_string, given.is_text);
       refused = tt;
       kept = tt;
+      inside = tt;
     }

@@ -6,6 +6,7 @@ use Rattle.json5_text.specs.TokenFaults.{FaultyString}
 use Rattle.json5_text.proofs.ScanFaults.{refusal_in, refused}
 use Rattle.json5_text.proofs.ScanTokens.{left_counted, leaves_rest, string_taken, string_faulty, escape_free_memory}
 use Rattle.json5_text.proofs.TextTokens.{unread_fits, token_inside}
+use Rattle.json5_text.proofs.TextCuts.{inside_of}
 use Rattle.json5_text.proofs.scanner.Scanner.string_token.Goals as goal
 
 pub fault-requires : goal.fault-requires
@@ -16,6 +17,7 @@ returns-in-Err g c = record {
   taken = tt;
   refused = refused FaultyString c.args.self.now c.fault.result c.in-Err.refusal (string_at (chars c.rest.result.now)) (string_faulty _ _ c.rest.ensures) c.in-Err.ensures.refused c.fault.ensures;
   kept = refl;
+  inside = inside_of c.self.invariant c.self.view_is;
   escape_free = λ s u r split is_string. absurd (escape_free_memory (chars c.rest.result.now) c.args.self.now.unread s u r c.in-Err.refusal c.rest.ensures c.in-Err.ensures.refused c.in-Err.ensures.memory split is_string);
 }
 
@@ -41,6 +43,7 @@ returns g c =
       );
       refused = tt;
       kept = tt;
+      inside = tt;
       escape_free = λ s u r split is_string. refl;
     }
 

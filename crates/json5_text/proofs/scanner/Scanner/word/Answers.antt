@@ -4,6 +4,7 @@ use Rattle.json5_grammar.specs.Model.Reading.{word_at}
 use Rattle.json5_text.specs.TokenFaults.{FaultyWord}
 use Rattle.json5_text.proofs.ScanFaults.{refusal_in, coded}
 use Rattle.json5_text.proofs.ScanTokens.{left_counted, leaves_rest, word_passed, word_faulty}
+use Rattle.json5_text.proofs.TextCuts.{inside_of}
 use Rattle.json5_text.proofs.scanner.Scanner.word.Goals as goal
 
 pub fault-requires : goal.fault-requires
@@ -17,6 +18,7 @@ returns-in-Err g c = record {
   refused = coded (FaultyWord (chars c.args.word.now) c.args.ends c.args.differs) c.args.self.now c.fault.result c.in-Err.refusal (word_at c.args.ends c.args.differs tt (chars c.args.word.now) (chars c.rest.result.now))
       (word_faulty _ _ _ _ _ c.rest.ensures) c.in-Err.ensures.refused c.in-Err.ensures.known c.fault.ensures;
   kept = refl;
+  inside = inside_of c.self.invariant c.self.view_is;
 }
 
 pub set_remaining-requires : goal.set_remaining-requires
@@ -27,4 +29,5 @@ returns g c = record {
   taken = (c.set_remaining.ensures (chars c.args.word.now) (chars c.in-Ok.rest.now) (word_passed _ _ _ _ _ _ c.rest.ensures c.in-Ok.ensures.read) (left_counted c.in-Ok.rest.now c.in-Ok.ensures.text)).0;
   refused = tt;
   kept = tt;
+  inside = tt;
 }
