@@ -11,20 +11,21 @@ use Rattle.json5_grammar.specs.Language.Values.{Reads}
 use Rattle.json5_grammar.proofs.BlanksSound.{blank_refused}
 use Rattle.json5_grammar.proofs.Refusals.{Refuses, one_refusal}
 use Rattle.json5_grammar.proofs.OneFault.{blames_text, text_refuses, no_blame}
-use Rattle.json5_de.specs.Faults.{FaultRelation}
+use Rattle.json5_value.specs.FoundEntries.{FaultRelation, AfterBlanks, in_blanks, after_gap}
 use Rattle.json5_types.specs.declared.error.Error.{Error}
 use Rattle.json5_types.specs.declared.value.Value.{Value}
 use Rattle.json5_text.specs.Cursor.{Refused, IsOutOfMemory}
 use Rattle.json5_types.specs.ValueMeanings.{value_of}
 use Rattle.json5_de.specs.AnyTree.{RefusesTree, ReadingRefuses, RefusedInReading}
 use Rattle.json5_de.specs.Convert.{datum_of, every_datum}
-use Rattle.json5_de.specs.Faults.{AfterBlanks, in_blanks, after_gap, Trailing, trailing, RefusedBy}
+use Rattle.json5_de.specs.Faults.{Trailing, trailing, RefusedBy}
 use Rattle.json5_de.specs.DeserializeLaw.{TookValue, IsUnprompted}
 use Rattle.json5_de.specs.State.{State, at_start}
 use Rattle.json5_de.specs.WholeInputs.{ReadsDocument, RefusesReading, in_value, after_value}
 use Rattle.json5_de.proofs.BracketSteps.{failed_of}
 use Rattle.json5_de.proofs.TreeFaults.{as_reading}
-use Rattle.json5_de.proofs.ReadSteps.{input_of, placed_after}
+use Rattle.json5_value.proofs.FoundEntries.{placed_after}
+use Rattle.json5_de.proofs.ReadSteps.{input_of}
 use Rattle.json5_format.specs.DocumentReads.{FaultyDocument, unread_text, IsRefusedWithin, ReadsText}
 use Rattle.json5_grammar.proofs.DocumentsRead.{to_end, blanks_refused, value_refused, comment_refused, character_refused, rest_refused}
 
@@ -60,7 +61,7 @@ in_rest limit x r t e p low f = record {
   place = after_text (p.front ++ p.phrase) f.place;
   fault = rest_refused limit f.reason f.place p low (faulty_rest t r f.reason f.place f.fault);
   says = f.says;
-  placed = placed_after (at_start limit x) (record (at_start limit x) { unread = r }) e (p.front ++ p.phrase) f.place (p.split ∙ sym (append_assoc p.front p.phrase r)) refl f.placed;
+  placed = placed_after (unread_text x) (record { input = x; unread = r }) e (p.front ++ p.phrase) f.place (record { split = p.split ∙ sym (append_assoc p.front p.phrase r); same = refl }) f.placed;
 }
 
 after_phrase : (limit : ℕ) (x : List ℕ) (e : Error) (t : Tree) (new : State) → limit ≤ max_depth → TookValue (at_start limit x) t new → RefusedBy Trailing new e → Refused (RefusedReading limit) (unread_text x) e

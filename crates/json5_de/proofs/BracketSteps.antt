@@ -1,6 +1,6 @@
 -- The steps of reading an array.
-use Rattle.std.proofs.Common.{◌≡◌, ℕ, ◌<◌, Bool, true, false, not, List, [], ◌∷◌, ◌++◌, refl, ap, sym, ◌∙◌, subst, inl, inr, Option, Some, arith}
-use Rattle.std.specs.Prelude.{◌==◌, slice_get, Result, Ok, Err, IfErr, IsOk}
+use Rattle.std.proofs.Common.{◌≡◌, ℕ, ◌<◌, Bool, true, false, List, [], ◌∷◌, ◌++◌, refl, ap, sym, ◌∙◌, subst, inl, inr, Option, Some, arith}
+use Rattle.std.specs.Prelude.{◌==◌, Result, Ok, Err, IfErr, IsOk}
 use Rattle.json5_grammar.specs.declared.error_code.ErrorCode.{ErrorCode}
 use Rattle.json5_grammar.specs.declared.error_code.ErrorCode.TheVariants as codes
 use Rattle.json5_grammar.specs.Language.Characters.{NotBegun}
@@ -12,7 +12,7 @@ use Rattle.json5_grammar.specs.Language.Trees.{Tree}
 use Rattle.json5_grammar.specs.Language.Values.{Reads}
 use Rattle.json5_grammar.specs.Language.Documents.{max_depth}
 use Rattle.json5_grammar.specs.Model.Collections.{IsSign, IsEnd, IsElement}
-use Rattle.json5_grammar.proofs.ArraysRead.{comma_solid, bracket_solid, opening_solid, sign_here, sign_found, reads_found}
+use Rattle.json5_grammar.proofs.ArraysRead.{comma_solid, bracket_solid, opening_solid, sign_found, reads_found}
 use Rattle.json5_grammar.proofs.ArraysPartlyRead.{after_same_comma, no_comma_end}
 use Rattle.json5_grammar.proofs.EntriesAfterGaps.{reads_here, no_sign, no_sign_in_blanks}
 use Rattle.json5_types.specs.declared.error.Error.{Error}
@@ -30,11 +30,13 @@ use Rattle.json5_de.specs.BracketSigns.{AreSigns}
 use Rattle.json5_value.specs.Brackets.{square}
 use Rattle.json5_de.specs.Arrays.{TookElement, NotOpened, no_bracket, text_ends, too_deep, NoBracket, other_sign, bracket_missing, NotClosed, not_here, after_comma as comma_before}
 use Rattle.json5_value.specs.ModelSteps.{Unexpected, at_end, at_char}
-use Rattle.json5_de.specs.AccessCalls.{IsAfterGap, IsEntryStart, AtEntry, AdvancesToEntry, NothingNext, NoNext, no_comma, comma_missing}
-use Rattle.json5_de.specs.Faults.{AfterBlanks, in_blanks, after_gap, RefusedBy}
+use Rattle.json5_de.specs.AccessCalls.{AtEntry, NothingNext}
+use Rattle.json5_text.specs.ShortWays.{AfterGap, StepsTo}
+use Rattle.json5_value.specs.FoundEntries.{NoNext, no_comma, comma_missing, in_blanks_after, AfterBlanks, in_blanks, after_gap}
+use Rattle.json5_de.specs.Faults.{RefusedBy}
 use Rattle.json5_de.proofs.ReadSteps.{refused_token}
 use Rattle.json5_de.proofs.RefusalPositions.{refused_as, refused_after}
-use Rattle.json5_value.proofs.ModelSteps.{some_next}
+use Rattle.json5_value.proofs.FoundEntries.{sign_next, none_due}
 use Rattle.json5_grammar.proofs.CommonLemmas.{same_char, true_false}
 
 pub failed_of : {s t : State} → s ≡ t → s.failed ≡ t.failed
@@ -46,14 +48,10 @@ level_of e = ap (λ (s : State). s.level) e
 pub unread_of : {s t : State} → s ≡ t → s.unread ≡ t.unread
 unread_of e = ap (λ (s : State). s.unread) e
 
-pub after_gap_of : (old mid : State) → PassedGap old mid → IsAfterGap old.unread mid.unread
+pub after_gap_of : (old mid : State) → PassedGap old mid → AfterGap old.unread mid.unread
 after_gap_of old mid p = record { gap = p.gap; split = p.split; is_gap = p.is_gap; solid = p.solid }
 
 -- ---- what is refused
-
-pub no_next : (b : BracketPair) (comma_due : Bool) (x : List ℕ) (reason : Option ErrorCode) (place : Option (List ℕ)) → comma_due ≡ true → NotBegun (λ c. c == 0x2C) x → NotBegun (λ c. c == b.closing) x → Unexpected b.ends codes.ExpectedComma x reason place → NoNext b comma_due x reason place
-no_next b comma_due x reason place d m n at_end = comma_missing d
-no_next b comma_due x reason place d m n (at_char c r) = no_comma c r d m n
 
 pub not_opened_here : (b : BracketPair) (level : ℕ) (x : List ℕ) (reason : Option ErrorCode) (place : Option (List ℕ)) → NotBegun (λ c. c == b.opening) x → Unexpected b.ends b.not_opened x reason place → NotOpened b level x reason place
 not_opened_here b level x reason place n at_end = text_ends
@@ -66,19 +64,15 @@ no_bracket_here b comma x reason place m n (at_char c r) = other_sign c r n m
 
 -- ---- what follows
 
--- a sign follows the gap
-pub sign_next : (sign : ℕ) (x y z : List ℕ) → IsAfterGap x y → y ≡ sign ∷ z → IsSign sign x z
-sign_next sign x y z g e = sign_here sign x g.gap z (g.split ∙ ap (λ k. g.gap ++ k) e) (subst (Gap g.gap) e g.is_gap)
-
-pub no_sign_next : (sign : ℕ) (x y r : List ℕ) → is_solid sign ≡ true → IsAfterGap x y → NotBegun (λ c. c == sign) y → IsSign sign x r → ⊥
+pub no_sign_next : (sign : ℕ) (x y r : List ℕ) → is_solid sign ≡ true → AfterGap x y → NotBegun (λ c. c == sign) y → IsSign sign x r → ⊥
 no_sign_next sign x y r h g n s = no_sign sign x g.gap y r h g.split g.is_gap g.solid n s
 
 -- if a comment is at fault, no sign and no gap follows
-pub no_sign_faulty : (sign : ℕ) (s : State) (e : Error) (r : List ℕ) → is_solid sign ≡ true → Refused FaultyBlanks (cursor_of s) e → IsSign sign s.unread r → ⊥
-no_sign_faulty sign s e r h f c = let (w, p, shown, fault) = f.fault in no_sign_in_blanks sign s.unread w p r f.reason f.place shown h fault c
+no_sign_faulty : (sign : ℕ) {x : List ℕ} {reason : Option ErrorCode} {place : Option (List ℕ)} (r : List ℕ) → is_solid sign ≡ true → FaultyBlanks x reason place → IsSign sign x r → ⊥
+no_sign_faulty sign {x = x} {reason = reason} {place = place} r h (w, p, shown, fault) c = no_sign_in_blanks sign x w p r reason place shown h fault c
 
-no_gap_faulty : (s : State) (e : Error) (y : List ℕ) → Refused FaultyBlanks (cursor_of s) e → IsAfterGap s.unread y → ⊥
-no_gap_faulty s e y f g = let (w, p, shown, fault) = f.fault in no_blank_fault g.is_gap g.solid (subst (λ z. BlankFault z f.reason f.place w p shown) g.split fault)
+no_gap_faulty : {x : List ℕ} {reason : Option ErrorCode} {place : Option (List ℕ)} (y : List ℕ) → FaultyBlanks x reason place → AfterGap x y → ⊥
+no_gap_faulty {reason = reason} {place = place} y (w, p, shown, fault) g = no_blank_fault g.is_gap g.solid (subst (λ z. BlankFault z reason place w p shown) g.split fault)
 
 -- neither a comma nor the bracket where a comma is due
 nothing_due : (b : BracketPair) (x : List ℕ) → ((y : List ℕ) → IsSign 0x2C x y → ⊥) → ((r : List ℕ) → IsSign b.closing x r → ⊥) → NothingNext b true x
@@ -88,67 +82,48 @@ nothing_due b x m n = record { no_entry = λ y g. m g.0 g.1; no_close = λ r c. 
     close r (inl c) = n r c
     close r (inr (y, comma, c)) = m y comma
 
--- neither the comma that is due nor the bracket
-pub nowhere_next : (b : BracketPair) → AreSigns b → (comma_due : Bool) (x y : List ℕ) → comma_due ≡ true → IsAfterGap x y → NotBegun (λ c. c == 0x2C) y → NotBegun (λ c. c == b.closing) y → NothingNext b comma_due x
-nowhere_next b k comma_due x y is g m n = subst (λ d. NothingNext b d x) (sym is)
-    (nothing_due b x (λ z c. no_sign_next 0x2C x y z comma_solid g m c) (λ r c. no_sign_next b.closing x y r k.closing g n c))
-
 -- a comment in front is at fault
-pub nowhere_faulty : (b : BracketPair) → AreSigns b → (comma_due : Bool) (s : State) (e : Error) → Refused FaultyBlanks (cursor_of s) e → NothingNext b comma_due s.unread
-nowhere_faulty b k false s e f = record { no_entry = λ y g. no_gap_faulty s e y f g; no_close = λ r c. no_sign_faulty b.closing s e r k.closing f c }
-nowhere_faulty b k true s e f = nothing_due b s.unread (λ y c. no_sign_faulty 0x2C s e y comma_solid f c) (λ r c. no_sign_faulty b.closing s e r k.closing f c)
+nowhere_faulty : (b : BracketPair) → AreSigns b → (comma_due : Bool) (x : List ℕ) {reason : Option ErrorCode} {place : Option (List ℕ)} → FaultyBlanks x reason place → NothingNext b comma_due x
+nowhere_faulty b k false x f = record { no_entry = λ y g. no_gap_faulty y f g; no_close = λ r c. no_sign_faulty b.closing r k.closing f c }
+nowhere_faulty b k true x f = nothing_due b x (λ y c. no_sign_faulty 0x2C y comma_solid f c) (λ r c. no_sign_faulty b.closing r k.closing f c)
 
 -- a comment after the comma is at fault
-pub nowhere_after : (b : BracketPair) → AreSigns b → (comma_due : Bool) (s mid next : State) (e : Error) → comma_due ≡ true → PassedGap s mid → NotBegun (λ c. c == b.closing) mid.unread → TookText mid (0x2C ∷ []) next → Refused FaultyBlanks (cursor_of next) e
-    → NothingNext b comma_due s.unread
-nowhere_after b k comma_due s mid next e is p n took f = subst (λ d. NothingNext b d s.unread) (sym is) (record { no_entry = λ y begun. entry y begun; no_close = λ r c. close r c })
+nowhere_after : (b : BracketPair) → AreSigns b → (x z : List ℕ) {reason : Option ErrorCode} {place : Option (List ℕ)} → AfterGap x (0x2C ∷ z) → FaultyBlanks z reason place → NothingNext b true x
+nowhere_after b k x z g f = record { no_entry = λ y begun. entry y begun; no_close = λ r c. close r c }
   where
-    g : IsAfterGap s.unread mid.unread
-    g = after_gap_of s mid p
+    comma : IsSign 0x2C x z
+    comma = sign_next 0x2C x (0x2C ∷ z) z g refl
 
-    comma : IsSign 0x2C s.unread next.unread
-    comma = sign_next 0x2C s.unread mid.unread next.unread g took.split
+    entry : (y : List ℕ) → StepsTo true x y → ⊥
+    entry y (w, other, gap) = no_gap_faulty y f (after_same_comma (λ q. AfterGap q y) x z w comma other gap)
 
-    entry : (y : List ℕ) → IsEntryStart true s.unread y → ⊥
-    entry y (z, other, gap) = no_gap_faulty next e y f (after_same_comma (λ q. IsAfterGap q y) s.unread next.unread z comma other gap)
+    close : (r : List ℕ) → IsEnd b.closing true x r → ⊥
+    close r (inl c) = no_sign_next b.closing x (0x2C ∷ z) r k.closing g k.no_comma c
+    close r (inr (w, other, c)) = no_sign_faulty b.closing r k.closing f (after_same_comma (λ q. IsSign b.closing q r) x z w comma other c)
 
-    close : (r : List ℕ) → IsEnd b.closing true s.unread r → ⊥
-    close r (inl c) = no_sign_next b.closing s.unread mid.unread r k.closing g n c
-    close r (inr (z, other, c)) = no_sign_faulty b.closing next e r k.closing f (after_same_comma (λ q. IsSign b.closing q r) s.unread next.unread z comma other c)
+nowhere_due : (b : BracketPair) → AreSigns b → (x y : List ℕ) {reason : Option ErrorCode} {place : Option (List ℕ)} → AfterGap x y → NoNext b true y reason place → NothingNext b true x
+nowhere_due b k x y g (no_comma c q d m n) = nothing_due b x (λ z s. no_sign_next 0x2C x (c ∷ q) z comma_solid g m s) (λ r s. no_sign_next b.closing x (c ∷ q) r k.closing g n s)
+nowhere_due b k x y g (comma_missing d) = nothing_due b x (λ z s. no_sign_next 0x2C x [] z comma_solid g tt s) (λ r s. no_sign_next b.closing x [] r k.closing g tt s)
+nowhere_due b k x y g (in_blanks_after {x = z} d f) = nowhere_after b k x z g f
+
+-- where the next entry is refused, neither an entry nor the bracket follows
+pub nowhere : (b : BracketPair) → AreSigns b → (comma_due : Bool) (x : List ℕ) {reason : Option ErrorCode} {place : Option (List ℕ)} → AfterBlanks (NoNext b comma_due) x reason place → NothingNext b comma_due x
+nowhere b k comma_due x (in_blanks f) = nowhere_faulty b k comma_due x f
+nowhere b k false x (after_gap g s f) = absurd (none_due f)
+nowhere b k true x (after_gap {w = w} {x = y} g s f) = nowhere_due b k (w ++ y) y (record { gap = w; split = refl; is_gap = g; solid = s }) f
 
 pub only_read : (s t u : State) → OnlyRead s t → OnlyRead t u → OnlyRead s u
 only_read s t u a b = b ∙ ap (λ (m : State). record m { unread = u.unread }) a
 
--- the bracket or an element after the comma
-pub goes_after : (b : BracketPair) (comma_due is : Bool) (s mid next last : State) → comma_due ≡ true → PassedGap s mid → TookText mid (0x2C ∷ []) next → PassedGap next last
-    → (is ≡ true → slice_get last.unread 0 ≡ Some b.closing) → (is ≡ false → NotBegun (λ c. c == b.closing) last.unread) → AdvancesToEntry b comma_due s last (not is)
-goes_after b comma_due true s mid next last d p took q found other =
-    let (r, split) = some_next last.unread b.closing (found refl) in
-    let comma = sign_next 0x2C s.unread mid.unread next.unread (after_gap_of s mid p) took.split in
-    let bracket = sign_next b.closing next.unread last.unread r (after_gap_of next last q) split in
-    record {
-      live = p.live;
-      close = (r, subst (λ w. IsEnd b.closing w s.unread r) (sym d) (inr (next.unread, comma, bracket)), split);
-      rest = only_read s mid last p.rest (only_read mid next last took.rest q.rest);
-    }
-goes_after b comma_due false s mid next last d p took q found other =
-    let comma = sign_next 0x2C s.unread mid.unread next.unread (after_gap_of s mid p) took.split in
-    record {
-      live = p.live;
-      begun = subst (λ w. IsEntryStart w s.unread last.unread) (sym d) (next.unread, comma, after_gap_of next last q);
-      inside = other refl;
-      rest = only_read s mid last p.rest (only_read mid next last took.rest q.rest);
-    }
-
 -- ---- an element
 
 -- what can be read where an element may begin is an element
-pub element_read : (comma_due : Bool) (x y r : List ℕ) (t : Tree) → IsEntryStart comma_due x y → Reads y t r → IsElement comma_due x t r
+pub element_read : (comma_due : Bool) (x y r : List ℕ) (t : Tree) → StepsTo comma_due x y → Reads y t r → IsElement comma_due x t r
 element_read false x y r t g p = reads_here x g.gap y r t g.split g.is_gap p
 element_read true x y r t (z, comma, g) p = (z, comma, reads_here z g.gap y r t g.split g.is_gap p)
 
 -- an element begins after blanks
-reads_gap : (x r : List ℕ) (t : Tree) → Reads x t r → (y : List ℕ) × IsAfterGap x y
+reads_gap : (x r : List ℕ) (t : Tree) → Reads x t r → (y : List ℕ) × AfterGap x y
 reads_gap x r t p = (p.phrase ++ r, record { gap = p.front; split = p.split; is_gap = Gap.blanks p.blank; solid = value_solid r (val_head p.value) })
 
 -- if no element may begin, there is none
@@ -157,12 +132,12 @@ no_element_next b false x r t n e = let (y, g) = reads_gap x r t e in n.no_entry
 no_element_next b true x r t n (z, comma, e) = let (y, g) = reads_gap z r t e in n.no_entry y (z, comma, g)
 
 -- the element begins where an element may begin
-pub element_found : (comma_due : Bool) (x y r : List ℕ) (t : Tree) → IsEntryStart comma_due x y → IsElement comma_due x t r → Reads y t r
+pub element_found : (comma_due : Bool) (x y r : List ℕ) (t : Tree) → StepsTo comma_due x y → IsElement comma_due x t r → Reads y t r
 element_found false x y r t g p = reads_found x g.gap y r t g.split g.is_gap g.solid p
 element_found true x y r t (z, comma, g) (k, other, p) = reads_found z g.gap y r t g.split g.is_gap g.solid (after_same_comma (λ q. Reads q t r) x z k comma other p)
 
 -- no bracket closes there
-pub no_close_found : (b : BracketPair) → AreSigns b → (comma_due : Bool) (x y r : List ℕ) → IsEntryStart comma_due x y → NotBegun (λ c. c == b.closing) y → IsEnd b.closing comma_due x r → ⊥
+pub no_close_found : (b : BracketPair) → AreSigns b → (comma_due : Bool) (x y r : List ℕ) → StepsTo comma_due x y → NotBegun (λ c. c == b.closing) y → IsEnd b.closing comma_due x r → ⊥
 no_close_found b k false x y r g n c = no_sign_next b.closing x y r k.closing g n c
 no_close_found b k true x y r (z, comma, g) n (inl c) = no_comma_end b.closing x z r k.closing k.no_comma comma c
 no_close_found b k true x y r (z, comma, g) n (inr (w, other, c)) = no_sign_next b.closing z y r k.closing g n (after_same_comma (λ q. IsSign b.closing q r) x z w comma other c)
@@ -206,7 +181,7 @@ no_close_next b k true s mid r p m n (inr (y, comma, c)) = no_sign_next 0x2C s.u
 
 -- a comment in front is at fault
 pub no_close_faulty : (b : BracketPair) → AreSigns b → (comma_due : Bool) (s : State) (e : Error) (r : List ℕ) → Refused FaultyBlanks (cursor_of s) e → IsEnd b.closing comma_due s.unread r → ⊥
-no_close_faulty b k comma_due s e r f c = (nowhere_faulty b k comma_due s e f).no_close r c
+no_close_faulty b k comma_due s e r f c = (nowhere_faulty b k comma_due s.unread f.fault).no_close r c
 
 -- after the comma
 pub no_close_after : (b : BracketPair) → AreSigns b → (comma_due : Bool) (s mid next : State) (r : List ℕ) → comma_due ≡ true → PassedGap s mid → TookText mid (0x2C ∷ []) next → (IsSign b.closing next.unread r → ⊥) → IsEnd b.closing comma_due s.unread r → ⊥

@@ -6,7 +6,6 @@ use Rattle.std.proofs.lemmas.Bool.{false≢true, or_parts}
 use Rattle.std.proofs.lemmas.Result.{err_from_is_err_and}
 use Rattle.json5_grammar.specs.declared.error_code.ErrorCode.{ErrorCode}
 use Rattle.json5_grammar.specs.declared.error_code.ErrorCode.TheVariants as codes
-use Rattle.json5_grammar.specs.Faults.Codes.{after_text}
 use Rattle.json5_grammar.specs.Language.Characters.{NotBegun}
 use Rattle.json5_grammar.specs.Language.Blanks.{Blanks, Gap, Solid}
 use Rattle.json5_grammar.specs.Language.Trees.{Tree}
@@ -15,6 +14,7 @@ use Rattle.json5_grammar.specs.Model.Collections.{ReadsKey, IsKey, IsKeyValue, N
 use Rattle.json5_grammar.proofs.CommonLemmas.{first_same, true_false}
 use Rattle.json5_grammar.proofs.BlanksRead.{begins_solid}
 use Rattle.json5_grammar.proofs.BlanksSound.{one_gap, gap_last, gap_before, gap_blanks}
+use Rattle.json5_grammar.proofs.EntriesAfterGaps.{no_sign, no_sign_in_blanks}
 use Rattle.json5_grammar.proofs.ValueHeads.{key_head, key_solid}
 use Rattle.json5_grammar.proofs.ArraysRead.{comma_solid}
 use Rattle.json5_grammar.proofs.ArraysPartlyRead.{after_same_comma, same_sign}
@@ -25,52 +25,54 @@ use Rattle.json5_text.specs.TextTokens.{IsSliceAt}
 use Rattle.json5_text.specs.ShortTexts.{IsTextAt}
 use Rattle.json5_text.specs.declared.short_texts.Span.{Span}
 use Rattle.json5_text.specs.Cursor.{Refused}
-use Rattle.json5_text.specs.TokenFaults.{FaultyBlanks}
 use Rattle.json5_de.specs.Convert.{every_text}
 use Rattle.json5_de.specs.KeyKinds.{RefusedAsKey, string_key}
 use Rattle.json5_de.specs.State.{State, OnlyRead, SameText, cursor_of}
 use Rattle.json5_de.specs.DeserializeLaw.{TookValue}
-use Rattle.json5_de.specs.ReaderSteps.{PassedGap, TookText, IsCount}
+use Rattle.json5_de.specs.ReaderSteps.{IsCount}
 use Rattle.json5_de.specs.Keys.{KeyConversion, TookKey, GivesKey, CompletesKey, CompletesEscapeFreeKey, ReadsKeyOf}
 use Rattle.json5_de.specs.FieldKeys.{field_key_text}
 use Rattle.json5_de.specs.ShortWays.{filled_if_given}
 use Rattle.json5_value.specs.Brackets.{curly}
-use Rattle.json5_de.specs.Faults.{AfterBlanks, in_blanks, after_gap, RefusedBy, AtEnd, AtOther, IsPositionless, IsAfter}
+use Rattle.json5_de.specs.Faults.{RefusedBy, AtEnd, AtOther, IsPositionless, IsAfter}
+use Rattle.json5_value.specs.FoundEntries.{AfterBlanks, in_blanks, after_gap, NoNext, no_comma, comma_missing, in_blanks_after, NoColon, no_colon, colon_missing}
 use Rattle.json5_de.specs.Arrays.{AtClose, PositionedAtBracket}
 use Rattle.json5_value.specs.ModelSteps.{Unexpected, at_end, at_char}
 use Rattle.json5_value.specs.Offsets.{StartsAfter}
-use Rattle.json5_de.specs.AccessCalls.{IsAfterGap, IsEntryStart, IsUnexpected, Advances, AtEntry, NothingNext, NoNext, no_comma, comma_missing, in_blanks_after}
+use Rattle.json5_de.specs.AccessCalls.{IsUnexpected, Advances, AtEntry, NothingNext}
+use Rattle.json5_text.specs.ShortWays.{AfterGap, StepsTo}
 use Rattle.json5_de.specs.Objects.{MapAccessState, bare_map, CompletesEscapeFreeMember, TookMemberKey, AfterColon, TookMemberValue, GivesMemberKey, GivesMemberValue, CompletesMemberKey}
+use Rattle.json5_value.proofs.FoundEntries.{refused_gap as after_passed}
 use Rattle.json5_value.proofs.NoFailedCode.{other_says}
 use Rattle.json5_de.proofs.ShortReads.{kept_key}
 use Rattle.json5_de.proofs.Offsets.{placed_where}
-use Rattle.json5_de.specs.ObjectFaults.{begins_key, AtKey, NoKeyHere, no_key, key_missing, NoKey, no_next, not_here, not_after_comma, PositionedAtKey, at_key, as_it_is, PositionsKey, RefusesMemberKey, not_reached, in_key, ReadsKeyOfMember, begins_next_key, no_key_code, RefusesNextKey, NoColon, no_colon, colon_missing, is_colon, RefusesMemberValue, no_value, in_value, RefusesNextValue}
+use Rattle.json5_de.specs.ObjectFaults.{begins_key, AtKey, NoKeyHere, no_key, key_missing, NoKey, no_next, not_here, not_after_comma, PositionedAtKey, at_key, as_it_is, PositionsKey, RefusesMemberKey, not_reached, in_key, ReadsKeyOfMember, begins_next_key, no_key_code, RefusesNextKey, is_colon, RefusesMemberValue, no_value, in_value, RefusesNextValue}
 use Rattle.json5_de.proofs.ExpectedKinds.{Expected, end_fault, other_fault}
-use Rattle.json5_de.proofs.ReadSteps.{input_of, placed_after, refused_token}
+use Rattle.json5_de.proofs.ReadSteps.{input_of}
 use Rattle.json5_de.proofs.RefusalPositions.{refused_as, refused_after}
 use Rattle.json5_de.proofs.Options.{not_nil}
-use Rattle.json5_de.proofs.BracketSteps.{only_read, level_of, failed_of, sign_next, no_sign_next, after_gap_of, no_close_found, no_sign_faulty}
+use Rattle.json5_de.proofs.BracketSteps.{only_read, level_of, failed_of, no_close_found}
 use Rattle.json5_de.proofs.EntryCodes.{expects_more, end_no_sign, other_no_sign, end_no_close, other_no_close}
 use Rattle.json5_de.proofs.AccessCalls.{lent_back, answers_call, refuses_call}
 use Rattle.json5_de.proofs.ObjectMembers.{curly_signs}
 
 -- ---- where a key begins
 
-key_gap : (x r u : List ℕ) (p : Bool) → ReadsKey x u p r → (y : List ℕ) × IsAfterGap x y
+key_gap : (x r u : List ℕ) (p : Bool) → ReadsKey x u p r → (y : List ℕ) × AfterGap x y
 key_gap x r u p k = (k.spelling ++ r, record { gap = k.front; split = k.split; is_gap = Gap.blanks k.blank; solid = key_solid r (key_head k.key) })
 
 -- a key that follows the gap begins there
-key_at : (x y r u : List ℕ) (p : Bool) → IsAfterGap x y → (k : ReadsKey x u p r) → y ≡ k.spelling ++ r
+key_at : (x y r u : List ℕ) (p : Bool) → AfterGap x y → (k : ReadsKey x u p r) → y ≡ k.spelling ++ r
 key_at x y r u p g k = (one_gap k.front (k.spelling ++ r) g.gap y (Gap.blanks k.blank) (key_solid r (key_head k.key)) g.is_gap g.solid (sym k.split ∙ g.split)).1
 
-no_gap : (y : List ℕ) → Solid y → IsAfterGap y y
+no_gap : (y : List ℕ) → Solid y → AfterGap y y
 no_gap y solid = record { gap = []; split = refl; is_gap = Gap.blanks Blanks.empty; solid = solid }
 
-key_here : (x y r u : List ℕ) (p : Bool) → IsAfterGap x y → ReadsKey x u p r → ReadsKey y u p r
+key_here : (x y r u : List ℕ) (p : Bool) → AfterGap x y → ReadsKey x u p r → ReadsKey y u p r
 key_here x y r u p g k = record { front = []; spelling = k.spelling; split = key_at x y r u p g k; blank = Blanks.empty; key = k.key }
 
 -- and one that is read there is read after the gap
-pub key_there : (x y r u : List ℕ) (p : Bool) → IsAfterGap x y → ReadsKey y u p r → ReadsKey x u p r
+pub key_there : (x y r u : List ℕ) (p : Bool) → AfterGap x y → ReadsKey y u p r → ReadsKey x u p r
 key_there x y r u p g k =
     let at = key_at y y r u p (no_gap y g.solid) k in
     let head = key_head k.key in
@@ -83,11 +85,11 @@ key_there x y r u p g k =
     }
 
 -- the same after the comma that is due
-pub pair_key_found : (comma_due : Bool) (x y r u : List ℕ) (p : Bool) → IsEntryStart comma_due x y → IsKey comma_due x u p r → ReadsKey y u p r
+pub pair_key_found : (comma_due : Bool) (x y r u : List ℕ) (p : Bool) → StepsTo comma_due x y → IsKey comma_due x u p r → ReadsKey y u p r
 pair_key_found false x y r u p g k = key_here x y r u p g k
 pair_key_found true x y r u p (z, comma, g) (w, other, k) = key_here z y r u p g (after_same_comma (λ q. ReadsKey q u p r) x z w comma other k)
 
-pair_key_read : (comma_due : Bool) (x y r u : List ℕ) (p : Bool) → IsEntryStart comma_due x y → ReadsKey y u p r → IsKey comma_due x u p r
+pair_key_read : (comma_due : Bool) (x y r u : List ℕ) (p : Bool) → StepsTo comma_due x y → ReadsKey y u p r → IsKey comma_due x u p r
 pair_key_read false x y r u p g k = key_there x y r u p g k
 pair_key_read true x y r u p (z, comma, g) k = (z, comma, key_there z y r u p g k)
 
@@ -98,7 +100,7 @@ took_pair_key comma_due s mid last u p at took = record {
   rest = only_read s mid last at.entry.rest took.rest;
 }
 
-pub begun_solid : (comma_due : Bool) (x y : List ℕ) → IsEntryStart comma_due x y → Solid y
+pub begun_solid : (comma_due : Bool) (x y : List ℕ) → StepsTo comma_due x y → Solid y
 begun_solid false x y g = g.solid
 begun_solid true x y (z, comma, g) = g.solid
 
@@ -117,7 +119,7 @@ no_pair_next comma_due x n = record { no_key = λ u p r k. by comma_due u p r n 
     by true u p r n (z, comma, k) = let (y, g) = key_gap z r u p k in n.no_entry y (z, comma, g)
 
 -- nor where neither a key nor the brace begins
-pub no_pair_here : (comma_due : Bool) (x y : List ℕ) → IsEntryStart comma_due x y → NotBegun (λ c. c == 125) y → NotBegun begins_key y → NoMemberGoes comma_due x
+pub no_pair_here : (comma_due : Bool) (x y : List ℕ) → StepsTo comma_due x y → NotBegun (λ c. c == 125) y → NotBegun begins_key y → NoMemberGoes comma_due x
 no_pair_here comma_due x y begun n none = record {
   no_key = λ u p r k. no_key_begun y r u p (begun_solid comma_due x y begun) none (pair_key_found comma_due x y r u p begun k);
   no_brace = λ r c. no_close_found curly curly_signs comma_due x y r begun n c;
@@ -135,14 +137,8 @@ pub refused_next_key : (comma_due : Bool) (s : State) (e : Error) → RefusedBy 
 refused_next_key comma_due s e f live = let f = f live in record { reason = f.reason; place = f.place; fault = after_wider s.unread f.reason f.place (λ x reason place k. no_next k) f.fault; says = f.says; placed = f.placed }
 
 -- a fault after the gap
-refused_gap : {F : List ℕ → Option ErrorCode → Option (List ℕ) → Type 0} (old mid : State) (e : Error) → IsAfterGap old.unread mid.unread → SameText old mid → Refused F (cursor_of mid) e → Refused (AfterBlanks F) (cursor_of old) e
-refused_gap {F = F} old mid e g same f = record {
-  reason = f.reason;
-  place = after_text g.gap f.place;
-  fault = subst (λ x. AfterBlanks F x f.reason (after_text g.gap f.place)) (sym g.split) (after_gap g.is_gap g.solid f.fault);
-  says = f.says;
-  placed = placed_after old mid e g.gap f.place g.split same f.placed;
-}
+refused_gap : {F : List ℕ → Option ErrorCode → Option (List ℕ) → Type 0} (old mid : State) (e : Error) → AfterGap old.unread mid.unread → SameText old mid → Refused F (cursor_of mid) e → Refused (AfterBlanks F) (cursor_of old) e
+refused_gap old mid e g same f = after_passed (cursor_of old) (cursor_of mid) e (g.gap, record { split = g.split; same = same }, g.is_gap, g.solid) (λ reason place k. k) f
 
 no_key_here : (x : List ℕ) (reason : Option ErrorCode) (place : Option (List ℕ)) → NotBegun begins_key x → NotBegun (λ c. c == 125) x → Unexpected codes.EofParsingObject codes.ExpectedIdentifier x reason place → NoKeyHere x reason place
 no_key_here x reason place n m at_end = key_missing
@@ -155,7 +151,7 @@ refused_key_here comma_due s mid e at n f live = by comma_due at.begun
     here : Refused NoKeyHere (cursor_of mid) e
     here = refused_as mid mid e refl (λ reason place k. no_key_here mid.unread reason place n at.inside k) f
 
-    by : (comma_due : Bool) → IsEntryStart comma_due s.unread mid.unread → Refused (AfterBlanks (NoKey comma_due)) (cursor_of s) e
+    by : (comma_due : Bool) → StepsTo comma_due s.unread mid.unread → Refused (AfterBlanks (NoKey comma_due)) (cursor_of s) e
     by false g = refused_gap s mid e g (input_of at.rest) (refused_as mid mid e refl (λ reason place k. not_here refl k) here)
     by true (z, comma, g) =
         let next : State = record s { unread = z } in
@@ -232,14 +228,14 @@ other_no_brace false s w r o = let k = or_parts (begins_key o.char) (o.char == 1
 end_at_key : (comma_due : Bool) (s mid : State) → AtEnd s → AtKey comma_due s mid → ⊥
 end_at_key comma_due s mid at k = by comma_due k.entry.begun
   where
-    by : (comma_due : Bool) → IsEntryStart comma_due s.unread mid.unread → ⊥
+    by : (comma_due : Bool) → StepsTo comma_due s.unread mid.unread → ⊥
     by true (z, comma, g) = end_no_sign 0x2C s z comma_solid at comma
     by false g = not_nil k.begins.char k.begins.more mid.unread k.begins.split (gap_last s.unread g.gap mid.unread at.1 g.is_gap g.solid g.split).1
 
 other_at_key : (comma_due : Bool) (s mid : State) (w : List ℕ) → AtOther (begins_next_key comma_due) s w → AtKey comma_due s mid → ⊥
 other_at_key comma_due s mid w o k = by comma_due k.entry.begun o
   where
-    by : (comma_due : Bool) → IsEntryStart comma_due s.unread mid.unread → AtOther (begins_next_key comma_due) s w → ⊥
+    by : (comma_due : Bool) → StepsTo comma_due s.unread mid.unread → AtOther (begins_next_key comma_due) s w → ⊥
     by true (z, comma, g) o = other_no_sign 0x2C s w z comma_solid o (or_parts (o.char == 0x2C) (o.char == 125) o.other).0 comma
     by false g o =
         let next = (gap_before w g.gap mid.unread o.char o.more o.blank o.solid g.is_gap g.solid (sym o.split ∙ g.split)).1 in
@@ -444,13 +440,6 @@ module _ (comma_due : Bool) (s mid : State) (result : Result Bool Error) where
 
 -- ---- a colon and a value
 
-pub after_colon : (old mid next : State) → PassedGap old mid → TookText mid (58 ∷ []) next → AfterColon old next
-after_colon old mid next p took = record {
-  live = p.live;
-  colon = sign_next 58 old.unread mid.unread next.unread (after_gap_of old mid p) took.split;
-  rest = only_read old mid next p.rest took.rest;
-}
-
 pub value_read : (old next new : State) (t : Tree) → AfterColon old next → TookValue next t new → TookMemberValue old t new
 value_read old next new t at value =
     let level = level_of at.rest in
@@ -465,18 +454,14 @@ value_read old next new t at value =
 pub value_found : (old next : State) (t : Tree) (r : List ℕ) → AfterColon old next → IsKeyValue old.unread t r → Reads next.unread t r
 value_found old next t r at (y, colon, reads) = subst (λ x. Reads x t r) (same_sign 58 old.unread y next.unread colon_solid colon at.colon) reads
 
-pub no_value_next : (old mid : State) (t : Tree) (r : List ℕ) → PassedGap old mid → NotBegun (λ c. c == 58) mid.unread → IsKeyValue old.unread t r → ⊥
-no_value_next old mid t r p n (y, colon, reads) = no_sign_next 58 old.unread mid.unread y colon_solid (after_gap_of old mid p) n colon
-
-pub no_value_faulty : (old : State) (e : Error) (t : Tree) (r : List ℕ) → Refused FaultyBlanks (cursor_of old) e → IsKeyValue old.unread t r → ⊥
-no_value_faulty old e t r f (y, colon, reads) = no_sign_faulty 58 old e y colon_solid f colon
-
-no_colon_here : (x : List ℕ) (reason : Option ErrorCode) (place : Option (List ℕ)) → NotBegun (λ c. c == 58) x → Unexpected codes.EofParsingObject codes.ExpectedColon x reason place → NoColon x reason place
-no_colon_here x reason place n at_end = colon_missing
-no_colon_here x reason place n (at_char c r) = no_colon c r n
-
-pub refused_colon : (old mid at : State) (e : Error) → PassedGap old mid → at ≡ mid → NotBegun (λ c. c == 58) mid.unread → Refused (Unexpected codes.EofParsingObject codes.ExpectedColon) (cursor_of at) e → RefusedBy NoColon old e
-refused_colon old mid at e p same n f = refused_token old mid e p (refused_as at mid e same (λ reason place k. no_colon_here mid.unread reason place n k) f)
+-- where a colon is refused, no value follows
+pub none_without_colon : (x : List ℕ) (t : Tree) (r : List ℕ) {reason : Option ErrorCode} {place : Option (List ℕ)} → AfterBlanks NoColon x reason place → IsKeyValue x t r → ⊥
+none_without_colon x t r {reason = reason} {place = place} (in_blanks (w, p, shown, fault)) (y, colon, reads) = no_sign_in_blanks 58 x w p y reason place shown colon_solid fault colon
+none_without_colon x t r (after_gap {w = w} {x = q} g s f) (y, colon, reads) = no_sign 58 (w ++ q) w q y colon_solid refl g s (not_colon q f) colon
+  where
+    not_colon : (q : List ℕ) {reason : Option ErrorCode} {place : Option (List ℕ)} → NoColon q reason place → NotBegun (λ c. c == 58) q
+    not_colon q (no_colon c z n) = n
+    not_colon q colon_missing = tt
 
 pub gives_value_seen : {V C : Type 0} (content : V → C) (convert : Tree → Option C) (old new : MapAccessState) (a b : State) (v : V) → a ≡ old.at.reader → new.at.reader ≡ record b { failed = old.at.reader.failed } → new.at.comma_due ≡ true → new.pending ≡ false
     → GivesMemberValue content convert (bare_map a false true) (bare_map b true false) v → GivesMemberValue content convert old new v

@@ -3,19 +3,14 @@ use Rattle.std.proofs.Common.{◌≢◌, ℕ, Bool, false, List, ◌∷◌, Opti
 use Rattle.json5_grammar.specs.declared.error_code.ErrorCode.{ErrorCode}
 use Rattle.json5_grammar.specs.declared.error_code.ErrorCode.TheVariants as codes
 use Rattle.json5_grammar.specs.Language.Numbers.{Number}
-use Rattle.json5_de.specs.ObjectFaults.{NoColon, no_colon, colon_missing}
-use Rattle.json5_de.specs.Faults.{AfterBlanks, in_blanks, after_gap, NotNumber, faulty_number, other_number, NotText, faulty_text, other_text, Trailing, trailing}
+use Rattle.json5_de.specs.Faults.{NotNumber, faulty_number, other_number, NotText, faulty_text, other_text, Trailing, trailing}
 use Rattle.json5_value.specs.declared.brackets.BracketPair.{BracketPair}
 use Rattle.json5_de.specs.BracketSigns.{AreSigns}
 use Rattle.json5_de.specs.Arrays.{NotClosed, NoBracket, other_sign, bracket_missing, not_here, after_comma, NotOpened, no_bracket, text_ends, too_deep}
-use Rattle.json5_de.specs.AccessCalls.{NoNext, no_comma, comma_missing, in_blanks_after}
 use Rattle.json5_de.specs.OptionFaults.{NoOption, option_missing, faulty_null}
 use Rattle.json5_grammar.specs.Language.Values.{null_text}
-use Rattle.json5_value.proofs.NoFailedCode.{Lacks, in_blanks_other, word_lacks, faulty_number_lacks, faulty_string_lacks}
-
-pub after_lacks : {F : List ℕ → Option ErrorCode → Option (List ℕ) → Type 0} → Lacks F → Lacks (AfterBlanks F)
-after_lacks l x reason place (in_blanks (before, part, shown, fault)) = in_blanks_other fault
-after_lacks l x reason place (after_gap {x = y} {place = p} g s f) = l y reason p f
+use Rattle.json5_value.proofs.FoundEntries.{after_lacks}
+use Rattle.json5_value.proofs.NoFailedCode.{Lacks, word_lacks, faulty_number_lacks, faulty_string_lacks}
 
 pub number_lacks : {C : Type 0} (f : Number → Option C) → Lacks (NotNumber f)
 number_lacks f x reason place (faulty_number k) = faulty_number_lacks x reason place k
@@ -45,13 +40,6 @@ opening_lacks b k level x reason place (no_bracket c r h) = some_other b.not_ope
 opening_lacks b k level x reason place text_ends = some_other b.ends k.other_ends
 opening_lacks b k level x reason place (too_deep r full) = λ e. absurd (cc)
 
--- ---- where the next member is expected
-
-pub next_lacks : (b : BracketPair) → AreSigns b → (comma_due : Bool) → Lacks (NoNext b comma_due)
-next_lacks b w comma_due x reason place (no_comma c r d h k) = λ e. absurd (cc)
-next_lacks b w comma_due x reason place (comma_missing d) = some_other b.ends w.other_ends
-next_lacks b w comma_due x reason place (in_blanks_after d (before, part, shown, fault)) = in_blanks_other fault
-
 -- ---- where an option or the end is expected
 
 pub option_lacks : Lacks NoOption
@@ -60,9 +48,3 @@ option_lacks x reason place (faulty_null {r = r} f) = word_lacks null_text codes
 
 pub trailing_lacks : Lacks Trailing
 trailing_lacks x reason place (trailing c r) = λ e. absurd (cc)
-
--- ---- where a colon is expected
-
-pub colon_lacks : Lacks NoColon
-colon_lacks x reason place (no_colon c r n) = λ e. absurd (cc)
-colon_lacks x reason place colon_missing = λ e. absurd (cc)

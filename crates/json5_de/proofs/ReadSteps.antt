@@ -1,9 +1,7 @@
 -- A gap and a token together make one value that was read.
-use Rattle.std.proofs.Common.{◌≡◌, ℕ, Bool, false, List, [], ◌∷◌, ◌++◌, refl, ap, sym, ◌∙◌, subst, append_assoc, ◌⊎◌, inl, inr, Option, Some, None, arith}
+use Rattle.std.proofs.Common.{◌≡◌, ℕ, Bool, false, List, [], ◌∷◌, ◌++◌, refl, ap, sym, ◌∙◌, subst, ◌⊎◌, inl, inr, Option, Some, arith}
 use Rattle.json5_grammar.specs.declared.error_code.ErrorCode.{ErrorCode}
-use Rattle.json5_grammar.specs.Faults.Codes.{after_text}
 use Rattle.json5_grammar.specs.Language.Blanks.{Blanks, Gap}
-use Rattle.json5_grammar.specs.Faults.Positions.{position_after}
 use Rattle.json5_grammar.specs.Language.Trees.{Tree, depth}
 use Rattle.json5_grammar.specs.Language.Values.{Val, Stops, null_text, true_text, false_text}
 use Rattle.std.specs.Prelude.{◌==◌, slice_get, if◌then◌else◌}
@@ -12,13 +10,14 @@ use Rattle.json5_grammar.specs.declared.error_code.ErrorCode.TheVariants as code
 use Rattle.json5_grammar.proofs.BlanksSound.{gap_blanks}
 use Rattle.json5_grammar.proofs.ValueHeads.{val_head}
 use Rattle.json5_types.specs.declared.error.Error.{Error}
-use Rattle.json5_types.specs.Errors.{error_position}
-use Rattle.json5_text.specs.Cursor.{IsPositioned, Refused}
+use Rattle.json5_text.specs.Cursor.{Took, Refused}
 use Rattle.json5_types.specs.Errors.{LacksMemory}
 use Rattle.json5_text.specs.TokenFaults.{FaultyBlanks, FaultyWord}
+use Rattle.json5_value.proofs.FoundEntries.{refused_blanks as refused_in_blanks, refused_gap}
 use Rattle.json5_de.specs.State.{State, cursor_of}
 use Rattle.json5_de.specs.DeserializeLaw.{TookValue}
-use Rattle.json5_de.specs.Faults.{AfterBlanks, in_blanks, after_gap, RefusedBy, RefusedByOrMemory, FaultyBool, begins_with}
+use Rattle.json5_de.specs.Faults.{RefusedBy, RefusedByOrMemory, FaultyBool, begins_with}
+use Rattle.json5_value.specs.FoundEntries.{FaultRelation}
 use Rattle.json5_de.specs.ReaderSteps.{PassedGap, TookText}
 
 -- a gap before a value is of blanks
@@ -46,23 +45,15 @@ took_leaf old mid new s t flat p k v stops = record {
 pub input_of : {s t : State} → s ≡ t → s.input ≡ t.input
 input_of e = ap (λ (s : State). s.input) e
 
-pub placed_after : (old mid : State) (e : Error) (w : List ℕ) (place : Option (List ℕ)) → old.unread ≡ w ++ mid.unread → mid.input ≡ old.input → IsPositioned (cursor_of mid) place e → IsPositioned (cursor_of old) (after_text w place) e
-placed_after old mid e w None split same k = k
-placed_after old mid e w (Some p) split same k = λ before whole.
-    let there : mid.input ≡ (before ++ w) ++ mid.unread = same ∙ whole ∙ ap (λ y. before ++ y) split ∙ sym (append_assoc before w mid.unread) in
-    subst (λ z. error_position e ≡ Some (position_after z)) (append_assoc before w p) (k (before ++ w) there)
+-- characters were taken from the scanner
+pub took_of : (old new : State) (w : List ℕ) → TookText old w new → Took (cursor_of old) w (cursor_of new)
+took_of old new w took = record { split = took.split; same = input_of took.rest }
 
-pub refused_blanks : {F : List ℕ → Option ErrorCode → Option (List ℕ) → Type 0} (old : State) (e : Error) → (old.failed ≡ false → Refused FaultyBlanks (cursor_of old) e) → RefusedBy F old e
-refused_blanks old e k live = let f = k live in record { reason = f.reason; place = f.place; fault = in_blanks f.fault; says = f.says; placed = f.placed }
+pub refused_blanks : {F : FaultRelation} (old : State) (e : Error) → (old.failed ≡ false → Refused FaultyBlanks (cursor_of old) e) → RefusedBy F old e
+refused_blanks old e k live = refused_in_blanks (cursor_of old) e (k live)
 
-pub refused_token : {F : List ℕ → Option ErrorCode → Option (List ℕ) → Type 0} (old mid : State) (e : Error) → PassedGap old mid → Refused F (cursor_of mid) e → RefusedBy F old e
-refused_token {F = F} old mid e p f live = record {
-  reason = f.reason;
-  place = after_text p.gap f.place;
-  fault = subst (λ x. AfterBlanks F x f.reason (after_text p.gap f.place)) (sym p.split) (after_gap p.is_gap p.solid f.fault);
-  says = f.says;
-  placed = placed_after old mid e p.gap f.place p.split (input_of p.rest) f.placed;
-}
+pub refused_token : {F : FaultRelation} (old mid : State) (e : Error) → PassedGap old mid → Refused F (cursor_of mid) e → RefusedBy F old e
+refused_token old mid e p f live = refused_gap (cursor_of old) (cursor_of mid) e (p.gap, record { split = p.split; same = input_of p.rest }, p.is_gap, p.solid) (λ reason place k. k) f
 
 pub null_stops : (r : List ℕ) → Stops null_text r
 null_stops [] = tt

@@ -1,12 +1,13 @@
 -- Positions of what is refused.
-use Rattle.std.proofs.Common.{◌≡◌, ℕ, List, ◌++◌, sym, subst, Option}
+use Rattle.std.proofs.Common.{◌≡◌, ℕ, List, ◌++◌, subst, Option}
 use Rattle.json5_grammar.specs.declared.error_code.ErrorCode.{ErrorCode}
 use Rattle.json5_grammar.specs.Faults.Codes.{after_text}
 use Rattle.json5_types.specs.declared.error.Error.{Error}
 use Rattle.json5_text.specs.Cursor.{Refused}
 use Rattle.json5_de.specs.State.{State, cursor_of}
 use Rattle.json5_de.specs.ReaderSteps.{TookText}
-use Rattle.json5_de.proofs.ReadSteps.{placed_after, input_of}
+use Rattle.json5_value.proofs.FoundEntries.{refused_after as after_taken}
+use Rattle.json5_de.proofs.ReadSteps.{took_of}
 
 -- another name for the same fault
 pub refused_as : {F G : List ℕ → Option ErrorCode → Option (List ℕ) → Type 0} (s t : State) (e : Error) → s ≡ t
@@ -19,10 +20,4 @@ refused_as {F = F} {G = G} s t e same h f = moved (subst (λ (u : State). Refuse
 -- a fault after what was taken
 pub refused_after : {F G : List ℕ → Option ErrorCode → Option (List ℕ) → Type 0} (s next : State) (e : Error) (w : List ℕ) → TookText s w next
     → ((reason : Option ErrorCode) (place : Option (List ℕ)) → F next.unread reason place → G (w ++ next.unread) reason (after_text w place)) → Refused F (cursor_of next) e → Refused G (cursor_of s) e
-refused_after {G = G} s next e w took h f = record {
-  reason = f.reason;
-  place = after_text w f.place;
-  fault = subst (λ x. G x f.reason (after_text w f.place)) (sym took.split) (h f.reason f.place f.fault);
-  says = f.says;
-  placed = placed_after s next e w f.place took.split (input_of took.rest) f.placed;
-}
+refused_after s next e w took h f = after_taken (cursor_of s) (cursor_of next) e w (took_of s next w took) h f

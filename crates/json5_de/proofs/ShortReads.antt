@@ -23,7 +23,6 @@ use Rattle.json5_de.specs.KeyKinds.{ReadsKeyAs, string_key}
 use Rattle.json5_de.specs.Keys.{TookKey}
 use Rattle.json5_de.specs.DeserializeLaw.{TookValue}
 use Rattle.json5_de.specs.TokenKinds.{ReadsAs, whole_kind, natural_kind, integer_kind, decimal_kind, string_kind}
-use Rattle.json5_de.specs.AccessCalls.{IsEntryStart}
 use Rattle.json5_de.specs.ShortWays.{ReadsShort, StepsShort, ReadsShortText, ReadsShortKey, PassesShortColon, OwnsTextAt, RunsOut}
 use Rattle.json5_de.specs.State.{State}
 use Rattle.json5_de.proofs.TokenKinds.{reads_ok}
@@ -106,7 +105,7 @@ short_decimal before after level failed old (Some d) e room live k =
 
 -- ---- a step to the next member
 
-begun_by : (comma_due : Bool) (x y : List ℕ) → StepsTo comma_due x y → IsEntryStart comma_due x y
+begun_by : (comma_due : Bool) (x y : List ℕ) → StepsTo comma_due x y → StepsTo comma_due x y
 begun_by false x y k = record { gap = k.gap; split = k.split; is_gap = k.is_gap; solid = k.solid }
 begun_by true x y (z, comma, k) = (z, comma, record { gap = k.gap; split = k.split; is_gap = k.is_gap; solid = k.solid })
 

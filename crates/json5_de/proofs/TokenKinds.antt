@@ -19,7 +19,8 @@ use Rattle.json5_de.specs.DeserializeLaw.{Gives, CompletesFree, StaysFailed, Unp
 use Rattle.json5_grammar.specs.Language.Numbers.{Number, whole, decimal, Num, lengthens}
 use Rattle.json5_grammar.specs.Language.Trees.{Tree, null, boolean, number, text, array, object}
 use Rattle.json5_de.specs.Convert.{as_whole, as_number, every_decimal, as_text, if_escape_free, digits_bytes}
-use Rattle.json5_de.specs.Faults.{FaultRelation, AfterBlanks, in_blanks, after_gap, RefusedBy, RefusedByOrMemory, NotNumber, faulty_number, other_number, faulty_text, begins_with}
+use Rattle.json5_de.specs.Faults.{RefusedBy, RefusedByOrMemory, NotNumber, faulty_number, other_number, faulty_text, begins_with}
+use Rattle.json5_value.specs.FoundEntries.{FaultRelation, AfterBlanks, in_blanks, after_gap}
 use Rattle.json5_de.specs.TokenKinds.{Kind, RefusedWith, ReadsAs, ReadsNull, EndsWhere, DiffersWhere, TellsApart, every_tree, no_tree, escape_free_text, null_kind, bool_kind, whole_kind, decimal_kind, coded_text_kind, text_kind, escape_free_kind, bytes_kind}
 use Rattle.json5_de.proofs.ExpectedKinds.{Expected, wrongly_refused, completes_or_memory, ends_from, ends_or_memory, differs_from, differs_or_memory}
 use Rattle.json5_de.proofs.ExpectsWords.{expects_null, expects_bool}
@@ -31,7 +32,8 @@ use Rattle.json5_de.proofs.AllocationFreeFronts.{whole_there, no_other_number, e
 use Rattle.json5_grammar.specs.Language.Characters.{NotBegun}
 use Rattle.json5_types.specs.NumberMeanings.{keeps_digits}
 use Rattle.std.proofs.lemmas.Bool.{false≢true}
-use Rattle.json5_de.proofs.NoFailedCode.{after_lacks, number_lacks, text_lacks}
+use Rattle.json5_value.proofs.FoundEntries.{after_lacks}
+use Rattle.json5_de.proofs.NoFailedCode.{number_lacks, text_lacks}
 use Rattle.json5_value.proofs.NoFailedCode.{Lacks, in_blanks_other, word_lacks, other_says, memory_other}
 use Rattle.json5_grammar.proofs.CommonLemmas.{true_false}
 

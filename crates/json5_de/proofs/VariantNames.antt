@@ -37,9 +37,11 @@ use Rattle.json5_de.specs.TokenKinds.{ReadsAs, variant_kind}
 use Rattle.json5_de.specs.Keys.{TookKey, GivesKey}
 use Rattle.json5_de.specs.KeyKinds.{ReadsKeyAs, variant_key}
 use Rattle.json5_de.specs.Objects.{MapAccessState, MembersRead, AfterColon, bare_map}
-use Rattle.json5_de.specs.ObjectFaults.{begins_key, BeginsKey, NoColon}
+use Rattle.json5_de.specs.ObjectFaults.{begins_key, BeginsKey}
+use Rattle.json5_value.specs.FoundEntries.{NoColon}
 use Rattle.json5_de.specs.Enums.{named_variant, EnumAccessState, AtContent, AfterName, NameRead, ContentTail, content_depth, ContentLeft, begins_variant, NoVariant, no_variant, variant_missing, NotKeyed, not_keyed, key_missing, is_left_brace, FirstCharIs, IsNext, no_only_key, other_key, not_followed, RefusesKeyed, RefusesName, nothing_named, other_text, not_opened, in_object, NamesVariant, ReadsOnlyKey, ReadsKeyed}
-use Rattle.json5_de.proofs.BracketSteps.{only_read, level_of, failed_of, sign_next, after_gap_of}
+use Rattle.json5_value.proofs.FoundEntries.{sign_next}
+use Rattle.json5_de.proofs.BracketSteps.{only_read, level_of, failed_of, after_gap_of}
 use Rattle.json5_de.proofs.ArrayElements.{still_live, same_level}
 use Rattle.json5_de.proofs.ExpectedKinds.{Expected, end_fault, other_fault}
 use Rattle.json5_de.proofs.Options.{end_next, value_next, value_no_end, took_after}

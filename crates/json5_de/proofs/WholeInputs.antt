@@ -10,7 +10,8 @@ use Rattle.json5_grammar.specs.Language.Documents.{Doc, max_depth}
 use Rattle.json5_grammar.proofs.OneTree.{document_phrase, phrase_document, one_phrase}
 use Rattle.json5_de.specs.State.{State, at_start}
 use Rattle.json5_de.specs.DeserializeLaw.{TookValue, Gives, Completes}
-use Rattle.json5_de.specs.Faults.{AfterBlanks, AtEnd, RefusedBy, Trailing}
+use Rattle.json5_de.specs.Faults.{AtEnd, RefusedBy, Trailing}
+use Rattle.json5_value.specs.FoundEntries.{AfterBlanks}
 use Rattle.json5_de.proofs.ReadSteps.{input_of}
 use Rattle.std.proofs.lemmas.Option.{same_Some}
 use Rattle.json5_de.proofs.BracketSteps.{failed_of}

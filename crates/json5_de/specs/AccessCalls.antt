@@ -1,35 +1,22 @@
 -- The steps of an access, and how its calls refuse.
-use Rattle.std.specs.Prelude.{◌≡◌, ℕ, ◌-◌, Bool, true, false, List, [], ◌∷◌, ◌++◌, Option, Some, None, is_some, ◌==◌, ◌||◌, Result, IfOk, IfErr, OnOk, OnErr, IsErrAnd}
+use Rattle.std.specs.Prelude.{◌≡◌, ℕ, ◌-◌, Bool, true, false, List, ◌∷◌, Option, is_some, ◌==◌, ◌||◌, Result, IfOk, IfErr, OnOk, OnErr, IsErrAnd}
 use Rattle.json5_grammar.specs.Language.Trees.{Tree}
 use Rattle.json5_grammar.specs.declared.error_code.ErrorCode.{ErrorCode}
 use Rattle.json5_grammar.specs.declared.error_code.ErrorCode.TheVariants as codes
-use Rattle.json5_grammar.specs.Faults.Codes.{after_text}
-use Rattle.json5_grammar.specs.Language.Characters.{NotBegun, comma_sign}
-use Rattle.json5_grammar.specs.Language.Blanks.{Gap, Solid}
-use Rattle.json5_grammar.specs.Model.Collections.{IsSign, IsEnd}
+use Rattle.json5_grammar.specs.Language.Characters.{NotBegun}
+use Rattle.json5_grammar.specs.Model.Collections.{IsEnd}
 use Rattle.json5_text.specs.Cursor.{Refused}
-use Rattle.json5_text.specs.TokenFaults.{FaultyBlanks}
+use Rattle.json5_text.specs.ShortWays.{StepsTo}
 use Rattle.json5_types.specs.declared.error.Error.{Error}
 use Rattle.json5_types.specs.Errors.{code, kind_of}
 use Rattle.json5_de.specs.State.{State, OnlyRead, SameText, cursor_of, FailsIfErr}
 use Rattle.json5_value.specs.declared.brackets.BracketPair.{BracketPair}
 use Rattle.json5_value.specs.Brackets.{square}
+use Rattle.json5_value.specs.FoundEntries.{NoNext}
 use Rattle.json5_de.specs.DeserializeLaw.{Unprompted, Steady}
 use Rattle.json5_de.specs.Faults.{RefusedBy, AtEnd, DiffersWith}
 use Rattle.json5_de.specs.Arrays.{AccessState, bare, GivesElement, CompletesElement, CompletesClose, AtClose, HasPosition, PositionedAtBracket, IsAtBracket, is_comma_or_closing, AnswersFailedAtBracket}
 use Rattle.json5_value.specs.ModelSteps.{Unexpected}
-
--- y is what follows the gap in front of x
-pub record IsAfterGap (x y : List ℕ) : Type 0 where
-  pub gap : List ℕ
-  pub split : x ≡ gap ++ y
-  pub is_gap : Gap gap y
-  pub solid : Solid y
-
--- y is where an element or a member of x may begin, after the comma that is due
-abbrev pub IsEntryStart : Bool → List ℕ → List ℕ → Type 0
-IsEntryStart false x y = IsAfterGap x y
-IsEntryStart true x y = (z : List ℕ) × IsSign comma_sign x z × IsAfterGap z y
 
 -- the closing bracket in front was taken
 abbrev pub TookClosing : BracketPair → State → State → Type 0
@@ -53,7 +40,7 @@ pub record TakesClosing (b : BracketPair) (old new : State) (result : Result (Un
 -- an element or a member may begin here: no closing bracket is next
 pub record AtEntry (b : BracketPair) (comma_due : Bool) (old new : State) : Type 0 where
   pub live : old.failed ≡ false
-  pub begun : IsEntryStart comma_due old.unread new.unread
+  pub begun : StepsTo comma_due old.unread new.unread
   pub inside : NotBegun (λ c. c == b.closing) new.unread
   pub rest : OnlyRead old new
 
@@ -63,14 +50,8 @@ AdvancesToEntry b comma_due old new false = AtClose b comma_due old new
 
 -- neither the start of an element or a member nor the closing bracket follows in x
 pub record NothingNext (b : BracketPair) (comma_due : Bool) (x : List ℕ) : Type 0 where
-  pub no_entry : (y : List ℕ) → IsEntryStart comma_due x y → ⊥
+  pub no_entry : (y : List ℕ) → StepsTo comma_due x y → ⊥
   pub no_close : (r : List ℕ) → IsEnd b.closing comma_due x r → ⊥
-
--- what is refused where the next element or member is expected
-pub data NoNext (b : BracketPair) (comma_due : Bool) : List ℕ → Option ErrorCode → Option (List ℕ) → Type 0 where
-  no_comma : (c : ℕ) (r : List ℕ) → comma_due ≡ true → (c == comma_sign) ≡ false → (c == b.closing) ≡ false → NoNext b comma_due (c ∷ r) (Some codes.ExpectedComma) (Some [])
-  comma_missing : comma_due ≡ true → NoNext b comma_due [] (Some b.ends) None
-  in_blanks_after : {x : List ℕ} {reason : Option ErrorCode} {place : Option (List ℕ)} → comma_due ≡ true → FaultyBlanks x reason place → NoNext b comma_due (comma_sign ∷ x) reason (after_text (comma_sign ∷ []) place)
 
 -- the reader goes to the next element or member, or to the closing bracket
 pub record Advances (b : BracketPair) (comma_due : Bool) (old new : State) (result : Result Bool Error) : Type 0 where

@@ -1,27 +1,18 @@
 -- What is refused where a value is expected.
 use Rattle.std.specs.Prelude.{◌≡◌, ℕ, Bool, true, false, if◌then◌else◌, ◌==◌, ◌⊎◌, List, [], ◌∷◌, ◌++◌, Option, Some, None, Result, IsErrAnd}
 use Rattle.json5_grammar.specs.Language.Characters.{letter_f}
-use Rattle.json5_grammar.specs.Faults.Codes.{after_text}
 use Rattle.json5_grammar.specs.declared.error_code.ErrorCode.{ErrorCode}
 use Rattle.json5_grammar.specs.declared.error_code.ErrorCode.TheVariants as codes
-use Rattle.json5_grammar.specs.Language.Blanks.{Blanks, LastBlanks, Gap, Solid, is_solid}
+use Rattle.json5_grammar.specs.Language.Blanks.{Blanks, LastBlanks, is_solid}
 use Rattle.json5_grammar.specs.Language.Numbers.{Number, Num}
 use Rattle.json5_grammar.specs.Language.Strings.{Str}
 use Rattle.json5_grammar.specs.Language.Values.{Stops, null_text, true_text, false_text}
 use Rattle.json5_types.specs.declared.error.Error.{Error}
 use Rattle.json5_types.specs.Errors.{LacksMemory, code, kind_of, error_position}
 use Rattle.json5_text.specs.Cursor.{IsPositioned, Refused}
-use Rattle.json5_text.specs.TokenFaults.{FaultyBlanks, FaultyWord, FaultyNumber, FaultyString}
+use Rattle.json5_text.specs.TokenFaults.{FaultyWord, FaultyNumber, FaultyString}
+use Rattle.json5_value.specs.FoundEntries.{FaultRelation, AfterBlanks}
 use Rattle.json5_de.specs.State.{State, cursor_of}
-
--- which faults an input has: the code, None for a custom message; and the input before its position, None for no position
-abbrev pub FaultRelation : Type 1
-FaultRelation = List ℕ → Option ErrorCode → Option (List ℕ) → Type 0
-
--- a comment in front is at fault, or what follows the gap isn't expected
-pub data AfterBlanks (IsFault : FaultRelation) : List ℕ → Option ErrorCode → Option (List ℕ) → Type 0 where
-  in_blanks : {x : List ℕ} {reason : Option ErrorCode} {place : Option (List ℕ)} → FaultyBlanks x reason place → AfterBlanks IsFault x reason place
-  after_gap : {w x : List ℕ} {reason : Option ErrorCode} {place : Option (List ℕ)} → Gap w x → Solid x → IsFault x reason place → AfterBlanks IsFault (w ++ x) reason (after_text w place)
 
 -- a number in front is faulty, or it is complete and isn't the type's: a custom message, at the number's start
 pub data NotNumber {C : Type 0} (convert : Number → Option C) : List ℕ → Option ErrorCode → Option (List ℕ) → Type 0 where

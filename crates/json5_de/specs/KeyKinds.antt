@@ -13,7 +13,8 @@ use Rattle.json5_text.specs.TokenFaults.{FaultyKey}
 use Rattle.json5_de.specs.State.{State}
 use Rattle.json5_de.specs.Convert.{every_text, if_escape_free, every_cow, one_character, index_of, digits_bytes}
 use Rattle.json5_de.specs.ConvertLists.{if_some}
-use Rattle.json5_de.specs.Faults.{AfterBlanks, RefusedByOrMemory, Trailing}
+use Rattle.json5_de.specs.Faults.{RefusedByOrMemory, Trailing}
+use Rattle.json5_value.specs.FoundEntries.{AfterBlanks}
 use Rattle.json5_de.specs.Keys.{KeyConversion, every_key, ReadsOneKey}
 use Rattle.json5_de.specs.TokenKinds.{Kind}
 

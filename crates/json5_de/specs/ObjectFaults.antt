@@ -13,9 +13,10 @@ use Rattle.json5_de.specs.State.{State, GivesUp}
 use Rattle.json5_de.specs.DeserializeLaw.{Steady}
 use Rattle.json5_value.specs.Offsets.{PositionedAt}
 use Rattle.json5_value.specs.Brackets.{curly}
-use Rattle.json5_de.specs.Faults.{AfterBlanks, RefusedBy}
+use Rattle.json5_de.specs.Faults.{RefusedBy}
+use Rattle.json5_value.specs.FoundEntries.{AfterBlanks, NoNext, NoColon}
 use Rattle.json5_de.specs.Arrays.{CompletesClose, bare, is_comma_or_closing}
-use Rattle.json5_de.specs.AccessCalls.{AtEntry, NoNext, PositionedFault, RefusesCall}
+use Rattle.json5_de.specs.AccessCalls.{AtEntry, PositionedFault, RefusesCall}
 use Rattle.json5_de.specs.Keys.{KeyConversion}
 use Rattle.json5_de.specs.Objects.{MapAccessState, AfterColon, GivesMemberKey, CompletesMemberKey, GivesMemberValue, CompletesMemberValue, bare_map}
 
@@ -114,11 +115,6 @@ abbrev pub RefusesNextKey : {V : Type 0} → (State → Error → State → Type
 RefusesNextKey refuses old new result = RefusesCall (RefusesMemberKey refuses old.at.comma_due old.at.reader) true (begins_next_key old.at.comma_due) codes.EofParsingObject (no_key_code old.at.comma_due) old.at new result
 
 -- ---- values
-
--- what is refused where the colon after a key is expected
-pub data NoColon : List ℕ → Option ErrorCode → Option (List ℕ) → Type 0 where
-  no_colon : (c : ℕ) (r : List ℕ) → (c == colon_sign) ≡ false → NoColon (c ∷ r) (Some codes.ExpectedColon) (Some [])
-  colon_missing : NoColon [] (Some codes.EofParsingObject) None
 
 -- the colon after a key is passed, or refused
 pub record PassesColon (old new : State) (result : Result (Unit {0}) Error) : Type 0 where

@@ -12,6 +12,7 @@ pub mod SkipScalars
 pub mod RestsShorter
 pub mod SkipInvariant
 pub mod ShortEntries
+pub mod FoundEntries
 pub mod SkipTurns
 pub mod BuildRests
 pub mod BuildSteps

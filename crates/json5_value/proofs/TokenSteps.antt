@@ -29,7 +29,7 @@ use Rattle.json5_types.specs.declared.error.Error.{Error}
 use Rattle.json5_text.specs.Cursor.{Cursor, Took}
 use Rattle.json5_text.specs.TokenCalls.{PassesBlanks, PassesString, PassesName, PassesNumber, TakesWord}
 use Rattle.json5_types.specs.NumberMeanings.{whole_in}
-use Rattle.json5_text.specs.TokenFaults.{FaultyBlanks, FaultyWord, word_differs, word_ends, FaultyNumber, no_number, number_missing, FaultyString, no_quote, string_missing, FaultyName, no_name, name_missing}
+use Rattle.json5_text.specs.TokenFaults.{FaultyWord, word_differs, word_ends, FaultyNumber, no_number, number_missing, FaultyString, no_quote, string_missing, FaultyName, no_name, name_missing}
 use Rattle.json5_text.specs.TokenFaults as tokens
 use Rattle.json5_value.specs.ModelSteps.{IsInside, RefusesRead, Gave, Steps, RefusesToken}
 use Rattle.json5_value.proofs.NoFailedCode.{Lacks, in_blanks_other, word_lacks, faulty_number_lacks, faulty_string_lacks, faulty_name_lacks}

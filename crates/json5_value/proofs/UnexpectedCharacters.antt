@@ -1,17 +1,13 @@
 -- Characters that aren't expected; and the signs of brackets, commas and colons.
-use Rattle.std.proofs.Common.{◌≡◌, ◌≢◌, ℕ, List, [], ◌∷◌, ◌++◌, refl, ap, sym, ◌∙◌, subst, Option, Some, None}
-use Rattle.std.specs.Prelude.{◌==◌, slice_get}
+use Rattle.std.proofs.Common.{◌≡◌, ℕ, List, [], ◌++◌, ap, sym, ◌∙◌, subst, Option, Some, None}
+use Rattle.std.specs.Prelude.{slice_get}
 use Rattle.std.proofs.lemmas.List.{append-nil}
 use Rattle.json5_grammar.specs.declared.error_code.ErrorCode.{ErrorCode}
 use Rattle.json5_grammar.specs.declared.error_code.ErrorCode.TheVariants as codes
 use Rattle.json5_grammar.specs.declared.position.Position.{Position}
-use Rattle.json5_grammar.specs.Language.Characters.{NotBegun}
-use Rattle.json5_grammar.specs.Faults.Fronts.{BracketKind, of_array, of_object, opening, closing}
+use Rattle.json5_grammar.specs.Faults.Fronts.{opening, closing}
 use Rattle.json5_grammar.specs.Faults.Positions.{position_after}
-use Rattle.json5_grammar.specs.Model.Reading.{here, inner}
-use Rattle.json5_grammar.specs.Model.ReadSteps.{eof_in, comma_at}
-use Rattle.json5_grammar.specs.Model.ReadValues.{colon_at}
-use Rattle.json5_grammar.proofs.Refusals.{Refuses}
+use Rattle.json5_grammar.specs.Model.ReadSteps.{eof_in}
 use Rattle.json5_types.specs.declared.error.Error.{Error}
 use Rattle.json5_text.specs.Cursor.{Cursor, Refused}
 use Rattle.json5_types.specs.Errors.{code, kind_of, error_position}
@@ -19,9 +15,8 @@ use Rattle.json5_value.specs.declared.brackets.BracketPair.{BracketPair}
 use Rattle.json5_value.specs.declared.brackets.BracketKind.{BracketKind as OwnKind}
 use Rattle.json5_value.specs.declared.brackets.BracketKind.TheVariants as kind
 use Rattle.json5_value.specs.Brackets.{bracket_of, brackets_of}
-use Rattle.json5_value.specs.ModelSteps.{IsInside, RefusesRead, Unexpected, at_end, at_char}
-use Rattle.json5_value.proofs.NoFailedCode.{Lacks}
-use Rattle.json5_value.proofs.ModelSteps.{none_next, some_next, blames_refused}
+use Rattle.json5_value.specs.ModelSteps.{Unexpected, at_end, at_char}
+use Rattle.json5_value.proofs.ModelSteps.{none_next, some_next}
 
 -- ---- what is next
 
@@ -61,27 +56,3 @@ closing_is kind.Object b e = ap (λ (b : BracketPair). b.closing) e
 pub ends_is : (k : OwnKind) (b : BracketPair) → b ≡ brackets_of k → b.ends ≡ eof_in (bracket_of k)
 ends_is kind.Array b e = ap (λ (b : BracketPair). b.ends) e
 ends_is kind.Object b e = ap (λ (b : BracketPair). b.ends) e
-
-unexpected_lacks : {ends differs : ErrorCode} → ends ≢ codes.Failed → differs ≢ codes.Failed → Lacks (Unexpected ends differs)
-unexpected_lacks a b x reason place at_end e = a cc
-unexpected_lacks a b x reason place (at_char c r) e = b cc
-
-comma_refuses : (k : BracketKind) (x : List ℕ) (reason : Option ErrorCode) (place : Option (List ℕ)) → NotBegun (λ d. d == 44) x → NotBegun (λ d. d == closing k) x → Unexpected (eof_in k) codes.ExpectedComma x reason place → Refuses (comma_at k x) x reason place
-comma_refuses k x reason place a b at_end = (inner, refl, tt)
-comma_refuses k x reason place a b (at_char c r) = (here (c ∷ r), rw (a, b) refl, refl)
-
-eof_other : (k : BracketKind) → eof_in k ≢ codes.Failed
-eof_other of_array e = absurd (cc)
-eof_other of_object e = absurd (cc)
-
--- neither a comma nor the closing bracket
-pub no_comma : (k : BracketKind) (s : Cursor) (e : Error) → IsInside s → NotBegun (λ d. d == 44) s.unread → NotBegun (λ d. d == closing k) s.unread → Refused (Unexpected (eof_in k) codes.ExpectedComma) s e → RefusesRead s.input (comma_at k s.unread) e
-no_comma k s e ready a b f = blames_refused s (comma_at k s.unread) e ready (unexpected_lacks (eof_other k) (λ e. absurd (cc))) (λ reason place g. comma_refuses k s.unread reason place a b g) f
-
-colon_refuses : (x : List ℕ) (reason : Option ErrorCode) (place : Option (List ℕ)) → NotBegun (λ d. d == 58) x → Unexpected codes.EofParsingObject codes.ExpectedColon x reason place → Refuses (colon_at x) x reason place
-colon_refuses x reason place a at_end = (inner, refl, tt)
-colon_refuses x reason place a (at_char c r) = (here (c ∷ r), rw a refl, refl)
-
--- no colon
-pub no_colon : (s : Cursor) (e : Error) → IsInside s → NotBegun (λ d. d == 58) s.unread → Refused (Unexpected codes.EofParsingObject codes.ExpectedColon) s e → RefusesRead s.input (colon_at s.unread) e
-no_colon s e ready a f = blames_refused s (colon_at s.unread) e ready (unexpected_lacks (λ e. absurd (cc)) (λ e. absurd (cc))) (λ reason place g. colon_refuses s.unread reason place a g) f

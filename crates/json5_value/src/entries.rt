@@ -6,11 +6,12 @@ ghost use Rattle.json5_grammar.specs.Model.ReadBlanks.{skip, between};
 ghost use Rattle.json5_grammar.specs.Model.ReadSteps.{forget, colon_after, next_value};
 ghost use Rattle.json5_grammar.specs.Model.ReadTexts.{key};
 ghost use Rattle.json5_value.specs.Brackets.{bracket_of};
-ghost use Rattle.json5_value.specs.Entries.{due_comma, next_entry};
+ghost use Rattle.json5_value.specs.Entries.{next_entry};
 ghost use Rattle.json5_value.specs.ModelSteps.{IsInside, Steps, answered};
 
 use crate::brackets::BracketKind;
-use crate::faults::{leave_code, leave_error, unexpected_here};
+use crate::faults::{leave_code, leave_error};
+use crate::steps::{find_entry, take_colon};
 use json5_text::input::Input;
 use json5_text::scanner::Scanner;
 use json5_text::short_ways::ShortStep;
@@ -33,15 +34,7 @@ fn skip_colon_slowly<I: Input>(scanner: &mut Scanner<I>, fault: &mut Error) -> O
     requires { IsInside scanner.old }
     ensures { Steps (colon_after scanner.old.unread) scanner.old scanner.new (answered result fault.new) }
 {
-    skip_blank(scanner, fault)?;
-    if !scanner.eat(':') {
-        *fault = unexpected_here(
-            scanner,
-            ErrorCode::EofParsingObject,
-            ErrorCode::ExpectedColon,
-        );
-        return None;
-    }
+    leave_error(take_colon(scanner), fault)?;
     skip_blank(scanner, fault)
 }
 
@@ -54,6 +47,7 @@ pub(crate) fn skip_colon<I: Input>(scanner: &mut Scanner<I>, fault: &mut Error) 
     if !scanner.short_sign(b':') {
         return skip_colon_slowly(scanner, fault);
     }
+    // Where no comma is due, a step passes over the blanks, whatever follows them.
     match scanner.short_step(b'}', false) {
         ShortStep::Other => skip_blank(scanner, fault),
         _ => Some(()),
@@ -89,31 +83,6 @@ fn skip_key<I: Input>(scanner: &mut Scanner<I>, fault: &mut Error) -> Option<()>
     }
 }
 
-/// If a comma is due, passes over it and returns true, or over the closing bracket and returns false. Else returns true.
-fn skip_comma<I: Input>(
-    scanner: &mut Scanner<I>,
-    kind: BracketKind,
-    comma_due: bool,
-    fault: &mut Error,
-) -> Option<bool>
-    requires { IsInside scanner.old }
-    ensures { Steps (due_comma (bracket_of kind) comma_due scanner.old.unread) scanner.old scanner.new (answered result fault.new) }
-{
-    if !comma_due {
-        return Some(true);
-    }
-    skip_blank(scanner, fault)?;
-    if scanner.eat(',') {
-        return Some(true);
-    }
-    let brackets = kind.brackets();
-    if scanner.eat(brackets.closing) {
-        return Some(false);
-    }
-    *fault = unexpected_here(scanner, brackets.ends, ErrorCode::ExpectedComma);
-    None
-}
-
 /// The same as `next_entry`, whatever is in front.
 #[inline(never)]
 fn next_entry_slowly<I: Input>(
@@ -125,12 +94,12 @@ fn next_entry_slowly<I: Input>(
     requires { IsInside scanner.old }
     ensures { Steps (next_entry (bracket_of kind) comma_due scanner.old.unread) scanner.old scanner.new (answered result fault.new) }
 {
-    let more = skip_comma(scanner, kind, comma_due, fault)?;
-    if !more {
-        return Some(false);
+    let more = leave_error(find_entry(scanner, kind, comma_due), fault)?;
+    if more {
+        return Some(true);
     }
-    skip_blank(scanner, fault)?;
-    Some(!scanner.eat(kind.brackets().closing))
+    let _ = scanner.eat(kind.brackets().closing);
+    Some(false)
 }
 
 /// Goes to the next entry, after a comma if one is due, and returns true; or passes over the closing bracket and returns false.

@@ -1,4 +1,4 @@
-//! Faults at the next character and at a bracket.
+//! Faults at the next character and at a bracket, and how a call leaves its error to its caller.
 
 ghost use Rattle.std.specs.Prelude.{◌≡◌, [], Some, None};
 ghost use Rattle.json5_text.specs.Cursor.{Refused, IsPositioned};

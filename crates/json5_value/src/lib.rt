@@ -12,4 +12,5 @@ pub mod owned_tokens;
 pub mod read;
 mod scalars;
 pub mod skip;
+pub mod steps;
 mod unfinished;

@@ -1,4 +1,4 @@
-//! Owned copies of keys and strings.
+//! Keys, and owned copies of their texts. A call with `fault` returns None where it is refused, and leaves its error there.
 
 ghost use Rattle.json5_grammar.specs.Language.Blanks.{Solid};
 ghost use Rattle.json5_grammar.specs.Model.ReadTexts.{key};
@@ -71,7 +71,7 @@ fn take_key_slowly<I: Input>(scanner: &mut Scanner<I>, fault: &mut Error) -> Opt
         leave_code(ErrorCode::EofParsingObject, fault);
         return None;
     }
-    // Goals below need what `offset` promises: what is unread is the end of the input.
+    // Goals below need what `offset` promises: what is unread is of scalar values.
     let _offset = scanner.offset();
     leave_error(scanner.key(), fault)
 }
@@ -83,7 +83,7 @@ pub(crate) fn take_key<I: Input>(scanner: &mut Scanner<I>, fault: &mut Error) ->
     requires solid { Solid scanner.old.unread }
     ensures { Keeps (IsFoundKey scanner.old.input) (key scanner.old.unread) scanner.old scanner.new (answered result fault.new) }
 {
-    // Goals below need what `offset` promises: what is unread is the end of the input.
+    // Goals below need what `offset` promises: what is unread is of scalar values.
     let _offset = scanner.offset();
     match scanner.short_key() {
         Some(span) => Some(TextToken::EscapeFree(span)),

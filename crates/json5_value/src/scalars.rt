@@ -53,7 +53,7 @@ pub(crate) fn read_scalar<I: Input>(
     requires { AtScalar c scanner.old }
     ensures { ReadsScalar scanner.old scanner.new (answered result fault.new) }
 {
-    // Goals below need what `offset` promises: what is unread is the end of the input.
+    // Goals below need what `offset` promises: what is unread is of scalar values.
     let _offset = scanner.offset();
     match kind_at(c) {
         ValueKind::Literal(literal) => {
@@ -81,7 +81,7 @@ fn short_text<I: Input>(scanner: &mut Scanner<I>) -> Option<Value>
     requires { AtKind kind.String scanner.old }
     ensures { KeepsShort scanner.old scanner.new result }
 {
-    // Goals below need what `offset` promises: what is unread is the end of the input.
+    // Goals below need what `offset` promises: what is unread is of scalar values.
     let _offset = scanner.offset();
     match scanner.short_string_owned() {
         Some(text) => Some(Value::String(text)),

@@ -42,7 +42,8 @@ pub(crate) enum Next {
     Opens(BracketKind),
 }
 
-/// Takes the value in front, which is no collection and begins with the character, whether or not it has a short way.
+/// Takes the value in front, which is no collection and begins with the character, whether or not it has a short way. What is out
+/// of line is `read_scalar`.
 #[inline(always)]
 fn begin_slowly<I: Input>(scanner: &mut Scanner<I>, c: char, fault: &mut Error) -> Option<Next>
     requires { AtScalar c scanner.old }
@@ -72,7 +73,7 @@ pub(crate) fn begin_value<I: Input>(scanner: &mut Scanner<I>, fault: &mut Error)
 }
 
 /// Takes the elements of an array that follow these, after a comma if one is due, up to one that is a collection, and returns its
-/// kind; or up to the closing bracket.
+/// kind; or all up to the closing bracket and that too, and returns no kind.
 #[inline(never)]
 fn take_elements<I: Input>(
     scanner: &mut Scanner<I>,
@@ -103,7 +104,7 @@ fn take_elements<I: Input>(
 }
 
 /// Takes the members of an object that follow these, after a comma if one is due, up to one whose value is a collection, and returns
-/// its key and kind; or up to the closing brace.
+/// its key and kind; or all up to the closing brace and that too, and returns no key.
 #[inline(never)]
 fn take_members<I: Input>(
     scanner: &mut Scanner<I>,

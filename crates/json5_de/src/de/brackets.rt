@@ -20,6 +20,7 @@ use json5_text::short_ways::ShortStep;
 use json5_types::ErrorCode;
 use json5_types::error::{Error, Result};
 use json5_value::brackets::BracketKind;
+use json5_value::steps::{find_entry, take_colon};
 
 impl<I: Input> Deserializer<I> {
     ghost use Rattle.json5_de.specs.Arrays.{Closed, TakesOpening, NotClosed};
@@ -52,14 +53,6 @@ impl<I: Input> Deserializer<I> {
             return self.refuse(error);
         }
         Ok(start)
-    }
-
-    /// Whether the closing bracket is next.
-    fn at_closing(&self, kind: BracketKind) -> bool
-        ensures found { result ≡ true → slice_get self.now.unread 0 ≡ Some (brackets_of kind).closing }
-        ensures other { result ≡ false → NotBegun (λ c. c == (brackets_of kind).closing) self.now.unread }
-    {
-        self.peek() == Some(kind.brackets().closing)
     }
 
     /// Goes to the next element or member and returns true, or to the closing bracket and returns false.
@@ -115,18 +108,11 @@ impl<I: Input> Deserializer<I> {
     fn advance_slowly(&mut self, kind: BracketKind, comma_due: bool) -> Result<bool>
         ensures { Advances (brackets_of kind) comma_due self.old self.new result }
     {
-        self.skip_blank()?;
-        if self.at_closing(kind) {
-            return Ok(false);
+        self.check_not_failed()?;
+        match find_entry(&mut self.scanner, kind, comma_due) {
+            Ok(more) => Ok(more),
+            Err(e) => self.refuse(e),
         }
-        if !comma_due {
-            return Ok(true);
-        }
-        if !self.eat(',') {
-            return Err(self.fail_unexpected(kind.brackets().ends, ErrorCode::ExpectedComma));
-        }
-        self.skip_blank()?;
-        Ok(!self.at_closing(kind))
     }
 
     /// Takes the closing bracket in front.
@@ -198,11 +184,11 @@ impl<I: Input> Deserializer<I> {
     fn pass_colon_slowly(&mut self) -> Result<()>
         ensures { PassesColon self.old self.new result }
     {
-        self.skip_blank()?;
-        if !self.eat(':') {
-            return Err(self.fail_unexpected(ErrorCode::EofParsingObject, ErrorCode::ExpectedColon));
+        self.check_not_failed()?;
+        match take_colon(&mut self.scanner) {
+            Ok(()) => Ok(()),
+            Err(e) => self.refuse(e),
         }
-        Ok(())
     }
 
     /// The same as `pass_colon`; the error of a refusal is left in `fault`.

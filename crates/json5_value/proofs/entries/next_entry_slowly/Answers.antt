@@ -1,21 +1,29 @@
-use Rattle.json5_value.specs.Brackets.{bracket_of}
-use Rattle.json5_value.proofs.EntrySteps.{closed_for_comma, entry_blanks, entry_found}
-use Rattle.json5_value.proofs.UnexpectedCharacters.{closing_is}
-use Rattle.json5_value.proofs.ModelSteps.{ready_next}
+use Rattle.std.proofs.Common.{refl, sym, subst}
+use Rattle.json5_value.specs.Brackets.{brackets_of}
+use Rattle.json5_value.specs.FoundEntries.{FindsEntry}
+use Rattle.json5_value.proofs.FoundEntries.{entry_refused}
+use Rattle.json5_value.proofs.ShortEntries.{entry_gave, closing_gave}
 use Rattle.json5_value.proofs.entries.next_entry_slowly.Goals as goal
 
-pub returns-then-not-more : goal.returns-then-not-more
-returns-then-not-more g c = closed_for_comma (bracket_of c.args.kind) c.args.comma_due c.in_ok-more.more c.args.scanner.now c.skip_comma.new.scanner c.if-not-more.true c.in_ok-more.ensures.given
+pub returns-in_err-more : goal.returns-in_err-more
+returns-in_err-more g c =
+    let old = c.args.scanner.now in
+    let new = c.find_entry.new.scanner in
+    let k = subst (FindsEntry (brackets_of c.args.kind) c.args.comma_due old new) (sym c.in_err-more.ensures) c.find_entry.ensures in
+    rw c.from_residual.ensures (entry_refused c.args.kind c.args.comma_due old new c.leave_error.new.fault c.requires k.refused k.same_text)
 
-pub skip_blank-requires : goal.skip_blank-requires
-skip_blank-requires g c = ready_next c.args.scanner.now c.skip_comma.new.scanner c.requires c.in_ok-more.ensures.given
-
-pub returns-in_err-skip_blank : goal.returns-in_err-skip_blank
-returns-in_err-skip_blank g c =
-    rw c.from_residual-in_err-skip_blank.ensures (entry_blanks (bracket_of c.args.kind) c.args.comma_due c.in_ok-more.more c.args.scanner.now c.skip_comma.new.scanner c.skip_blank.new.scanner c.skip_blank.new.fault c.if-not-more.false c.in_ok-more.ensures.given
-    c.in_err-skip_blank.ensures.refused c.in_err-skip_blank.ensures.same_text)
+pub returns-then-more : goal.returns-then-more
+returns-then-more g c =
+    let old = c.args.scanner.now in
+    let new = c.find_entry.new.scanner in
+    let k = subst (FindsEntry (brackets_of c.args.kind) c.args.comma_due old new) (sym c.in_ok-more.ensures) c.find_entry.ensures in
+    record { given = entry_gave c.args.kind (brackets_of c.args.kind) c.args.comma_due old new refl (rw c.if-more.true at k.found); refused = tt; same_text = tt }
 
 pub returns : goal.returns
 returns g c =
-    entry_found (bracket_of c.args.kind) c.args.comma_due c.in_ok-more.more c.args.scanner.now c.skip_comma.new.scanner c.skip_blank.new.scanner c.eat.new.self tt c.brackets.result.closing c.eat.result c.if-not-more.false c.in_ok-more.ensures.given
-    c.in_ok-skip_blank.ensures.given (closing_is c.args.kind c.brackets.result c.brackets.ensures) c.eat.ensures.taken c.eat.ensures.kept
+    let old = c.args.scanner.now in
+    let mid = c.find_entry.new.scanner in
+    let b = brackets_of c.args.kind in
+    let k = subst (FindsEntry b c.args.comma_due old mid) (sym c.in_ok-more.ensures) c.find_entry.ensures in
+    let ate = rw c.brackets.ensures at c.eat.ensures in
+    record { given = closing_gave c.args.kind b c.args.comma_due old mid c.eat.new.self c.eat.result refl (rw c.if-more.false at k.found) ate.taken ate.kept; refused = tt; same_text = tt }

@@ -1,20 +1,28 @@
-use Rattle.std.proofs.Common.{refl}
+use Rattle.std.proofs.Common.{sym, subst}
+use Rattle.json5_value.specs.FoundEntries.{FindsColon}
 use Rattle.json5_value.specs.ModelSteps.{answered}
-use Rattle.json5_value.proofs.EntrySteps.{colon_blanks, colon_missing, colon_passed}
-use Rattle.json5_value.proofs.ModelSteps.{ready_sign}
+use Rattle.json5_value.proofs.FoundEntries.{colon_refused}
+use Rattle.json5_value.proofs.ModelSteps.{ready_after}
+use Rattle.json5_value.proofs.ShortEntries.{colon_took, colon_stepped}
 use Rattle.json5_value.proofs.entries.skip_colon_slowly.Goals as goal
 
-pub returns-in_err-skip_blank : goal.returns-in_err-skip_blank
-returns-in_err-skip_blank g c = rw c.from_residual.ensures (colon_blanks c.args.scanner.now c.skip_blank.new.scanner c.skip_blank.new.fault c.in_err-skip_blank.ensures.refused c.in_err-skip_blank.ensures.same_text)
+pub returns-in_err-leave_error : goal.returns-in_err-leave_error
+returns-in_err-leave_error g c =
+    let old = c.args.scanner.now in
+    let new = c.take_colon.new.scanner in
+    let k = subst (FindsColon old new) (sym c.in_err-leave_error.ensures) c.take_colon.ensures in
+    rw c.from_residual.ensures (colon_refused old new c.leave_error.new.fault c.requires k.refused k.same_text)
 
-pub returns-then-not-eat : goal.returns-then-not-eat
-returns-then-not-eat g c =
-    let kept = c.if-not-eat.ensures.kept refl in
-    colon_missing c.args.scanner.now c.skip_blank.new.scanner c.eat.new.self tt c.unexpected_here.result c.requires c.in_ok-skip_blank.ensures.given kept.0 kept.1 c.unexpected_here.ensures
-
-pub skip_blank-requires-2 : goal.skip_blank-requires-2
-skip_blank-requires-2 g c = ready_sign c.args.scanner.now c.skip_blank.new.scanner c.eat.new.self _ c.requires c.in_ok-skip_blank.ensures.given (c.if-not-eat.ensures.taken refl)
+pub skip_blank-requires : goal.skip_blank-requires
+skip_blank-requires g c =
+    let old = c.args.scanner.now in
+    let mid = c.take_colon.new.scanner in
+    let k = subst (FindsColon old mid) (sym c.in_ok-leave_error.ensures) c.take_colon.ensures in
+    ready_after old mid _ c.requires (colon_took old mid k.found)
 
 pub returns : goal.returns
 returns g c =
-    colon_passed c.args.scanner.now c.skip_blank.new.scanner c.eat.new.self c.skip_blank-2.new.scanner tt (answered c.skip_blank-2.result c.skip_blank-2.new.fault) c.in_ok-skip_blank.ensures.given (c.if-not-eat.ensures.taken refl) c.skip_blank-2.ensures
+    let old = c.args.scanner.now in
+    let mid = c.take_colon.new.scanner in
+    let k = subst (FindsColon old mid) (sym c.in_ok-leave_error.ensures) c.take_colon.ensures in
+    colon_stepped old mid c.skip_blank.new.scanner (answered c.skip_blank.result c.skip_blank.new.fault) k.found c.skip_blank.ensures
