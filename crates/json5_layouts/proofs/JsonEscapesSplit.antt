@@ -6,14 +6,15 @@ use Rattle.std.proofs.lemmas.Bool.Decides.{nat_tests}
 use Rattle.std.proofs.lemmas.Str.{chars-nil, chars-encodes, chars-append, chars_past_char, IsCharBoundary-at_seam, length-encode, len_utf8_bounds, encodes-append}
 use Rattle.json5_text.proofs.TextCuts.{one_scalar}
 use Rattle.json5_write.proofs.OutputsJoined.{scalars-append}
+use Rattle.json5_layouts.specs.Json.{is_unescaped}
 use Rattle.json5_layouts.specs.JsonTexts.{json_escaped, json_escaped_all}
-use Rattle.json5_layouts.specs.JsonEscapes.{stands_in_json, StartsWithScalar, SplitsAtChar, StandsBefore}
+use Rattle.json5_layouts.specs.JsonEscapes.{StartsWithScalar, SplitsAtChar, StandsBefore}
 
 escaped-append : (s t : List ℕ) → json_escaped_all (s ++ t) ≡ json_escaped_all s ++ json_escaped_all t
 escaped-append [] t = refl
 escaped-append (c ∷ s) t = ap (λ l. json_escaped c ++ l) (escaped-append s t) ∙ sym (append_assoc (json_escaped c) (json_escaped_all s) (json_escaped_all t))
 
-stands : (c : ℕ) → stands_in_json c ≡ true → json_escaped c ≡ c ∷ []
+stands : (c : ℕ) → is_unescaped c ≡ true → json_escaped c ≡ c ∷ []
 stands c h = grind (arith, nat_tests)
 
 chars_before : (t rest : List ℕ) → (h : StandsBefore t rest) → chars t ≡ h.before ++ chars rest
@@ -39,7 +40,7 @@ take_all : (s t : List ℕ) → take (length s) (s ++ t) ≡ s
 take_all [] t = refl
 take_all (c ∷ s) t = ap (λ l. c ∷ l) (take_all s t)
 
-pub splits : (t rest raw after : List ℕ) (c : ℕ) → StandsBefore t rest → StartsWithScalar rest c after → raw ≡ take (length t - length rest) t → stands_in_json c ≡ false → SplitsAtChar t raw c after
+pub splits : (t rest raw after : List ℕ) (c : ℕ) → StandsBefore t rest → StartsWithScalar rest c after → raw ≡ take (length t - length rest) t → is_unescaped c ≡ false → SplitsAtChar t raw c after
 splits t rest raw after c h s r e =
     let front : raw ≡ encode_utf8_all h.before = r ∙ (ap (λ n. take n t) (sym (seam_at t rest h)) ∙ (ap (take (length (encode_utf8_all h.before))) h.bytes ∙ take_all (encode_utf8_all h.before) rest)) in
     let raw_chars : chars raw ≡ h.before = ap chars front ∙ chars-encodes h.before h.scalars in
@@ -55,7 +56,7 @@ splits t rest raw after c h s r e =
       utf8 = s.utf8;
     }
 
-pub stands_next : (t rest after : List ℕ) (c : ℕ) → StandsBefore t rest → StartsWithScalar rest c after → stands_in_json c ≡ true → StandsBefore t after
+pub stands_next : (t rest after : List ℕ) (c : ℕ) → StandsBefore t rest → StartsWithScalar rest c after → is_unescaped c ≡ true → StandsBefore t after
 stands_next t rest after c h s e =
     record {
       before = h.before ++ c ∷ [];

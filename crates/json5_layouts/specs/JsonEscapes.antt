@@ -6,10 +6,6 @@ use Rattle.json5_grammar.specs.Language.Characters.{space, double_quote, backsla
 use Rattle.json5_layouts.specs.Json.{is_unescaped}
 use Rattle.json5_layouts.specs.JsonTexts.{json_escaped, json_escaped_all}
 
--- a character that is written as it is
-abbrev pub stands_in_json : ℕ → Bool
-stands_in_json c = is_unescaped c
-
 -- a byte at which a run of them ends
 abbrev pub ends_unescaped : ℕ → Bool
 ends_unescaped x = nat_lt x space || ((x == double_quote) || (x == backslash))
@@ -23,7 +19,7 @@ pub record StartsWithScalar (t : List ℕ) (c : ℕ) (rest : List ℕ) : Type 0 
 -- the text is raw, an escaped character, and what follows
 pub record SplitsAtChar (t raw : List ℕ) (c : ℕ) (after : List ℕ) : Type 0 where
   pub text : json_escaped_all (chars t) ≡ chars raw ++ (json_escaped c ++ json_escaped_all (chars after))
-  pub escaped : stands_in_json c ≡ false
+  pub escaped : is_unescaped c ≡ false
   pub shorter : length after < length t
   pub utf8 : IsUtf8 after
 

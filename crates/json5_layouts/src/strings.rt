@@ -8,9 +8,10 @@ ghost use Rattle.json5_write.specs.Brackets.{sign_of};
 ghost use Rattle.json5_write.specs.Out.{piece};
 ghost use Rattle.json5_write.specs.Pieces.{between_quotes};
 ghost use Rattle.json5_write.specs.ShortWrites.{Puts};
+ghost use Rattle.json5_layouts.specs.Json.{is_unescaped};
 ghost use Rattle.json5_layouts.specs.JsonTexts.{control_code, json_escaped, json_escaped_all, json_string};
 ghost use Rattle.json5_layouts.specs.Layouts.{gap_in, string_in, key_in};
-ghost use Rattle.json5_layouts.specs.JsonEscapes.{stands_in_json, StartsWithScalar, SplitsAtChar};
+ghost use Rattle.json5_layouts.specs.JsonEscapes.{StartsWithScalar, SplitsAtChar};
 
 use crate::json_runs::skip_unescaped;
 use crate::layout::{Form, Spelling};
@@ -31,7 +32,7 @@ pub(crate) fn put_string<W: JoinedWrite + Drop>(
 ) -> Put
     ensures { Puts (piece (string_in spelling (chars text.now))) printer.old result printer.new }
 {
-    if stands_in(spelling, text) {
+    if needs_no_escape(text, spelling) {
         return printer.put_between_quotes(text);
     }
     put_by_parts(text, spelling, printer)
@@ -47,7 +48,7 @@ pub(crate) fn put_string_after<W: JoinedWrite + Drop>(
 ) -> Put
     ensures { Puts (piece (sign_of before ∷ string_in spelling (chars text.now))) printer.old result printer.new }
 {
-    if stands_in(spelling, text) {
+    if needs_no_escape(text, spelling) {
         return printer.put_quoted_after(before, text);
     }
     printer.put_piece(before.text())?;
@@ -75,9 +76,9 @@ pub(crate) fn put_key<W: JoinedWrite + Drop>(
     }
 }
 
-/// Whether the text stands between double quotes as it is.
+/// Whether the text surely stands between double quotes as it is.
 #[inline(always)]
-fn stands_in(spelling: Spelling, text: &str) -> bool
+fn needs_no_escape(text: &str, spelling: Spelling) -> bool
     ensures { IsTrue result → string_in spelling (chars text.now) ≡ between_quotes (chars text.now) }
 {
     match spelling {
@@ -121,7 +122,7 @@ fn put_json_chars<W: Write + Drop>(text: &str, printer: &mut Printer<W>) -> Put
 
 /// Writes a character that has an escape.
 fn put_escaped<W: Write + Drop>(c: char, printer: &mut Printer<W>) -> Put
-    requires { stands_in_json c ≡ false }
+    requires { is_unescaped c ≡ false }
     ensures { Puts (piece (json_escaped c)) printer.old result printer.new }
 {
     match c {
@@ -171,9 +172,9 @@ fn hex_digit(number: u32) -> &'static str
     }
 }
 
-/// Whether the character stands in a string of JSON as it is.
-fn stands_in_json(c: char) -> bool
-    ensures { result ≡ stands_in_json c }
+/// Whether the character stands unescaped in a string of JSON.
+fn is_unescaped(c: char) -> bool
+    ensures { result ≡ is_unescaped c }
 {
     c >= ' ' && c != '"' && c != '\\'
 }
@@ -194,7 +195,7 @@ fn split_at_escaped(text: &str) -> Option<(&str, char, &str)>
 {
     let mut rest = skip_unescaped(text);
     while let Some((c, after)) = front(rest) {
-        if !stands_in_json(c) {
+        if !is_unescaped(c) {
             let (raw, _) = text.split_at(text.len() - rest.len());
             return Some((raw, c, after));
         }

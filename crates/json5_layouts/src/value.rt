@@ -102,7 +102,8 @@ fn put_items_on_line<W: JoinedWrite + Drop>(
     }
 }
 
-/// Writes what stands before an element, and the element. A string and a number are put with it.
+/// Writes what stands before an element, and any element after it. A string that needs no escape, and a whole number that
+/// fits a `u64`, are put in one piece with what stands before.
 #[cycle(laid)]
 #[inline(always)]
 fn put_item_after<W: JoinedWrite + Drop>(
@@ -136,17 +137,17 @@ fn put_whole_after<W: JoinedWrite + Drop>(
     ensures text { Puts (piece (sign_of before ∷ number_text (whole number))) printer.old result printer.new }
     ensures numbers { OnOk result (IsNumber (whole number)) }
 {
-    if let Some(short) = short_of(number) {
-        return printer.put_number_after(before, short);
+    if let Some(narrow) = as_u64(number) {
+        return printer.put_number_after(before, narrow);
     }
     printer.put_piece(before.text())?;
     put_whole(number, printer)
 }
 
-/// The number, if it is of 64 bits and not below zero.
+/// The number as a `u64`, if it fits.
 #[inline(always)]
-fn short_of(number: Whole) -> Option<u64>
-    ensures { IfSome result (λ short. number ≡ pos short) }
+fn as_u64(number: Whole) -> Option<u64>
+    ensures { IfSome result (λ narrow. number ≡ pos narrow) }
 {
     u64::try_from(number.as_u128()?).ok()
 }

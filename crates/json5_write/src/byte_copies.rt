@@ -90,7 +90,7 @@ pub(crate) fn copy_quoted_after(row: &mut [u8], at: usize, mark: u8, text: &[u8]
 
 /// How many decimal digits a number below 1,000 has.
 #[inline(always)]
-fn short_len(number: u64) -> usize
+fn digit_count(number: u64) -> usize
     requires { number < 1000 }
     ensures { result ≡ length (decimal number) }
 {
@@ -113,7 +113,7 @@ fn copy_digits(row: &mut [u8], at: usize, number: u64) -> usize
         copy_to(row, at, digits);
         return at + digits.len();
     }
-    let end = at + short_len(number);
+    let end = at + digit_count(number);
     write_digits(number, row, end);
     end
 }

@@ -5,12 +5,13 @@ ghost use Rattle.std.specs.Prelude.{◌≡◌, ◌+◌, ◌≤◌, [], Some, tak
 use crate::byte_copies::{copy_between_quotes, copy_number_after, copy_quoted_after, copy_to};
 use crate::joined_write::JoinedWrite;
 use std::alloc::{AllocError, Global};
-use std::io::{self, ErrorKind, Write};
+use std::io::{self, Write};
 use std::marker::Model;
 
 static ZEROS: [u8; 1024] = [0; 1024];
 
-/// Text that grows in memory. What was written is in front, and zeros follow it, so that a piece is stored with one test of the room.
+/// Text that grows in memory. What was written is in front, and zeros follow it, so that a piece is stored with one test of
+/// the room.
 #[derive(Drop)]
 pub struct StringWriter {
     bytes: Vec<u8>,
@@ -64,15 +65,26 @@ fn add_zeros(bytes: &mut Vec<u8>, count: usize) -> Result<(), AllocError>
     Ok(())
 }
 
+/// Makes room for so many bytes after the first `len`, where there is too little.
+#[inline(always)]
+fn make_room(bytes: &mut Vec<u8>, len: usize, count: usize) -> Result<(), AllocError>
+    requires { len ≤ vec_len bytes.old }
+    ensures same { take (vec_len bytes.old) bytes.new.items ≡ bytes.old.items }
+    ensures room { OnOk result (len + count ≤ vec_len bytes.new) }
+{
+    let room = bytes.len() - len;
+    if room < count {
+        return add_zeros(bytes, count - room);
+    }
+    Ok(())
+}
+
 impl Write for StringWriter {
     ghost contents = { λ s. Some s };
 
     #[inline(always)]
     fn write(&mut self, buf: &[u8]) -> io::Result<usize> {
-        let room = self.bytes.len() - self.len;
-        if room < buf.len() && add_zeros(&mut self.bytes, buf.len() - room).is_err() {
-            return Err(io::Error::from(ErrorKind::OutOfMemory));
-        }
+        make_room(&mut self.bytes, self.len, buf.len())?;
         copy_to(&mut self.bytes, self.len, buf);
         self.len += buf.len();
         Ok(buf.len())
@@ -87,11 +99,8 @@ impl Write for StringWriter {
 impl JoinedWrite for StringWriter {
     #[inline(always)]
     fn write_between_quotes(&mut self, text: &[u8]) -> io::Result<()> {
-        let room = self.bytes.len() - self.len;
         let count = text.len() + 2;
-        if room < count && add_zeros(&mut self.bytes, count - room).is_err() {
-            return Err(io::Error::from(ErrorKind::OutOfMemory));
-        }
+        make_room(&mut self.bytes, self.len, count)?;
         copy_between_quotes(&mut self.bytes, self.len, text);
         self.len += count;
         Ok(())
@@ -99,11 +108,8 @@ impl JoinedWrite for StringWriter {
 
     #[inline(always)]
     fn write_quoted_after(&mut self, mark: u8, text: &[u8]) -> io::Result<()> {
-        let room = self.bytes.len() - self.len;
         let count = text.len() + 3;
-        if room < count && add_zeros(&mut self.bytes, count - room).is_err() {
-            return Err(io::Error::from(ErrorKind::OutOfMemory));
-        }
+        make_room(&mut self.bytes, self.len, count)?;
         copy_quoted_after(&mut self.bytes, self.len, mark, text);
         self.len += count;
         Ok(())
@@ -112,10 +118,7 @@ impl JoinedWrite for StringWriter {
     /// Makes room for the longest number.
     #[inline(always)]
     fn write_number_after(&mut self, mark: u8, number: u64) -> io::Result<()> {
-        let room = self.bytes.len() - self.len;
-        if room < 21 && add_zeros(&mut self.bytes, 21 - room).is_err() {
-            return Err(io::Error::from(ErrorKind::OutOfMemory));
-        }
+        make_room(&mut self.bytes, self.len, 21)?;
         self.len = copy_number_after(&mut self.bytes, self.len, mark, number);
         Ok(())
     }

@@ -28,7 +28,7 @@ impl<W: Write + Drop> Printer<W> {
         ensures { PutsTree (natural value) self.old result self.new }
     {
         match u64::try_from(value) {
-            Ok(short) => self.put_integer(short),
+            Ok(narrow) => self.put_integer(narrow),
             Err(_) => self.put_integer(value),
         }
     }
@@ -39,7 +39,7 @@ impl<W: Write + Drop> Printer<W> {
         ensures { PutsTree (integer value) self.old result self.new }
     {
         match i64::try_from(value) {
-            Ok(short) => self.put_integer(short),
+            Ok(narrow) => self.put_integer(narrow),
             Err(_) => self.put_integer(value),
         }
     }

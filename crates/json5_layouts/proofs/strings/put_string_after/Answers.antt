@@ -5,8 +5,8 @@ use Rattle.json5_layouts.specs.Layouts.{string_in}
 use Rattle.json5_layouts.proofs.PiecesPut.{stop_first, then_second, put_as, wrote_as, refused_as}
 use Rattle.json5_layouts.proofs.strings.put_string_after.Goals as goal
 
-pub returns-then-stands_in : goal.returns-then-stands_in
-returns-then-stands_in g c = put_as _ _ _ _ _ (ap (λ u. sign_of c.args.before ∷ u) (sym (c.stands_in.ensures c.if-stands_in.true))) c.put_quoted_after.ensures
+pub returns-then-needs_no_escape : goal.returns-then-needs_no_escape
+returns-then-needs_no_escape g c = put_as _ _ _ _ _ (ap (λ u. sign_of c.args.before ∷ u) (sym (c.needs_no_escape.ensures c.if-needs_no_escape.true))) c.put_quoted_after.ensures
 
 pub returns-in_err-put_piece : goal.returns-in_err-put_piece
 returns-in_err-put_piece g c =

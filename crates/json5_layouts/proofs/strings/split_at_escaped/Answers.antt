@@ -14,8 +14,8 @@ loop-c-init c = c.skip_unescaped-rest.ensures
 pub returns : goal.returns
 returns c = stands_all _ _ c.loop-c.invariant c.in_default.ensures
 
-pub returns-then-not-stands_in_json : goal.returns-then-not-stands_in_json
-returns-then-not-stands_in_json c = splits _ _ _ _ _ c.loop-c.invariant c.in-Some.ensures c.split_at.ensures.front (sym c.stands_in_json.ensures ∙ c.if-not-stands_in_json.true)
+pub returns-then-not-is_unescaped : goal.returns-then-not-is_unescaped
+returns-then-not-is_unescaped c = splits _ _ _ _ _ c.loop-c.invariant c.in-Some.ensures c.split_at.ensures.front (sym c.is_unescaped.ensures ∙ c.if-not-is_unescaped.true)
 
 pub loop-c-preserved : goal.loop-c-preserved
-loop-c-preserved c = stands_next _ _ _ _ c.loop-c.invariant c.in-Some.ensures (sym c.stands_in_json.ensures ∙ c.if-not-stands_in_json.false)
+loop-c-preserved c = stands_next _ _ _ _ c.loop-c.invariant c.in-Some.ensures (sym c.is_unescaped.ensures ∙ c.if-not-is_unescaped.false)

@@ -7,10 +7,10 @@ use Rattle.json5_layouts.proofs.PiecesPut.{stop_first, then_second, wrote_as, re
 use Rattle.json5_layouts.proofs.value.put_whole_after.Goals as goal
 
 pub returns-in-Some-clause-text : goal.returns-in-Some-clause-text
-returns-in-Some-clause-text g c = rw (rw c.in-Some.is at c.short_of.ensures) c.put_number_after.ensures
+returns-in-Some-clause-text g c = rw (rw c.in-Some.is at c.as_u64.ensures) c.put_number_after.ensures
 
 pub returns-in-Some-clause-numbers : goal.returns-in-Some-clause-numbers
-returns-in-Some-clause-numbers g c = rw (rw c.in-Some.is at c.short_of.ensures) (on_ok c.put_number_after.result (unsigned_whole c.in-Some.short (omega arith)))
+returns-in-Some-clause-numbers g c = rw (rw c.in-Some.is at c.as_u64.ensures) (on_ok c.put_number_after.result (unsigned_whole c.in-Some.narrow (omega arith)))
 
 pub returns-in_err-put_piece-clause-text : goal.returns-in_err-put_piece-clause-text
 returns-in_err-put_piece-clause-text g c =

@@ -12,5 +12,5 @@ returns-in-Err g c = Puts-number (whole c.args.value) _ _ _ (signed_whole c.args
 pub returns-in-Ok : goal.returns-in-Ok
 returns-in-Ok g c =
     let (fits, is) = c.in-Ok.ensures in
-    let written : to_z w64 (of_z w64 c.in-Ok.short) ≡ c.args.value = ap (λ z. to_z w64 (of_z w64 z)) is ∙ to_z-of_z w64 _ fits ∙ to_z-of_z w128 c.args.value c.ranges.value in
+    let written : to_z w64 (of_z w64 c.in-Ok.narrow) ≡ c.args.value = ap (λ z. to_z w64 (of_z w64 z)) is ∙ to_z-of_z w64 _ fits ∙ to_z-of_z w128 c.args.value c.ranges.value in
     Puts-number (whole c.args.value) _ _ _ (signed_whole c.args.value (omega (arith, c.ranges.value.sfits))) (rw written at c.put_integer.ensures)

@@ -6,7 +6,7 @@ use Rattle.json5_write.proofs.printer.Printer.put_unsigned.Goals as goal
 
 pub returns-in-Ok : goal.returns-in-Ok
 returns-in-Ok g c =
-    let same : c.in-Ok.short ≡ c.args.value = search rules in
+    let same : c.in-Ok.narrow ≡ c.args.value = search rules in
     Puts-number (whole (pos c.args.value)) _ _ _ (unsigned_whole c.args.value (omega (arith, c.ranges.value))) (rw same at c.put_integer.ensures)
 
 pub returns-in-Err : goal.returns-in-Err

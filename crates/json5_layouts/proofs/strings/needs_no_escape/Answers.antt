@@ -3,7 +3,7 @@ use Rattle.std.specs.Str.{chars}
 use Rattle.json5_write.proofs.EscapeFreeRuns.{empty_from}
 use Rattle.json5_write.proofs.EscapesSplit.{quoted_escape_free}
 use Rattle.json5_layouts.proofs.JsonEscapesSplit.{stands_all}
-use Rattle.json5_layouts.proofs.strings.stands_in.Goals as goal
+use Rattle.json5_layouts.proofs.strings.needs_no_escape.Goals as goal
 
 pub returns-in-Json5 : goal.returns-in-Json5
 returns-in-Json5 c = λ t. rw c.in-Json5.is (quoted_escape_free (chars c.args.text.now) (c.is_escape_free.ensures t))

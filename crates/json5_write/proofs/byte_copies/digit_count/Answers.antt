@@ -1,6 +1,6 @@
 use Rattle.std.proofs.Common.{arith}
 use Rattle.json5_write.proofs.DecimalDigits.{length_one, length_two, length_three}
-use Rattle.json5_write.proofs.byte_copies.short_len.Goals as goal
+use Rattle.json5_write.proofs.byte_copies.digit_count.Goals as goal
 
 pub returns-in-0-to-9 : goal.returns-in-0-to-9
 returns-in-0-to-9 c = length_one c.args.number (omega (arith, c.in-0-to-9))
