@@ -1,5 +1,5 @@
 -- The content of a variant that is read through an access: how it is opened and closed.
-use Rattle.std.proofs.Common.{◌≡◌, ℕ, Bool, true, false, refl, sym, ◌∙◌, subst, Some, None, Result, Ok, Err}
+use Rattle.std.proofs.Common.{◌≡◌, ℕ, Bool, true, false, refl, sym, ◌∙◌, subst, None, Result, Ok, Err}
 use Rattle.json5_grammar.specs.Language.Trees.{array, object, no_member}
 use Rattle.json5_grammar.specs.Model.Collections.{IsBrace}
 use Rattle.json5_grammar.proofs.CommonLemmas.{true_false}

@@ -1,7 +1,7 @@
 -- An access and the reader that is lent to it.
 use Rattle.std.specs.Prelude.{◌≡◌, ◌<◌, ℕ, Bool, true, false, List, length, Option, None, is_some, Result, IfOk, IfSome}
 use Rattle.json5_value.specs.Brackets.{square, curly}
-use Rattle.std.specs.Borrow.{Fml, GName, RattleType, MutBor, RestsIfErr}
+use Rattle.std.specs.Borrow.{Fml, RattleType, MutBor, RestsIfErr}
 use Rattle.json5_types.specs.declared.error.Error.{Error}
 use Rattle.json5_types.specs.declared.byte_buf.ByteBuf.{ByteBuf}
 use Rattle.json5_types.specs.declared.cow_str.CowStr.{CowStr}
