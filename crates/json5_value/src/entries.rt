@@ -11,7 +11,7 @@ ghost use Rattle.json5_value.specs.ModelSteps.{IsInside, Steps, answered};
 
 use crate::brackets::BracketKind;
 use crate::faults::{leave_code, leave_error};
-use crate::steps::{find_entry, take_colon};
+use crate::steps::{advance_to_entry, pass_colon};
 use json5_text::input::Input;
 use json5_text::scanner::Scanner;
 use json5_text::short_ways::ShortStep;
@@ -34,7 +34,7 @@ fn skip_colon_slowly<I: Input>(scanner: &mut Scanner<I>, fault: &mut Error) -> O
     requires { IsInside scanner.old }
     ensures { Steps (colon_after scanner.old.unread) scanner.old scanner.new (answered result fault.new) }
 {
-    leave_error(take_colon(scanner), fault)?;
+    leave_error(pass_colon(scanner), fault)?;
     skip_blank(scanner, fault)
 }
 
@@ -94,7 +94,7 @@ fn next_entry_slowly<I: Input>(
     requires { IsInside scanner.old }
     ensures { Steps (next_entry (bracket_of kind) comma_due scanner.old.unread) scanner.old scanner.new (answered result fault.new) }
 {
-    let more = leave_error(find_entry(scanner, kind, comma_due), fault)?;
+    let more = leave_error(advance_to_entry(scanner, kind, comma_due), fault)?;
     if more {
         return Some(true);
     }

@@ -29,7 +29,7 @@ fn at_closing<I: Input>(scanner: &Scanner<I>, kind: BracketKind) -> bool
 /// - `ExpectedComma` at the character, where a comma is due and neither it nor the closing bracket is next.
 /// - `EofParsingArray` or `EofParsingObject`, without a position, where a comma is due and the text ends.
 /// - `ExpectedComment` and `EofParsingComment` of the blanks before an entry.
-pub fn find_entry<I: Input>(
+pub fn advance_to_entry<I: Input>(
     scanner: &mut Scanner<I>,
     kind: BracketKind,
     comma_due: bool,
@@ -58,7 +58,7 @@ pub fn find_entry<I: Input>(
 /// - `ExpectedColon` at another character.
 /// - `EofParsingObject`, without a position, where the text ends.
 /// - `ExpectedComment` and `EofParsingComment` of the blanks.
-pub fn take_colon<I: Input>(scanner: &mut Scanner<I>) -> Result<()>
+pub fn pass_colon<I: Input>(scanner: &mut Scanner<I>) -> Result<()>
     ensures { FindsColon scanner.old scanner.new result }
 {
     scanner.skip_blank()?;

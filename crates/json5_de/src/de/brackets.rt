@@ -20,7 +20,7 @@ use json5_text::short_ways::ShortStep;
 use json5_types::ErrorCode;
 use json5_types::error::{Error, Result};
 use json5_value::brackets::BracketKind;
-use json5_value::steps::{find_entry, take_colon};
+use json5_value::steps::{advance_to_entry, pass_colon};
 
 impl<I: Input> Deserializer<I> {
     ghost use Rattle.json5_de.specs.Arrays.{Closed, TakesOpening, NotClosed};
@@ -109,7 +109,7 @@ impl<I: Input> Deserializer<I> {
         ensures { Advances (brackets_of kind) comma_due self.old self.new result }
     {
         self.check_not_failed()?;
-        match find_entry(&mut self.scanner, kind, comma_due) {
+        match advance_to_entry(&mut self.scanner, kind, comma_due) {
             Ok(more) => Ok(more),
             Err(e) => self.refuse(e),
         }
@@ -185,7 +185,7 @@ impl<I: Input> Deserializer<I> {
         ensures { PassesColon self.old self.new result }
     {
         self.check_not_failed()?;
-        match take_colon(&mut self.scanner) {
+        match pass_colon(&mut self.scanner) {
             Ok(()) => Ok(()),
             Err(e) => self.refuse(e),
         }

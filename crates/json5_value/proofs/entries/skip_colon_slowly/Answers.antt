@@ -9,20 +9,20 @@ use Rattle.json5_value.proofs.entries.skip_colon_slowly.Goals as goal
 pub returns-in_err-leave_error : goal.returns-in_err-leave_error
 returns-in_err-leave_error g c =
     let old = c.args.scanner.now in
-    let new = c.take_colon.new.scanner in
-    let k = subst (FindsColon old new) (sym c.in_err-leave_error.ensures) c.take_colon.ensures in
+    let new = c.pass_colon.new.scanner in
+    let k = subst (FindsColon old new) (sym c.in_err-leave_error.ensures) c.pass_colon.ensures in
     rw c.from_residual.ensures (colon_refused old new c.leave_error.new.fault c.requires k.refused k.same_text)
 
 pub skip_blank-requires : goal.skip_blank-requires
 skip_blank-requires g c =
     let old = c.args.scanner.now in
-    let mid = c.take_colon.new.scanner in
-    let k = subst (FindsColon old mid) (sym c.in_ok-leave_error.ensures) c.take_colon.ensures in
+    let mid = c.pass_colon.new.scanner in
+    let k = subst (FindsColon old mid) (sym c.in_ok-leave_error.ensures) c.pass_colon.ensures in
     ready_after old mid _ c.requires (colon_took old mid k.found)
 
 pub returns : goal.returns
 returns g c =
     let old = c.args.scanner.now in
-    let mid = c.take_colon.new.scanner in
-    let k = subst (FindsColon old mid) (sym c.in_ok-leave_error.ensures) c.take_colon.ensures in
+    let mid = c.pass_colon.new.scanner in
+    let k = subst (FindsColon old mid) (sym c.in_ok-leave_error.ensures) c.pass_colon.ensures in
     colon_stepped old mid c.skip_blank.new.scanner (answered c.skip_blank.result c.skip_blank.new.fault) k.found c.skip_blank.ensures

@@ -2,7 +2,7 @@ use Rattle.std.proofs.Common.{◌∙◌, refl}
 use Rattle.std.proofs.lemmas.Result.{err_from_is_err_and}
 use Rattle.json5_value.proofs.FoundEntries.{gap_of, sign_next, refused_blanks, missed_colon}
 use Rattle.json5_value.proofs.ModelSteps.{same_of}
-use Rattle.json5_value.proofs.steps.take_colon.Goals as goal
+use Rattle.json5_value.proofs.steps.pass_colon.Goals as goal
 
 pub returns-in_err-skip_blank : goal.returns-in_err-skip_blank
 returns-in_err-skip_blank g c =

@@ -3,7 +3,7 @@ use Rattle.std.proofs.lemmas.Result.{err_from_is_err_and}
 use Rattle.json5_value.specs.Brackets.{brackets_of}
 use Rattle.json5_value.proofs.FoundEntries.{found_after, refused_blanks, missed_comma, faulty_after}
 use Rattle.json5_value.proofs.ModelSteps.{same_of}
-use Rattle.json5_value.proofs.steps.find_entry.Goals as goal
+use Rattle.json5_value.proofs.steps.advance_to_entry.Goals as goal
 
 pub returns-in_err-skip_blank : goal.returns-in_err-skip_blank
 returns-in_err-skip_blank g c =
