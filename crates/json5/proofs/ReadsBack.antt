@@ -1,18 +1,18 @@
 -- What is written of a value converts, once it is read, to its content.
-use Rattle.std.proofs.Common.{◌≡◌, ◌≢◌, ◌<◌, ◌^◌, ℕ, Bool, true, false, List, [], ◌∷◌, map, Option, Some, None, refl, ap, arith, string_bytes}
-use Rattle.std.specs.Prelude.{if◌then◌else◌, nat_lt, ℤ, pos, negsuc, neg_ℤ, ◌≤ℤ◌, ◌<ℤ◌, String}
+use Rattle.std.proofs.Common.{◌≡◌, ◌≢◌, ◌<◌, ◌^◌, ℕ, Bool, true, false, List, [], ◌∷◌, map, Option, Some, refl, ap, arith, string_bytes}
+use Rattle.std.specs.Prelude.{nat_lt, ℤ, pos, negsuc, neg_ℤ, ◌≤ℤ◌, ◌<ℤ◌, String}
 use Rattle.std.proofs.lemmas.Int.{ints}
 use Rattle.std.proofs.lemmas.Bool.Decides.{nat_tests}
 use Rattle.std.proofs.lemmas.List.Elements.{All-head, All-tail}
 use Rattle.std.specs.List.{All}
 use Rattle.std.specs.declared.alloc.Global.{Global}
-use Rattle.std.specs.Str.{chars, encode_utf8_all}
+use Rattle.std.specs.Str.{chars}
 use Rattle.std.proofs.lemmas.Str.{encodes-chars, IsUtf8-string_bytes}
 use Rattle.json5_grammar.specs.Language.Trees.{Tree}
 use Rattle.json5_grammar.specs.Language.Trees as marked
-use Rattle.json5_grammar.specs.Model.Collections.{contents, array_of, pair_contents}
-use Rattle.json5_de.specs.Convert.{unit_of, bool_of, unsigned_below, signed_below, decimal_of, text_of, escape_free_of, if_escape_free, every_text, one_character}
-use Rattle.json5_de.specs.ConvertLists.{option_of, if_some, first_of, last_of}
+use Rattle.json5_grammar.specs.Model.Collections.{contents, pair_contents}
+use Rattle.json5_de.specs.Convert.{unit_of, bool_of, unsigned_below, signed_below, decimal_of, text_of, every_text, one_character}
+use Rattle.json5_de.specs.ConvertLists.{option_of, if_some}
 use Rattle.json5_grammar.specs.Language.Documents.{Doc, max_depth}
 use Rattle.json5_grammar.specs.Language.Numbers.{Number, Decimal, whole, decimal, InWhole}
 use Rattle.json5_grammar.specs.Written.NumberText.{IsNumber, Normal, number_text, decimal_text}
@@ -25,8 +25,8 @@ use Rattle.json5_ser.specs.Out.{bool_text}
 use Rattle.json5_ser.specs.ValueTrees.{key_of_string}
 use Rattle.json5_write.proofs.WritableNumbers.{unsigned_whole}
 use Rattle.json5_ser.specs.WrittenTrees.{WrittenKey, named, natural_key, integer_key, Fields, field, fields_of}
-use Rattle.json5_ser.specs.WrittenTrees.{Written, null, boolean, number, text, array, object, natural, integer, no_element, element, elements_of}
-use Rattle.json5_ser.specs.EscapeFreeMarks.{marks, field_marks, is_escape_free_key, element_marks, is_escape_free_text}
+use Rattle.json5_ser.specs.WrittenTrees.{Written, null, boolean, number, text, array, object, natural, integer, elements_of}
+use Rattle.json5_ser.specs.EscapeFreeMarks.{marks, field_marks, is_escape_free_key, element_marks}
 use Rattle.json5.specs.ReadsBack.{ReadsBack, KeyReadsBack, MemberReadsBack, MembersReadBack, list_tree, list_of}
 
 pub natural_back : (bound n : ℕ) → n < bound → ReadsBack natural (unsigned_below bound) (λ n. n) n
@@ -39,14 +39,6 @@ integer_back bound (negsuc n) low high = let l : n < bound = omega (arith, ints,
 -- a string by its bytes
 pub string_back : (s : String Global) → ReadsBack (λ s. text (chars (string_bytes s))) text_of string_bytes s
 string_back s = ap Some (encodes-chars (string_bytes s) (IsUtf8-string_bytes s))
-
-if_escape_free_by : (u : List ℕ) (b : Bool) → if_escape_free u b ≡ (if b then Some (encode_utf8_all u) else None)
-if_escape_free_by u true = refl
-if_escape_free_by u false = refl
-
--- a string reads back as a slice exactly when it is written without a backslash
-pub slice_back : (u : List ℕ) → escape_free_of (marks (text u)) ≡ (if is_escape_free_text u then Some (encode_utf8_all u) else None)
-slice_back u = if_escape_free_by u (is_escape_free_text u)
 
 -- ---- options
 
@@ -79,10 +71,6 @@ pub list_back : {V C : Type 0} (tree : V → Written) (f : Tree → Option C) (c
 list_back tree f content vs h = list_contents tree f content vs h
 
 -- ---- tuples of two
-
-pub pair_back : {A B C D : Type 0} (first : A → Written) (f : Tree → Option C) (as_first : A → C) (second : B → Written) (g : Tree → Option D) (as_second : B → D) (v : A × B) → ReadsBack first f as_first v.0 → ReadsBack second g as_second v.1
-    → ReadsBack (λ (v : A × B). array (element (first v.0) (element (second v.1) no_element))) (array_of (first_of f (last_of g))) (λ v. (as_first v.0, as_second v.1)) v
-pair_back first f as_first second g as_second v h k = rw (h, k) refl
 
 -- ---- keys
 

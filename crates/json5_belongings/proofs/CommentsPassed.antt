@@ -1,5 +1,5 @@
 -- Blanks and comments that were passed over.
-use Rattle.std.proofs.Common.{◌≡◌, ◌&&◌, ◌||◌, ℕ, Bool, true, false, List, [], ◌∷◌, ◌++◌, length, refl, ap, sym, ◌∙◌, append_assoc, subst, Some, None, arith, append-nil, length-append, ◌<◌, ◌+◌}
+use Rattle.std.proofs.Common.{◌≡◌, ◌&&◌, ◌||◌, ℕ, Bool, true, false, List, [], ◌∷◌, ◌++◌, length, refl, ap, sym, ◌∙◌, append_assoc, subst, Some, None, arith, append-nil, ◌+◌}
 use Rattle.std.specs.Prelude.{◌==◌, ◌≢◌, not, slice_get, IsTrue}
 use Rattle.std.proofs.lemmas.Bool.{eqb-false, eqb-true}
 use Rattle.json5_grammar.specs.Language.Blanks.{Inside}
@@ -120,26 +120,9 @@ end_either {a = a} d c false t e p q k = subst (λ s. IsPiece piece.LineEnd a.un
 
 -- ---- lines of comments
 
-end_shorter : {e : List ℕ} → LineEnd e → (c : ℕ) × (s : List ℕ) × (e ≡ c ∷ s)
-end_shorter (LineEnd.terminator {c = c} t) = (c, [], refl)
-end_shorter LineEnd.cr_lf = (13, 10 ∷ [], refl)
-
-pub piece_shorter : {p : Piece} {x r : List ℕ} → IsPiece p x r → length r < length x
-piece_shorter (IsPiece.blank k) = omega arith
-piece_shorter (IsPiece.line_end {e = e} {r = r} l) = let (c, s, is) = end_shorter l in let n = length-append e r in let m = ap length is in omega (arith, n, m)
-piece_shorter (IsPiece.line {x = x} {r = r} l n) = let m = length-append x r in omega (arith, m)
-piece_shorter (IsPiece.block {x = x} {r = r} i) = let m = length-append x (42 ∷ 47 ∷ r) in omega (arith, m)
-
 -- the lines go on from here, and so from there
 abbrev pub LinesOn : Bool → Bool → List ℕ → List ℕ → Type 0
 LinesOn has one rest text = (b : Bool) → (b ≡ true → one ≡ true) → CommentLines b has rest → CommentLines b false text
-
-pub lines_on : (has now one stays : Bool) (p : Piece) (rest after text : List ℕ) → IsPiece p rest after → ((b : Bool) (x r : List ℕ) → (p ≡ piece.LineEnd → b ≡ false) → IsPiece p x r → CommentLines b now r → CommentLines b has x) → (stays ≡ true → (one ≡ true) × (p ≢ piece.LineEnd)) → LinesOn has one rest text → LinesOn now stays after text
-lines_on has now one stays p rest after text piece after_it stay k = λ b one_so go. k b (λ h. (stay (one_so h)).0) (after_it b rest after (λ e. by_bool b (λ h. (stay (one_so h)).1 e)) piece go)
-  where
-    by_bool : (b : Bool) → (b ≡ true → ⊥) → b ≡ false
-    by_bool true n = absurd (n refl)
-    by_bool false n = refl
 
 pub blank_after : (has : Bool) (one : Bool) (x r : List ℕ) → IsPiece piece.Blank x r → CommentLines one has r → CommentLines one has x
 blank_after has one x r (IsPiece.blank k) l = CommentLines.blank k l

@@ -423,13 +423,6 @@ module _ {S D : Type 0} (plan : Plan S D) {I : Type 0} {Held : MapAccess I → T
     pub fields_free : (test : Tree → Bool) → IsErrAnd result (λ y. y ≡ e) → ReadsFree {V = Unit {0}} test plan.step plan.start (map_state_of map) (Err e) → CompletesFree (object_free test) (object_of plan.convert) old result
     fields_free test is_err free = free_as test is_err (λ ps r m d are built left spare. false≢true (free ps r m are left spare))
 
-    -- all its members were read, and they make no struct
-    pub missing_free : (test : Tree → Bool) {n : S} {now : MapAccessState} → IsErrAnd result (λ y. y ≡ e) → ReadsMembers plan.step plan.start n (map_state_of map) now (Ok tt) → plan.build n ≡ None → CompletesFree (object_free test) (object_of plan.convert) old result
-    missing_free test is_err reads none = free_as test is_err (λ ps r m d are built left spare.
-        let (same, rest) = reads.left ps r m are left in
-        let both : Some d ≡ None = sym built ∙ ap plan.build same ∙ none in
-        absurd (cc both))
-
     -- its brace was refused
     pub end_free : (test : Tree → Bool) {n : S} {now : MapAccessState} → IsErrAnd result (λ y. y ≡ e) → ReadsMembers plan.step plan.start n (map_state_of map) now (Ok tt) → ((r : List ℕ) → MembersLeft no_member r now → IsOk {T = Unit {0}} {E = Error} (Err e)) → CompletesFree (object_free test) (object_of plan.convert) old result
     end_free test is_err reads ends = free_as test is_err (λ ps r m d are built left spare. let (same, rest) = reads.left ps r m are left in false≢true (ends r rest))

@@ -1,25 +1,22 @@
 -- The content of a variant that is read through an access: how it is opened and closed.
-use Rattle.std.proofs.Common.{◌≡◌, ℕ, Bool, true, false, refl, sym, ◌∙◌, subst, None, Result, Ok, Err}
+use Rattle.std.proofs.Common.{◌≡◌, ℕ, Bool, true, false, refl, sym, ◌∙◌, subst, Result, Ok, Err}
 use Rattle.json5_grammar.specs.Language.Trees.{array, object, no_member}
 use Rattle.json5_grammar.specs.Model.Collections.{IsBrace}
-use Rattle.json5_grammar.proofs.CommonLemmas.{true_false}
 use Rattle.json5_grammar.proofs.ArraysPartlyRead.{one_end}
 use Rattle.json5_types.specs.declared.error.Error.{Error}
 use Rattle.json5_value.specs.Offsets.{StartsAfter, PositionedAt}
 use Rattle.json5_de.specs.State.{State, GivesUp}
-use Rattle.json5_de.specs.ReaderSteps.{IsMismatch}
 use Rattle.json5_value.specs.declared.brackets.BracketPair.{BracketPair}
 use Rattle.json5_de.specs.BracketSigns.{AreSigns}
 use Rattle.json5_value.specs.Brackets.{square, curly}
 use Rattle.json5_de.specs.Arrays.{AccessState, IsStart, Opened, OpensAs, ClosesArray}
 use Rattle.json5_de.specs.Objects.{MapAccessState, ClosesMap, LeftAfter}
-use Rattle.json5_de.specs.Enums.{EnumAccessState, no_content, in_content, ClosesLast, ClosesContent, not_ended, brace_open, ClosesTuple, ClosesStruct, EndsArray, EndsObject, OpensContent, OpensTuple, OpensStruct}
+use Rattle.json5_de.specs.Enums.{EnumAccessState, in_content, ClosesLast, ClosesContent, not_ended, brace_open, ClosesTuple, ClosesStruct, EndsArray, EndsObject, OpensContent, OpensTuple, OpensStruct}
 use Rattle.json5_de.specs.Progress.{EndsAccess, array_at, object_at}
 use Rattle.json5_de.specs.declared.stage.Progress.{Progress}
 use Rattle.json5_de.proofs.BracketSteps.{failed_of}
 use Rattle.json5_de.proofs.ArrayElements as elements
-use Rattle.json5_de.proofs.ArrayElements.{closes_array, refuses_end, more_and_less}
-use Rattle.json5_de.proofs.FoundKeys.{mismatch_other}
+use Rattle.json5_de.proofs.ArrayElements.{closes_array, refuses_end}
 use Rattle.json5_de.proofs.ObjectMembers as pairs
 use Rattle.json5_de.proofs.ObjectMembers.{closes_map, refuses_map_end}
 use Rattle.json5_de.proofs.ReadSteps.{input_of}
@@ -107,9 +104,6 @@ module _ (b : BracketPair) (signs : AreSigns b) (comma_due : Bool) (brace : ℕ)
 -- ---- opening
 
 module _ (b : BracketPair) (old : EnumAccessState) where
-  pub content_opened : (state_of : ℕ → AccessState) (start : ℕ) → old.has_content ≡ true → OpensAs b state_of old.reader (Ok start) → OpensContent b state_of old (Ok start)
-  content_opened state_of start has o = record { has_content = has; opened = o.opened; start = o.start; complete = λ r h live sign room. refl; refused = tt; unprompted = tt }
-
   pub content_not_opened : {A : Type 0} (see : A → AccessState) (state_of : ℕ → AccessState) (new : State) (own e : Error) → old.has_content ≡ true → OpensAs b see old.reader (Err own) → GivesUp old.reader new → PositionedAt (StartsAfter new.input old.start) own e → OpensContent b state_of old (Err e)
   content_not_opened see state_of new own e has o failed placed = record {
     has_content = tt;
@@ -118,16 +112,6 @@ module _ (b : BracketPair) (old : EnumAccessState) where
     complete = λ r h live sign room. let ok = o.complete r live sign room in absurd (cc);
     refused = in_content own new has o.refused (subst (λ z. PositionedAt (StartsAfter z old.start) own e) failed.same_text placed);
     unprompted = λ live h. o.unprompted live (sym placed.kind ∙ h);
-  }
-
-  pub no_content_opened : (state_of : ℕ → AccessState) (e : Error) → old.has_content ≡ false → IsMismatch old.reader.input old.start e → OpensContent b state_of old (Err e)
-  no_content_opened state_of e none is = record {
-    has_content = tt;
-    opened = tt;
-    start = tt;
-    complete = λ r has live sign room. absurd (true_false has none);
-    refused = no_content none is;
-    unprompted = λ live. mismatch_other None old.reader.input old.start e (λ h. absurd (cc)) is;
   }
 
 -- seen in another way

@@ -125,10 +125,6 @@ own P error.NoKey m f k = absurd k
 own P error.NoMemory m f k = m
 own P error.Failed m f k = f
 
--- the same of a result
-pub own_then : {A : Type 0} (P : EditError → Type 0) (r : Result A EditError) → P error.NoMemory → P error.Failed → IfErr r IsOwn → IfErr r P
-own_then P r m f k = err_then r (λ e h. own P e m f h) k
-
 at_path : (P : EditError → Type 0) (bytes : List ℕ) (path : List Step) (e : EditError) → ((x : Error) → IsFaulty bytes x → P (error.Text x)) → (LeadsNowhere bytes path → P error.Nowhere) → P error.NoMemory → RefusesPath bytes path e → P e
 at_path P bytes path (error.Text x) t n m k = t x k
 at_path P bytes path error.Nowhere t n m k = n k

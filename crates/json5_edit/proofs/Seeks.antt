@@ -219,9 +219,6 @@ pub record ElementsAnd (i : ℕ) (path : List Step) (first now : Walked) (n : �
   pub limit : now.limit ≡ first.limit
   pub leads : (o : List Frame) → IsAt first (record { now = at_element no_more o; marked = None }) → (ts : Trees) × (t : Tree) × (m : Option (List Frame)) × IsAt now (record { now = at_comma t (in_array ts ∷ o); marked = m }) × (count ts ≡ n) × Finds o (step.Index i ∷ path) (array (snoc ts t)) m
 
-pub no_elements : (i : ℕ) (path : List Step) (v : Walked) → Elements i path v v 0
-no_elements i path v = record { text = refl; limit = refl; leads = λ o f. (no_more, None, f, refl, refl) }
-
 pub elements_end : {i n : ℕ} {path : List Step} {first now new : Walked} → Elements i path first now n → Moved Closes now new → SeeksFrom (at_element no_more) (step.Index i ∷ path) first new
 elements_end p q = record {
   text = q.text ∙ p.text;
@@ -284,9 +281,6 @@ pub record MembersAnd (key : Bor (List ℕ)) (path : List Step) (first now : Wal
   pub text : now.text ≡ first.text
   pub limit : now.limit ≡ first.limit
   pub leads : (o : List Frame) → IsAt first (record { now = at_key no_member o; marked = None }) → (ps : Members) × (u : List ℕ) × (e : Bool) × (t : Tree) × (m : Option (List Frame)) × IsAt now (record { now = at_comma t (in_object ps u e ∷ o); marked = m }) × (count_members ps ≡ n) × Finds o (step.Key key ∷ path) (object (snoc_member ps u e t)) m
-
-pub no_members : (key : Bor (List ℕ)) (path : List Step) (v : Walked) → MembersOf key path v v 0
-no_members key path v = record { text = refl; limit = refl; leads = λ o f. (no_member, None, f, refl, refl) }
 
 pub members_end : {n : ℕ} {key : Bor (List ℕ)} {path : List Step} {first now new : Walked} → MembersOf key path first now n → Moved Closes now new → SeeksFrom (at_key no_member) (step.Key key ∷ path) first new
 members_end p q = record {

@@ -74,9 +74,6 @@ object_spares {v = v} {x = x} p q k = λ s f a.
     let (b, is, g) = q.leads (record { now = s.now; marked = None }) (p.leads s f) in
     needs_as v x (q.text ∙ p.text) (q.limit ∙ p.limit) (k (value_frames s.now) (there (object_opened is) g))
 
-pub skips_spare : {v : Walked} {e : Error} → (AwaitsValue v → IsHopeless v) → Spares v e
-skips_spare {v = v} h = λ s f a. hopeless_needs v (h a)
-
 -- ---- elements
 
 joined_count : (ts us : Trees) → count (joined_trees ts us) ≡ count ts + count us

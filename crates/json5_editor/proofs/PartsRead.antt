@@ -73,9 +73,6 @@ part_fits bytes spelled steps p = (p.value, p.is_value, within (part_depth p.pos
 
 -- ---- JSON
 
-pub fit_document : (x : List ℕ) → IsValue max_depth x → (t : Tree) × Doc max_depth x t
-fit_document x (t, v, d) = (t, alone max_depth x t v d)
-
 same_value : (x : List ℕ) (t u : Tree) → Doc max_depth x t → Val x u → t ≡ u
 same_value x t u d v = one_tree max_depth (depth u) x t u d (alone (depth u) x u v (itself (depth u)))
 

@@ -1,5 +1,5 @@
 -- Why reading by a description is refused after all members were read.
-use Rattle.std.proofs.Common.{◌≡◌, ◌⊎◌, ◌∙◌, ◌+◌, ◌≤◌, refl, sym, ap, subst, ℕ, List, true, false, inl, inr, Some, None, Result, Ok, Err}
+use Rattle.std.proofs.Common.{◌≡◌, ◌⊎◌, ◌∙◌, ◌+◌, ◌≤◌, sym, ap, subst, ℕ, List, true, false, inl, inr, Some, None, Result, Ok, Err}
 use Rattle.std.proofs.lemmas.Bool.{and_parts}
 use Rattle.std.specs.Prelude.{IsErrAnd, IfErr, IsOk}
 use Rattle.json5_grammar.specs.Language.Documents.{max_depth}
@@ -8,24 +8,19 @@ use Rattle.json5_grammar.specs.Language.Values.{Reads}
 use Rattle.json5_grammar.proofs.MembersConverted.{object_only}
 use Rattle.json5_grammar.specs.Model.Collections.{object_of}
 use Rattle.json5_types.specs.declared.error.Error.{Error}
-use Rattle.json5_types.specs.Errors.{LacksMemory, or_position}
 use Rattle.json5_text.specs.Cursor.{IsOutOfMemory}
 use Rattle.json5_de.specs.State.{State}
 use Rattle.json5_de.specs.DeserializeLaw.{Completes, CompletesFree}
 use Rattle.json5_de.specs.Fields.{IsOwnAtBracket}
-use Rattle.json5_de.specs.Arrays.{PositionedAtBracket}
 use Rattle.json5_de.specs.Plans.{Plan, run, object_free, ReadsFree, ReadsMembers}
 use Rattle.json5_de.specs.StructFaults.{ValueFaults, StructFault}
 use Rattle.json5_de.specs.Objects.{MapAccessState, MembersLeft, OpensMap}
 use Rattle.json5_de.specs.Lending.{map_state_of, KeepsMap}
 use Rattle.json5_de.specs.declared.map.MapAccess.{MapAccess}
-use Rattle.json5_value.proofs.NoFailedCode.{memory_other}
 use Rattle.json5_de.proofs.ElementLoops.{handed_on}
 use Rattle.json5_de.proofs.Refinement.{parts}
 use Rattle.json5_de.proofs.Structs.{end_free, fields_free, missing_completes}
 use Rattle.json5_de.proofs.StructFaults.{missing_refused}
-use Rattle.json5_fields.specs.Layouts.{Layout}
-use Rattle.json5_fields.specs.FieldCalls.{Missed}
 use Rattle.json5_fields.specs.Spares.{Spares, struct_free}
 use Rattle.json5_fields.specs.Described.{DescribedFault, in_fields, no_default}
 
@@ -74,18 +69,3 @@ module _ {S D U I : Type 0} {Held : MapAccess I → Type 0} {old : State} (plan 
         let (m, are, built) = parts plan.build (run plan.step plan.start ps) d (sym (plan.says ps) ∙ converts) in
         let (one, rest) = reads.left ps r m are (opens.left ps r live (subst (λ u. Reads old.unread u r) same taken) (subst (λ u. old.level + depth u ≤ max_depth) same shallow)) in
         free d (and_parts spares.defaults (object_free spares.values t) spare).0 (sym (ap plan.build one) ∙ built))
-
--- memory ran out for a default
-pub unmade : {I S D : Type 0} (l : Layout S D) (s : S) (old : MapAccess I) (own e : Error) → LacksMemory own → PositionedAtBracket (map_state_of old).at own e → Missed l s old old e
-unmade l s old own e lacks placed = record {
-  missing = λ live. (
-    inr (placed.kind ∙ lacks.kind),
-    record {
-      kind = inr (placed.kind ∙ lacks.kind);
-      there = λ before after. placed.place ∙ ap (λ o. or_position o placed.there) lacks.place ∙ ap (λ p. Some p) (placed.is_there before after);
-    },
-  );
-  unprompted = λ live. memory_other e (placed.kind ∙ lacks.kind);
-  same_text = refl;
-  same_reference = refl;
-}

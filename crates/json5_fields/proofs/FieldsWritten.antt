@@ -1,5 +1,5 @@
 -- Fields that are written one after another.
-use Rattle.std.proofs.Common.{◌≡◌, ℕ, false, List, refl, ◌∙◌, Ok, Err, Result}
+use Rattle.std.proofs.Common.{◌≡◌, ℕ, false, List, ◌∙◌, Ok, Err, Result}
 use Rattle.std.specs.Prelude.{IsErrAnd}
 use Rattle.json5_types.specs.declared.error.Error.{Error}
 use Rattle.json5_ser.specs.WrittenTrees.{Written, Fields}
@@ -57,7 +57,3 @@ module _ {W : Type 0} {old new : SerializeCollection W} where
       by : (r : Result (Unit {0}) Error) → IsErrAnd r (λ x. x ≡ y) → IsErrAnd r (λ x. x ≡ e)
       by (Ok done) same = same
       by (Err x) same = same ∙ is
-
--- nothing is written
-pub none_written : {W : Type 0} {at : SerializeCollection W} → ExpectsKey at → WritesFields (λ fs. fs) at at (Ok tt)
-none_written expects = record { on = λ whole gname state fs h. h; refused = tt; same_reference = refl; expects = expects }

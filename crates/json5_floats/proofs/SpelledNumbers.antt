@@ -1,14 +1,13 @@
 -- The text of digits and an exponent is read as the number that they make.
-use Rattle.std.proofs.Common.{◌≡◌, ◌∙◌, ℕ, suc, ◌+◌, ◌*◌, ◌^◌, ◌<◌, Bool, true, false, List, [], ◌∷◌, ◌++◌, length, Result, Ok, Err, refl, sym, ap, subst, arith, append-nil, length-append, lit≤}
+use Rattle.std.proofs.Common.{◌≡◌, ◌∙◌, ℕ, suc, ◌+◌, ◌*◌, ◌^◌, ◌<◌, Bool, true, false, List, [], ◌∷◌, ◌++◌, length, refl, sym, ap, subst, arith, append-nil, length-append, lit≤}
 use native.Mathlib.Nat.{lt_of_lt_of_le}
-use Rattle.std.specs.Prelude.{ℤ, pos, negsuc, IfSome}
-use Rattle.std.specs.Result.{OkIff, result_ok}
+use Rattle.std.specs.Prelude.{ℤ, pos, negsuc}
 use Rattle.std.specs.Fmt.{decimal, signed_decimal, sign_text}
-use Rattle.std.specs.Str.Parse.{AllDigits, digits_value, ParsesUnsigned}
+use Rattle.std.specs.Str.Parse.{AllDigits, digits_value}
 use Rattle.std.specs.Float.Ieee.{Float, Format, round}
 use Rattle.std.proofs.lemmas.Bool.Decides.{nat_tests}
 use Rattle.std.proofs.lemmas.Fmt.{decimal_is_IsNumeral, decimal_is_IsNumeral_wide}
-use Rattle.std.proofs.lemmas.Str.Parse.{IsNumeralModel, numerals_by_value, tells_digits, parse_digits, digit_from_value}
+use Rattle.std.proofs.lemmas.Str.Parse.{IsNumeralModel, numerals_by_value, tells_digits, digit_from_value}
 use Rattle.std.specs.Char.{digit_value}
 use Rattle.fast_float.specs.Text.{Parts, scan, nearest, exponent_text, IsWellFormed}
 use Rattle.fast_float.specs.Rounding.{nearest_to_decimal}
@@ -95,13 +94,6 @@ read_whole f m n text h e =
 
 own : IsNumeralModel (AllDigits 10) (digits_value 10)
 own = numerals_by_value (AllDigits 10) tells_digits
-
-of_result : {E : Type 0} (r : Result ℕ E) (P : Type 0) (v : ℕ) → OkIff r P v → IfSome (result_ok r) (λ n. n ≡ v)
-of_result (Ok n) P v h = h.1
-of_result (Err e) P v h = tt
-
-pub few_read : {E : Type 0} (ds : List ℕ) (r : Result ℕ E) → Each is_digit ds → ParsesUnsigned 64 10 ds r → IfSome (result_ok r) (λ n. n ≡ digits_value 10 ds)
-few_read ds r e h = of_result r _ (digits_value 10 ds) (parse_digits own 64 ds r h (all_digits e))
 
 -- ---- finite decimals
 

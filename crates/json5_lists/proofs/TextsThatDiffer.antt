@@ -136,9 +136,6 @@ pub judged_none : (most longest : ℕ) (list : List Placed) → Judged most long
 judged_none most longest list = ([], refl, none_fits most longest)
 
 module _ (most longest : ℕ) {list rest : List Placed} (judged : Judged most longest list rest) where
-  pub judged_fewer : length rest ≤ length list
-  judged_fewer = let (before, split, fit) = judged in let whole = ap length split in let parts = length-append before rest in omega (arith, whole, parts)
-
   -- those that were looked at are the front of the list
   front : (place : ℕ) → place ≡ length list - length rest → take place list ≡ judged.0
   front place at =

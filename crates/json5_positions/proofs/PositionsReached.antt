@@ -1,5 +1,5 @@
 -- Counting characters up to a position: what was counted so far, and whether the position still lies ahead.
-use Rattle.std.proofs.Common.{◌≡◌, ◌≤◌, ◌<◌, ℕ, ◌+◌, Bool, false, List, [], ◌∷◌, ◌++◌, length, take, IsUtf8, refl, ap, sym, ◌∙◌, subst, arith}
+use Rattle.std.proofs.Common.{◌≡◌, ◌≤◌, ℕ, ◌+◌, Bool, false, List, [], ◌∷◌, ◌++◌, length, take, IsUtf8, refl, ap, sym, ◌∙◌, subst, arith}
 use Rattle.std.specs.Prelude.{◌==◌}
 use Rattle.std.specs.Char.{IsScalar, encode_utf8, len_utf8}
 use Rattle.std.specs.Str.{chars, all_scalars, IsCharBoundary}
@@ -11,7 +11,7 @@ use Rattle.json5_grammar.specs.declared.position.Position.{Position}
 use Rattle.json5_grammar.specs.Faults.Positions.{position_after}
 use Rattle.json5_grammar.specs.Model.PositionSteps.{position_step, position_from}
 use Rattle.json5_grammar.proofs.PositionsCounted.{counted, step_bounded}
-use Rattle.json5_positions.specs.Places.{HasPosition, IsOffsetIn, FindsOffset}
+use Rattle.json5_positions.specs.Places.{HasPosition, IsOffsetIn}
 
 abbrev pub text_start : Position
 text_start = record { line = 0; column = 0 }
@@ -97,19 +97,6 @@ walk_step text w rest left p cr offset c stays split (utf8, count, ahead, room) 
       λ h. reaches_step p w cr c (chars left) stays (subst (λ z. Reaches p cr z w) spelled (ahead h)),
       omega (arith, shorter, room, length-encode c, (len_utf8_bounds c).0, step_bounded p cr c),
     )
-
--- a character is left, so the position can be stepped
-pub walk_room : (text : List ℕ) (w : Position) (rest left : List ℕ) (p : Position) (cr : Bool) (offset c : ℕ) → rest ≡ encode_utf8 c ++ left
-    → Walk text w rest p cr offset → p.line + p.column < length text
-walk_room text w rest left p cr offset c split (utf8, count, ahead, room) =
-    let shorter : length rest ≡ length (encode_utf8 c) + length left = ap length split ∙ length-append (encode_utf8 c) left in
-    omega (arith, shorter, room, length-encode c, (len_utf8_bounds c).0)
-
--- a character is left, so the offset after it is within the text
-pub walk_within : (text : List ℕ) (w : Position) (rest left : List ℕ) (p : Position) (cr : Bool) (offset c : ℕ) → rest ≡ encode_utf8 c ++ left
-    → Walk text w rest p cr offset → offset + len_utf8 c ≤ length text
-walk_within text w rest left p cr offset c split (utf8, count, ahead, room) =
-    (counted_end text left (position_step p cr c) (c == 13) (offset + len_utf8 c) (counted_step text rest left p cr offset c (scalar_ahead rest left c utf8 split) split count)).0
 
 pub walk_found : (text : List ℕ) (w : Position) (rest : List ℕ) (p : Position) (cr : Bool) (offset : ℕ) → p ≡ w → Walk text w rest p cr offset → IsOffsetIn text w offset
 walk_found text w rest p cr offset same (utf8, count, ahead, room) = record { boundary = counted_boundary text rest p cr offset utf8 count; at = (counted_end text rest p cr offset count).1 ∙ same }

@@ -1,10 +1,10 @@
 -- Counting units of UTF-16 up to the end of a text.
-use Rattle.std.proofs.Common.{◌≡◌, ◌≤◌, ◌<◌, ℕ, ◌+◌, Bool, true, false, nat_lt, if◌then◌else◌, List, Option, [], ◌∷◌, ◌++◌, length, take, drop, IsUtf8, refl, ap, sym, ◌∙◌, subst, arith, take-append-drop}
+use Rattle.std.proofs.Common.{◌≡◌, ◌≤◌, ◌<◌, ℕ, ◌+◌, Bool, true, false, nat_lt, if◌then◌else◌, List, Option, ◌++◌, length, take, drop, IsUtf8, refl, ap, sym, ◌∙◌, arith, take-append-drop}
 use Rattle.std.specs.Char.{encode_utf8, len_utf8}
-use Rattle.std.specs.Str.{chars, IsCharBoundary}
+use Rattle.std.specs.Str.{chars}
 use Rattle.std.proofs.lemmas.Bool.Decides.{nat_tests}
 use Rattle.std.proofs.lemmas.List.{length-append}
-use Rattle.std.proofs.lemmas.Str.{IsUtf8-past_char, IsUtf8-take, IsUtf8-drop, chars-append, chars_past_char, length-encode, len_utf8_bounds}
+use Rattle.std.proofs.lemmas.Str.{IsUtf8-past_char, IsUtf8-take, chars-append, chars_past_char, length-encode}
 use Rattle.std.proofs.StrCases.{chars_of_empty}
 use Rattle.json5_grammar.specs.Language.Characters.{is_terminator}
 use Rattle.json5_grammar.specs.declared.position.Position.{Position}
@@ -20,9 +20,6 @@ narrow c = grind (arith, nat_tests)
 
 shorter : (rest left : List ℕ) (c : ℕ) → rest ≡ encode_utf8 c ++ left → length rest ≡ len_utf8 c + length left
 shorter rest left c split = ap length split ∙ length-append (encode_utf8 c) left ∙ ap (λ n. n + length left) (length-encode c)
-
-pub units_room : (text rest left : List ℕ) (units c : ℕ) → rest ≡ encode_utf8 c ++ left → Units text rest units → units + utf16_width c ≤ length text
-units_room text rest left units c split (utf8, count, room) = omega (arith, shorter rest left c split, narrow c, room)
 
 next_units : (text rest left : List ℕ) (units next c : ℕ) → rest ≡ encode_utf8 c ++ left → next ≤ units + utf16_width c → next ≡ (if is_terminator c then 0 else units + utf16_width c) → Units text rest units → Units text left next
 next_units text rest left units next c split small is (utf8, count, room) = (

@@ -20,8 +20,8 @@ use Rattle.json5_types.specs.Cows.{cow_bytes}
 use Rattle.json5_report.specs.declared.course.Open.{Open}
 use Rattle.json5_report.specs.declared.course.Open.TheVariants as kept
 use Rattle.json5_report.specs.declared.course.Course.{Course}
-use Rattle.json5_report.specs.Paths.{Crumb, whole, element, member, takes_value, after, closing, Step, value, array, object, key, colon, next_element, next_member, closes, Leads, here, further, start_of, IsOpenAt}
-use Rattle.json5_report.specs.Courses.{crumb_of, crumbs_onto, open_in, Advances, Rests, Turned, NotClosed, Unclosed, AtMost}
+use Rattle.json5_report.specs.Paths.{Crumb, whole, element, member, takes_value, after, closing, Step, value, array, object, key, colon, next_element, next_member, closes, Leads, here, further, start_of}
+use Rattle.json5_report.specs.Courses.{crumb_of, crumbs_onto, open_in, Advances, Rests, Turned, NotClosed, AtMost}
 use Rattle.json5_grammar.proofs.ArraysRead.{comma_solid}
 use Rattle.json5_grammar.proofs.ObjectsRead.{colon_solid, one_reads_key}
 use Rattle.json5_grammar.proofs.ValuesSound.{read_sound}
@@ -97,11 +97,6 @@ below_rest k whole o b = b
 below_rest k (element n) o (h, b) = b
 below_rest k (member u) o b = b
 
-pub below_first : (k : ℕ) (c : Crumb) (o : List Crumb) → Below k (c ∷ o) → AtMost k c
-below_first k whole o b = tt
-below_first k (element n) o (h, b) = h
-below_first k (member u) o b = tt
-
 step_below : {d e : Due} {o p : List Crumb} {x y : List ℕ} (j k : ℕ) → j < k → Step d o x e p y → Below j o → Below k p
 step_below {o = o} j k l (value t v r) b = below_more j k o (omega (arith, l)) b
 step_below {o = o} j k l (array v a) b = (omega arith, below_more j k o (omega (arith, l)) b)
@@ -140,15 +135,6 @@ goes_on text offset s t c d w a =
       room = omega (arith, few, same, w.room);
       below = step_below (offset_of s) (offset_of t) (omega (arith, few, same, w.room)) a.step w.below;
     }
-
-pub ends_on : (text : List ℕ) (offset : ℕ) (s : Cursor) (c d : Course) → IsOn text offset s c → Rests offset s c d → IsOpenAt text offset (open_in d)
-ends_on text offset s c d w r = subst (λ o. IsOpenAt text offset o) (sym r.same_open) (record {
-  due = c.due;
-  rest = s.unread;
-  leads = w.leads;
-  by = subst (λ z. start_of z s.unread ≤ offset) w.input w.by;
-  last = λ e p y k. subst (λ z. offset < start_of z y) w.input (r.last e p y k);
-})
 
 -- what was read as a value isn't read otherwise
 pub same_rest : (m : Read Tree) (t : Tree) (y z : List ℕ) → forget m ≡ got tt y → m ≡ got t z → bytes_in z ≤ bytes_in y
@@ -208,9 +194,6 @@ eaten s t k took = record { front = []; split = took.split; blank = Blanks.empty
 same_sign : (d : Due) (b : Crumb) (k s : ℕ) → closing d b ≡ Some s → closing d b ≡ Some k → s ≡ k
 same_sign d b k s e f = let h : Some s ≡ Some k = sym e ∙ f in cc
 
-pub unclosed_by : (s t : Cursor) (c : Course) (k : ℕ) → closing c.due (crumb_of c.inner) ≡ Some k → (t ≡ s) × NotBegun (λ h. h == k) s.unread → Unclosed s c t c
-unclosed_by s t c k e (same, n) = record { same = same; same_course = refl; unclosed = λ j f. subst (λ z. NotBegun (λ h. h == z) s.unread) (same_sign c.due (crumb_of c.inner) j k e f) n }
-
 pub closed : (offset : ℕ) (s t : Cursor) (c d : Course) (inner : Open) (left : List Open) (k : ℕ) → closing c.due (crumb_of c.inner) ≡ Some k → Took s (k ∷ []) t → offset_of t ≤ offset
     → c.outer.items ≡ left ++ inner ∷ [] → d.due ≡ after (crumb_of inner) → open_in d ≡ crumb_of inner ∷ crumbs_onto [] left → Advances offset s c t d
 closed offset s t c d inner left k e took l o a b =
@@ -263,9 +246,6 @@ module _ (s : Cursor) (c : Course) (solid : Solid s.unread) (shut : NotClosed s 
 
   pub no_comma : c.due ≡ due.Comma → NotBegun (λ h. h == 44) s.unread → NoStep s c
   no_comma is n e p y k = unsigned 44 s.unread y comma_solid solid n (only_comma is solid shut k).0
-
-  pub no_comma_there : c.due ≡ due.Comma → crumb_of c.inner ≡ whole → NoStep s c
-  no_comma_there is w e p y k = (only_comma is solid shut k).1 w
 
 pub no_colon : (s : Cursor) (c : Course) → Solid s.unread → c.due ≡ due.Colon → NotBegun (λ h. h == 58) s.unread → NoStep s c
 no_colon s c solid is n e p y k = unsigned 58 s.unread y colon_solid solid n (only_colon is k)

@@ -79,9 +79,6 @@ shorter {x = x} {y = y} t =
     let all : length x ≡ length (t.first ∷ t.more) + length y = ap length t.split ∙ length-append (t.first ∷ t.more) y in
     omega (arith, all)
 
-nothing_taken : {y : List ℕ} → Takes [] y → ⊥
-nothing_taken t = absurd (cc)
-
 -- ---- gaps in front
 
 key_gap : (w x y r u : List ℕ) (e : Bool) → x ≡ w ++ y → Gap w y → ReadsKey y u e r → ReadsKey x u e r

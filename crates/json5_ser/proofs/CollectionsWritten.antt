@@ -50,9 +50,6 @@ variant_object l u fs d =
 refused_first : {A : Type 0} (all o rest : Out) (at last : SerializerState) (e : Error) (result : Result A Error) → all ≡ o then rest → RefusesWrite o at e last → IsErrAnd result (λ y. y ≡ e) → Writes all at result last
 refused_first all o rest at last e result same p is = Writes-handed all at last e result is (subst (λ x. RefusesWrite x at e last) (sym same) (Refuses-before o rest at last e p))
 
-pub list_refused : {A : Type 0} (ts : Elements) (at last : SerializerState) (e : Error) (result : Result A Error) → RefusesWrite (opened_by at.limit at.depth left_bracket) at e last → IsErrAnd result (λ y. y ≡ e) → WritesTree (array ts) at result last
-list_refused ts at last e result p is = refused_first _ (opened_by at.limit at.depth left_bracket) (elements_out at.limit ts at.depth false) at last e result refl p is
-
 pub object_refused : {A : Type 0} (fs : Fields) (at last : SerializerState) (e : Error) (result : Result A Error) → RefusesWrite (opened_by at.limit at.depth left_brace) at e last → IsErrAnd result (λ y. y ≡ e) → WritesTree (object fs) at result last
 object_refused fs at last e result p is = refused_first _ (opened_by at.limit at.depth left_brace) (fields_out at.limit fs at.depth false) at last e result refl p is
 
@@ -102,10 +99,6 @@ module _ {W : Type 0} where
 
   -- ---- keys and values
 
-  pub key_on : {t u : Written} {k : WrittenKey} {name : GName} {at : SerializerState} {c n : SerializeCollection W} {fs : Fields} {x : ⊤} → Remains t name at c (fields (field k u fs)) → Steps (key_part (state_of c).depth k) true c (Ok x) n → Remains t name at n (value u fs)
-  key_on {t} {u} {k} {name} {at} {c} {n} {fs} {x} h s =
-      remains_on t name at c n (fields (field k u fs)) (value u fs) (key_part (state_of c).depth k) x (first_key k u fs (inner (in_variant c) at.depth) (state_of c).depth at.limit (has_member c) h.depth) refl h s
-
   pub key_refused : {A : Type 0} {t u : Written} {k : WrittenKey} {name : GName} {at : SerializerState} {c n : SerializeCollection W} {fs : Fields} {e : Error} (result : Result A Error) → Remains t name at c (fields (field k u fs))
       → Steps (key_part (state_of c).depth k) true c (Err e) n → IsErrAnd result (λ y. y ≡ e) → {last lent : SerializerState} → lent ≡ serializer_of n → (name ≡ reference_of n → last ≡ lent) → WritesTree t at result last
   key_refused {A} {t} {u} {k} {name} {at} {c} {n} {fs} {e} result h s is {last} {lent} dropped follows =
@@ -146,7 +139,3 @@ module _ {W : Type 0} where
   -- by the name of the reference that a loop begins with
   pub in_loop : {t : Written} {name : GName} {at : SerializerState} {c : SerializeCollection W} {r : Rest} → Remains t name at c r → Remains t (reference_of c) at c r
   in_loop {t} {name} {at} {c} {r} h = subst (λ x. Remains t x at c r) (sym h.same_reference) h
-
-  -- by the name of the reference that was lent
-  pub out_of_loop : {t : Written} {name other : GName} {at : SerializerState} {c : SerializeCollection W} {r : Rest} → other ≡ name → Remains t other at c r → Remains t name at c r
-  out_of_loop {t} {name} {other} {at} {c} {r} e h = subst (λ x. Remains t x at c r) e h

@@ -1,45 +1,29 @@
 -- Short ways of escapes.
 use Rattle.std.proofs.Common.{◌≡◌, ℕ, ◌+◌, ◌-◌, ◌*◌, ◌<◌, ◌≤◌, Bool, true, false, List, [], ◌∷◌, ◌++◌, length, drop, refl, ap, sym, ◌∙◌, subst, arith, Option, Some, None}
 use denote.Ref.{Bor}
-use Rattle.std.specs.Prelude.{◌==◌, ◌&&◌, slice_index, IfSome, Ok}
+use Rattle.std.specs.Prelude.{◌&&◌, slice_index, IfSome, Ok}
 use Rattle.std.specs.Char.{IsScalar, digit_value, encode_utf8}
 use Rattle.std.specs.Str.{IsUtf8, IsCharBoundary, chars, encode_utf8_all}
-use Rattle.std.proofs.lemmas.Bool.Decides.{nat_tests}
 use Rattle.std.proofs.lemmas.List.{length-append, append-nil}
 use Rattle.std.proofs.lemmas.Str.{encode_ascii, chars_past_char, IsUtf8-past_char, IsCharBoundary-at_seam}
-use Rattle.json5_grammar.specs.Language.Characters.{NotBegun, is_digit, is_terminator}
 use Rattle.json5_grammar.specs.Language.Strings.{short_escape, is_raw}
 use Rattle.json5_grammar.specs.Model.Reading.{got, and_then}
-use Rattle.json5_grammar.specs.Model.ReadTexts.{hex, not_short, one_char, put}
+use Rattle.json5_grammar.specs.Model.ReadTexts.{hex, one_char, put}
 use Rattle.json5_grammar.proofs.StringsRead.{put_none}
 use Rattle.json5_text.specs.declared.strings_and_names.Kind.{Kind}
 use Rattle.json5_text.specs.declared.strings_and_names.Kind.TheVariants as kind
 use Rattle.json5_text.specs.declared.strings_and_names.Quote.{Quote}
-use Rattle.json5_text.specs.declared.strings_and_names.Quote.TheVariants as quotes
 use Rattle.json5_text.specs.declared.strings_and_names.EscapeStep.{EscapeStep}
 use Rattle.json5_text.specs.declared.strings_and_names.Stop.{Stop}
 use Rattle.json5_text.specs.declared.strings_and_names.Stop.TheVariants as stop
 use Rattle.json5_text.specs.Scan.{SkipsAll, AtEscape, in_list}
-use Rattle.json5_text.specs.ScanTexts.{quote_of, text_at, is_raw_in, left_in, ReadsUpTo, AnswersStop, IsEscapeStep, IsReadTo, IsStepped}
-use Rattle.json5_text.specs.ShortEscapes.{spells_itself, SpellsAlone, SpellsUnicode, SpellsEscape}
+use Rattle.json5_text.specs.ScanTexts.{quote_of, text_at, left_in, ReadsUpTo, AnswersStop, IsEscapeStep, IsReadTo, IsStepped}
+use Rattle.json5_text.specs.ShortEscapes.{SpellsAlone, SpellsUnicode, SpellsEscape}
 use Rattle.json5_text.proofs.ScanEscapes.{hex_done, hex_more, digit_ascii, unicode_single, escape_step}
 use Rattle.json5_text.proofs.ScanRuns.{run_each, past_rest, put_put, run_read}
 use Rattle.json5_text.proofs.ScanTexts.{bytes_past, goes_past, item_read}
 
 -- ---- one character after the backslash
-
-pub alone_short : (c d : ℕ) → short_escape c ≡ Some d → SpellsAlone c d
-alone_short c d e b r = ap (λ o. not_short o b c r) e
-
-pub alone_itself : (c : ℕ) → short_escape c ≡ None → spells_itself c ≡ true → SpellsAlone c c
-alone_itself c e h b r =
-    let zero_sign : (c == 48) ≡ false = grind (arith, nat_tests) in
-    let x : (c == 120) ≡ false = grind (arith, nat_tests) in
-    let u : (c == 117) ≡ false = grind (arith, nat_tests) in
-    let cr : (c == 13) ≡ false = grind (arith, nat_tests) in
-    let ends : is_terminator c ≡ false = grind (arith, nat_tests) in
-    let digit : is_digit c ≡ false = grind (arith, nat_tests) in
-    ap (λ o. not_short o b c r) e ∙ rw (ends, digit) (rw (zero_sign, x, u, cr) refl)
 
 -- ---- four hexadecimal digits
 
@@ -92,12 +76,6 @@ unicode_found s rest c u h e k d b =
     }
 
 -- ---- the escapes of a string and the runs after them
-
-pub backslash_stops : (k : Kind) (x y : List ℕ) → x ≡ 92 ∷ y → NotBegun (is_raw_in k) x
-backslash_stops kind.Name x y e = subst (NotBegun (is_raw_in kind.Name)) (sym e) refl
-backslash_stops kind.NameRest x y e = subst (NotBegun (is_raw_in kind.NameRest)) (sym e) refl
-backslash_stops (kind.String quotes.Double) x y e = subst (NotBegun (is_raw 34)) (sym e) refl
-backslash_stops (kind.String quotes.Single) x y e = subst (NotBegun (is_raw 39)) (sym e) refl
 
 pub none_read : (k : Kind) (x : List ℕ) → IsUtf8 x → IsReadTo k x [] x
 none_read k x u = record { escape_free = true; read = put_none (text_at k (chars x)); stops = λ h. h; fewer = omega arith; text = u }
@@ -153,13 +131,6 @@ at_stop k escape u rest end g a = record {
   escape_free = g.escape_free && true;
   goes_on = subst (λ t. ReadsUpTo (text_at k (chars escape)) t (g.escape_free && true) end) (append-nil u) (goes_past _ _ u [] g.escape_free true end g.read a.0);
   left = let m = g.fewer in let n = a.1 in omega arith;
-}
-
-pub stepped_to_end : (k : Kind) (escape after u : List ℕ) (end last : Stop) → AtStop k escape u end → end ≡ last → left_in last ≡ 0 → IsStepped k escape after u last
-stepped_to_end k escape after u end last a e z = record {
-  escape_free = a.escape_free;
-  goes_on = subst (ReadsUpTo (text_at k (chars escape)) u a.escape_free) e a.goes_on;
-  left = omega arith;
 }
 
 -- the escape there is read from it on

@@ -1,8 +1,7 @@
 -- The last member with a key, and what a list becomes that is changed there.
-use Rattle.std.proofs.Common.{◌≡◌, ◌∙◌, ◌<◌, ℕ, zero, suc, ◌+◌, ◌≤◌, Bool, true, false, nat_eq, if◌then◌else◌, List, [], ◌∷◌, ◌++◌, length, drop, set, Option, Some, None, is_some, refl, sym, ap, subst, arith, String, string_bytes}
+use Rattle.std.proofs.Common.{◌≡◌, ◌∙◌, ◌<◌, ℕ, zero, suc, ◌+◌, Bool, true, false, nat_eq, if◌then◌else◌, List, [], ◌∷◌, ◌++◌, length, drop, set, Option, Some, None, is_some, refl, sym, ap, subst, arith, String, string_bytes}
 use Rattle.std.specs.declared.alloc.Global.{Global}
 use Rattle.std.specs.Prelude.{remove, slice_index_or, option_map, IfNone}
-use Rattle.std.proofs.lemmas.List.{drop_all}
 use Rattle.std.specs.Str.{chars}
 use Rattle.std.specs.Cmp.Lexicographic.{pointwise, bytes_decides}
 use Rattle.json5_types.specs.declared.value.Value.{Value}
@@ -97,9 +96,6 @@ pub passed : (key : List ℕ) (fs : List Member) (i n : ℕ) (f : Member) → i 
 passed key fs i n f e h is none other =
     let rest = subst (λ k. last_named key (fields_view (drop k fs)) ≡ None) (sym e) none in
     rw (from_here fs i f h is, rest, other) refl
-
-pub none_from_end : (key : List ℕ) (fs : List Member) (n : ℕ) → length fs ≤ n → last_named key (fields_view (drop n fs)) ≡ None
-none_from_end key fs n h = ap (λ l. last_named key (fields_view l)) (drop_all n fs h)
 
 -- none is left to remove
 pub removed_all : (key : List ℕ) (old new start : List Member) (r : Option Value) (b : Bool) → b ≡ is_some r → b ≡ false → option_map value_of r ≡ last_named key (fields_view old) → IfNone r (new ≡ old)

@@ -1,6 +1,5 @@
 -- Keys as they are written in a pointer, and what a list has at one.
-use Rattle.std.proofs.Common.{◌≡◌, ◌∙◌, ◌<◌, ◌≤◌, ◌+◌, ℕ, zero, suc, Bool, true, false, nat_eq, List, [], ◌∷◌, length, drop, refl, sym, ap, subst, String, string_bytes}
-use Rattle.std.proofs.lemmas.List.{drop_all}
+use Rattle.std.proofs.Common.{◌≡◌, ◌∙◌, ◌<◌, ◌+◌, ℕ, zero, suc, Bool, true, false, nat_eq, List, [], ◌∷◌, length, drop, refl, sym, ap, subst, String, string_bytes}
 use Rattle.std.specs.Prelude.{Some, None, slice_index_or}
 use Rattle.std.specs.declared.alloc.Global.{Global}
 use Rattle.std.specs.Str.{chars, encode_utf8_all, IsUtf8}
@@ -37,9 +36,6 @@ pub passed_written : (part : List ℕ) (fs : List Member) (i n : ℕ) (f : Membe
 passed_written part fs i n f e h is none other =
     let rest = subst (λ k. member_written part (fields_view (drop k fs)) ≡ None) (sym e) none in
     rw (from_here fs i f h is, rest, other) refl
-
-pub none_written_from_end : (part : List ℕ) (fs : List Member) (n : ℕ) → length fs ≤ n → member_written part (fields_view (drop n fs)) ≡ None
-none_written_from_end part fs n h = ap (λ l. member_written part (fields_view l)) (drop_all n fs h)
 
 -- the test of the key's bytes is that of its characters
 pub key_test : (name part bytes : List ℕ) (key : String Global) (p q : Bool) → IsUtf8 name → name ≡ string_bytes key → bytes ≡ part → p ≡ pointwise nat_eq (escaped_key name) bytes → p ≡ q

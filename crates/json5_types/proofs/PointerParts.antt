@@ -1,7 +1,7 @@
 -- A pointer, a part at a time.
-use Rattle.std.proofs.Common.{◌≡◌, ◌≢◌, ◌∙◌, ℕ, zero, suc, ◌<◌, List, [], ◌∷◌, ◌++◌, length, get_or, Option, None, Some, option_and_then, refl, sym, ap, arith, ne_eqb}
+use Rattle.std.proofs.Common.{◌≡◌, ◌≢◌, ℕ, suc, ◌<◌, List, [], ◌∷◌, ◌++◌, length, get_or, Option, None, Some, option_and_then, refl, ap, arith, ne_eqb}
 use Rattle.json5_types.specs.ValueMeanings.{Datum}
-use Rattle.json5_types.specs.Pointers.{step_from, steps_from, in_front, parts_of, pointed}
+use Rattle.json5_types.specs.Pointers.{step_from, steps_from, parts_of, pointed}
 
 abbrev pub Lacks : ℕ → List ℕ → Type 0
 Lacks c xs = (i : ℕ) → i < length xs → get_or xs i 0 ≢ c

@@ -1,16 +1,14 @@
 -- What a value becomes whose elements or members are changed.
-use Rattle.std.proofs.Common.{◌≡◌, ◌∙◌, ℕ, Bool, true, false, List, Result, Ok, Err, refl, sym, ap, String}
-use Rattle.std.specs.Prelude.{Option, Some, None, option_map, is_some, IfOk, ⊤}
+use Rattle.std.proofs.Common.{◌≡◌, ◌∙◌, ℕ, List, Result, Ok, Err, refl, sym, ap, String}
+use Rattle.std.specs.Prelude.{Option, Some, None}
 use Rattle.std.specs.declared.alloc.Global.{Global}
-use Rattle.json5_grammar.specs.declared.error_code.ErrorCode.{ErrorCode}
 use Rattle.json5_grammar.specs.declared.error_code.ErrorCode.TheVariants as codes
 use Rattle.json5_types.specs.declared.error.Error.{Error}
 use Rattle.json5_types.specs.declared.value.Value.{Value}
-use Rattle.json5_types.specs.Errors.{code, SaysAt, LacksMemory}
 use Rattle.json5_types.specs.MemberPlaces.{PutsMember}
-use Rattle.json5_types.specs.ValueChanges.{Changes, pushed, inserted, put_named}
-use Rattle.json5_types.specs.ValueLookups.{items_in, fields_in, named_of, last_named}
-use Rattle.json5_types.specs.ValueMeanings.{Datum, null, boolean, number, text, array, object, Items, Fields, value_of, fields_view}
+use Rattle.json5_types.specs.ValueChanges.{Changes, inserted}
+use Rattle.json5_types.specs.ValueLookups.{items_in, fields_in}
+use Rattle.json5_types.specs.ValueMeanings.{Datum, null, boolean, number, text, array, object, Items, Fields, fields_view}
 
 -- ---- the value of a kind
 
@@ -30,14 +28,6 @@ object_from (number n) fs e = absurd (cc)
 object_from (text u) fs e = absurd (cc)
 object_from (array xs) fs e = absurd (cc)
 
-pub no_array : (y x : Datum) → None ≡ items_in x → pushed y x ≡ None
-no_array y (array ys) e = absurd (cc)
-no_array y null e = refl
-no_array y (boolean b) e = refl
-no_array y (number n) e = refl
-no_array y (text u) e = refl
-no_array y (object fs) e = refl
-
 pub no_object : (key : List ℕ) (y x : Datum) → None ≡ fields_in x → inserted key y x ≡ None
 no_object key y (object fs) e = absurd (cc)
 no_object key y null e = refl
@@ -51,7 +41,3 @@ no_object key y (array xs) e = refl
 pub member_put : (key : List ℕ) (y x z : Datum) (old new : List (String Global × Value)) (r : Result (Option Value) Error) → x ≡ object (fields_view old) → z ≡ object (fields_view new) → PutsMember key y old r new → Changes (inserted key y) codes.ExpectedOpeningBrace x r z
 member_put key y x z old new (Ok found) e f p = rw (e, f) (ap (λ fs. Some (object fs)) (sym p.0))
 member_put key y x z old new (Err fault) e f p = (f ∙ ap (λ ms. object (fields_view ms)) p.0 ∙ sym e, rw e (record { kind = p.1.kind; place = p.1.place }))
-
-pub member_replaced : (key : List ℕ) (y x : Datum) (old new : List (String Global × Value)) (r : Result (Option Value) Error) → x ≡ object (fields_view old) → PutsMember key y old r new → IfOk r (λ found. option_map value_of found ≡ named_of key x)
-member_replaced key y x old new (Ok found) e p = rw e p.1
-member_replaced key y x old new (Err fault) e p = tt

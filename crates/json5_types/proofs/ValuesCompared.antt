@@ -5,7 +5,7 @@ use Rattle.std.specs.Str.{chars, IsUtf8, encode_utf8_all}
 use Rattle.std.specs.Cmp.Lexicographic.{pointwise, bytes_decides}
 use Rattle.std.proofs.lemmas.Str.{encodes-chars}
 use Rattle.std.proofs.lemmas.Bool.Decides.{Decides-like, same_from_decides}
-use Rattle.json5_types.specs.ValueMeanings.{value_of, items_view, fields_view, null, boolean, text, array, object}
+use Rattle.json5_types.specs.ValueMeanings.{value_of, items_view, fields_view, null, text, array, object}
 use Rattle.json5_types.specs.ValueEquality.{datum_eq, items_eq, fields_eq, datum_Decides}
 use Rattle.json5_types.specs.declared.value.Value.{Value, Null, Array, Object, the_lemmas}
 use Rattle.json5_types.specs.declared.value.Value as value
@@ -59,9 +59,6 @@ other_name fs gs f g xs ys a b x y h k i j differ =
 
 pub view-Null : value_of Null ≡ null
 view-Null = search (rules, the_lemmas)
-
-pub view-Bool : (b : Bool) → value_of (value.Bool b) ≡ boolean b
-view-Bool b = search (rules, the_lemmas)
 
 pub view-String : (s : String Global) → value_of (value.String s) ≡ text (chars (string_bytes s))
 view-String s = search (rules, the_lemmas)

@@ -1,11 +1,10 @@
 -- What the elements and the members of a value feed a hasher.
-use Rattle.std.proofs.Common.{◌≡◌, ◌∙◌, ◌<◌, ◌+◌, ℕ, List, ◌∷◌, ◌++◌, ℤ, drop, get_or, length, sym, ap, refl, String, string_bytes}
+use Rattle.std.proofs.Common.{◌≡◌, ◌<◌, ◌+◌, ℕ, List, ◌++◌, ℤ, drop, get_or, length, refl, String, string_bytes}
 use Rattle.std.specs.declared.alloc.Global.{Global}
 use Rattle.std.specs.Hash as fed
 use Rattle.std.specs.Hash.{fed_then}
 use Rattle.std.specs.List.{fold}
 use Rattle.std.specs.Str.{chars, encode_utf8_all}
-use Rattle.std.proofs.lemmas.List.{drop_more}
 use denote.Param.{read}
 use Rattle.std.specs.declared.hash.Hash.Ghosts.{hash_input}
 use Rattle.json5_types.specs.declared.whole.Whole.{Whole}
@@ -23,17 +22,9 @@ whole_fed = read (hash_input {X-1 = Whole}) ghosts
 abbrev Member : Type 0
 Member = String Global × Value
 
--- the elements from the i-th on
-item_from_here : (vs : List Value) (i : ℕ) (v : Value) → i < length vs → v ≡ get_or vs i v → drop i vs ≡ v ∷ drop (i + 1) vs
-item_from_here vs i v h is = drop_more vs i v h ∙ ap (λ w. w ∷ drop (i + 1) vs) (sym is)
-
 module _ {S : Type 0} (write : S → List ℕ → S) where
   pub items_begun : (start now : S) (vs : List Value) (n : ℕ) → n ≡ length vs → now ≡ fold write start (fed.usize n) → fold write now (each_fed whole_fed (items_view vs)) ≡ fold write start (items_fed whole_fed (items_view vs))
   items_begun start now vs n counted is = rw (items_counted vs, ← counted) (fed_then write start now _ (fed.usize n) (each_fed whole_fed (items_view vs)) is refl)
-
-  pub item_fed : (now next : S) (vs : List Value) (i : ℕ) (v : Value) → i < length vs → v ≡ get_or vs i v → next ≡ fold write now (datum_fed whole_fed (value_of v))
-      → fold write next (each_fed whole_fed (items_view (drop (i + 1) vs))) ≡ fold write now (each_fed whole_fed (items_view (drop i vs)))
-  item_fed now next vs i v h here is = rw (item_from_here vs i v h here) (fed_then write now next _ (datum_fed whole_fed (value_of v)) (each_fed whole_fed (items_view (drop (i + 1) vs))) is refl)
 
   pub fields_begun : (start now : S) (fs : List Member) (n : ℕ) → n ≡ length fs → now ≡ fold write start (fed.usize n) → fold write now (members_fed whole_fed (fields_view fs)) ≡ fold write start (fields_fed whole_fed (fields_view fs))
   fields_begun start now fs n counted is = rw (fields_counted fs, ← counted) (fed_then write start now _ (fed.usize n) (members_fed whole_fed (fields_view fs)) is refl)

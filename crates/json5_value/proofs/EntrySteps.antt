@@ -1,7 +1,6 @@
 -- What is around an element or a member is passed over: the colon of a member, commas, and the blanks before an entry.
 use Rattle.std.proofs.Common.{◌≡◌, ℕ, Bool, true, false, cond, List, [], ◌∷◌, refl}
 use Rattle.std.specs.Prelude.{◌==◌}
-use Rattle.json5_grammar.specs.declared.error_code.ErrorCode.TheVariants as codes
 use Rattle.json5_grammar.specs.Language.Characters.{NotBegun}
 use Rattle.json5_grammar.specs.Faults.Fronts.{BracketKind, of_array, of_object, closing}
 use Rattle.json5_grammar.specs.Model.Reading.{Read, got, and_then}

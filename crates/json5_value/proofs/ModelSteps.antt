@@ -130,15 +130,8 @@ refused_step old new m e b g = record { given = tt; refused = b; same_text = g }
 pub took_nothing : (mid at : Cursor) → at ≡ mid → Took mid [] at
 took_nothing mid at same = record { split = ap (λ (s : Cursor). s.unread) (sym same); same = same_of same }
 
-pub refused_there : {F : List ℕ → Option ErrorCode → Option (List ℕ) → Type 0} (mid at : Cursor) (e : Error) → at ≡ mid → Refused F at e → Refused F mid e
-refused_there {F = F} mid at e same f = subst (λ (s : Cursor). Refused F s e) same f
-
 -- ---- after a step
 
 -- after a step the rest is still the end of the input
 pub ready_next : {A : Type 0} {m : Read A} {a : A} (old mid : Cursor) → IsInside old → Gave m a old mid → IsInside mid
 ready_next old mid r g = ready_after old mid g.taken r g.took
-
--- also after the sign that was eaten
-pub ready_sign : {A : Type 0} {m : Read A} {a : A} (old mid new : Cursor) (s : List ℕ) → IsInside old → Gave m a old mid → Took mid s new → IsInside new
-ready_sign old mid new s r g t = ready_after mid new s (ready_next old mid r g) t

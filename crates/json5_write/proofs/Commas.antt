@@ -1,17 +1,16 @@
 -- Elements and members without the comma after them, and what remains to be written of their collection.
 use Rattle.std.proofs.Common.{◌≡◌, ℕ, ◌+◌, ◌-◌, [], ◌∷◌, Bool, true, false, Result, Ok, Err, refl, sym, ap, ◌∙◌, subst, arith}
 use Rattle.std.specs.Prelude.{⊤}
-use Rattle.std.specs.Result.{is_err, IsErrAnd}
-use Rattle.json5_types.specs.declared.error.Error.{Error}
+use Rattle.std.specs.Result.{IsErrAnd}
 use Rattle.json5_grammar.specs.Language.Characters.{comma_sign, colon_sign, space}
 use Rattle.json5_write.specs.WrittenTrees.{WrittenKey, Written, Elements, element, Fields, field}
 use Rattle.json5_write.specs.Out.{Out, piece, ◌then◌, line, opened_by, closed_by, out, elements_out, fields_out, key_part, key_out}
-use Rattle.json5_write.specs.Writes.{SerializerState, Wrote, RefusesBy, RefusesWrite, Writes, at_depth, after_closing}
-use Rattle.json5_write.specs.ShortWrites.{Puts, refusal_by, MakesError}
+use Rattle.json5_write.specs.Writes.{SerializerState, Wrote, RefusesBy, at_depth, after_closing}
+use Rattle.json5_write.specs.ShortWrites.{Puts, refusal_by}
 use Rattle.json5_write.specs.declared.refusal.Refused.{Refused}
 use Rattle.json5_write.specs.Commas.{comma_before, element_line, member_line}
-use Rattle.json5_write.proofs.OutputsJoined.{Writes-exit, Reaches, Reaches-first, Reaches-next, Reaches-exit, Reaches-last, Wrote-at, RefusesBy-at, Refuses-at, then_assoc}
-use Rattle.json5_write.proofs.ShortWritesJoined.{refused_as, Puts-stop, Reaches-stop, Reaches-end}
+use Rattle.json5_write.proofs.OutputsJoined.{Reaches, Reaches-first, Reaches-next, Wrote-at, RefusesBy-at, then_assoc}
+use Rattle.json5_write.proofs.ShortWritesJoined.{Puts-stop, Reaches-stop, Reaches-end}
 
 pub comma_before_then : (due : Bool) (a b : Out) → comma_before due (a then b) ≡ comma_before due a then b
 comma_before_then true a b = sym (then_assoc (piece (comma_sign ∷ [])) a b)
@@ -60,20 +59,8 @@ pub record Left (all : Out) (at s : SerializerState) (rest : Out) : Type 0 where
 pub left_first : (sign : ℕ) (rest : Out) (at s : SerializerState) → Wrote (opened_by at.limit at.depth sign) at (at_depth at.depth s) → s.depth ≡ at.depth + 1 → Left (opened_by at.limit at.depth sign then rest) at s rest
 left_first sign rest at s p deeper = record { reaches = Reaches-first (opened_by at.limit at.depth sign) rest at (at_depth at.depth s) p; depth = deeper; limit = p.limit }
 
--- nothing was written
-open_refused : {A : Type 0} (sign : ℕ) (rest : Out) (at n : SerializerState) (e : Error) (r : Result A Error) → RefusesWrite (opened_by at.limit at.depth sign) at e (at_depth at.depth n) → IsErrAnd r (λ y. y ≡ e) → Writes (opened_by at.limit at.depth sign then rest) at r n
-open_refused sign rest at n e r p is = Writes-exit (opened_by at.limit at.depth sign) rest at n e r is (Refuses-at at.depth n.depth (opened_by at.limit at.depth sign) at (at_depth at.depth n) e p)
-
-pub open_put_refused : {A : Type 0} (sign : ℕ) (rest : Out) (at n : SerializerState) (r : Refused) (x : Result A Error) → RefusesBy (opened_by at.limit at.depth sign) at (refusal_by r) (at_depth at.depth n) → IsErrAnd x (MakesError r)
-    → Writes (opened_by at.limit at.depth sign then rest) at x n
-open_put_refused sign rest at n r (Ok x) p is = absurd is
-open_put_refused {A} sign rest at n r (Err e) p is = open_refused {A = A} sign rest at n e (Err e) (refused_as (opened_by at.limit at.depth sign) at (at_depth at.depth n) r e is p) refl
-
 left_next : (all a rest : Out) (at s n : SerializerState) → Left all at s (a then rest) → Wrote a s n → Left all at n rest
 left_next all a rest at s n h p = record { reaches = Reaches-next all a rest at (at_depth at.depth s) (at_depth at.depth n) h.reaches (Wrote-at at.depth a s n p); depth = p.depth ∙ h.depth; limit = p.limit ∙ h.limit }
-
-left_exit : {A : Type 0} (all a rest : Out) (at s n : SerializerState) (e : Error) (r : Result A Error) → Left all at s (a then rest) → IsErrAnd r (λ y. y ≡ e) → RefusesWrite a s e n → Writes all at r n
-left_exit all a rest at s n e r h is p = Reaches-exit all a rest at (at_depth at.depth s) n e r h.reaches is (Refuses-at at.depth n.depth a s n e p)
 
 -- at the limit and the brackets with which the collection was begun
 moved : (P : ℕ → ℕ → Type 0) (at s : SerializerState) → s.depth ≡ at.depth + 1 → s.limit ≡ at.limit → P s.limit s.depth → P at.limit (at.depth + 1)
@@ -84,39 +71,10 @@ element_line_on {all} {at} {s} {n} t ts due h p =
     left_next all (comma_before due (element_line at.limit (at.depth + 1) t)) (elements_left at.limit ts at.depth true) at s n
     (subst (Left all at s) (next_element at.limit at.depth due t ts) h) (moved (λ l d. Wrote (comma_before due (element_line l d t)) s n) at s h.depth h.limit p)
 
-element_line_refused : {A : Type 0} {all : Out} {at s n : SerializerState} {e : Error} (t : Written) (ts : Elements) (r : Result A Error) (due : Bool) → Left all at s (elements_left at.limit (element t ts) at.depth due)
-    → RefusesWrite (comma_before due (element_line s.limit s.depth t)) s e n → IsErrAnd r (λ y. y ≡ e) → Writes all at r n
-element_line_refused {A} {all} {at} {s} {n} {e} t ts r due h p is =
-    left_exit all (comma_before due (element_line at.limit (at.depth + 1) t)) (elements_left at.limit ts at.depth true) at s n e r
-    (subst (Left all at s) (next_element at.limit at.depth due t ts) h) is (moved (λ l d. RefusesWrite (comma_before due (element_line l d t)) s e n) at s h.depth h.limit p)
-
 pub member_line_on : {all : Out} {at s n : SerializerState} (k : WrittenKey) (t : Written) (fs : Fields) (due : Bool) → Left all at s (fields_left at.limit (field k t fs) at.depth due) → Wrote (comma_before due (member_line s.limit s.depth k t)) s n → Left all at n (fields_left at.limit fs at.depth true)
 member_line_on {all} {at} {s} {n} k t fs due h p =
     left_next all (comma_before due (member_line at.limit (at.depth + 1) k t)) (fields_left at.limit fs at.depth true) at s n
     (subst (Left all at s) (next_field at.limit at.depth due k t fs) h) (moved (λ l d. Wrote (comma_before due (member_line l d k t)) s n) at s h.depth h.limit p)
-
-member_line_refused : {A : Type 0} {all : Out} {at s n : SerializerState} {e : Error} (k : WrittenKey) (t : Written) (fs : Fields) (r : Result A Error) (due : Bool) → Left all at s (fields_left at.limit (field k t fs) at.depth due)
-    → RefusesWrite (comma_before due (member_line s.limit s.depth k t)) s e n → IsErrAnd r (λ y. y ≡ e) → Writes all at r n
-member_line_refused {A} {all} {at} {s} {n} {e} k t fs r due h p is =
-    left_exit all (comma_before due (member_line at.limit (at.depth + 1) k t)) (fields_left at.limit fs at.depth true) at s n e r
-    (subst (Left all at s) (next_field at.limit at.depth due k t fs) h) is (moved (λ l d. RefusesWrite (comma_before due (member_line l d k t)) s e n) at s h.depth h.limit p)
-
--- a result that is returned since it is an error
-pub element_line_returned : {A : Type 0} {all : Out} {at s : SerializerState} (n : SerializerState) (t : Written) (ts : Elements) (r : Result A Error) (due : Bool) → Left all at s (elements_left at.limit (element t ts) at.depth due)
-    → Writes (comma_before due (element_line s.limit s.depth t)) s r n → is_err r ≡ true → Writes all at r n
-element_line_returned {A} {all} {at} {s} n t ts (Ok x) due h p is = let f : false ≡ true = is in cc
-element_line_returned {A} {all} {at} {s} n t ts (Err e) due h p is = element_line_refused {A = A} t ts (Err e) due h p refl
-
-pub member_line_returned : {A : Type 0} {all : Out} {at s : SerializerState} (n : SerializerState) (k : WrittenKey) (t : Written) (fs : Fields) (r : Result A Error) (due : Bool) → Left all at s (fields_left at.limit (field k t fs) at.depth due)
-    → Writes (comma_before due (member_line s.limit s.depth k t)) s r n → is_err r ≡ true → Writes all at r n
-member_line_returned {A} {all} {at} {s} n k t fs (Ok x) due h p is = let f : false ≡ true = is in cc
-member_line_returned {A} {all} {at} {s} n k t fs (Err e) due h p is = member_line_refused {A = A} k t fs (Err e) due h p refl
-
-pub left_ended : {A : Type 0} {all : Out} {at s : SerializerState} (sign : ℕ) (n : SerializerState) (r : Result A Error) (due : Bool) → Left all at s (comma_before due (closed_by at.depth due sign))
-    → Writes (comma_before due (closed_by (s.depth - 1) due sign)) (after_closing s) r n → Writes all at r n
-left_ended {A} {all} {at} {s} sign n r due h p =
-    let d : s.depth - 1 ≡ at.depth = let k = h.depth in omega (arith, k) in
-    Reaches-last all (comma_before due (closed_by at.depth due sign)) at (at_depth at.depth s) n r h.reaches (subst (λ k. Writes (comma_before due (closed_by k due sign)) (at_depth k s) r n) d p)
 
 -- ---- lists and entries
 
@@ -127,9 +85,6 @@ pub fields_as : {all : Out} {at s : SerializerState} (due : Bool) {fs gs : Field
 fields_as {all} {at} {s} due e h = subst (λ fs. Left all at s (fields_left at.limit fs at.depth due)) e h
 
 -- ---- a tree after a part was written
-
-pub tree_after : {A : Type 0} {a : Out} {o m : SerializerState} (s n : SerializerState) (r : Result A Error) (t : Written) → Wrote a o m → Writes (out m.limit t m.depth) s r n → Writes (out o.limit t o.depth) s r n
-tree_after {A} {a} {o} {m} s n r t w p = subst (λ l. Writes (out l t o.depth) s r n) w.limit (subst (λ d. Writes (out m.limit t d) s r n) w.depth p)
 
 -- ---- the same of calls that return a small value
 

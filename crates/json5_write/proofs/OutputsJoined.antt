@@ -82,9 +82,6 @@ RefusesBy-after a b o m n by_writer p q =
 RefusesBy-after a b o m n by_refusal p q = let x : true ≡ false = sym q.was ∙ p.failed in cc
 RefusesBy-after a b o m n by_none p q = q
 
-pub Refuses-after : (a b : Out) (o m n : SerializerState) (e : Error) → Wrote a o m → RefusesWrite b m e n → RefusesWrite (a then b) o e n
-Refuses-after a b o m n e p q = record { leaves = RefusesBy-after a b o m n (refusal_of (kind_of e)) p q.leaves; no_place = q.no_place }
-
 -- the same of an equal output
 pub Writes-as : {A : Type 0} (all w : Out) (o n : SerializerState) (r : Result A Error) → all ≡ w → Writes w o r n → Writes all o r n
 Writes-as all w o n r e h = subst (λ x. Writes x o r n) (sym e) h

@@ -37,10 +37,6 @@ pub Writes-returned : {A : Type 0} (a b : Out) (o n : SerializerState) (r : Resu
 Writes-returned a b o n (Ok x) h p = let e : false ≡ true = h in cc
 Writes-returned a b o n (Err e) h p = Refuses-before a b o n e p
 
-pub Reaches-returned : {A : Type 0} (all a rest : Out) (o m n : SerializerState) (r : Result A Error) → Reaches all o m (a then rest) → is_err r ≡ true → Writes a m r n → Writes all o r n
-Reaches-returned all a rest o m n (Ok x) h is p = let e : false ≡ true = is in cc
-Reaches-returned all a rest o m n (Err e) h is p = Reaches-refused all (a then rest) o m n e h (Refuses-before a rest m n e p)
-
 -- a result that is no error
 pub wrote_whole : {A : Type 0} (a : Out) (o n : SerializerState) (r : Result A Error) → is_err r ≡ false → Writes a o r n → Wrote a o n
 wrote_whole a o n (Ok x) is p = p

@@ -84,9 +84,6 @@ whole_by false o h = absurd (cc)
 pub number_whole : (n : Number) → (number_out n).stop ≡ ended_whole → IsNumber n
 number_whole n h = number_from n (whole_by (is_writable n) (piece (number_text n)) h)
 
-pub Writes-number : {A : Type 0} (n : Number) (o m : SerializerState) (r : Result A Error) → IsNumber n → Writes (piece (number_text n)) o r m → Writes (number_out n) o r m
-Writes-number n o m r h w = subst (λ x. Writes x o r m) (sym (number_piece n h)) w
-
 pub Puts-number : (n : Number) (o m : SerializerState) (r : Result ⊤ Refused) → IsNumber n → Puts (piece (number_text n)) o r m → Puts (number_out n) o r m
 Puts-number n o m r h w = subst (λ x. Puts x o r m) (sym (number_piece n h)) w
 

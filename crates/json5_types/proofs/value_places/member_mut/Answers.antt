@@ -1,6 +1,5 @@
-use Rattle.std.proofs.Common.{◌≡◌, Some, refl, sym, ap, ◌∙◌}
+use Rattle.std.proofs.Common.{refl, sym}
 use Rattle.std.specs.Str.{chars}
-use Rattle.json5_types.specs.ValueMeanings.{value_of}
 use Rattle.json5_types.proofs.MembersPlaced.{found_there, kept_there}
 use Rattle.json5_types.proofs.value_places.member_mut.Goals as goal
 

@@ -1,4 +1,4 @@
-use Rattle.std.proofs.Common.{◌-◌, ◌∙◌, ap, arith, string_bytes, sym, true, false, Bool, ◌≡◌}
+use Rattle.std.proofs.Common.{◌-◌, ◌∙◌, ap, arith, string_bytes, sym, true, false}
 use Rattle.json5_types.proofs.PointerKeys.{key_test, written_there, passed_written}
 use Rattle.json5_types.proofs.value_pointer.written_place.Goals as goal
 
