@@ -11,7 +11,7 @@ use Rattle.json5_grammar.specs.Language.Values.{Reads}
 use Rattle.json5_grammar.proofs.BlanksSound.{blank_refused}
 use Rattle.json5_grammar.proofs.Refusals.{Refuses, one_refusal}
 use Rattle.json5_grammar.proofs.OneFault.{blames_text, text_refuses, no_blame}
-use Rattle.json5_value.specs.FoundEntries.{FaultRelation, AfterBlanks, in_blanks, after_gap}
+use Rattle.json5_value.specs.EntryFaults.{FaultRelation, AfterBlanks, in_blanks, after_gap}
 use Rattle.json5_types.specs.declared.error.Error.{Error}
 use Rattle.json5_types.specs.declared.value.Value.{Value}
 use Rattle.json5_text.specs.Cursor.{Refused, IsOutOfMemory}

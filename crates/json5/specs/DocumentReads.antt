@@ -6,7 +6,7 @@ use Rattle.json5_grammar.specs.Language.Trees.{Tree}
 use Rattle.json5_types.specs.declared.error.Error.{Error}
 use Rattle.json5_types.specs.declared.value.Value.{Value}
 use Rattle.json5_types.specs.ValueMeanings.{Datum, value_of}
-use Rattle.json5_value.specs.FoundEntries.{FaultRelation}
+use Rattle.json5_value.specs.EntryFaults.{FaultRelation}
 use Rattle.json5_de.specs.State.{State}
 use Rattle.json5_de.specs.WholeInputs.{ReadsWholeText}
 pub use Rattle.json5_format.specs.DocumentReads.{FaultyDocument, unread_text, IsRefused, IsRefusedWithin, ReadsText}

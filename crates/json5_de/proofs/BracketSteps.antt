@@ -32,7 +32,7 @@ use Rattle.json5_de.specs.Arrays.{TookElement, NotOpened, no_bracket, text_ends,
 use Rattle.json5_value.specs.ModelSteps.{Unexpected, at_end, at_char}
 use Rattle.json5_de.specs.AccessCalls.{AtEntry, NothingNext}
 use Rattle.json5_text.specs.ShortWays.{AfterGap, StepsTo}
-use Rattle.json5_value.specs.FoundEntries.{NoNext, no_comma, comma_missing, in_blanks_after, AfterBlanks, in_blanks, after_gap}
+use Rattle.json5_value.specs.EntryFaults.{NoNext, no_comma, comma_missing, in_blanks_after, AfterBlanks, in_blanks, after_gap}
 use Rattle.json5_de.specs.Faults.{RefusedBy}
 use Rattle.json5_de.proofs.ReadSteps.{refused_token}
 use Rattle.json5_de.proofs.RefusalPositions.{refused_as, refused_after}

@@ -16,7 +16,7 @@ use Rattle.json5_value.specs.declared.brackets.BracketPair.{BracketPair}
 use Rattle.json5_de.specs.BracketSigns.{AreSigns}
 use Rattle.json5_de.specs.Arrays.{Closed, NotOpened, no_bracket, text_ends, too_deep, other_sign, bracket_missing, NotClosed, not_here, after_comma, AtFull, is_opening, is_comma_or_closing, begins_close}
 use Rattle.json5_de.specs.AccessCalls.{AdvancesToEntry}
-use Rattle.json5_value.specs.FoundEntries.{NoNext, no_comma, comma_missing, in_blanks_after}
+use Rattle.json5_value.specs.EntryFaults.{NoNext, no_comma, comma_missing, in_blanks_after}
 use Rattle.json5_de.specs.Faults.{AtEnd, AtOther, IsAfter, RefusedBy}
 use Rattle.json5_de.proofs.ExpectedKinds.{Expected, other_fault}
 use Rattle.std.proofs.lemmas.Bool.{or_parts}

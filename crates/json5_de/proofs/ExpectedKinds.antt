@@ -17,7 +17,7 @@ use Rattle.json5_text.specs.TokenFaults.{FaultyBlanks}
 use Rattle.json5_de.specs.State.{State, cursor_of}
 use Rattle.json5_de.specs.DeserializeLaw.{Gives, Completes}
 use Rattle.json5_de.specs.Faults.{RefusedBy, RefusedByOr, RefusedByOrMemory, IsPositionless, IsAfter, AtEnd, AtOther, EndsWith, EndsWithOr, DiffersWith, DiffersWithOr}
-use Rattle.json5_value.specs.FoundEntries.{AfterBlanks, in_blanks, after_gap}
+use Rattle.json5_value.specs.EntryFaults.{AfterBlanks, in_blanks, after_gap}
 use Rattle.json5_grammar.proofs.CommonLemmas.{first_same, true_false}
 
 -- a kind of value: what is refused where one is expected, its trees, what begins one, and the codes at the end and at another character

@@ -29,7 +29,7 @@ use Rattle.json5_de.specs.DeserializeLaw.{StaysFailed, IsUnprompted}
 use Rattle.json5_de.specs.Convert.{index_of}
 use Rattle.json5_de.specs.ConvertLists.{if_some}
 use Rattle.json5_de.specs.Faults.{RefusedBy, RefusedByOrMemory}
-use Rattle.json5_value.specs.FoundEntries.{AfterBlanks, in_blanks, after_gap}
+use Rattle.json5_value.specs.EntryFaults.{AfterBlanks, in_blanks, after_gap}
 use Rattle.json5_de.specs.Keys.{TookKey, KeyConversion, GivesKey, CompletesAnyKey, CompletesEscapeFreeKey, OneKeyAnswer, ReadsKeyOf, ReadsOneKey}
 use Rattle.json5_de.specs.KeyKinds.{KeyFault, KeyKind, NotKey, no_key, other_key, ReadsKeyAs, not_converted, coded_text_key, text_key, document_key, document_of, NotDocument, some_of, variant_key}
 use Rattle.json5_de.specs.FoundTexts.{TookKeyAt, JudgesText, OfFound}

@@ -35,7 +35,7 @@ use Rattle.json5_de.specs.FieldKeys.{field_key_text}
 use Rattle.json5_de.specs.ShortWays.{filled_if_given}
 use Rattle.json5_value.specs.Brackets.{curly}
 use Rattle.json5_de.specs.Faults.{RefusedBy, AtEnd, AtOther, IsPositionless, IsAfter}
-use Rattle.json5_value.specs.FoundEntries.{AfterBlanks, in_blanks, after_gap, NoNext, no_comma, comma_missing, in_blanks_after, NoColon, no_colon, colon_missing}
+use Rattle.json5_value.specs.EntryFaults.{AfterBlanks, in_blanks, after_gap, NoNext, no_comma, comma_missing, in_blanks_after, NoColon, no_colon, colon_missing}
 use Rattle.json5_de.specs.Arrays.{AtClose, PositionedAtBracket}
 use Rattle.json5_value.specs.ModelSteps.{Unexpected, at_end, at_char}
 use Rattle.json5_value.specs.Offsets.{StartsAfter}

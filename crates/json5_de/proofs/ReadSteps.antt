@@ -17,7 +17,7 @@ use Rattle.json5_value.proofs.FoundEntries.{refused_blanks as refused_in_blanks,
 use Rattle.json5_de.specs.State.{State, cursor_of}
 use Rattle.json5_de.specs.DeserializeLaw.{TookValue}
 use Rattle.json5_de.specs.Faults.{RefusedBy, RefusedByOrMemory, FaultyBool, begins_with}
-use Rattle.json5_value.specs.FoundEntries.{FaultRelation}
+use Rattle.json5_value.specs.EntryFaults.{FaultRelation}
 use Rattle.json5_de.specs.ReaderSteps.{PassedGap, TookText}
 
 -- a gap before a value is of blanks

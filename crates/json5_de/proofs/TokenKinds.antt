@@ -20,7 +20,7 @@ use Rattle.json5_grammar.specs.Language.Numbers.{Number, whole, decimal, Num, le
 use Rattle.json5_grammar.specs.Language.Trees.{Tree, null, boolean, number, text, array, object}
 use Rattle.json5_de.specs.Convert.{as_whole, as_number, every_decimal, as_text, if_escape_free, digits_bytes}
 use Rattle.json5_de.specs.Faults.{RefusedBy, RefusedByOrMemory, NotNumber, faulty_number, other_number, faulty_text, begins_with}
-use Rattle.json5_value.specs.FoundEntries.{FaultRelation, AfterBlanks, in_blanks, after_gap}
+use Rattle.json5_value.specs.EntryFaults.{FaultRelation, AfterBlanks, in_blanks, after_gap}
 use Rattle.json5_de.specs.TokenKinds.{Kind, RefusedWith, ReadsAs, ReadsNull, EndsWhere, DiffersWhere, TellsApart, every_tree, no_tree, escape_free_text, null_kind, bool_kind, whole_kind, decimal_kind, coded_text_kind, text_kind, escape_free_kind, bytes_kind}
 use Rattle.json5_de.proofs.ExpectedKinds.{Expected, wrongly_refused, completes_or_memory, ends_from, ends_or_memory, differs_from, differs_or_memory}
 use Rattle.json5_de.proofs.ExpectsWords.{expects_null, expects_bool}

@@ -38,7 +38,7 @@ use Rattle.json5_de.specs.Keys.{TookKey, GivesKey}
 use Rattle.json5_de.specs.KeyKinds.{ReadsKeyAs, variant_key}
 use Rattle.json5_de.specs.Objects.{MapAccessState, MembersRead, AfterColon, bare_map}
 use Rattle.json5_de.specs.ObjectFaults.{begins_key, BeginsKey}
-use Rattle.json5_value.specs.FoundEntries.{NoColon}
+use Rattle.json5_value.specs.EntryFaults.{NoColon}
 use Rattle.json5_de.specs.Enums.{named_variant, EnumAccessState, AtContent, AfterName, NameRead, ContentTail, content_depth, ContentLeft, begins_variant, NoVariant, no_variant, variant_missing, NotKeyed, not_keyed, key_missing, is_left_brace, FirstCharIs, IsNext, no_only_key, other_key, not_followed, RefusesKeyed, RefusesName, nothing_named, other_text, not_opened, in_object, NamesVariant, ReadsOnlyKey, ReadsKeyed}
 use Rattle.json5_value.proofs.FoundEntries.{sign_next}
 use Rattle.json5_de.proofs.BracketSteps.{only_read, level_of, failed_of, after_gap_of}

@@ -11,7 +11,7 @@ use Rattle.json5_grammar.proofs.OneTree.{document_phrase, phrase_document, one_p
 use Rattle.json5_de.specs.State.{State, at_start}
 use Rattle.json5_de.specs.DeserializeLaw.{TookValue, Gives, Completes}
 use Rattle.json5_de.specs.Faults.{AtEnd, RefusedBy, Trailing}
-use Rattle.json5_value.specs.FoundEntries.{AfterBlanks}
+use Rattle.json5_value.specs.EntryFaults.{AfterBlanks}
 use Rattle.json5_de.proofs.ReadSteps.{input_of}
 use Rattle.std.proofs.lemmas.Option.{same_Some}
 use Rattle.json5_de.proofs.BracketSteps.{failed_of}

@@ -12,7 +12,7 @@ use Rattle.json5_types.specs.Errors.{code, kind_of}
 use Rattle.json5_de.specs.State.{State, OnlyRead, SameText, cursor_of, FailsIfErr}
 use Rattle.json5_value.specs.declared.brackets.BracketPair.{BracketPair}
 use Rattle.json5_value.specs.Brackets.{square}
-use Rattle.json5_value.specs.FoundEntries.{NoNext}
+use Rattle.json5_value.specs.EntryFaults.{NoNext}
 use Rattle.json5_de.specs.DeserializeLaw.{Unprompted, Steady}
 use Rattle.json5_de.specs.Faults.{RefusedBy, AtEnd, DiffersWith}
 use Rattle.json5_de.specs.Arrays.{AccessState, bare, GivesElement, CompletesElement, CompletesClose, AtClose, HasPosition, PositionedAtBracket, IsAtBracket, is_comma_or_closing, AnswersFailedAtBracket}

@@ -12,7 +12,7 @@ use Rattle.json5_text.specs.Cursor.{Refused, IsOutOfMemory}
 use Rattle.json5_de.specs.State.{State, cursor_of}
 use Rattle.json5_de.specs.DeserializeLaw.{ReadsValue}
 use Rattle.json5_de.specs.Faults.{RefusedByOr, EndsWithOr, DiffersWithOr}
-use Rattle.json5_value.specs.FoundEntries.{FaultRelation}
+use Rattle.json5_value.specs.EntryFaults.{FaultRelation}
 
 -- the fault of the value in front, with so many brackets open before it: if the input ends, the position is that of the innermost
 -- bracket that the value opens

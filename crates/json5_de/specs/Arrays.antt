@@ -19,7 +19,7 @@ use Rattle.json5_de.specs.DeserializeLaw.{IsOkOrMemory, TookValue, Unprompted, A
 use Rattle.json5_value.specs.Offsets.{PositionedAt, StartsAfter}
 use Rattle.json5_de.specs.ConvertLists.{if_some}
 use Rattle.json5_de.specs.Faults.{IsAfter, RefusedBy, EndsWith, DiffersWith}
-use Rattle.json5_value.specs.FoundEntries.{AfterBlanks}
+use Rattle.json5_value.specs.EntryFaults.{AfterBlanks}
 use Rattle.json5_value.specs.declared.brackets.BracketPair.{BracketPair}
 use Rattle.json5_value.specs.Brackets.{square}
 

@@ -26,7 +26,7 @@ use Rattle.json5_de.specs.Keys.{TookKey}
 use Rattle.json5_de.specs.KeyKinds.{NotKey, not_converted}
 use Rattle.json5_de.specs.Objects.{MapAccessState, MembersRead, MembersLeft, AfterColon, ClosesMap, bare_map}
 use Rattle.json5_de.specs.ObjectFaults.{begins_key}
-use Rattle.json5_value.specs.FoundEntries.{NoColon}
+use Rattle.json5_value.specs.EntryFaults.{NoColon}
 
 -- ---- what a tree means
 

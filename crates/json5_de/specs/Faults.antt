@@ -11,7 +11,7 @@ use Rattle.json5_types.specs.declared.error.Error.{Error}
 use Rattle.json5_types.specs.Errors.{LacksMemory, code, kind_of, error_position}
 use Rattle.json5_text.specs.Cursor.{IsPositioned, Refused}
 use Rattle.json5_text.specs.TokenFaults.{FaultyWord, FaultyNumber, FaultyString}
-use Rattle.json5_value.specs.FoundEntries.{FaultRelation, AfterBlanks}
+use Rattle.json5_value.specs.EntryFaults.{FaultRelation, AfterBlanks}
 use Rattle.json5_de.specs.State.{State, cursor_of}
 
 -- a number in front is faulty, or it is complete and isn't the type's: a custom message, at the number's start

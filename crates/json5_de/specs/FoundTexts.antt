@@ -15,7 +15,7 @@ use Rattle.json5_de.specs.declared.de.tokens.FoundText.{FoundText}
 use Rattle.json5_de.specs.State.{State, GivesUp}
 use Rattle.json5_de.specs.Convert.{as_text, every_text}
 use Rattle.json5_de.specs.Faults.{RefusedByOrMemory}
-use Rattle.json5_value.specs.FoundEntries.{FaultRelation}
+use Rattle.json5_value.specs.EntryFaults.{FaultRelation}
 use Rattle.json5_de.specs.DeserializeLaw.{CompletesFree, StaysFailed}
 use Rattle.json5_de.specs.TokenKinds.{escape_free_text}
 use Rattle.json5_de.specs.ReaderSteps.{PassedGap, TookText, IsMismatchOf}

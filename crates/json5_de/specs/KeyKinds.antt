@@ -14,7 +14,7 @@ use Rattle.json5_de.specs.State.{State}
 use Rattle.json5_de.specs.Convert.{every_text, if_escape_free, every_cow, one_character, index_of, digits_bytes}
 use Rattle.json5_de.specs.ConvertLists.{if_some}
 use Rattle.json5_de.specs.Faults.{RefusedByOrMemory, Trailing}
-use Rattle.json5_value.specs.FoundEntries.{AfterBlanks}
+use Rattle.json5_value.specs.EntryFaults.{AfterBlanks}
 use Rattle.json5_de.specs.Keys.{KeyConversion, every_key, ReadsOneKey}
 use Rattle.json5_de.specs.TokenKinds.{Kind}
 

@@ -14,7 +14,7 @@ use Rattle.json5_de.specs.DeserializeLaw.{Steady}
 use Rattle.json5_value.specs.Offsets.{PositionedAt}
 use Rattle.json5_value.specs.Brackets.{curly}
 use Rattle.json5_de.specs.Faults.{RefusedBy}
-use Rattle.json5_value.specs.FoundEntries.{AfterBlanks, NoNext, NoColon}
+use Rattle.json5_value.specs.EntryFaults.{AfterBlanks, NoNext, NoColon}
 use Rattle.json5_de.specs.Arrays.{CompletesClose, bare, is_comma_or_closing}
 use Rattle.json5_de.specs.AccessCalls.{AtEntry, PositionedFault, RefusesCall}
 use Rattle.json5_de.specs.Keys.{KeyConversion}

@@ -9,7 +9,7 @@ use Rattle.json5_text.specs.Cursor.{Refused}
 use Rattle.json5_de.specs.State.{State, cursor_of}
 use Rattle.json5_de.specs.ReaderSteps.{PassedGap}
 use Rattle.json5_de.specs.Faults.{FaultyNull}
-use Rattle.json5_value.specs.FoundEntries.{AfterBlanks}
+use Rattle.json5_value.specs.EntryFaults.{AfterBlanks}
 use Rattle.json5_value.specs.Offsets.{PositionedAt}
 
 -- null is read without memory, and what T reads so

@@ -20,7 +20,7 @@ use Rattle.json5_grammar.specs.Language.Blanks.{Gap, Solid}
 use Rattle.json5_grammar.specs.Language.Documents.{max_depth}
 use Rattle.json5_grammar.specs.Language.Values.{Stops}
 use Rattle.json5_de.specs.State.{State, OnlyRead, cursor_of}
-use Rattle.json5_value.specs.FoundEntries.{FaultRelation}
+use Rattle.json5_value.specs.EntryFaults.{FaultRelation}
 
 -- a reader that hasn't failed passed over a gap
 pub record PassedGap (old new : State) : Type 0 where

@@ -77,7 +77,3 @@ pub data StructFault {S D : Type 0} (plan : Plan S D) (faults : ValueFaults) (ol
   not_opened : RefusedBy (NotOpened curly old.level) old e → StructFault plan faults old e
   in_pairs : (first : MapAccessState) → OpenedObject old first → MembersFault plan.step faults plan.start first e → StructFault plan faults old e
   missing : (first now : MapAccessState) (s : S) (r : List ℕ) → OpenedObject old first → ReadSince plan.step plan.start s None first now → now.at.reader.unread ≡ right_brace ∷ r → plan.build s ≡ None → IsOwnAtBracket now.at e → StructFault plan faults old e
-
--- how a struct is refused
-abbrev pub RefusesStruct : {S D : Type 0} → Plan S D → ValueFaults → State → Error → State → Type 0
-RefusesStruct plan faults old e new = old.failed ≡ false → StructFault plan faults old e

@@ -14,7 +14,7 @@ use Rattle.json5_types.specs.Errors.{LacksMemory}
 use Rattle.json5_types.specs.NumberMeanings.{keeps_digits}
 use Rattle.json5_text.specs.TokenFaults.{FaultyBlanks, FaultyWord, FaultyNumber, FaultyString, FaultyKey}
 use Rattle.json5_de.specs.State.{State, GivesUp, cursor_of}
-use Rattle.json5_value.specs.FoundEntries.{FaultRelation}
+use Rattle.json5_value.specs.EntryFaults.{FaultRelation}
 use Rattle.json5_de.specs.DeserializeLaw.{StaysFailed, Unprompted}
 use Rattle.json5_de.specs.ReaderSteps.{PassedGap, TookText, TookNumber, TookOwned, TookCharacters, TookCow, RefusesToken}
 use Rattle.json5_de.specs.FoundTexts.{TookToken, IsString}

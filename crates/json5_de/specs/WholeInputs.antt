@@ -8,7 +8,7 @@ use Rattle.json5_text.specs.Cursor.{Refused, IsOutOfMemory}
 use Rattle.json5_de.specs.State.{State, GivesUp, at_start}
 use Rattle.json5_de.specs.DeserializeLaw.{TookValue, StaysFailed, IsUnprompted}
 use Rattle.json5_de.specs.Faults.{RefusedBy, AtEnd, Trailing}
-use Rattle.json5_value.specs.FoundEntries.{AfterBlanks}
+use Rattle.json5_value.specs.EntryFaults.{AfterBlanks}
 
 -- a document within the limit whose tree converts is read as what it converts to, unless memory runs out
 abbrev pub ReadsDocument : {V C : Type 0} → (V → C) → (Tree → Option C) → ℕ → List ℕ → Result V Error → Type 0

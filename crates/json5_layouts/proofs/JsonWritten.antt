@@ -11,7 +11,7 @@ use Rattle.json5_layouts.specs.declared.layout.Layout.TheVariants as layout
 use Rattle.json5_layouts.specs.declared.layout.Spelling.TheVariants as spelling
 use Rattle.json5_layouts.specs.Styles.{Style, laid, items_laid, fields_laid}
 use Rattle.json5_layouts.specs.Json as json
-use Rattle.json5_layouts.specs.Json.{JsonBlanks, JsonChars, unescaped, letter, code, is_unescaped, JsonString, quoted, JsonValue, is_null, is_true, is_false, is_number, is_string, is_empty_array, is_array, is_empty_object, is_object, JsonElements, last, next, JsonMembers, last_member, next_member, JsonMember, entry, JsonText}
+use Rattle.json5_layouts.specs.Json.{JsonBlanks, JsonChars, unescaped, letter, code, is_unescaped, JsonString, quoted, JsonValue, is_null, is_true, is_false, is_number, is_string, is_empty_array, is_array, is_empty_object, is_object, JsonElements, last, next, JsonMembers, last_member, next_member, entry, JsonText}
 use Rattle.json5_layouts.specs.JsonTexts.{json_escaped, json_escaped_all, json_string, is_json, items_are_json, fields_are_json}
 use Rattle.json5_layouts.specs.Layouts.{line_in, gap_in, style_of, json_text}
 use Rattle.json5_layouts.specs.LaidBack.{HasNumbers, ItemsHaveNumbers, FieldsHaveNumbers}

@@ -15,7 +15,7 @@ use Rattle.json5_write.specs.declared.refusal.Refused.{Refused}
 use Rattle.json5_write.specs.declared.refusal.Refused.TheVariants as refused
 use Rattle.json5_write.proofs.OutputsJoined.{Reaches, Reaches-first}
 use Rattle.json5_write.proofs.ShortWritesJoined.{Puts-stop, Reaches-end}
-use Rattle.json5_write.proofs.PiecesWritten.{chars_comma, chars_colon_space, chars_left_bracket, chars_right_bracket, chars_left_brace, chars_right_brace, chars_double_quote}
+use Rattle.json5_write.proofs.PiecesWritten.{chars_comma, chars_colon_space}
 use Rattle.std.specs.Char.{digit_char}
 use Rattle.std.proofs.lemmas.Str.{chars-nil, chars-IsAscii}
 use Rattle.std.proofs.lemmas.Str.Ascii.{IsAscii-nil, IsAscii-cons}

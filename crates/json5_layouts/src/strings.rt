@@ -3,7 +3,7 @@
 ghost use Rattle.std.specs.Prelude.{◌≡◌, ◌<◌, false, [], ◌∷◌, ◌++◌, IsTrue, MatchOption};
 ghost use Rattle.std.specs.Char.{digit_char};
 ghost use Rattle.std.specs.Str.{chars};
-ghost use Rattle.json5_grammar.specs.Language.Characters.{colon_sign, double_quote};
+ghost use Rattle.json5_grammar.specs.Language.Characters.{colon_sign};
 ghost use Rattle.json5_write.specs.Brackets.{sign_of};
 ghost use Rattle.json5_write.specs.Out.{piece};
 ghost use Rattle.json5_write.specs.Pieces.{between_quotes};

@@ -1,4 +1,4 @@
--- What is around an element or a member is passed over: the colon of a member, commas, and the blanks before an entry.
+-- Reading on lists after an entry, by the character that is next.
 use Rattle.std.proofs.Common.{◌≡◌, ℕ, Bool, true, false, cond, List, [], ◌∷◌, refl}
 use Rattle.std.specs.Prelude.{◌==◌}
 use Rattle.json5_grammar.specs.Language.Characters.{NotBegun}

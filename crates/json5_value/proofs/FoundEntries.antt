@@ -25,7 +25,7 @@ use Rattle.json5_value.specs.declared.brackets.BracketKind.{BracketKind}
 use Rattle.json5_value.specs.declared.brackets.BracketKind.TheVariants as kind
 use Rattle.json5_value.specs.Brackets.{bracket_of, brackets_of}
 use Rattle.json5_value.specs.Entries.{entry_front, entry_start, next_entry}
-use Rattle.json5_value.specs.FoundEntries.{FaultRelation, AfterBlanks, in_blanks, after_gap, NoNext, no_comma, comma_missing, in_blanks_after, NoColon, no_colon, colon_missing}
+use Rattle.json5_value.specs.EntryFaults.{FaultRelation, AfterBlanks, in_blanks, after_gap, NoNext, no_comma, comma_missing, in_blanks_after, NoColon, no_colon, colon_missing}
 use Rattle.json5_value.specs.ModelSteps.{IsInside, Steps, SameText, Unexpected, at_end, at_char}
 use Rattle.json5_value.proofs.EntrySteps.{separator_is, start_or_end}
 use Rattle.json5_value.proofs.ModelSteps.{some_next, blames_refused, refused_step}

@@ -1,4 +1,4 @@
--- Characters that aren't expected; and the signs of brackets, commas and colons.
+-- Characters that aren't expected, and the signs and codes of brackets.
 use Rattle.std.proofs.Common.{◌≡◌, ℕ, List, [], ◌++◌, ap, sym, ◌∙◌, subst, Option, Some, None}
 use Rattle.std.specs.Prelude.{slice_get}
 use Rattle.std.proofs.lemmas.List.{append-nil}

@@ -4,6 +4,7 @@ pub mod Kinds
 pub mod Offsets
 pub mod ModelSteps
 pub mod Entries
+pub mod EntryFaults
 pub mod FoundEntries
 pub mod Opening
 pub mod Nesting

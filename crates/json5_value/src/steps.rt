@@ -1,5 +1,5 @@
-//! Steps to the next entry and over a colon, whatever is in front (JSON5 sections 3 and 4). The short ways of a `Scanner` take the
-//! same steps where no fault can come.
+//! Steps to the next entry and over a colon, whatever is in front (JSON5 sections 3 and 4). `short_step` and `short_sign`
+//! of a `Scanner` take the same steps where they can, and no error is made there.
 
 ghost use Rattle.std.specs.Prelude.{◌≡◌, ◌==◌, true, false, Some, slice_get};
 ghost use Rattle.json5_grammar.specs.Language.Characters.{NotBegun};
@@ -21,8 +21,8 @@ fn at_closing<I: Input>(scanner: &Scanner<I>, kind: BracketKind) -> bool
     scanner.peek() == Some(kind.brackets().closing)
 }
 
-/// Goes to where the next element or member may begin, after a comma if one is due, and returns true; or to the closing bracket,
-/// which stays unread, and returns false.
+/// Goes to where the next element or member may begin, after a comma if one is due, and returns true; or to the closing
+/// bracket, which stays unread, and returns false. What a refused call has passed over stays passed over.
 ///
 /// # Errors
 ///
@@ -51,7 +51,7 @@ pub fn advance_to_entry<I: Input>(
     Ok(!at_closing(scanner, kind))
 }
 
-/// Takes the colon after a key, and the blanks before it.
+/// Takes the colon after a key, and the blanks before it. What a refused call has passed over stays passed over.
 ///
 /// # Errors
 ///

@@ -42,8 +42,8 @@ pub(crate) enum Next {
     Opens(BracketKind),
 }
 
-/// Takes the value in front, which is no collection and begins with the character, whether or not it has a short way. What is out
-/// of line is `read_scalar`.
+/// Takes the value in front, which is no collection and begins with the character, whether or not it has a short way. What
+/// is out of line is `read_scalar`.
 #[inline(always)]
 fn begin_slowly<I: Input>(scanner: &mut Scanner<I>, c: char, fault: &mut Error) -> Option<Next>
     requires { AtScalar c scanner.old }
@@ -103,8 +103,8 @@ fn take_elements<I: Input>(
     }
 }
 
-/// Takes the members of an object that follow these, after a comma if one is due, up to one whose value is a collection, and returns
-/// its key and kind; or all up to the closing brace and that too, and returns no key.
+/// Takes the members of an object that follow these, after a comma if one is due, up to one whose value is a collection,
+/// and returns its key and kind; or all up to the closing brace and that too, and returns no key.
 #[inline(never)]
 fn take_members<I: Input>(
     scanner: &mut Scanner<I>,

@@ -2,9 +2,7 @@
 //! The short ways, `short_step` and its like, return small values, so that the caller's frame holds no fault. Where they find
 //! anything else than what they take, nothing has changed, and the other calls say what is there.
 
-ghost use Rattle.std.specs.Prelude.{◌≡◌, ◌==◌, false, true, ℕ, List, Some, slice_get, IfErr, OnOk, IsOk};
-ghost use Rattle.json5_grammar.specs.declared.error_code.ErrorCode.TheVariants as codes;
-ghost use Rattle.json5_grammar.specs.Language.Characters.{NotBegun};
+ghost use Rattle.std.specs.Prelude.{◌≡◌, false, ℕ, List, IfErr, OnOk, IsOk};
 ghost use Rattle.json5_grammar.specs.Model.Collections.{IsEnd};
 ghost use Rattle.json5_de.specs.State.{SameText};
 ghost use Rattle.json5_de.specs.Faults.{RefusedBy};
@@ -37,7 +35,7 @@ impl<I: Input> Deserializer<I> {
         }
     }
 
-    /// The same of anything in front.
+    /// The same as `open`, whatever is in front.
     #[inline(never)]
     fn open_slowly(&mut self, kind: BracketKind) -> Result<usize>
         ensures { TakesOpening (brackets_of kind) self.old self.new result }
@@ -67,7 +65,7 @@ impl<I: Input> Deserializer<I> {
         }
     }
 
-    /// The same; the error of a refusal is left in `fault`.
+    /// The same as `advance_to_entry`; the error of a refusal is left in `fault`.
     #[inline(always)]
     pub(crate) fn take_step(
         &mut self,
@@ -84,7 +82,7 @@ impl<I: Input> Deserializer<I> {
         }
     }
 
-    /// The same for anything in front, in the long way.
+    /// The same as `take_step`, whatever is in front.
     #[inline(never)]
     fn take_step_slowly(
         &mut self,
@@ -103,7 +101,7 @@ impl<I: Input> Deserializer<I> {
         }
     }
 
-    /// The same for anything in front, in the long way.
+    /// The same as `advance_to_entry`, whatever is in front.
     #[inline(never)]
     fn advance_slowly(&mut self, kind: BracketKind, comma_due: bool) -> Result<bool>
         ensures { Advances (brackets_of kind) comma_due self.old self.new result }
@@ -157,7 +155,7 @@ impl<I: Input> Deserializer<I> {
         self.close_slowly(kind, comma_due)
     }
 
-    /// The same of anything in front.
+    /// The same as `close_or_fail`, whatever is in front.
     #[inline(never)]
     fn close_slowly(&mut self, kind: BracketKind, comma_due: bool) -> Result<()>
         ensures { ClosesLast (brackets_of kind) comma_due self.old self.new result }
@@ -179,7 +177,7 @@ impl<I: Input> Deserializer<I> {
         self.pass_colon_slowly()
     }
 
-    /// The same after any blanks.
+    /// The same as `pass_colon`, whatever is in front.
     #[inline(never)]
     fn pass_colon_slowly(&mut self) -> Result<()>
         ensures { PassesColon self.old self.new result }
@@ -202,7 +200,7 @@ impl<I: Input> Deserializer<I> {
         self.take_colon_slowly(fault)
     }
 
-    /// The same after any blanks.
+    /// The same as `take_colon`, whatever is in front.
     #[inline(never)]
     fn take_colon_slowly(&mut self, fault: &mut Error) -> Option<()>
         ensures { PassesColon self.old self.new (answered result fault.new) }

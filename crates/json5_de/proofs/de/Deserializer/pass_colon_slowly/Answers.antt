@@ -1,7 +1,7 @@
 use Rattle.std.proofs.Common.{ap, ◌∙◌, subst}
 use Rattle.json5_grammar.proofs.CommonLemmas.{true_false}
 use Rattle.json5_text.specs.Cursor.{Refused}
-use Rattle.json5_value.specs.FoundEntries.{AfterBlanks, NoColon}
+use Rattle.json5_value.specs.EntryFaults.{AfterBlanks, NoColon}
 use Rattle.json5_value.proofs.FoundEntries.{colon_lacks}
 use Rattle.json5_de.specs.State.{State, cursor_of}
 use Rattle.json5_de.proofs.ReadSteps.{input_of}
