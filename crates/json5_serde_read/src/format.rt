@@ -288,10 +288,10 @@ impl<'t> Format for Json5<'t> {
             return Ok(0);
         }
         if let Some(name) = self.short_text() {
-            return Ok(self.found_name(names, name));
+            return Ok(self.found_variant(names, name));
         }
         let name = self.cow()?;
-        Ok(self.found_name(names, name.as_str()))
+        Ok(self.found_variant(names, name.as_str()))
     }
 
     fn skip(&mut self, _input: &[u8]) -> Step<()> {
@@ -365,7 +365,7 @@ impl<'t> Format for Json5<'t> {
     fn unknown_variant(&self) -> Fault {
         self.said(
             Saying::UnknownVariant,
-            self.past_blanks(self.unknown),
+            self.past_blanks(self.unknown_variant_at()),
             self.expected(),
         )
     }

@@ -40,8 +40,9 @@ pub fn from_str<'de, T: Deserialize<'de>>(alloc: Global, text: &'de str) -> Resu
 ///
 /// - The code of the first fault of the text, as json5 has it, at its place.
 /// - `TooDeep` at the bracket past the limit.
-/// - A custom fault where the value isn't one of `T`: at the value, the key, or the bracket whose field is missing. Where a
-///   name is unknown or missing, the text is read once more, to tell which names were expected.
+/// - A custom fault where the value isn't one of `T`: at the value, the key, or the bracket whose field is missing; where a
+///   type refuses what was made of several values (`try_from`), at the last of them. Where a name is unknown or missing,
+///   the text is read once more, to tell which names were expected.
 /// - `OutOfMemory` where a request for memory was refused.
 pub fn from_str_within<'de, T: Deserialize<'de>>(
     alloc: Global,

@@ -41,6 +41,8 @@ pub(crate) struct Json5<'t> {
     pub(crate) wanted: Wanted,
     /// Where the last name stands that was none of those asked for, or the blanks before it.
     pub(crate) unknown: usize,
+    /// Where the last value stands that named no variant. It may be the tag of an object, whose other keys are read after it.
+    no_variant: usize,
     /// Where an unknown name stands, or a bracket without a field, of which the fault is to tell more. Only a text that
     /// was refused is read for that; else it is `usize::MAX`.
     asked: usize,
@@ -69,6 +71,7 @@ impl<'t> Json5<'t> {
             closed: 0,
             wanted: Wanted::Another,
             unknown: 0,
+            no_variant: 0,
             asked: usize::MAX,
             field: None,
             expected: None,
@@ -83,7 +86,8 @@ impl<'t> Json5<'t> {
         fault: &Fault,
     ) -> Option<Json5<'t>> {
         let (asked, field) = match fault.said()? {
-            (Saying::UnknownVariant | Saying::UnknownKey, _, _) => (first.unknown, None),
+            (Saying::UnknownVariant, _, _) => (first.unknown_variant_at(), None),
+            (Saying::UnknownKey, _, _) => (first.unknown, None),
             (Saying::Missing, at, name) => (at, first.kept(name)),
             _ => return None,
         };
@@ -527,6 +531,25 @@ impl<'t> Json5<'t> {
     #[inline(never)]
     pub(crate) fn found_name(&mut self, names: &[Name<'_>], key: &str) -> usize {
         self.found(names, key)
+    }
+
+    /// The same of a value that names a variant.
+    pub(crate) fn found_variant(&mut self, names: &[Name<'_>], name: &str) -> usize {
+        let found = self.found_name(names, name);
+        if found == usize::MAX {
+            self.no_variant = self.last;
+        }
+        found
+    }
+
+    /// Where the name stands that is no variant: the name that was read last, or else a tag before it.
+    #[cold]
+    pub(crate) fn unknown_variant_at(&self) -> usize {
+        if self.unknown == self.last {
+            self.unknown
+        } else {
+            self.no_variant
+        }
     }
 
     /// Where an object ended whose keys were looked up: notes the key of the missing field, if it was asked for.
