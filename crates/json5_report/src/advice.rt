@@ -23,6 +23,8 @@ pub(crate) enum Advice<'t> {
     DidYouMean(&'t str),
     EndComment,
     EscapeBackslash,
+    EscapeFourDigits,
+    EscapeTwoDigits,
     /// The byte.
     Latin1(u8),
     /// The bracket.
@@ -91,6 +93,12 @@ impl Advice<'_> {
             Advice::DropUnderscore => "a number has no `_` in it",
             Advice::EndComment => "this comment is never closed",
             Advice::EscapeBackslash => "there is no such escape; a backslash itself is `\\\\`",
+            Advice::EscapeFourDigits => {
+                "`\\u` takes four hexadecimal digits; a backslash itself is `\\\\`"
+            }
+            Advice::EscapeTwoDigits => {
+                "`\\x` takes two hexadecimal digits; a backslash itself is `\\\\`"
+            }
             Advice::NoValue => "the file holds no value",
             Advice::OneValue => "a file holds one value, and this comes after it",
             Advice::PlainQuotes => "quotes are ' or \"",

@@ -183,7 +183,10 @@ fn marks_of(
     push_times(&mut marks, ' ', usize::from(window.left > 0))?;
     push_times(&mut marks, '^', text_width(line.part).min(room).max(1))?;
     if let Some(hint) = hint {
-        write!(marks, " {hint}")?;
+        marks.push(' ')?;
+        for c in hint.chars() {
+            push_shown(&mut marks, c)?;
+        }
     }
     Ok(marks)
 }

@@ -4,7 +4,7 @@ use crate::advice::Advice;
 use crate::custom::custom_remark;
 use crate::fault::{Fault, Remark};
 use crate::found::Found;
-use crate::lexemes::{Kind, Lexeme, lexeme_at};
+use crate::lexemes::{Kind, Lexeme, last_lexeme};
 use crate::trail::Trail;
 use crate::values::value_advice;
 use json5_types::ErrorCode;
@@ -35,15 +35,16 @@ fn end_remark<'t>(alloc: Global, fault: &Fault<'t>) -> Result<Remark<'t>, AllocE
     }
 }
 
-/// The comment that isn't closed.
+/// The comment that isn't closed, which is the last lexeme of the text.
 fn open_comment<'t>(fault: &Fault<'t>) -> Remark<'t> {
-    match fault.text.rfind("/*") {
-        Some(start) => Remark {
-            start,
-            end: start.saturating_add(2),
-            advice: Some(Advice::EndComment),
-        },
-        None => open_bracket(fault),
+    let last = last_lexeme(fault.text);
+    if last.kind != Kind::Comment {
+        return open_bracket(fault);
+    }
+    Remark {
+        start: last.start,
+        end: last.start.saturating_add(2),
+        advice: Some(Advice::EndComment),
     }
 }
 
@@ -173,8 +174,19 @@ fn escape_remark<'t>(fault: &Fault<'t>) -> Remark<'t> {
     Remark {
         start,
         end: start.saturating_add(2),
-        advice: Some(Advice::EscapeBackslash),
+        advice: Some(escape_advice(fault.text.get(start..).unwrap_or(""), is_in_word)),
     }
+}
+
+/// What is said of an escape in front: how many digits it takes, if it takes some. A key has no `\x`.
+fn escape_advice<'t>(text: &str, is_in_key: bool) -> Advice<'t> {
+    if text.starts_with("\\u") {
+        return Advice::EscapeFourDigits;
+    }
+    if text.starts_with("\\x") && !is_in_key {
+        return Advice::EscapeTwoDigits;
+    }
+    Advice::EscapeBackslash
 }
 
 /// What is said of a word whose beginning is a number or a literal.

@@ -54,6 +54,19 @@ pub(crate) fn lexeme_at(text: &str, from: usize) -> Lexeme {
     }
 }
 
+/// The last lexeme of the text.
+pub(crate) fn last_lexeme(text: &str) -> Lexeme {
+    let mut last = lexeme_at(text, 0);
+    for _ in 0..text.len() {
+        let next = lexeme_at(text, last.end);
+        if next.kind == Kind::End {
+            break;
+        }
+        last = next;
+    }
+    last
+}
+
 /// The kind and the length of the lexeme that the text begins with.
 fn kind_and_len(text: &str) -> (Kind, usize) {
     match text.chars().next() {
