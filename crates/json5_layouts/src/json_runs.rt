@@ -87,9 +87,13 @@ fn unescaped_len(bytes: &[u8]) -> usize
     }
 }
 
-/// What follows the characters in front that are written as they are.
+/// Returns what follows the characters in front that JSON has as they are in a string (RFC 8259 section 7).
+///
+/// ```text
+/// skip_unescaped("a\\n")    // what follows the `a`
+/// ```
 #[inline(always)]
-pub(crate) fn skip_unescaped(text: &str) -> &str
+pub fn skip_unescaped(text: &str) -> &str
     ensures { StandsBefore text.now result.now }
 {
     let end = unescaped_len(text.as_bytes());

@@ -6,7 +6,7 @@
 //! ```
 #![tactic(auto)]
 
-mod json_runs;
+pub mod json_runs;
 pub mod json_values;
 pub mod laws;
 pub mod layout;

@@ -4,3 +4,5 @@ pub mod Lexemes
 pub mod SameSteps
 pub mod Tokens
 pub mod Runs
+pub mod Plain
+pub mod PlainSteps

@@ -1,8 +1,11 @@
-//! Compares the lexemes of two JSON5 texts: their tokens and their comments, but for commas.
+//! The lexemes of JSON5 texts: whether two have the same, but for commas, and whether they are those of JSON.
 #![tactic(auto)]
 
+mod json_words;
 pub mod laws;
+mod plain;
 mod rest;
 mod same;
 
+pub use plain::{is_plain, is_plain_with, keeps_plain};
 pub use same::same_lexemes;

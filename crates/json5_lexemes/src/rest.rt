@@ -57,6 +57,14 @@ impl<'x> Rest<'x> {
     }
 }
 
+/// The first character, and what follows it.
+#[inline(always)]
+pub(crate) fn front(text: &str) -> Option<(char, &str)> {
+    let mut rest = text.chars();
+    let c = rest.next()?;
+    Some((c, rest.as_str()))
+}
+
 /// Passes over spaces, if any.
 #[inline(always)]
 pub(crate) fn pass_spaces(text: &mut Rest<'_>)
