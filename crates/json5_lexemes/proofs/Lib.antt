@@ -7,3 +7,4 @@ pub mod DocumentLexemes
 pub mod SettledLists
 pub mod SameTrees
 pub mod RunsPassed
+pub mod PlainTokens
