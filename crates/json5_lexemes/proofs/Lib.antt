@@ -8,3 +8,5 @@ pub mod SettledLists
 pub mod SameTrees
 pub mod RunsPassed
 pub mod PlainTokens
+pub mod PlainNumbers
+pub mod PlainRuns

@@ -19,7 +19,7 @@ use Rattle.json5_lexemes.specs.Plain.{JsonWord, is_null, is_true, is_false, is_n
 use Rattle.json5_lexemes.specs.Plain as plain
 use Rattle.json5_lexemes.specs.declared.plain.Last.{Last}
 use Rattle.json5_lexemes.specs.declared.plain.Last.TheVariants as last
-use Rattle.json5_lexemes.proofs.OneList.{part_apart, quote_apart, sign_apart, each_head, each_tail, one_string, one_block, one_run}
+use Rattle.json5_lexemes.proofs.OneList.{part_apart, quote_apart, sign_apart, each_head, one_string, one_block, one_run}
 use Rattle.json5_lexemes.proofs.WordParts.{each_part, run_part, hex_quoted}
 
 -- ---- what JSON's tokens consist of
@@ -179,9 +179,6 @@ closing_apart c h = record { apart = record { no_blank = blank c h; no_part = si
     none : (c : ℕ) → is_closing c ≡ true → is_opening c ≡ false
     none c h = grind (arith, nat_tests)
 
-comma_no_part : is_word_part 44 ≡ false
-comma_no_part = separator_no_part 44 refl
-
 colon_no_part : is_word_part 58 ≡ false
 colon_no_part = sign_no_part 58 refl
 
@@ -229,7 +226,7 @@ asked {k = k} {l = l} c r (plain.closes {c = d} {r = s} n h p) e =
 asked {k = k} {l = l} c r (plain.comma {r = s} p) e =
     let head : c ≡ 44 = cc in
     let tail : s ≡ r = cc in
-    subst (λ z. Asks k l z r) (sym head) (rw comma_no_part (subst (Plain k last.Comma) tail p))
+    subst (λ z. Asks k l z r) (sym head) (subst (Plain k last.Comma) tail p)
 asked {k = k} c r (plain.colon {r = s} p) e =
     let head : c ≡ 58 = cc in
     let tail : s ≡ r = cc in
@@ -247,3 +244,141 @@ asked {k = k} {l = l} c r (plain.string {s = s} {r = t} (quoted {s = u} j) p) e 
     let head : c ≡ 34 = cc in
     let tail : r ≡ (u ++ 34 ∷ []) ++ t = cc in
     subst (λ z. Asks k l z r) (sym head) (rw (quote_no_part 34 refl) (record { chars = u; left = t; is_json = j; split = tail ∙ append_assoc u (34 ∷ []) t; plain = p }))
+
+-- ---- after each token
+
+sign_no_json_blank : (c : ℕ) → is_sign c ≡ true → is_json_blank c ≡ false
+sign_no_json_blank c h = grind (arith, nat_tests)
+
+-- a blank is no bracket, comma, colon, slash or quote
+record BlankApart (c : ℕ) : Type 0 where
+  no_part : is_word_part c ≡ false
+  no_opening : is_opening c ≡ false
+  no_closing : is_closing c ≡ false
+  no_comma : (c == 44) ≡ false
+  no_colon : (c == 58) ≡ false
+  no_slash : (c == 47) ≡ false
+  no_quote : (c == 34) ≡ false
+
+blank_apart : (c : ℕ) → is_blank c ≡ true → BlankApart c
+blank_apart c h =
+    let n = not_printable (is_in 33 126 c) refl in record {
+      no_part = separator_no_part c (blank_separates c h);
+      no_opening = opening c n;
+      no_closing = closing c n;
+      no_comma = grind (arith, nat_tests, n);
+      no_colon = grind (arith, nat_tests, n);
+      no_slash = grind (arith, nat_tests, n);
+      no_quote = grind (arith, nat_tests, n);
+    }
+  where
+    not_printable : (b : Bool) → is_in 33 126 c ≡ b → is_in 33 126 c ≡ false
+    not_printable true e = absurd (both_ways (is_blank c) (printable_no_blank c e) h)
+    not_printable false e = e
+
+    opening : (c : ℕ) → is_in 33 126 c ≡ false → is_opening c ≡ false
+    opening c n = grind (arith, nat_tests)
+
+    closing : (c : ℕ) → is_in 33 126 c ≡ false → is_closing c ≡ false
+    closing c n = grind (arith, nat_tests)
+
+heads_apart : (c d : ℕ) (x y : List ℕ) → (c == d) ≡ false → c ∷ x ≡ d ∷ y → ⊥
+heads_apart c d x y h e = let same : c ≡ d = cc in neq_from c d h same
+
+same_tail : (c : ℕ) (x y : List ℕ) → c ∷ x ≡ c ∷ y → x ≡ y
+same_tail c x y e = cc
+
+module _ {k : Bool} {l : Last} where
+  pub plain_blank : (c : ℕ) {r : List ℕ} → is_blank c ≡ true → Plain k l (c ∷ r) → (is_json_blank c ≡ true) × Plain k l r
+  plain_blank c {r = r} h p = by_value (is_json_blank c) refl
+    where
+      by_value : (b : Bool) → is_json_blank c ≡ b → (is_json_blank c ≡ true) × Plain k l r
+      by_value true e = let a : Asks k l c r = asked c r p refl in (e, rw e at a)
+      by_value false e =
+          let a = blank_apart c h in
+          let q : Asks k l c r = asked c r p refl in
+          absurd (rw (e, a.no_part, a.no_opening, a.no_closing, a.no_comma, a.no_colon, a.no_slash, a.no_quote) at q)
+
+  pub plain_open : (c : ℕ) {r : List ℕ} → is_opening c ≡ true → Plain k l (c ∷ r) → Plain k last.Sign r
+  plain_open c {r = r} h p = let a = opening_apart c h in let q : Asks k l c r = asked c r p refl in rw (a.no_blank, a.no_part, h) at q
+
+  pub plain_close : (c : ℕ) {r : List ℕ} → is_closing c ≡ true → Plain k l (c ∷ r) → (l ≢ last.Comma) × Plain k last.Sign r
+  plain_close c {r = r} h p = let a = closing_apart c h in let q : Asks k l c r = asked c r p refl in rw (a.apart.no_blank, a.apart.no_part, a.no_opening, h) at q
+
+  pub plain_comma : {r : List ℕ} → Plain k l (44 ∷ r) → Plain k last.Comma r
+  plain_comma {r = r} p = asked 44 r p refl
+
+  pub plain_colon : {r : List ℕ} → Plain k l (58 ∷ r) → (l ≡ last.Text) × Plain k last.Sign r
+  plain_colon {r = r} p = let q : Asks k l 58 r = asked 58 r p refl in rw colon_no_part at q
+
+  pub plain_slash : {r : List ℕ} → Plain k l (47 ∷ r) → CommentThen k l r
+  plain_slash {r = r} p = let q : Asks k l 47 r = asked 47 r p refl in rw slash_no_part at q
+
+  pub plain_line : {x r : List ℕ} → Each is_line_part x → NotBegun is_line_part r → Plain k l (47 ∷ 47 ∷ x ++ r) → (k ≡ true) × Plain k l r
+  plain_line {x = x} {r = r} e n p = let a = plain_slash p in (a.0, by_kind a.1)
+    where
+      by_kind : LineThen k l (47 ∷ x ++ r) ⊎ BlockThen k l (47 ∷ x ++ r) → Plain k l r
+      by_kind (inl a) =
+          let tails = same_tail 47 (x ++ r) (a.text ++ a.left) a.split in
+          let same = one_run r a.left e n a.is_line a.stops tails in
+          subst (Plain k l) (sym same.1) a.plain
+      by_kind (inr a) = absurd (heads_apart 47 42 (x ++ r) _ refl a.split)
+
+  pub plain_block : {x r : List ℕ} → Inside x → Plain k l (47 ∷ 42 ∷ x ++ 42 ∷ 47 ∷ r) → (k ≡ true) × Plain k l r
+  plain_block {x = x} {r = r} i p = let a = plain_slash p in (a.0, by_kind a.1)
+    where
+      by_kind : LineThen k l (42 ∷ x ++ 42 ∷ 47 ∷ r) ⊎ BlockThen k l (42 ∷ x ++ 42 ∷ 47 ∷ r) → Plain k l r
+      by_kind (inl a) = absurd (heads_apart 42 47 (x ++ 42 ∷ 47 ∷ r) _ refl a.split)
+      by_kind (inr a) =
+          let tails = same_tail 42 (x ++ 42 ∷ 47 ∷ r) (a.text ++ 42 ∷ 47 ∷ a.left) a.split in
+          let same = one_block r a.left i a.is_block tails in
+          subst (Plain k l) (sym same.1) a.plain
+
+  pub plain_word : {s r : List ℕ} → s ≢ [] → Each is_word_part s → NotBegun is_word_part r → Plain k l (s ++ r) → JsonWord s × Plain k last.Word r
+  plain_word {s = []} some e n p = absurd (some refl)
+  plain_word {s = c ∷ w} {r = r} some (char h e) n p =
+      let q : Asks k l c (w ++ r) = asked c (w ++ r) p refl in
+      let a : WordThen k c (w ++ r) = rw (part_no_json_blank c h, h) at q in
+      let same = one_run r a.left e n (more_parts a.is_word) a.stops a.split in
+      (subst (λ z. JsonWord (c ∷ z)) (sym same.0) a.is_word, subst (Plain k last.Word) (sym same.1) a.plain)
+    where
+      more_parts : {c : ℕ} {s : List ℕ} → JsonWord (c ∷ s) → Each is_word_part s
+      more_parts w = tail (word_parts w)
+        where
+          tail : {c : ℕ} {s : List ℕ} → Each is_word_part (c ∷ s) → Each is_word_part s
+          tail (char h e) = e
+
+  plain_quote : {r : List ℕ} → Plain k l (34 ∷ r) → StringThen k r
+  plain_quote {r = r} p = let q : Asks k l 34 r = asked 34 r p refl in rw (quote_no_part 34 refl) at q
+
+  no_single_quote : {r : List ℕ} → Plain k l (39 ∷ r) → ⊥
+  no_single_quote {r = r} p = let q : Asks k l 39 r = asked 39 r p refl in rw (quote_no_part 39 refl) at q
+
+  pub plain_string : (q : ℕ) {s r : List ℕ} → is_quote q ≡ true → Quoted q s → Plain k l (q ∷ s ++ r) → JsonString (q ∷ s) × Plain k last.Text r
+  plain_string q {s = s} {r = r} h i p = by_quote (q == 34) refl
+    where
+      double : (b : ℕ) → b ≡ 34 → Quoted b s → Plain k l (b ∷ s ++ r) → JsonString (b ∷ s) × Plain k last.Text r
+      double b e i p =
+          let a = plain_quote (subst (λ z. Plain k l (z ∷ s ++ r)) e p) in
+          let same = one_string r a.left refl (subst (λ z. Quoted z s) e i) (json_chars_quoted a.is_json) (a.split ∙ sym (append_assoc a.chars (34 ∷ []) a.left)) in
+          (subst (λ z. JsonString (z ∷ s)) (sym e) (subst (λ z. JsonString (34 ∷ z)) (sym same.0) (quoted a.is_json)), subst (Plain k last.Text) (sym same.1) a.plain)
+
+      single : (b : ℕ) → is_quote b ≡ true → (b == 34) ≡ false → b ≡ 39
+      single b h e = grind (arith, nat_tests)
+
+      by_quote : (b : Bool) → (q == 34) ≡ b → JsonString (q ∷ s) × Plain k last.Text r
+      by_quote true e = let is : q ≡ 34 = grind arith in double q is i p
+      by_quote false e = absurd (no_single_quote (subst (λ z. Plain k l (z ∷ s ++ r)) (single q h e) p))
+
+-- what is plain without comments is plain
+pub bare_plain : {l : Last} {x : List ℕ} → Plain false l x → Plain true l x
+bare_plain plain.ends = plain.ends
+bare_plain (plain.blank h p) = plain.blank h (bare_plain p)
+bare_plain (plain.line a e n p) = absurd (cc)
+bare_plain (plain.block a i p) = absurd (cc)
+bare_plain (plain.opens h p) = plain.opens h (bare_plain p)
+bare_plain (plain.closes n h p) = plain.closes n h (bare_plain p)
+bare_plain (plain.comma p) = plain.comma (bare_plain p)
+bare_plain (plain.colon p) = plain.colon (bare_plain p)
+bare_plain (plain.word w n p) = plain.word w n (bare_plain p)
+bare_plain (plain.string s p) = plain.string s (bare_plain p)
