@@ -10,3 +10,4 @@ pub mod RunsPassed
 pub mod PlainTokens
 pub mod PlainNumbers
 pub mod PlainRuns
+pub mod PlainTakes

@@ -1,26 +1,22 @@
 -- How a number of JSON is taken apart.
-use Rattle.std.proofs.Common.{◌≡◌, ◌≢◌, ℕ, Bool, true, false, not, ◌||◌, ◌&&◌, List, [], ◌∷◌, ◌++◌, refl, sym, ap, ◌∙◌, subst, append_assoc, arith}
-use Rattle.std.specs.Prelude.{◌==◌, ◌↔◌}
+use Rattle.std.proofs.Common.{◌≡◌, ◌≢◌, ℕ, Bool, true, false, not, ◌||◌, ◌&&◌, List, [], ◌∷◌, ◌++◌, refl, sym, ap, ◌∙◌, subst, append_assoc, arith, length}
+use denote.Ref.{Bor}
+use Rattle.std.specs.Prelude.{◌==◌, ◌↔◌, Option, Some, None, MatchOption}
+use Rattle.json5_grammar.proofs.CommonLemmas.{not_eq}
 use Rattle.std.proofs.lemmas.Bool.Decides.{nat_tests}
 use Rattle.std.proofs.lemmas.List.{append-nil}
 use Rattle.json5_grammar.specs.Language.Characters.{is_in, is_digit, NotBegun, Each, no_char, char}
 use Rattle.json5_grammar.specs.Language.Numbers.{Integer, lone_zero, nonzero}
 use Rattle.json5_grammar.specs.Model.ReadNumbers.{front_of, rest_of}
-use Rattle.json5_grammar.proofs.CharacterTests.{front_all, rest_all, front_each, front_rest, front_none, rest_none, nonzero_digit, digit_nonzero, e_no_digit}
+use Rattle.json5_grammar.proofs.CharacterTests.{front_all, rest_all, front_each, front_rest, rest_each, nonzero_digit, digit_nonzero, e_no_digit}
 use Rattle.json5_layouts.specs.Json.{JsonNumber, json_number, Minus, no_minus, minus, Fraction, no_fraction, fraction, Exponent, no_exponent, exponent, ExponentSign, no_sign, sign}
-use Rattle.json5_lexemes.specs.PlainSteps.{Digits, Unsigned, unsigned, AfterDigits, after_digits, SignedDigits, signed_digits}
+use Rattle.json5_lexemes.specs.PlainSteps.{is_exponent_letter, is_exponent_sign, Digits, Unsigned, unsigned, AfterDigits, after_digits, SignedDigits, signed_digits, GoesOn}
 
 abbrev pub is_minus : ℕ → Bool
 is_minus c = c == 45
 
 abbrev pub is_point : ℕ → Bool
 is_point c = c == 46
-
-abbrev pub is_exponent_letter : ℕ → Bool
-is_exponent_letter c = (c == 101) || (c == 69)
-
-abbrev pub is_exponent_sign : ℕ → Bool
-is_exponent_sign c = (c == 43) || (c == 45)
 
 -- ---- a minus
 
@@ -96,16 +92,6 @@ no_zeros c d r e z (nonzero {c = b} h i) =
     let same : b ≡ 48 = cc in
     let k : is_in 49 57 48 ≡ true = subst (λ n. is_in 49 57 n ≡ true) same h in cc
 
--- digits are an integer otherwise
-pub is_integer : (x : List ℕ) → Each is_digit x → x ≢ [] → ((c d : ℕ) (r : List ℕ) → x ≡ c ∷ d ∷ r → (c == 48) ≡ false) → Integer x
-is_integer [] e n z = absurd (n refl)
-is_integer (c ∷ []) (char h e) n z = by_value (c == 48) refl
-  where
-    by_value : (b : Bool) → (c == 48) ≡ b → Integer (c ∷ [])
-    by_value true k = let is : c ≡ 48 = grind arith in subst (λ d. Integer (d ∷ [])) (sym is) lone_zero
-    by_value false k = nonzero (digit_nonzero c h k) no_char
-is_integer (c ∷ d ∷ r) (char h e) n z = nonzero (digit_nonzero c h (z c d r refl)) e
-
 -- ---- a fraction
 
 pub past_point : {x : List ℕ} (r : List ℕ) → AfterDigits x → x ≡ 46 ∷ r → (front_of is_digit r ≢ []) × Exponent (rest_of is_digit r)
@@ -166,3 +152,61 @@ without_sign (signed_digits (sign {c = c} j) k) n = absurd (cc)
 
 pub digits_signed : {x : List ℕ} → Digits x → SignedDigits x
 digits_signed k = signed_digits no_sign k
+
+-- ---- the first byte
+
+pub empty_list : (x : List ℕ) → length x ≡ 0 → x ≡ []
+empty_list [] e = refl
+empty_list (c ∷ x) e = absurd (omega (arith, e))
+
+-- nothing begins an empty list
+pub no_first : (p : ℕ → Bool) (x : List ℕ) → length x ≡ 0 → NotBegun p x
+no_first p [] e = tt
+no_first p (c ∷ x) e = absurd (omega (arith, e))
+
+pub empty_test : (x : List ℕ) → (length x == 0) ≡ true → x ≡ []
+empty_test [] h = refl
+empty_test (c ∷ x) h = absurd (grind (arith, nat_tests))
+
+pub some_test : (x : List ℕ) → (length x == 0) ≡ false → x ≡ [] → ⊥
+some_test x h e = let k = ap length e in grind (arith, nat_tests)
+
+-- a zero is an integer alone
+pub zero_alone : (x r : List ℕ) (b : Bool) → x ≡ 48 ∷ r → b ≡ (length r == 0) → (b ≡ true → Integer x) × (Integer x → b ≡ true)
+zero_alone x [] b e f = (λ t. subst Integer (sym e) lone_zero, λ i. f)
+zero_alone x (d ∷ r) b e f = (λ t. absurd (some (sym f ∙ t)), λ i. absurd (no_zeros 48 d r e refl i))
+  where
+    some : (length (d ∷ r) == 0) ≡ true → ⊥
+    some h = grind (arith, nat_tests)
+
+pub nonzero_integer : (x r : List ℕ) (c : ℕ) → x ≡ c ∷ r → c ≢ 48 → Each is_digit x → Integer x
+nonzero_integer x r c e n k = subst Integer (sym e) (one (subst (Each is_digit) e k))
+  where
+    one : Each is_digit (c ∷ r) → Integer (c ∷ r)
+    one (char h e) = nonzero (digit_nonzero c h (not_eq c 48 n)) e
+
+pub goes_on_point : (x r : List ℕ) (result : Option (Bor (List ℕ))) → x ≡ 46 ∷ r
+    → MatchOption result (front_of is_digit r ≡ []) (λ rest. (front_of is_digit r ≢ []) × (rest.now ≡ rest_of is_digit r)) → GoesOn AfterDigits Exponent x result
+goes_on_point x r None e n = λ a. (past_point r a e).0 n
+goes_on_point x r (Some rest) e (n, f) = (λ a. subst Exponent (sym f) (past_point r a e).1, λ d. subst AfterDigits (sym e) (with_point r n (subst Exponent f d)))
+
+-- nothing but digits
+pub all_digits : (x r : List ℕ) (b : Bool) → r ≡ rest_of is_digit x → (length r == 0) ≡ true → b ≡ (length x == 0) → (not b ≡ true → Digits x) × (Digits x → not b ≡ true)
+all_digits x r b e h f = (λ t. (λ n. some_test x (sym f ∙ opposite b t) n, each), λ d. some (b) f d.0)
+  where
+    opposite : (b : Bool) → not b ≡ true → b ≡ false
+    opposite false t = refl
+    opposite true t = absurd (cc)
+
+    nothing : rest_of is_digit x ≡ []
+    nothing = sym e ∙ empty_test r h
+
+    each : Each is_digit x
+    each = subst (Each is_digit) (sym (front_rest is_digit x ∙ ap (λ z. front_of is_digit x ++ z) nothing ∙ append-nil (front_of is_digit x))) (front_each is_digit x)
+
+    some : (b : Bool) → b ≡ (length x == 0) → x ≢ [] → not b ≡ true
+    some false f n = refl
+    some true f n = absurd (n (empty_test x (sym f)))
+
+pub not_all_digits : (x r : List ℕ) → r ≡ rest_of is_digit x → (length r == 0) ≡ false → Each is_digit x → ⊥
+not_all_digits x r e h k = some_test r h (e ∙ rest_each k)

@@ -282,7 +282,8 @@ blank_apart c h =
     closing : (c : ℕ) → is_in 33 126 c ≡ false → is_closing c ≡ false
     closing c n = grind (arith, nat_tests)
 
-heads_apart : (c d : ℕ) (x y : List ℕ) → (c == d) ≡ false → c ∷ x ≡ d ∷ y → ⊥
+-- two texts whose first characters differ
+pub heads_apart : (c d : ℕ) (x y : List ℕ) → (c == d) ≡ false → c ∷ x ≡ d ∷ y → ⊥
 heads_apart c d x y h e = let same : c ≡ d = cc in neq_from c d h same
 
 same_tail : (c : ℕ) (x y : List ℕ) → c ∷ x ≡ c ∷ y → x ≡ y
