@@ -9,3 +9,6 @@ pub mod PlainSeams
 pub mod SettledLists
 pub mod SameTrees
 pub mod RunsPassed
+pub mod PlainTokens
+pub mod PlainNumbers
+pub mod PlainRuns

@@ -1,7 +1,17 @@
 //! Numbers and literals of JSON (RFC 8259, sections 3 and 6).
 
+ghost use Rattle.std.specs.Prelude.{◌≡◌, ◌↔◌, IsTrue};
+ghost use Rattle.std.specs.List.{prefix_len};
+ghost use Rattle.std.specs.Str.{chars};
+ghost use Rattle.json5_grammar.specs.Language.Characters.{Each, is_digit};
+ghost use Rattle.json5_layouts.specs.Json.{Exponent, JsonNumber};
+ghost use Rattle.json5_lexemes.specs.Plain.{JsonWord};
+ghost use Rattle.json5_lexemes.specs.PlainSteps.{AfterDigits, Digits, GoesOn, SignedDigits, Unsigned, is_json_part};
+
 /// How many bytes in front are characters of which JSON's numbers and literals are made.
-pub(crate) fn json_part_len(bytes: &[u8]) -> usize {
+pub(crate) fn json_part_len(bytes: &[u8]) -> usize
+    ensures { result ≡ prefix_len is_json_part bytes.now }
+{
     let mut len = 0;
     while len < bytes.len() && is_json_part(bytes[len]) {
         len += 1;
@@ -11,17 +21,24 @@ pub(crate) fn json_part_len(bytes: &[u8]) -> usize {
 
 /// Whether JSON's numbers and literals may hold the byte.
 #[inline(always)]
-fn is_json_part(byte: u8) -> bool {
+fn is_json_part(byte: u8) -> bool
+    ensures { result ≡ is_json_part byte }
+{
     matches!(byte, b'0'..=b'9' | b'a'..=b'z' | b'A'..=b'Z' | b'-' | b'+' | b'.')
 }
 
 /// Whether the text is a literal or a number.
-pub(crate) fn is_json_word(text: &str) -> bool {
+pub(crate) fn is_json_word(text: &str) -> bool
+    requires { Each is_json_part text.now }
+    ensures { IsTrue result ↔ JsonWord (chars text.now) }
+{
     matches!(text, "null" | "true" | "false") || is_json_number(text.as_bytes())
 }
 
 /// Whether the bytes are a number.
-fn is_json_number(bytes: &[u8]) -> bool {
+fn is_json_number(bytes: &[u8]) -> bool
+    ensures { IsTrue result ↔ JsonNumber bytes.now }
+{
     let Some(rest) = after_digits(after_minus(bytes)) else {
         return false;
     };
@@ -32,7 +49,9 @@ fn is_json_number(bytes: &[u8]) -> bool {
 }
 
 /// What follows a minus, if there is one.
-fn after_minus(bytes: &[u8]) -> &[u8] {
+fn after_minus(bytes: &[u8]) -> &[u8]
+    ensures { JsonNumber bytes.now ↔ Unsigned result.now }
+{
     if !bytes.is_empty() && bytes[0] == b'-' {
         return &bytes[1..];
     }
@@ -40,7 +59,9 @@ fn after_minus(bytes: &[u8]) -> &[u8] {
 }
 
 /// What follows digits without a zero in front.
-fn after_digits(bytes: &[u8]) -> Option<&[u8]> {
+fn after_digits(bytes: &[u8]) -> Option<&[u8]>
+    ensures { GoesOn Unsigned AfterDigits bytes.now result }
+{
     let len = digits_len(bytes);
     if len == 0 || len > 1 && bytes[0] == b'0' {
         return None;
@@ -49,7 +70,9 @@ fn after_digits(bytes: &[u8]) -> Option<&[u8]> {
 }
 
 /// What follows a point and digits, if there is a point.
-fn after_fraction(bytes: &[u8]) -> Option<&[u8]> {
+fn after_fraction(bytes: &[u8]) -> Option<&[u8]>
+    ensures { GoesOn AfterDigits Exponent bytes.now result }
+{
     if bytes.is_empty() || bytes[0] != b'.' {
         return Some(bytes);
     }
@@ -62,7 +85,9 @@ fn after_fraction(bytes: &[u8]) -> Option<&[u8]> {
 }
 
 /// Whether the bytes are an exponent, or nothing.
-fn is_exponent(bytes: &[u8]) -> bool {
+fn is_exponent(bytes: &[u8]) -> bool
+    ensures { IsTrue result ↔ Exponent bytes.now }
+{
     if bytes.is_empty() {
         return true;
     }
@@ -74,7 +99,9 @@ fn is_exponent(bytes: &[u8]) -> bool {
 }
 
 /// What follows a plus or a minus, if there is one.
-fn after_sign(bytes: &[u8]) -> &[u8] {
+fn after_sign(bytes: &[u8]) -> &[u8]
+    ensures { SignedDigits bytes.now ↔ Digits result.now }
+{
     if !bytes.is_empty() && (bytes[0] == b'+' || bytes[0] == b'-') {
         return &bytes[1..];
     }
@@ -82,7 +109,9 @@ fn after_sign(bytes: &[u8]) -> &[u8] {
 }
 
 /// How many digits are in front.
-fn digits_len(bytes: &[u8]) -> usize {
+fn digits_len(bytes: &[u8]) -> usize
+    ensures { result ≡ prefix_len is_digit bytes.now }
+{
     let mut len = 0;
     while len < bytes.len() && bytes[len].is_ascii_digit() {
         len += 1;

@@ -1,9 +1,15 @@
 //! Whether a text is JSON but for comments, by its lexemes.
 
-ghost use Rattle.std.specs.Prelude.{◌≡◌, ◌↔◌, IsTrue, true};
+ghost use Rattle.std.specs.Prelude.{◌≡◌, ◌↔◌, IsTrue, true, false};
+ghost use Rattle.std.specs.List.{prefix_len};
 ghost use Rattle.std.specs.Str.{chars};
+ghost use Rattle.json5_grammar.specs.Language.Characters.{NotBegun};
+ghost use Rattle.json5_layouts.specs.Json.{is_json_blank};
+ghost use Rattle.json5_text.specs.ByteRuns.{is_in_line, is_no_star};
+ghost use Rattle.json5_text.specs.Scan.{SkipsAll, StartsWith};
 ghost use Rattle.json5_lexemes.specs.Plain.{IsPlain, KeepsPlain, Plain};
-ghost use Rattle.json5_lexemes.specs.PlainSteps.{PassesLexeme};
+ghost use Rattle.json5_lexemes.specs.PlainSteps.{Leaves, PassesLexeme, TakesBlock, TakesComment, TakesEscape, TakesHex, TakesLine, TakesString, TakesWord};
+ghost use Rattle.json5_lexemes.specs.SameLexemes.{is_word_part};
 ghost use Rattle.json5_lexemes.specs.declared.plain.Last.TheVariants as last;
 
 use crate::json_words::{is_json_word, json_part_len};
@@ -84,6 +90,8 @@ fn pass_lexeme<'x>(
     c: char,
     after: &'x str,
 ) -> Option<(Last, &'x str)>
+    requires { StartsWith text.now c after.now }
+    ensures { PassesLexeme comments last text.now result }
 {
     match c {
         '"' => Some((Last::Text, skip_string(after)?)),
@@ -98,13 +106,17 @@ fn pass_lexeme<'x>(
 
 /// What follows the blanks of JSON in front.
 #[inline(always)]
-fn skip_json_blanks(text: &str) -> &str {
+fn skip_json_blanks(text: &str) -> &str
+    ensures { SkipsAll is_json_blank text.now result.now }
+{
     text.split_at(json_blanks_len(text.as_bytes())).1
 }
 
 /// How many blanks of JSON are in front.
 #[inline(always)]
-fn json_blanks_len(bytes: &[u8]) -> usize {
+fn json_blanks_len(bytes: &[u8]) -> usize
+    ensures { result ≡ prefix_len is_json_blank bytes.now }
+{
     let mut len = 0;
     while len < bytes.len() && matches!(bytes[len], b' ' | b'\n' | b'\t' | b'\r') {
         len += 1;
@@ -113,7 +125,9 @@ fn json_blanks_len(bytes: &[u8]) -> usize {
 }
 
 /// After the first quote of a string: what follows its last one; None if it is no string of JSON.
-fn skip_string(text: &str) -> Option<&str> {
+fn skip_string(text: &str) -> Option<&str>
+    ensures { Leaves TakesString text.now result }
+{
     let mut rest = skip_unescaped(text);
     loop {
         match front(rest)? {
@@ -125,7 +139,9 @@ fn skip_string(text: &str) -> Option<&str> {
 }
 
 /// After a backslash: what follows the escape; None if it is none of JSON.
-fn skip_escape(text: &str) -> Option<&str> {
+fn skip_escape(text: &str) -> Option<&str>
+    ensures { Leaves TakesEscape text.now result }
+{
     match front(text)? {
         ('"' | '\\' | '/' | 'b' | 'f' | 'n' | 'r' | 't', after) => Some(after),
         ('u', after) => skip_hex(skip_hex(skip_hex(skip_hex(after)?)?)?),
@@ -134,7 +150,9 @@ fn skip_escape(text: &str) -> Option<&str> {
 }
 
 /// What follows a hexadecimal digit in front.
-fn skip_hex(text: &str) -> Option<&str> {
+fn skip_hex(text: &str) -> Option<&str>
+    ensures { Leaves TakesHex text.now result }
+{
     match front(text)? {
         ('0'..='9' | 'a'..='f' | 'A'..='F', after) => Some(after),
         _ => None,
@@ -142,7 +160,9 @@ fn skip_hex(text: &str) -> Option<&str> {
 }
 
 /// What follows the number or the literal in front; None if it is none of JSON.
-fn skip_word(text: &str) -> Option<&str> {
+fn skip_word(text: &str) -> Option<&str>
+    ensures { Leaves TakesWord text.now result }
+{
     let (word, rest) = text.split_at(json_part_len(text.as_bytes()));
     if is_json_word(word) && !begins_word(rest) {
         Some(rest)
@@ -152,7 +172,9 @@ fn skip_word(text: &str) -> Option<&str> {
 }
 
 /// Whether a part of a number, a literal or a name of JSON5 is in front.
-fn begins_word(text: &str) -> bool {
+fn begins_word(text: &str) -> bool
+    ensures { (result ≡ false) ↔ NotBegun is_word_part (chars text.now) }
+{
     match front(text) {
         Some((c, _)) => is_word_part(c),
         None => false,
@@ -161,7 +183,9 @@ fn begins_word(text: &str) -> bool {
 
 /// After a comment's first slash: what follows the comment, of a `//` comment with its line end; None if it is none.
 #[inline(never)]
-fn skip_comment(text: &str) -> Option<&str> {
+fn skip_comment(text: &str) -> Option<&str>
+    ensures { Leaves TakesComment text.now result }
+{
     match front(text)? {
         ('/', after) => Some(skip_line(after)),
         ('*', after) => skip_block(after),
@@ -170,7 +194,9 @@ fn skip_comment(text: &str) -> Option<&str> {
 }
 
 /// After `//`: what follows the comment, which ends before a line terminator.
-fn skip_line(text: &str) -> &str {
+fn skip_line(text: &str) -> &str
+    ensures { TakesLine (chars text.now) (chars result.now) }
+{
     let mut rest = text;
     loop {
         rest = rest.split_at(line_len(rest.as_bytes())).1;
@@ -182,12 +208,16 @@ fn skip_line(text: &str) -> &str {
 }
 
 /// How many bytes come before the first that may begin a line terminator.
-fn line_len(bytes: &[u8]) -> usize {
+fn line_len(bytes: &[u8]) -> usize
+    ensures { result ≡ prefix_len is_in_line bytes.now }
+{
     memchr3(b'\n', b'\r', 0xE2, bytes).unwrap_or(bytes.len())
 }
 
 /// After `/*`: what follows the first `*/`.
-fn skip_block(text: &str) -> Option<&str> {
+fn skip_block(text: &str) -> Option<&str>
+    ensures { Leaves TakesBlock text.now result }
+{
     let mut rest = text;
     loop {
         rest = rest.split_at(star_offset(rest.as_bytes())).1;
@@ -200,6 +230,8 @@ fn skip_block(text: &str) -> Option<&str> {
 }
 
 /// How many bytes come before the first star.
-fn star_offset(bytes: &[u8]) -> usize {
+fn star_offset(bytes: &[u8]) -> usize
+    ensures { result ≡ prefix_len is_no_star bytes.now }
+{
     memchr(b'*', bytes).unwrap_or(bytes.len())
 }
