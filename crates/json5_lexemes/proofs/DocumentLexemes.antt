@@ -40,7 +40,7 @@ has_nothing = record { list = []; lexed = lexemes.no_lexeme; kept = refl }
 has_separator : (c : ℕ) {r : List ℕ} {ls : List (List ℕ)} → is_separator c ≡ true → Has r ls → Has (c ∷ r) ls
 has_separator c p h = record { list = h.list; lexed = lexemes.separator p h.lexed; kept = h.kept }
 
-sign_no_comment : (c : ℕ) → is_sign c ≡ true → (c == slash_sign) ≡ false
+pub sign_no_comment : (c : ℕ) → is_sign c ≡ true → (c == slash_sign) ≡ false
 sign_no_comment c h = grind (arith, nat_tests)
 
 has_sign : (c : ℕ) {r : List ℕ} {ls : List (List ℕ)} → is_sign c ≡ true → Has r ls → Has (c ∷ r) ((c ∷ []) ∷ ls)
@@ -48,7 +48,7 @@ has_sign c p h = record { list = (c ∷ []) ∷ h.list; lexed = lexemes.sign p h
 
 -- ---- blanks
 
-blank_separates : (c : ℕ) → is_blank c ≡ true → is_separator c ≡ true
+pub blank_separates : (c : ℕ) → is_blank c ≡ true → is_separator c ≡ true
 blank_separates c h = by_comma (c == comma_sign) (is_blank c) h
   where
     by_comma : (a b : Bool) → b ≡ true → (a || b) ≡ true

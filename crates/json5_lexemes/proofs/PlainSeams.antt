@@ -1,6 +1,6 @@
 -- A plain text is taken apart and put together again between whole tokens. For edits: a value or a key in the place of
 -- another, an entry that comes with a comma, or one that goes with its comma.
-use Rattle.std.proofs.Common.{◌≡◌, ◌≢◌, ℕ, Bool, true, false, not, ◌||◌, ◌⊎◌, inl, inr, List, [], ◌∷◌, ◌++◌, refl, sym, ◌∙◌, ap, subst, append_assoc, arith}
+use Rattle.std.proofs.Common.{◌≡◌, ◌≢◌, ℕ, Bool, true, false, ◌||◌, inl, inr, List, [], ◌∷◌, ◌++◌, refl, sym, ◌∙◌, ap, subst, append_assoc, arith}
 use Rattle.std.specs.Prelude.{◌==◌}
 use Rattle.std.proofs.lemmas.Bool.{both_ways}
 use Rattle.std.proofs.lemmas.Bool.Decides.{nat_tests}
@@ -12,10 +12,10 @@ use Rattle.json5_grammar.specs.Language.Strings.{is_quote}
 use Rattle.json5_grammar.specs.Language.Trees.{Tree, Trees, Members, no_more, more, no_member, member}
 use Rattle.json5_grammar.specs.Language.Values.{KeyText, Val, is_null, is_true, is_false, is_number, is_text, is_empty_array, is_array, is_empty_object, is_object}
 use Rattle.json5_grammar.specs.Model.Collections.{IsSign, IsEnd, Tail, MembersTail}
-use Rattle.json5_layouts.specs.Json.{is_json_blank, JsonString, quoted}
+use Rattle.json5_layouts.specs.Json.{is_json_blank, JsonString}
 use Rattle.json5_lexemes.specs.Plain.{is_opening, is_closing, Plain}
 use Rattle.json5_lexemes.specs.Plain as plain
-use Rattle.json5_lexemes.specs.SameLexemes.{is_separator, is_sign, is_word_part, is_line_part}
+use Rattle.json5_lexemes.specs.SameLexemes.{is_separator, is_sign, is_word_part}
 use Rattle.json5_lexemes.specs.Spans.{Spans, Apart, AfterEntry, at_comma, at_bracket, at_end}
 use Rattle.json5_lexemes.specs.Spans as spans
 use Rattle.json5_lexemes.specs.Tokens as tokens
@@ -24,7 +24,7 @@ use Rattle.json5_lexemes.specs.declared.plain.Last.TheVariants as last
 use Rattle.json5_lexemes.proofs.DocumentLexemes.{terminator_blank, blanks_stop, last_stops, sign_no_part, not_part}
 use Rattle.json5_lexemes.proofs.OneList.{part_apart, each_head}
 use Rattle.json5_lexemes.proofs.PlainTokens.{plain_blank, plain_open, plain_close, plain_comma, plain_colon, plain_line, plain_block, plain_word, plain_string}
-use Rattle.json5_lexemes.proofs.TokensSpanned.{stops_after, value_alone, key_alone, SpansAlone}
+use Rattle.json5_lexemes.proofs.TokensSpanned.{stops_after, value_alone, SpansAlone}
 use Rattle.json5_lexemes.proofs.WordParts.{IsToken, a_word, a_string, scalar_token, key_token}
 
 -- ---- a seam after whole tokens
@@ -35,7 +35,7 @@ pub record Seam (k : Bool) (l : Last) (x : List ℕ) (m : Last) (r : List ℕ) :
   pub again : (s : List ℕ) → Apart m s → Plain k m s → Plain k l (x ++ s)
 
 -- a bracket or a colon is the first of a plain text, and may be so before another text
-sign_taken : {k : Bool} {l : Last} (c : ℕ) {r : List ℕ} → is_sign c ≡ true → Plain k l (c ∷ r) → Plain k last.Sign r × ((s : List ℕ) → Plain k last.Sign s → Plain k l (c ∷ s))
+pub sign_taken : {k : Bool} {l : Last} (c : ℕ) {r : List ℕ} → is_sign c ≡ true → Plain k l (c ∷ r) → Plain k last.Sign r × ((s : List ℕ) → Plain k last.Sign s → Plain k l (c ∷ s))
 sign_taken {k = k} {l = l} c {r = r} h p = by_opening (is_opening c) refl
   where
     colon : (c : ℕ) → is_sign c ≡ true → is_opening c ≡ false → is_closing c ≡ false → c ≡ colon_sign
@@ -47,23 +47,23 @@ sign_taken {k = k} {l = l} c {r = r} h p = by_opening (is_opening c) refl
         (a.1, λ s q. subst (λ z. Plain k l (z ∷ s)) (sym e) (subst (λ z. Plain k z (colon_sign ∷ s)) (sym a.0) (plain.colon q)))
 
     by_closing : (b : Bool) → is_closing c ≡ b → is_opening c ≡ false → Plain k last.Sign r × ((s : List ℕ) → Plain k last.Sign s → Plain k l (c ∷ s))
-    by_closing true e o = let a = plain_close e p in (a.1, λ s q. plain.closes a.0 e q)
+    by_closing true e o = let a = plain_close c e p in (a.1, λ s q. plain.closes a.0 e q)
     by_closing false e o = at_colon (colon c h o e)
 
     by_opening : (b : Bool) → is_opening c ≡ b → Plain k last.Sign r × ((s : List ℕ) → Plain k last.Sign s → Plain k l (c ∷ s))
-    by_opening true e = (plain_open e p, λ s q. plain.opens e q)
+    by_opening true e = (plain_open c e p, λ s q. plain.opens e q)
     by_opening false e = by_closing (is_closing c) refl e
 
 -- the seam after whole tokens: l is what came before them, m what comes last in them
 pub seam : {k : Bool} {l m : Last} {x : List ℕ} (r : List ℕ) → Spans l x m → Apart m r → Plain k l (x ++ r) → Seam k l x m r
 seam r spans.nothing a p = record { rest = p; again = λ s n q. q }
-seam r (spans.blank h i) a p =
-    let b = plain_blank h p in
+seam r (spans.blank {c = c} h i) a p =
+    let b = plain_blank c h p in
     let f = seam r i a b.1 in
     record { rest = f.rest; again = λ s n q. plain.blank b.0 (f.again s n q) }
 seam {k = k} {l = l} r (spans.line {x = x} c {r = t} e h i) a p =
     let b = plain_line e (rw h refl) (subst (λ z. Plain k l (slash_sign ∷ slash_sign ∷ z)) (append_assoc x (c ∷ t) r) p) in
-    let d = plain_blank (terminator_blank c h) b.1 in
+    let d = plain_blank c (terminator_blank c h) b.1 in
     let f = seam r i a d.1 in
     record {
       rest = f.rest;
@@ -91,7 +91,7 @@ seam {k = k} {l = l} r (spans.word {s = w} {r = t} some e j i) a p =
       again = λ s n q. subst (Plain k l) (sym (append_assoc w t s)) (plain.word b.0 (stops_after t s i j n) (f.again s n q));
     }
 seam {k = k} {l = l} r (spans.string {q = c} {s = w} {r = t} h j i) a p =
-    let b = plain_string h j (subst (λ z. Plain k l (c ∷ z)) (append_assoc w t r) p) in
+    let b = plain_string c h j (subst (λ z. Plain k l (c ∷ z)) (append_assoc w t r) p) in
     let f = seam r i a b.1 in
     record {
       rest = f.rest;
@@ -116,13 +116,13 @@ pub record BlankSeam (k : Bool) (l : Last) (w r : List ℕ) : Type 0 where
 
 pub blank_seam : {k : Bool} {l : Last} {w : List ℕ} (r : List ℕ) → Blanks w → Plain k l (w ++ r) → BlankSeam k l w r
 blank_seam r blanks.empty p = record { rest = p; again = λ m s q. q }
-blank_seam r (blanks.blank h i) p =
-    let b = plain_blank h p in
+blank_seam r (blanks.blank {c = c} h i) p =
+    let b = plain_blank c h p in
     let f = blank_seam r i b.1 in
     record { rest = f.rest; again = λ m s q. plain.blank b.0 (f.again m s q) }
 blank_seam {k = k} {l = l} r (blanks.line {x = x} c {s = t} e h i) p =
     let b = plain_line e (rw h refl) (subst (λ z. Plain k l (slash_sign ∷ slash_sign ∷ z)) (append_assoc x (c ∷ t) r) p) in
-    let d = plain_blank (terminator_blank c h) b.1 in
+    let d = plain_blank c (terminator_blank c h) b.1 in
     let f = blank_seam r i d.1 in
     record {
       rest = f.rest;
@@ -172,7 +172,7 @@ key_seam {k = k} {l = l} {key = key} {blank = w} r text b p = by_token (key_toke
         let no : last.Word ≡ last.Text = c.0 in
         absurd (cc)
     by_token (a_string q t e h j) =
-        let a = plain_string h j (subst (λ z. Plain k l (z ++ (w ++ colon_sign ∷ r))) e p) in
+        let a = plain_string q h j (subst (λ z. Plain k l (z ++ (w ++ colon_sign ∷ r))) e p) in
         let c = plain_colon (blank_seam (colon_sign ∷ r) b a.1).rest in
         record { is_json = subst JsonString (sym e) a.0; rest = a.1; value = c.1; again = λ m other s. plain.string s a.1 }
 
@@ -214,7 +214,7 @@ IsFree c = (is_json_blank c ≡ false) × (is_closing c ≡ false) × ((c == col
 begins : (c : ℕ) (s : List ℕ) → IsFree c → BeginsFree (c ∷ s)
 begins c s f = record { first = c; more = s; split = refl; no_blank = f.0; no_closing = f.1; no_colon = f.2; no_slash = f.3 }
 
-json_blank : (c : ℕ) → is_json_blank c ≡ true → is_blank c ≡ true
+pub json_blank : (c : ℕ) → is_json_blank c ≡ true → is_blank c ≡ true
 json_blank c h = grind (arith, nat_tests)
 
 part_free : (c : ℕ) → is_word_part c ≡ true → IsFree c
@@ -276,7 +276,7 @@ after_stops (at_end b) = last_stops b
 -- it is plain after any token but a comma, if it is so after one
 pub after_turn : {k : Bool} {l : Last} {r : List ℕ} (m : Last) → m ≢ last.Comma → AfterEntry r → Plain k l r → Plain k m r
 after_turn m n (at_comma r b) p = let f = blank_seam (comma_sign ∷ r) b p in f.again m (comma_sign ∷ r) (plain.comma (plain_comma f.rest))
-after_turn m n (at_bracket c r b h) p = let f = blank_seam (c ∷ r) b p in f.again m (c ∷ r) (plain.closes n h (plain_close h f.rest).1)
+after_turn m n (at_bracket c r b h) p = let f = blank_seam (c ∷ r) b p in f.again m (c ∷ r) (plain.closes n h (plain_close c h f.rest).1)
 after_turn {k = k} {l = l} m n (at_end (LastBlanks.blanks {w = w} b)) p =
     subst (Plain k m) (append-nil w) ((blank_seam [] b (subst (Plain k l) (sym (append-nil w)) p)).again m [] plain.ends)
 after_turn {k = k} {l = l} m n (at_end (blanks.open_line {w = w} {x = x} b e)) p =
@@ -352,18 +352,3 @@ pub entry_cut_before : {k : Bool} {l m n : Last} {x gone w s : List ℕ} (r : Li
 entry_cut_before {m = m} {gone = gone} {w = w} {s = s} r i a b j g f p =
     let e = seam (gone ++ comma_sign ∷ (w ++ (s ++ r))) i a p in
     e.again (w ++ (s ++ r)) b (entry_turn m r g f (plain_comma (seam (comma_sign ∷ (w ++ (s ++ r))) j (λ w. not_part comma_sign refl) e.rest).rest))
-
--- ---- comments
-
--- what is plain without comments is so with them
-pub comments_allowed : {k : Bool} {l : Last} {x : List ℕ} → Plain k l x → Plain true l x
-comments_allowed plain.ends = plain.ends
-comments_allowed (plain.blank h p) = plain.blank h (comments_allowed p)
-comments_allowed (plain.line a e n p) = plain.line refl e n (comments_allowed p)
-comments_allowed (plain.block a i p) = plain.block refl i (comments_allowed p)
-comments_allowed (plain.opens h p) = plain.opens h (comments_allowed p)
-comments_allowed (plain.closes n h p) = plain.closes n h (comments_allowed p)
-comments_allowed (plain.comma p) = plain.comma (comments_allowed p)
-comments_allowed (plain.colon p) = plain.colon (comments_allowed p)
-comments_allowed (plain.word w n p) = plain.word w n (comments_allowed p)
-comments_allowed (plain.string s p) = plain.string s (comments_allowed p)

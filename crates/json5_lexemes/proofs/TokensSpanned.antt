@@ -3,7 +3,7 @@ use Rattle.std.proofs.Common.{◌≡◌, ◌≢◌, ℕ, Bool, List, [], ◌∷�
 use Rattle.std.proofs.lemmas.List.{append-nil}
 use Rattle.json5_grammar.specs.Language.Blanks.{Blanks}
 use Rattle.json5_grammar.specs.Language.Blanks as blanks
-use Rattle.json5_grammar.specs.Language.Characters.{comma_sign, colon_sign, slash_sign, star_sign, left_bracket, right_bracket, left_brace, right_brace, NotBegun}
+use Rattle.json5_grammar.specs.Language.Characters.{comma_sign, colon_sign, slash_sign, star_sign, right_bracket, right_brace, NotBegun}
 use Rattle.json5_grammar.specs.Language.Trees.{Tree, Trees, Members}
 use Rattle.json5_grammar.specs.Language.Values.{KeyText, Val, is_null, is_true, is_false, is_number, is_text, is_empty_array, is_array, is_empty_object, is_object, ElementList, last as last_element, next, MemberList, last_member, next_member, Member, entry, LastComma, no_last_comma, last_comma}
 use Rattle.json5_grammar.proofs.ValuesRead.{regroup, regroup_pair}

@@ -6,4 +6,5 @@ pub mod Tokens
 pub mod Runs
 pub mod Plain
 pub mod Spans
+pub mod WithoutComments
 pub mod PlainSteps
