@@ -1,5 +1,5 @@
 -- Blanks, values and keys are whole tokens, and what is put together of such texts is so too.
-use Rattle.std.proofs.Common.{◌≡◌, ◌≢◌, ℕ, Bool, List, [], ◌∷◌, ◌++◌, refl, sym, subst, append_assoc}
+use Rattle.std.proofs.Common.{◌≡◌, ◌≢◌, ℕ, Bool, true, List, [], ◌∷◌, ◌++◌, refl, sym, subst, append_assoc}
 use Rattle.std.proofs.lemmas.List.{append-nil}
 use Rattle.json5_grammar.specs.Language.Blanks.{Blanks}
 use Rattle.json5_grammar.specs.Language.Blanks as blanks
@@ -7,7 +7,7 @@ use Rattle.json5_grammar.specs.Language.Characters.{comma_sign, colon_sign, slas
 use Rattle.json5_grammar.specs.Language.Trees.{Tree, Trees, Members}
 use Rattle.json5_grammar.specs.Language.Values.{KeyText, Val, is_null, is_true, is_false, is_number, is_text, is_empty_array, is_array, is_empty_object, is_object, ElementList, last as last_element, next, MemberList, last_member, next_member, Member, entry, LastComma, no_last_comma, last_comma}
 use Rattle.json5_grammar.proofs.ValuesRead.{regroup, regroup_pair}
-use Rattle.json5_lexemes.specs.SameLexemes.{is_word_part}
+use Rattle.json5_lexemes.specs.SameLexemes.{is_sign, is_word_part}
 use Rattle.json5_lexemes.specs.Spans.{Spans, Apart}
 use Rattle.json5_lexemes.specs.Spans as spans
 use Rattle.json5_lexemes.specs.Tokens.{Scalar}
@@ -63,6 +63,14 @@ joined {l = l} {n = n} y (spans.word {s = s} {r = r} some e k i) a j =
     subst (λ z. Spans l z n) (sym (append_assoc s r y)) (spans.word some e (stops_after r y i k a) (joined y i a j))
 joined {l = l} {n = n} y (spans.string {q = q} {s = s} {r = r} h k i) a j =
     subst (λ z. Spans l (q ∷ z) n) (sym (append_assoc s r y)) (spans.string h k (joined y i a j))
+
+-- ---- one token
+
+pub sign_span : (l : Last) (c : ℕ) → is_sign c ≡ true → Spans l (c ∷ []) last.Sign
+sign_span l c h = spans.sign h spans.nothing
+
+pub comma_span : (l : Last) → Spans l (comma_sign ∷ []) last.Comma
+comma_span l = spans.comma spans.nothing
 
 -- ---- blanks
 
