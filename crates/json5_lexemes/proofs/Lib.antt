@@ -4,6 +4,11 @@ pub mod SameLists
 pub mod OneList
 pub mod WordParts
 pub mod DocumentLexemes
+pub mod TokensSpanned
+pub mod PlainSeams
+pub mod JsonPlain
+pub mod Stripped
+pub mod PlainDocuments
 pub mod SettledLists
 pub mod SameTrees
 pub mod RunsPassed
