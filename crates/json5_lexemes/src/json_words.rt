@@ -36,11 +36,14 @@ pub(crate) fn is_json_word(text: &str) -> bool
     requires { Each is_json_part text.now }
     ensures { IsTrue result ↔ JsonWord (chars text.now) }
 {
+    if is_json_number(text.as_bytes()) {
+        return true;
+    }
     match text {
         "null" => true,
         "true" => true,
         "false" => true,
-        _ => is_json_number(text.as_bytes()),
+        _ => false,
     }
 }
 
