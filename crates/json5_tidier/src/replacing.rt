@@ -2,9 +2,10 @@
 
 use crate::trouble::Unwritten;
 use std::alloc::Global;
-use std::fs::{self, File, Metadata, OpenFile, OpenOptions};
+use std::fs::{self, Metadata, OpenFile, OpenOptions};
 use std::io::{self, ErrorKind, Read, Write};
-use std::os::unix::fs::MetadataExt;
+use std::os::fd::AsFd;
+use std::os::unix::fs::{MetadataExt, OpenOptionsExt, fchown};
 use std::rt::Files;
 
 /// Writes the text into a new file beside the old one, which then takes its name. A link's target is replaced.
@@ -16,7 +17,10 @@ pub(crate) fn replace_file<F: Files>(
     name: &str,
     before: &str,
     after: &str,
-) -> Result<(), Unwritten> {
+) -> Result<(), Unwritten>
+where
+    F::File: AsFd,
+{
     let path = match files.canonicalize(alloc, name) {
         Ok(path) => path.into_string(),
         Err(e) => return Err(refused(&e)),
@@ -29,7 +33,7 @@ pub(crate) fn replace_file<F: Files>(
         Ok(old) => old,
         Err(e) => return Err(refused(&e)),
     };
-    let new = match File::create_new(files, beside.as_str()) {
+    let new = match create_new(files, beside.as_str()) {
         Ok(new) => new,
         Err(e) if e.kind() == ErrorKind::AlreadyExists => return Err(Unwritten::Taken(beside)),
         Err(e) => return Err(refused(&e)),
@@ -47,6 +51,16 @@ pub(crate) fn replace_file<F: Files>(
         Ok(()) => Ok(()),
         Err(unwritten) => Err(removed(files, beside, unwritten)),
     }
+}
+
+/// Makes a new file, which nobody else may open before it has the permissions of the old one.
+fn create_new<F: Files>(files: &F, beside: &str) -> io::Result<F::File> {
+    OpenOptions::new()
+        .read(true)
+        .write(true)
+        .create_new(true)
+        .mode(0o600)
+        .open(files, beside)
 }
 
 /// Why the file stays as it is, after the new one was removed or couldn't be.
@@ -77,8 +91,11 @@ fn fill_and_rename<F: Files>(
     beside: &str,
     before: &str,
     after: &str,
-) -> Result<(), Unwritten> {
-    if let Err(e) = fill(files, new, old, beside, after) {
+) -> Result<(), Unwritten>
+where
+    F::File: AsFd,
+{
+    if let Err(e) = fill::<F>(new, old, after) {
         return Err(refused(&e));
     }
     match holds(files, alloc, path, before) {
@@ -93,26 +110,24 @@ fn fill_and_rename<F: Files>(
 }
 
 /// Gives the new file the owner and the permissions of the old one, writes the text, and waits until it is on the disk.
-fn fill<F: Files>(
-    files: &F,
-    new: F::File,
-    old: &Metadata,
-    beside: &str,
-    after: &str,
-) -> io::Result<()> {
+fn fill<F: Files>(new: F::File, old: &Metadata, after: &str) -> io::Result<()>
+where
+    F::File: AsFd,
+{
     let mut new = new;
-    keep_owner(files, &new.metadata()?, old, beside)?;
+    keep_owner(&new, old)?;
     new.set_permissions(old.permissions())?;
     new.write_all(after.as_bytes())?;
     new.sync_all()
 }
 
-/// Gives the new file the owner and the group of the old one, if it has others.
-fn keep_owner<F: Files>(files: &F, new: &Metadata, old: &Metadata, beside: &str) -> io::Result<()> {
-    if new.uid() == old.uid() && new.gid() == old.gid() {
+/// Gives the open file the owner and the group of the old one, if it has others. By its name it might be another file.
+fn keep_owner<F: OpenFile + AsFd>(new: &F, old: &Metadata) -> io::Result<()> {
+    let made = new.metadata()?;
+    if made.uid() == old.uid() && made.gid() == old.gid() {
         return Ok(());
     }
-    files.chown(beside, Some(old.uid()), Some(old.gid()))
+    fchown(new.as_fd(), Some(old.uid()), Some(old.gid()))
 }
 
 /// Whether the file holds this text.
