@@ -1,7 +1,8 @@
 /* Stands between a program and the C library's calls of the system (LD_PRELOAD). Of the calls below, the one that FAILED_CALL
  * numbers is refused with EIO, without being made; before the one that KILLED_BEFORE numbers, or right after the one that
- * KILLED_AFTER numbers, the process is killed. With SHORT_PIECES no read or write moves more than so many bytes. At the end the
- * count of calls is written to the file that CALLS_FILE names. */
+ * KILLED_AFTER numbers, the process is killed. With SHORT_PIECES no read or write moves more than so many bytes. With
+ * REFUSED_LINKS no file gets a second name, as in a file system without hard links. At the end the count of calls is written
+ * to the file that CALLS_FILE names. */
 #define _GNU_SOURCE
 #include <dlfcn.h>
 #include <errno.h>
@@ -17,6 +18,7 @@
 
 static unsigned long calls, failed, before, after;
 static size_t piece;
+static int refuses_links;
 
 static unsigned long number(const char *name) {
     const char *given = getenv(name);
@@ -28,6 +30,7 @@ __attribute__((constructor)) static void read_numbers(void) {
     before = number("KILLED_BEFORE");
     after = number("KILLED_AFTER");
     piece = number("SHORT_PIECES");
+    refuses_links = number("REFUSED_LINKS") != 0;
 }
 
 __attribute__((destructor)) static void say_count(void) {
@@ -91,8 +94,18 @@ int fsync(int file) { MAKE(-1, int, REAL("fsync", int, int)(file)); }
 
 int close(int file) { MAKE(-1, int, REAL("close", int, int)(file)); }
 
-int chown(const char *path, uid_t owner, gid_t group) {
-    MAKE(-1, int, REAL("chown", int, const char *, uid_t, gid_t)(path, owner, group));
+int fchown(int file, uid_t owner, gid_t group) { MAKE(-1, int, REAL("fchown", int, int, uid_t, gid_t)(file, owner, group)); }
+
+int ftruncate(int file, off_t length) { MAKE(-1, int, REAL("ftruncate", int, int, off_t)(file, length)); }
+
+off_t lseek(int file, off_t offset, int whence) { MAKE(-1, off_t, REAL("lseek", off_t, int, off_t, int)(file, offset, whence)); }
+
+int link(const char *from, const char *to) {
+    if (refuses_links) {
+        errno = EPERM;
+        return -1;
+    }
+    MAKE(-1, int, REAL("link", int, const char *, const char *)(from, to));
 }
 
 int rename(const char *from, const char *to) { MAKE(-1, int, REAL("rename", int, const char *, const char *)(from, to)); }

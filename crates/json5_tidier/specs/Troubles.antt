@@ -11,6 +11,7 @@ use Rattle.json5_tidier.specs.declared.trouble.Unwritten.TheVariants as unwritte
 abbrev pub unwritten_line : List ℕ → Unwritten → List ℕ
 unwritten_line name unwritten.Refused = named_report name (codes "cannot be written")
 unwritten_line name unwritten.Changed = named_report name (codes "changed meanwhile, and was left as it is")
+unwritten_line name unwritten.Linked = named_report name (codes "cannot be written: it has other hard links")
 unwritten_line name (unwritten.Taken beside) = named_report name (codes "cannot be written: " ++ (string_bytes beside ++ codes " is there"))
 unwritten_line name (unwritten.Remains beside) = named_report name (codes "cannot be written, and " ++ (string_bytes beside ++ codes " remains"))
 unwritten_line name unwritten.NoMemory = named_report name (codes "out of memory")

@@ -93,6 +93,7 @@ pub fn report_unwritten<E: Write>(name: &str, unwritten: &Unwritten, e: &mut E) 
     match unwritten {
         Unwritten::Refused => say(e, &[name, ": cannot be written\n"]),
         Unwritten::Changed => say(e, &[name, ": changed meanwhile, and was left as it is\n"]),
+        Unwritten::Linked => say(e, &[name, ": cannot be written: it has other hard links\n"]),
         Unwritten::NoMemory => say(e, &[name, ": out of memory\n"]),
         Unwritten::Taken(beside) => say(
             e,

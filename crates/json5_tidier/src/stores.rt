@@ -5,6 +5,7 @@ use crate::replacing::replace_file;
 use crate::trouble::Unwritten;
 use json5_formatter::Disk;
 use std::alloc::Global;
+use std::os::fd::AsFd;
 use std::rt::Files;
 use std::{fs, io};
 
@@ -57,7 +58,10 @@ pub trait Store: Disk {
 }
 
 /// The files of the system.
-impl<F: Files + AllocGlobal + Clone + Drop> Store for F {
+impl<F: Files + AllocGlobal + Clone + Drop> Store for F
+where
+    F::File: AsFd,
+{
     ghost use Rattle.json5_tidier.specs.Stores.{nothing_known};
 
     ghost known = { λ _. nothing_known };

@@ -7,6 +7,7 @@ ghost use Rattle.json5_tidier.specs.Troubles.{trouble_status};
 
 use json5_formatter::Failure;
 use json5_types::error::Error;
+use std::io::{self, ErrorKind};
 
 /// Why the work on a file ended.
 #[derive(Drop)]
@@ -30,12 +31,23 @@ pub enum Unwritten {
     Refused,
     /// The file isn't as it was read.
     Changed,
-    /// A file with the name of the new one is there.
+    /// It has other names, as hard links.
+    Linked,
+    /// A file with a name that would be needed is there.
     Taken(String),
-    /// The system refused a step, and then to remove the new file, which has this name.
+    /// The system refused a step, and then to remove a file, which has this name.
     Remains(String),
     /// Memory ran out.
     NoMemory,
+}
+
+impl From<io::Error> for Unwritten {
+    fn from(e: io::Error) -> Unwritten {
+        match e.kind() {
+            ErrorKind::OutOfMemory => Unwritten::NoMemory,
+            _ => Unwritten::Refused,
+        }
+    }
 }
 
 impl Trouble {

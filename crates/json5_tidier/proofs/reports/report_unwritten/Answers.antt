@@ -9,6 +9,9 @@ returns-in-Refused-clause-line g c = rw c.in-Refused.is c.say.ensures
 pub returns-in-Changed-clause-line : goal.returns-in-Changed-clause-line
 returns-in-Changed-clause-line g c = rw c.in-Changed.is c.say-in-Changed.ensures
 
+pub returns-in-Linked-clause-line : goal.returns-in-Linked-clause-line
+returns-in-Linked-clause-line g c = rw c.in-Linked.is c.say-in-Linked.ensures
+
 pub returns-in-NoMemory-clause-line : goal.returns-in-NoMemory-clause-line
 returns-in-NoMemory-clause-line g c = rw c.in-NoMemory.is c.say-in-NoMemory.ensures
 
