@@ -24,6 +24,7 @@ use Rattle.json5_edit.specs.Places.{IsValue, IsPart, HasPlace, IsPlace, Leads}
 use Rattle.json5_edit.specs.Seeks.{Finds, Seeks}
 use Rattle.json5_edit.specs.Sets.{IsSet}
 use Rattle.json5_edit.specs.declared.paths.Step.{Step}
+use Rattle.json5_edit.proofs.Seams.{closes_ends}
 
 -- ---- another value before what closes the brackets
 
@@ -80,6 +81,8 @@ is_place limit bytes path w p o l led q =
       old = q.old;
       after = q.after;
       cut = record { whole = q.whole; starts = q.starts; ends = q.ends };
+      passed = q.passed;
+      ends = closes_ends limit o q.after q.tree w c;
       tree = q.tree;
       value = q.value;
       positions = positions o [];

@@ -12,6 +12,7 @@ use Rattle.json5_text.specs.Outcome.{bytes_in}
 use Rattle.json5_value.specs.declared.brackets.BracketKind.{BracketKind as Kind}
 use Rattle.json5_value.specs.declared.brackets.BracketKind.TheVariants as kind
 use Rattle.json5_walk.specs.Frames.{Frame, in_array, in_object, value_end, Spells, At, at_value, at_element, at_key, at_colon, at_comma, CompletesUntil, is_inner}
+use Rattle.json5_walk.specs.Seams.{WholeTokens, is_unended}
 use Rattle.json5_walk.specs.Walks.{Walked, IsAt}
 use Rattle.json5_walk.proofs.Rests.{append_nil}
 use Rattle.json5_walk.proofs.Calls.{bytes_before}
@@ -154,6 +155,13 @@ inside_inner (at_colon ps u b o) e = refl
 inside_inner (at_comma t []) e = absurd (cc)
 inside_inner (at_comma t (f ∷ o)) e = refl
 
+inside_unended : (a : At) → is_inside a ≡ true → is_unended a ≡ awaits_comma a
+inside_unended (at_value o) e = absurd (cc)
+inside_unended (at_element ts o) e = refl
+inside_unended (at_key ps o) e = refl
+inside_unended (at_colon ps u b o) e = absurd (cc)
+inside_unended (at_comma t o) e = refl
+
 -- where a walk over a value stands
 spot_at : {v : Walked} {m : Option (List Frame)} (a : At) (w : Tree) (n : ℕ) → IsAt v (record { now = a; marked = m }) → is_inside a ≡ true → around a ≡ [] → Spells value_end v.limit (chars v.text) w → n ≡ length v.text - bytes_in v.unread → (p : Spot v.limit v.text (read_in a) (awaits_comma a) n) × (p.rest ≡ v.unread)
 spot_at {v = v} a w n f i e s is = (
@@ -162,6 +170,7 @@ spot_at {v = v} a w n f i e s is = (
     rest = v.unread;
     split = f.split;
     starts = is ∙ bytes_before v.text f.front v.unread f.is_text f.split;
+    passed = subst (λ due. WholeTokens due f.front) (inside_unended a i) (f.passed something);
     goes = λ u z k g d. f.exact (inside_inner a i) z (joined (read_in a) u) (λ none. absurd (something none)) (completes v.limit a u z i e k g d);
     back = λ w s. goes_on v.limit a w v.unread i e (f.back value_end w s);
   },
@@ -180,6 +189,7 @@ spot {limit = limit} {bytes = bytes} {t = t} {due = due} {v = v} w n h s is =
         rest = p.rest;
         split = subst (λ x. chars x ≡ p.front ++ p.rest) h.same_text p.split;
         starts = p.starts;
+        passed = subst (λ b. WholeTokens b p.front) h.is_due p.passed;
         goes = λ u z k g d.
             let made = p.goes u z (k ∙ ap kind_of (sym h.read)) (subst (λ b. Goes b u z) (sym h.is_due) g) (subst (λ l. depth u ≤ l) (sym h.same_limit) d) in
             subst (λ l. Spells value_end l (p.front ++ z) (joined t u)) h.same_limit (subst (λ r. Spells value_end v.limit (p.front ++ z) (joined r u)) h.read made);

@@ -1,10 +1,15 @@
 -- Where a path leads in a text.
-use Rattle.std.specs.Prelude.{◌≡◌, ℕ, ◌≤◌, ◌-◌, List, ◌++◌, length, Option, Some, None, MatchOption, option_map}
+use Rattle.std.specs.Prelude.{◌≡◌, ◌⊎◌, ◌||◌, ◌==◌, ℕ, ◌≤◌, ◌-◌, Bool, true, false, List, ◌++◌, length, Option, Some, None, MatchOption, option_map}
 use Rattle.std.specs.Str.{chars}
+use Rattle.json5_grammar.specs.Language.Blanks.{LastBlanks}
+use Rattle.json5_grammar.specs.Language.Characters.{comma_sign}
 use Rattle.json5_grammar.specs.Language.Documents.{Doc, max_depth}
 use Rattle.json5_grammar.specs.Language.Trees.{Tree, depth}
 use Rattle.json5_grammar.specs.Language.Values.{Val}
+use Rattle.json5_grammar.specs.Model.Collections.{IsSign}
+use Rattle.json5_lexemes.specs.Plain.{is_closing}
 use Rattle.json5_text.specs.Outcome.{bytes_in}
+use Rattle.json5_walk.specs.Seams.{WholeTokens}
 use Rattle.json5_walk.specs.declared.place.Place.{Place}
 use Rattle.json5_edit.specs.Parts.{part, put, positions_of}
 use Rattle.json5_edit.specs.declared.places.Span.{Span}
@@ -23,13 +28,28 @@ pub record IsPart (text : List ℕ) (p : Place) (before old after : List ℕ) : 
 abbrev pub HasPlace : List ℕ → Place → Type 0
 HasPlace text p = (before old after : List ℕ) × IsPart text p before old after
 
--- the place is the value in the document of the tree w that the path leads to, its room is what the brackets around it
--- leave, and with any other value in its place the text is a document of the tree with that part alone replaced
+-- a comma or a closing bracket
+abbrev pub ends_entry : ℕ → Bool
+ends_entry c = (c == comma_sign) || is_closing c
+
+-- x goes on with blanks and such a sign
+abbrev pub EndsEntry : List ℕ → Type 0
+EndsEntry x = (c : ℕ) × (r : List ℕ) × (ends_entry c ≡ true) × IsSign c x r
+
+-- x goes on with what may follow a value: blanks and such a sign, or the last blanks of the text
+abbrev pub EndsValue : List ℕ → Type 0
+EndsValue x = EndsEntry x ⊎ LastBlanks x
+
+-- the place is the value in the document of the tree w that the path leads to, between whole tokens, its room is what
+-- the brackets around it leave, and with any other value in its place the text is a document of the tree with that part
+-- alone replaced
 pub record IsPlace (text : List ℕ) (path : List Step) (w : Tree) (p : Place) : Type 0 where
   pub before : List ℕ
   pub old : List ℕ
   pub after : List ℕ
   pub cut : IsPart text p before old after
+  pub passed : WholeTokens false before
+  pub ends : EndsValue after
   pub tree : Tree
   pub value : Val old tree
   pub positions : List ℕ

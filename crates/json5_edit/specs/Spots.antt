@@ -12,6 +12,7 @@ use Rattle.json5_types.specs.declared.error.Error.{Error}
 use Rattle.json5_value.specs.declared.brackets.BracketKind.{BracketKind as Kind}
 use Rattle.json5_value.specs.declared.brackets.BracketKind.TheVariants as kind
 use Rattle.json5_walk.specs.Frames.{Frame, value_end, Spells, At, at_value, at_element, at_key, at_colon, at_comma}
+use Rattle.json5_walk.specs.Seams.{WholeTokens}
 use Rattle.json5_walk.specs.Walks.{Walked, Trail, IsAt, AwaitsKey}
 use Rattle.json5_edit.specs.Changes.{ChangesBy}
 use Rattle.json5_edit.specs.Comparing.{LacksKey, GoesTo, IsWithout, IsWithLast, step_kind, step_key}
@@ -40,13 +41,14 @@ joined (array ts) (array us) = array (joined_trees ts us)
 joined (object ps) (object qs) = object (joined_members ps qs)
 joined t u = t
 
--- at the offset n of a text, which is one value, the entries of t have come, and a comma is due before the next or not:
--- whatever may go on there makes what comes before the offset a value
+-- at the offset n of a text, which is one value, the entries of t have come as whole tokens, and a comma is due before
+-- the next or not: whatever may go on there makes what comes before the offset a value
 pub record Spot (limit : ℕ) (bytes : List ℕ) (t : Tree) (due : Bool) (n : ℕ) : Type 0 where
   pub front : List ℕ
   pub rest : List ℕ
   pub split : chars bytes ≡ front ++ rest
   pub starts : n ≡ bytes_in front
+  pub passed : WholeTokens due front
   pub goes : (u : Tree) (z : List ℕ) → kind_of u ≡ kind_of t → Goes due u z → depth u ≤ limit → Spells value_end limit (front ++ z) (joined t u)
   pub back : (w : Tree) → Spells value_end limit (chars bytes) w → (u : Tree) × (kind_of u ≡ kind_of t) × Goes due u rest × (depth u ≤ limit) × (w ≡ joined t u)
 

@@ -36,10 +36,11 @@ use Rattle.json5_walk.specs.declared.next.Next.{Next}
 use Rattle.json5_walk.specs.declared.next.Next.TheVariants as next
 use Rattle.json5_walk.specs.declared.place.Place.{Place}
 use Rattle.json5_walk.specs.Nexts.{takes_value}
+use Rattle.json5_walk.specs.Seams.{WholeTokens, no_token, then_value}
 use Rattle.json5_walk.specs.Frames.{Frame, in_array, in_object, Fits, Until, text_end, value_end, Spells, At, at_value, at_element, at_key, at_colon, at_comma, next_of, kinds_of, value_frames, CompletesUntil, CompletesTo}
 use Rattle.json5_walk.specs.Moves.{Stays, TakesValue, takes, Opens, TakesKeyOf, TakesColon, TakesComma, Closes}
 use Rattle.json5_walk.specs.Walks.{kinds_onto, kinds_in, IsInnermost, count_in, member_next, may_close, Walked, at_start, room_of, Trail, IsMarked, IsAt, Live, IsWalk, Moved, MovedMarking, Unmarked, IsDocument, IsDocumentWithin, Ends}
-use Rattle.json5_walk.proofs.Rests.{append_nil, reads_gap, token_reads, value_kinds, value_count, Move, gap_move, inner_value, value_completes, value_due, value_move, key_move, colon_move, comma_move, open_move, close_move}
+use Rattle.json5_walk.proofs.Rests.{append_nil, no_rest, before_value, reads_gap, token_reads, value_kinds, value_count, Move, gap_move, inner_value, value_completes, value_due, value_move, key_move, colon_move, comma_move, open_move, close_move}
 
 -- ---- the open brackets
 
@@ -104,7 +105,7 @@ marked_rest : (limit : ℕ) (bytes : List ℕ) (P Q : Tree → Type 0) (p : Opti
 marked_rest limit bytes P Q None None k q = q
 marked_rest limit bytes P Q None (Some o) k q = q
 marked_rest limit bytes P Q (Some p) None k q = q
-marked_rest limit bytes P Q (Some p) (Some o) k q = record { before = q.before; old = q.old; after = q.after; whole = q.whole; starts = q.starts; ends = q.ends; inside = q.inside; room = q.room; tree = q.tree; value = q.value; from = q.from; due = q.due; around = q.around; front = q.front; rest = λ w c. q.rest w (k w c) }
+marked_rest limit bytes P Q (Some p) (Some o) k q = record { before = q.before; old = q.old; after = q.after; whole = q.whole; starts = q.starts; ends = q.ends; inside = q.inside; room = q.room; tree = q.tree; value = q.value; from = q.from; due = q.due; around = q.around; front = q.front; passed = q.passed; rest = λ w c. q.rest w (k w c) }
 
 -- the walk after s was taken, and y is left
 abbrev pub after_token : Walked → List ℕ → List BracketKind → Next → Walked
@@ -118,6 +119,7 @@ goes_on v s f c y m p Step e l k = record {
   split = f.split ∙ ap (λ z. f.front ++ z) e ∙ sym (append_assoc f.front c y);
   is_next = k.is_next;
   is_kinds = k.is_kinds;
+  passed = λ some. k.tokens f.front some (f.passed (λ nothing. some (no_rest c y (sym e ∙ nothing))));
   goes = λ z w n h. subst (λ x. Doc v.limit x w) (sym (append_assoc f.front c z)) (f.goes (c ++ z) w (still_ends c v.unread y z e n) (k.step text_end z w refl n h));
   exact = λ i z w n h. subst (λ x. Spells value_end v.limit x w) (sym (append_assoc f.front c z)) (f.exact (k.inner i) (c ++ z) w (still_ends c v.unread y z e n) (k.step value_end z w i n h));
   back = λ end w d. k.back end w (subst (λ x. CompletesUntil end v.limit s.now x w) e (f.back end w d));
@@ -158,6 +160,7 @@ starts_at {bytes = bytes} {limit = limit} u = record {
   split = refl;
   is_next = refl;
   is_kinds = refl;
+  passed = λ some. no_token;
   goes = λ z w n (t, r, p, d, (b, is)). subst (λ x. Doc limit z x) (sym is) (phrase_document limit z r t p b (omega (arith, d)));
   exact = λ i z w n (t, r, p, d, (b, is)). subst (λ x. Spells value_end limit z x) (sym is) (subst (λ q. Reads z t q) b p, omega (arith, d));
   back = λ end w d. whole_due limit end (chars bytes) w d;
@@ -168,7 +171,7 @@ pub starts : {bytes : List ℕ} {limit : ℕ} → IsUtf8 bytes → limit ≤ max
 starts u l = record { small = l; live = λ h. (record { now = at_value []; marked = None }, starts_at u) }
 
 pub unmarks : {old : Walked} → Unmarked old (record { text = old.text; unread = old.unread; limit = old.limit; kinds = old.kinds; next = old.next; place = None })
-unmarks {old = old} = record { text = refl; limit = refl; same_next = refl; same_kinds = refl; same_unread = refl; leads = λ s f. record { fits = f.fits; is_text = f.is_text; front = f.front; split = f.split; is_next = f.is_next; is_kinds = f.is_kinds; goes = f.goes; exact = f.exact; back = f.back; marked = tt } }
+unmarks {old = old} = record { text = refl; limit = refl; same_next = refl; same_kinds = refl; same_unread = refl; leads = λ s f. record { fits = f.fits; is_text = f.is_text; front = f.front; split = f.split; is_next = f.is_next; is_kinds = f.is_kinds; passed = f.passed; goes = f.goes; exact = f.exact; back = f.back; marked = tt } }
 
 pub keeps_unmarked : {old new : Walked} → IsWalk old → Unmarked old new → IsWalk new
 keeps_unmarked {old = old} {new = new} w k = record {
@@ -349,7 +352,8 @@ mark_moves {old = old} {y = y} p v r k start end = record {
       let count : length o ≡ length old.kinds = around s f v in
       let all : chars old.text ≡ (f.front ++ k.taken) ++ y = f.split ∙ ap (λ z. f.front ++ z) k.split ∙ sym (append_assoc f.front k.taken y) in
       let l : length o ≤ old.limit = subst (λ n. n ≤ old.limit) (sym count) f.fits in
-      let room : p.room ≡ old.limit - length o = r ∙ ap (λ n. old.limit - n) (sym count) in (
+      let room : p.room ≡ old.limit - length o = r ∙ ap (λ n. old.limit - n) (sym count) in
+      let before : WholeTokens false f.front = before_value s.now d (f.passed (begun k)) in (
         at_comma k.tree o,
         takes s.now k.tree k.taken d k.split k.value (subst (λ n. depth k.tree ≤ n) r k.shallow),
         record {
@@ -359,6 +363,7 @@ mark_moves {old = old} {y = y} p v r k start end = record {
           split = all;
           is_next = refl;
           is_kinds = value_kinds s.now d ∙ f.is_kinds;
+          passed = λ some. then_value before k.value;
           goes = λ z w n c. subst (λ x. Doc old.limit x w) (sym (append_assoc f.front k.taken z)) (f.goes (k.taken ++ z) w (λ e. absurd (begun k e)) (value_completes old.limit text_end s.now [] k.taken z k.tree w d Blanks.empty k.value (room_fits old.limit (length o) (depth k.tree) p.room l room k.shallow) c));
           exact = λ i z w n c. subst (λ x. Spells value_end old.limit x w) (sym (append_assoc f.front k.taken z)) (f.exact (inner_value s.now d) (k.taken ++ z) w (λ e. absurd (begun k e)) (value_completes old.limit value_end s.now [] k.taken z k.tree w d Blanks.empty k.value (room_fits old.limit (length o) (depth k.tree) p.room l room k.shallow) c));
           back = λ end w h. value_due old.limit end s.now old.unread y k.tree w d (token_reads old.unread k.taken y k.tree k.split k.value k.stops) (f.back end w h);
@@ -377,6 +382,7 @@ mark_moves {old = old} {y = y} p v r k start end = record {
             due = d;
             around = refl;
             front = λ z w c. f.goes z w (λ e. absurd (begun k e)) c;
+            passed = before;
             rest = λ w c. c;
           };
         },

@@ -22,6 +22,7 @@ use Rattle.json5_value.specs.declared.brackets.BracketKind.TheVariants as kind
 use Rattle.json5_walk.specs.declared.next.Next.{Next}
 use Rattle.json5_walk.specs.declared.next.Next.TheVariants as next
 use Rattle.json5_walk.specs.Nexts.{takes_value}
+use Rattle.json5_walk.specs.Seams.{is_punctuator, WholeTokens, then_blanks, then_punctuator, then_key, then_value, as_unended, is_unended}
 use Rattle.json5_walk.specs.Frames.{Frame, in_array, in_object, Fits, Until, text_end, value_end, Last, ClosesUntil, At, at_value, at_element, at_key, at_colon, at_comma, next_of, frame_kinds, kinds_of, value_frames, is_inner, takes_blanks, CompletesUntil}
 use Rattle.json5_walk.specs.Moves.{Stays, stays, Opens, opens_array, opens_object, TakesKeyOf, takes_key, TakesColon, takes_colon, TakesComma, after_element, after_member, Closes, closes_elements, closes_array, closes_members, closes_object}
 use Rattle.json5_walk.specs.Walks.{member_next, may_close}
@@ -118,11 +119,36 @@ inner_value (at_key ps o) v = absurd (cc)
 inner_value (at_colon ps u e o) v = absurd (cc)
 inner_value (at_comma s o) v = absurd (cc)
 
+-- ---- whole tokens
+
+gap_tokens : {g y x : List ℕ} {unended : Bool} → Gap g y → (y ≡ [] → ⊥) → WholeTokens unended x → WholeTokens unended (x ++ g)
+gap_tokens (Gap.blanks b) n h = then_blanks h b
+gap_tokens (at_end l) n h = absurd (n refl)
+
+-- a value is due after what has ended
+pub before_value : {x : List ℕ} (a : At) → true ≡ takes_value (next_of a) → WholeTokens (is_unended a) x → WholeTokens false x
+before_value (at_value o) v h = h
+before_value (at_element ts o) v h = h
+before_value (at_key ps o) v h = absurd (cc)
+before_value (at_colon ps u e o) v h = absurd (cc)
+before_value (at_comma t o) v h = absurd (cc)
+
+value_tokens : {g s : List ℕ} {t : Tree} (x : List ℕ) → Blanks g → Val s t → WholeTokens false x → WholeTokens true (x ++ (g ++ s))
+value_tokens {g = g} {s = s} x b v h = subst (WholeTokens true) (append_assoc x g s) (then_value (then_blanks h b) v)
+
+key_tokens : {g k r u : List ℕ} {e : Bool} (x : List ℕ) → Blanks g → Key k r u e → WholeTokens false x → WholeTokens true (x ++ (g ++ k))
+key_tokens {g = g} {k = k} x b q h = subst (WholeTokens true) (append_assoc x g k) (then_key (then_blanks h b) (key_spelling q))
+
+sign_tokens : {c : ℕ} {z y : List ℕ} {unended : Bool} (x : List ℕ) (p : IsSign c z y) → is_punctuator c ≡ true → WholeTokens unended x → WholeTokens false (x ++ (p.front ++ c ∷ []))
+sign_tokens {c = c} x p is h = subst (WholeTokens false) (append_assoc x p.front (c ∷ [])) (then_punctuator c (then_blanks h p.blank) is)
+
+-- ---- what ends a text
+
 last_stops : (e : Until) (x s : List ℕ) → Last e x → Stops s x
 last_stops text_end x s l = stops_last s l
 last_stops value_end x s l = subst (Stops s) (sym l) tt
 
-no_rest : (g y : List ℕ) → g ++ y ≡ [] → y ≡ []
+pub no_rest : (g y : List ℕ) → g ++ y ≡ [] → y ≡ []
 no_rest [] y e = e
 no_rest (c ∷ g) y e = let k : c ∷ (g ++ y) ≡ [] = e in absurd (cc)
 
@@ -144,6 +170,7 @@ module _ (limit : ℕ) where
     pub is_next : next_of to ≡ m
     pub is_kinds : kinds_of to ≡ p
     pub inner : is_inner to ≡ true → is_inner a ≡ true
+    pub tokens : (x : List ℕ) → (y ≡ [] → ⊥) → WholeTokens (is_unended a) x → WholeTokens (is_unended to) (x ++ s)
     pub step : (e : Until) (z : List ℕ) (w : Tree) → takes_blanks e to ≡ true → (y ≡ [] → z ≡ []) → CompletesUntil e limit to z w → CompletesUntil e limit a (s ++ z) w
     pub back : (e : Until) (w : Tree) → CompletesUntil e limit a (s ++ y) w → CompletesUntil e limit to y w
 
@@ -184,6 +211,7 @@ module _ (limit : ℕ) where
     is_next = refl;
     is_kinds = refl;
     inner = λ h. h;
+    tokens = λ x n h. gap_tokens b n h;
     step = λ e z w h k c. completes_gap e g z (other_gap b k) a w h c;
     back = λ e w c. gap_left e g y b s a w c;
   }
@@ -222,6 +250,7 @@ module _ (limit : ℕ) where
     is_next = refl;
     is_kinds = value_kinds a v;
     inner = λ h. inner_value a v;
+    tokens = λ x n h. value_tokens x p.blank p.value (before_value a v h);
     step = λ e z w h k c. value_completes e a p.front p.phrase z t w v p.blank p.value f c;
     back = λ e w c. value_due e a ((p.front ++ p.phrase) ++ y) y t w v (reads_again p.front p.phrase y t p.blank p.value p.stops) c;
   }
@@ -248,6 +277,7 @@ module _ (limit : ℕ) where
     is_next = refl;
     is_kinds = refl;
     inner = λ h. refl;
+    tokens = λ x n h. key_tokens x k.blank k.key h;
     step = λ end z w h n c. key_completes end ps o k.front k.spelling y u z e w k.blank k.key c;
     back = λ end w c. key_due end ps o ((k.front ++ k.spelling) ++ y) y u e w (key_again k.front k.spelling y u e k.blank k.key) c;
   }
@@ -269,6 +299,7 @@ module _ (limit : ℕ) where
     is_next = refl;
     is_kinds = refl;
     inner = λ h. refl;
+    tokens = λ x n h. sign_tokens x p refl h;
     step = λ e z w n k (t, r, q, f, h). (t, r, (z, sign_again p z, q), f, h);
     back = λ e w (t, r, (z, a, q), f, h). (t, r, subst (λ m. Reads m t r) (same_sign 58 ((p.front ++ 58 ∷ []) ++ y) z y colon_solid a (sign_again p y)) q, f, h);
   }
@@ -284,6 +315,7 @@ module _ (limit : ℕ) where
     is_next = refl;
     is_kinds = refl;
     inner = λ h. refl;
+    tokens = λ x n h. sign_tokens x p refl h;
     step = λ e z w n k (us, r, tl, f, h). (us, r, tail_comma us ((p.front ++ 44 ∷ []) ++ z) z r (sign_again p z) tl, f, subst (λ x. ClosesUntil e limit o (array x) r w) (joined_one ts us t) h);
     back = λ e w (us, r, tl, f, h). (us, r, tail_after_comma us ((p.front ++ 44 ∷ []) ++ y) y r (sign_again p y) tl, f, subst (λ x. ClosesUntil e limit o (array x) r w) (sym (joined_one ts us t)) h);
   }
@@ -293,6 +325,7 @@ module _ (limit : ℕ) where
     is_next = refl;
     is_kinds = refl;
     inner = λ h. refl;
+    tokens = λ x n h. sign_tokens x p refl h;
     step = λ e z w n k (qs, r, tl, f, h). (qs, r, pairs_comma qs ((p.front ++ 44 ∷ []) ++ z) z r (sign_again p z) tl, f, subst (λ x. ClosesUntil e limit o (object x) r w) (joined_one_member ps qs u b t) h);
     back = λ e w (qs, r, tl, f, h). (qs, r, pairs_after_comma qs ((p.front ++ 44 ∷ []) ++ y) y r (sign_again p y) tl, f, subst (λ x. ClosesUntil e limit o (object x) r w) (sym (joined_one_member ps qs u b t)) h);
   }
@@ -338,6 +371,7 @@ module _ (limit : ℕ) where
     is_next = refl;
     is_kinds = refl;
     inner = λ h. refl;
+    tokens = λ x n h. sign_tokens x p refl h;
     step = λ e z w n k (us, r, tl, f, h). (array us, r, array_reads ((p.front ++ 91 ∷ []) ++ z) z r us (sign_again p z) tl, omega (arith, f), h);
     back = λ e w (t, r, q, f, h). array_due e o ((p.front ++ 91 ∷ []) ++ y) y r t w (sign_again p y) q f h;
   }
@@ -347,6 +381,7 @@ module _ (limit : ℕ) where
     is_next = refl;
     is_kinds = refl;
     inner = λ h. refl;
+    tokens = λ x n h. sign_tokens x p refl h;
     step = λ e z w n k (qs, r, tl, f, h). (object qs, r, object_reads ((p.front ++ 123 ∷ []) ++ z) z r qs (sign_again p z) tl, omega (arith, f), h);
     back = λ e w (t, r, q, f, h). object_due e o ((p.front ++ 123 ∷ []) ++ y) y r t w (sign_again p y) q f h;
   }
@@ -356,6 +391,7 @@ module _ (limit : ℕ) where
     is_next = refl;
     is_kinds = refl;
     inner = λ h. refl;
+    tokens = λ x n h. sign_tokens x p refl h;
     step = λ e z w n k (us, r, tl, f, (vs, q, tail, d, h)). (more (array us) vs, q, (r, array_reads ((p.front ++ 91 ∷ []) ++ z) z r us (sign_again p z) tl, tail), omega (arith, f, d), h);
     back = λ e w c.
         let x : List ℕ = (p.front ++ 91 ∷ []) ++ y in
@@ -369,6 +405,7 @@ module _ (limit : ℕ) where
     is_next = refl;
     is_kinds = refl;
     inner = λ h. refl;
+    tokens = λ x n h. sign_tokens x p refl h;
     step = λ e z w n k (qs, r, tl, f, (vs, q, tail, d, h)). (more (object qs) vs, q, (r, object_reads ((p.front ++ 123 ∷ []) ++ z) z r qs (sign_again p z) tl, tail), omega (arith, f, d), h);
     back = λ e w c.
         let x : List ℕ = (p.front ++ 123 ∷ []) ++ y in
@@ -400,6 +437,7 @@ module _ (limit : ℕ) where
         is_next = refl;
         is_kinds = cc;
         inner = λ h. refl;
+        tokens = λ x n h. as_unended (sign_tokens x p refl h);
         step = λ e z w n m c. (no_more, z, sign_again p z, omega (arith, l, k), subst (λ x. ClosesUntil e limit o (array x) z w) (sym (joined_none ts)) c);
         back = λ e w (us, r, tl, f, h). subst (λ x. ClosesUntil e limit o (array x) y w) (joined_none ts) (array_done e o ts us false ((p.front ++ 93 ∷ []) ++ y) y r w (sign_again p y) tl h);
       }
@@ -411,6 +449,7 @@ module _ (limit : ℕ) where
         is_next = refl;
         is_kinds = cc;
         inner = λ h. refl;
+        tokens = λ x n h. as_unended (sign_tokens x p refl h);
         step = λ e z w n m c. (no_more, z, inl (sign_again p z), omega (arith, l, k), subst (λ x. ClosesUntil e limit o (array x) z w) (sym (snoc_last ts t)) c);
         back = λ e w (us, r, tl, f, h). subst (λ x. ClosesUntil e limit o (array x) y w) (joined_none (snoc ts t)) (array_done e o (snoc ts t) us true ((p.front ++ 93 ∷ []) ++ y) y r w (sign_again p y) tl (subst (λ x. ClosesUntil e limit o (array x) r w) (sym (joined_one ts us t)) h));
       }
@@ -422,6 +461,7 @@ module _ (limit : ℕ) where
         is_next = refl;
         is_kinds = cc;
         inner = λ h. refl;
+        tokens = λ x n h. as_unended (sign_tokens x p refl h);
         step = λ e z w n m c. (no_member, z, sign_again p z, omega (arith, l, k), subst (λ x. ClosesUntil e limit o (object x) z w) (sym (joined_no_member ps)) c);
         back = λ e w (qs, r, tl, f, h). subst (λ x. ClosesUntil e limit o (object x) y w) (joined_no_member ps) (object_done e o ps qs false ((p.front ++ 125 ∷ []) ++ y) y r w (sign_again p y) tl h);
       }
@@ -433,6 +473,7 @@ module _ (limit : ℕ) where
         is_next = refl;
         is_kinds = cc;
         inner = λ h. refl;
+        tokens = λ x n h. as_unended (sign_tokens x p refl h);
         step = λ e z w n m c. (no_member, z, inl (sign_again p z), omega (arith, l, k), subst (λ x. ClosesUntil e limit o (object x) z w) (sym (snoc_last_member ps u q t)) c);
         back = λ e w (qs, r, tl, f, h). subst (λ x. ClosesUntil e limit o (object x) y w) (joined_no_member (snoc_member ps u q t)) (object_done e o (snoc_member ps u q t) qs true ((p.front ++ 125 ∷ []) ++ y) y r w (sign_again p y) tl (subst (λ x. ClosesUntil e limit o (object x) r w) (sym (joined_one_member ps qs u q t)) h));
       }
