@@ -1,4 +1,5 @@
 -- Lists the lemmas about lexemes.
+pub mod BarePlain
 pub mod SameSteps
 pub mod SameLists
 pub mod OneList

@@ -160,7 +160,7 @@ ending_once value e f (x, inl a) (y, inr b) = absurd (b.1 e a)
 ending_once value e f (x, inr a) (y, inl b) = absurd (a.1 f b)
 ending_once value e f (x, inr a) (y, inr b) = sym a.0 ∙ b.0
 
-commas_at : List ℕ → LastCommas
+abbrev commas_at : List ℕ → LastCommas
 commas_at word = cond (second word == 117) commas.Auto (cond (second word == 108) commas.Always commas.Never)
 
 commas_found : (c : LastCommas) → commas_at (commas_word c) ≡ c
