@@ -27,11 +27,11 @@ Folders named .git or node_modules are passed over, and links too.
   --indent N          N spaces a level, 1 to 16; tab: a tab (2)
   --width N           characters that a line may have, 1 to 9999 (80)
   --last-commas WHEN  a comma after the last of a collection over several lines:
-                      always; never; or auto: in .json5 files, never in .json and
-                      .jsonc files, in others if the text isn't JSON (auto)
+                      always; never; or auto: in .json5 files, never in .json
+                      and .jsonc files, in others if the text isn't JSON (auto)
   --no-last-comma     the same as --last-commas never
   --ext ENDING        in folders look for files with this ending too
-  --stdin-name FILE   the name of standard input: for last commas, and in reports
+  --stdin-name FILE   the name of standard input: for last commas and in reports
   --                  what follows is no option
   --help              writes this
   --version           writes the version
