@@ -3,6 +3,7 @@
 ghost use Rattle.std.specs.Prelude.{◌≡◌, ◌+◌, ◌≤◌, length, map};
 ghost use Rattle.std.specs.List.{prefix_len};
 ghost use Rattle.std.specs.Simd.Lanes.{mask_l};
+ghost use Rattle.json5_text.specs.Scan.{SkipsAll};
 ghost use Rattle.json5_layouts.specs.Json.{is_unescaped};
 ghost use Rattle.json5_layouts.specs.JsonEscapes.{ends_unescaped, StandsBefore};
 
@@ -94,7 +95,8 @@ fn unescaped_len(bytes: &[u8]) -> usize
 /// ```
 #[inline(always)]
 pub fn skip_unescaped(text: &str) -> &str
-    ensures { StandsBefore text.now result.now }
+    ensures stands { StandsBefore text.now result.now }
+    ensures run { SkipsAll is_unescaped text.now result.now }
 {
     let end = unescaped_len(text.as_bytes());
     text.split_at(end).1

@@ -40,7 +40,7 @@ has_nothing = record { list = []; lexed = lexemes.no_lexeme; kept = refl }
 has_separator : (c : ℕ) {r : List ℕ} {ls : List (List ℕ)} → is_separator c ≡ true → Has r ls → Has (c ∷ r) ls
 has_separator c p h = record { list = h.list; lexed = lexemes.separator p h.lexed; kept = h.kept }
 
-sign_no_comment : (c : ℕ) → is_sign c ≡ true → (c == slash_sign) ≡ false
+pub sign_no_comment : (c : ℕ) → is_sign c ≡ true → (c == slash_sign) ≡ false
 sign_no_comment c h = grind (arith, nat_tests)
 
 has_sign : (c : ℕ) {r : List ℕ} {ls : List (List ℕ)} → is_sign c ≡ true → Has r ls → Has (c ∷ r) ((c ∷ []) ∷ ls)
@@ -48,23 +48,23 @@ has_sign c p h = record { list = (c ∷ []) ∷ h.list; lexed = lexemes.sign p h
 
 -- ---- blanks
 
-blank_separates : (c : ℕ) → is_blank c ≡ true → is_separator c ≡ true
+pub blank_separates : (c : ℕ) → is_blank c ≡ true → is_separator c ≡ true
 blank_separates c h = by_comma (c == comma_sign) (is_blank c) h
   where
     by_comma : (a b : Bool) → b ≡ true → (a || b) ≡ true
     by_comma true b h = refl
     by_comma false b h = h
 
-terminator_blank : (c : ℕ) → is_terminator c ≡ true → is_blank c ≡ true
+pub terminator_blank : (c : ℕ) → is_terminator c ≡ true → is_blank c ≡ true
 terminator_blank c h = grind (arith, nat_tests)
 
-not_part : (c : ℕ) → is_separator c ≡ true → is_word_part c ≡ false
+pub not_part : (c : ℕ) → is_separator c ≡ true → is_word_part c ≡ false
 not_part c h = rw h refl
 
 slash_no_part : is_word_part slash_sign ≡ false
 slash_no_part = rw (printable_no_blank slash_sign refl) refl
 
-sign_no_part : (c : ℕ) → is_sign c ≡ true → is_word_part c ≡ false
+pub sign_no_part : (c : ℕ) → is_sign c ≡ true → is_word_part c ≡ false
 sign_no_part c h = by_separator (is_separator c) (is_sign c) (is_quote c || (c == slash_sign)) h
   where
     by_separator : (a b d : Bool) → b ≡ true → not (a || (b || d)) ≡ false
@@ -72,7 +72,7 @@ sign_no_part c h = by_separator (is_separator c) (is_sign c) (is_quote c || (c =
     by_separator false b d h = rw h refl
 
 -- blanks begin no word
-blanks_stop : {w : List ℕ} (r : List ℕ) → Blanks w → NotBegun is_word_part r → NotBegun is_word_part (w ++ r)
+pub blanks_stop : {w : List ℕ} (r : List ℕ) → Blanks w → NotBegun is_word_part r → NotBegun is_word_part (w ++ r)
 blanks_stop r blanks.empty n = n
 blanks_stop r (blanks.blank {c = c} p b) n = not_part c (blank_separates c p)
 blanks_stop r (blanks.line c e t b) n = slash_no_part
@@ -95,7 +95,7 @@ has_last : {w : List ℕ} → LastBlanks w → Has w []
 has_last (LastBlanks.blanks {w = w} b) = subst (λ z. Has z []) (append-nil w) (has_blanks [] [] b has_nothing)
 has_last (blanks.open_line {w = w} {x = x} b e) = has_blanks (slash_sign ∷ slash_sign ∷ x) [] b (subst (λ z. Has (slash_sign ∷ slash_sign ∷ z) []) (append-nil x) (has_line e tt has_nothing))
 
-last_stops : {w : List ℕ} → LastBlanks w → NotBegun is_word_part w
+pub last_stops : {w : List ℕ} → LastBlanks w → NotBegun is_word_part w
 last_stops (LastBlanks.blanks {w = w} b) = subst (NotBegun is_word_part) (append-nil w) (blanks_stop [] b tt)
 last_stops (blanks.open_line {x = x} b e) = blanks_stop (slash_sign ∷ slash_sign ∷ x) b slash_no_part
 
@@ -144,7 +144,7 @@ object_closed : {c : List ℕ} (r : List ℕ) (ls : List (List ℕ)) → LastCom
 object_closed r ls no_last_comma h = close_object r ls blanks.empty h
 object_closed r ls (last_comma {w = w} b) h = comma_found (λ l. MemberTokens l no_member ls) (w ++ right_brace ∷ r) (close_object r ls b h)
 
-comma_stops : {c : List ℕ} (d : ℕ) (r : List ℕ) → is_sign d ≡ true → LastComma c → NotBegun is_word_part (c ++ d ∷ r)
+pub comma_stops : {c : List ℕ} (d : ℕ) (r : List ℕ) → is_sign d ≡ true → LastComma c → NotBegun is_word_part (c ++ d ∷ r)
 comma_stops d r h no_last_comma = sign_no_part d h
 comma_stops d r h (last_comma b) = not_part comma_sign refl
 

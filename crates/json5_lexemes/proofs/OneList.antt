@@ -9,7 +9,9 @@ use Rattle.json5_grammar.specs.Language.Strings.{is_quote}
 use Rattle.json5_grammar.proofs.BlanksRead.{printable_no_blank}
 use Rattle.json5_grammar.proofs.CommonLemmas.{not_eq, same_char, and_right}
 use Rattle.json5_grammar.proofs.StringsRead.{quote_no_backslash}
-use Rattle.json5_grammar.proofs.CharacterTests.{Each-append, each_weaken}
+use Rattle.json5_grammar.proofs.CharacterTests.{Each-append, each_weaken, front_all, rest_all}
+use Rattle.json5_grammar.specs.Model.ReadNumbers.{front_of, rest_of}
+use Rattle.std.proofs.lemmas.List.{append_cancel_left}
 use Rattle.json5_lexemes.specs.SameLexemes.{is_separator, is_sign, is_word_part, is_line_part}
 use Rattle.json5_lexemes.specs.Lexemes.{Lexemes, Quoted, is_line_blank}
 use Rattle.json5_lexemes.specs.Lexemes as lexemes
@@ -146,6 +148,29 @@ mutual
   star_read r blanks.ends n = refl
   star_read r (blanks.star m i) n = ap (put star_sign) (star_read r i m)
   star_read r (blanks.other {c = c} m i) n = rw (n, not_eq c star_sign m) (ap (λ z. put star_sign (put c z)) (block_read r i))
+
+-- ---- where each ends
+
+-- a string ends at one place
+pub one_string : {q : ℕ} {s t : List ℕ} (r u : List ℕ) → is_quote q ≡ true → Quoted q s → Quoted q t → s ++ r ≡ t ++ u → (s ≡ t) × (r ≡ u)
+one_string {q = q} {s = s} {t = t} r u h a b e =
+    let k = quote_no_backslash q h in
+    let both : s ∷ read r between ≡ t ∷ read u between = sym (string_read r k a) ∙ ap (λ z. read z (string q)) e ∙ string_read u k b in
+    let same : s ≡ t = cc in
+    (same, append_cancel_left t r u (ap (λ z. z ++ r) (sym same) ∙ e))
+
+-- and so does a `/* */` comment
+pub one_block : {s t : List ℕ} (r u : List ℕ) → Inside s → Inside t → s ++ star_sign ∷ slash_sign ∷ r ≡ t ++ star_sign ∷ slash_sign ∷ u → (s ≡ t) × (r ≡ u)
+one_block {s = s} {t = t} r u a b e =
+    let both : s ∷ read r between ≡ t ∷ read u between = sym (block_read r a) ∙ ap (λ z. read z block) e ∙ block_read u b in
+    let same : s ≡ t = cc in
+    let rests : star_sign ∷ slash_sign ∷ r ≡ star_sign ∷ slash_sign ∷ u = append_cancel_left t (star_sign ∷ slash_sign ∷ r) (star_sign ∷ slash_sign ∷ u) (ap (λ z. z ++ star_sign ∷ slash_sign ∷ r) (sym same) ∙ e) in
+    (same, cc)
+
+-- and so does what consists of such characters
+pub one_run : {p : ℕ → Bool} {s t : List ℕ} (r u : List ℕ) → Each p s → NotBegun p r → Each p t → NotBegun p u → s ++ r ≡ t ++ u → (s ≡ t) × (r ≡ u)
+one_run {p = p} {s = s} {t = t} r u a n b m e =
+    (sym (front_all r a n) ∙ ap (front_of p) e ∙ front_all u b m, sym (rest_all r a n) ∙ ap (rest_of p) e ∙ rest_all u b m)
 
 -- ---- blanks at the end of a `//` comment
 

@@ -47,18 +47,18 @@ abbrev all_plain : List ℕ → Bool
 all_plain [] = true
 all_plain (c ∷ s) = is_plain c && all_plain s
 
-each_part : (s : List ℕ) → all_plain s ≡ true → Each is_word_part s
+pub each_part : (s : List ℕ) → all_plain s ≡ true → Each is_word_part s
 each_part [] h = no_char
 each_part (c ∷ s) h = char (plain_part c (and_left (is_plain c) (all_plain s) h)) (each_part s (and_right (is_plain c) (all_plain s) h))
 
 -- a character of a number is part of a word
-run_part : (c : ℕ) → in_run c ≡ true → is_word_part c ≡ true
+pub run_part : (c : ℕ) → in_run c ≡ true → is_word_part c ≡ true
 run_part c h = plain_part c (plain c h)
   where
     plain : (c : ℕ) → in_run c ≡ true → is_plain c ≡ true
     plain c h = grind (arith, nat_tests)
 
-hex_part : (c : ℕ) → is_hex_digit c ≡ true → is_word_part c ≡ true
+pub hex_part : (c : ℕ) → is_hex_digit c ≡ true → is_word_part c ≡ true
 hex_part c h = plain_part c (plain c h)
   where
     plain : (c : ℕ) → is_hex_digit c ≡ true → is_plain c ≡ true
@@ -135,13 +135,13 @@ number_parts (is_decimal g l n b) = Each-append (sign_parts g) (each_weaken is_w
 
 -- ---- strings
 
-hex_in_string : (q c : ℕ) → is_quote q ≡ true → is_hex_digit c ≡ true → (c ≢ q) × (c ≢ backslash)
+pub hex_in_string : (q c : ℕ) → is_quote q ≡ true → is_hex_digit c ≡ true → (c ≢ q) × (c ≢ backslash)
 hex_in_string q c h k = (neq_from c q (apart q c h k).0, neq_from c backslash (apart q c h k).1)
   where
     apart : (q c : ℕ) → is_quote q ≡ true → is_hex_digit c ≡ true → ((c == q) ≡ false) × ((c == backslash) ≡ false)
     apart q c h k = (grind (arith, nat_tests), grind (arith, nat_tests))
 
-hex_quoted : {q : ℕ} {d r : List ℕ} → is_quote q ≡ true → Each is_hex_digit d → Quoted q r → Quoted q (d ++ r)
+pub hex_quoted : {q : ℕ} {d r : List ℕ} → is_quote q ≡ true → Each is_hex_digit d → Quoted q r → Quoted q (d ++ r)
 hex_quoted k no_char i = i
 hex_quoted {q = q} k (char {c = c} h e) i = let a = hex_in_string q c k h in lexemes.raw a.0 a.1 (hex_quoted k e i)
 

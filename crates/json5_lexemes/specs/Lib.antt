@@ -5,4 +5,6 @@ pub mod SameSteps
 pub mod Tokens
 pub mod Runs
 pub mod Plain
+pub mod Spans
+pub mod WithoutComments
 pub mod PlainSteps

@@ -1,30 +1,100 @@
--- Steps over a text that is asked for its lexemes. Private clauses and proofs alone cite it.
-use Rattle.std.specs.Prelude.{◌≡◌, ◌<◌, ◌≤◌, ◌⊎◌, ◌↔◌, ◌||◌, ◌==◌, ℕ, Bool, List, [], ◌∷◌, ◌++◌, length, Option, MatchOption}
-use Rattle.json5_grammar.specs.Language.Characters.{plus_sign, minus_sign, point_sign, is_digit, is_in, letter_a, capital_a, NotBegun, Each}
+-- Steps over a text that is asked for JSON's lexemes. Private clauses and proofs alone cite it.
+use denote.Ref.{Bor}
+use Rattle.std.specs.Prelude.{◌≡◌, ◌<◌, ◌⊎◌, ◌↔◌, ◌||◌, ◌==◌, ◌≢◌, ℕ, Bool, true, List, [], ◌∷◌, ◌++◌, length, Option, MatchOption}
+use Rattle.std.specs.Str.{chars}
+use Rattle.json5_grammar.specs.Language.Blanks.{Inside}
+use Rattle.json5_grammar.specs.Language.Characters.{double_quote, slash_sign, star_sign, plus_sign, minus_sign, point_sign, letter_e, capital_e, letter_u, is_digit, is_hex_digit, is_in, NotBegun, Each}
 use Rattle.json5_grammar.specs.Language.Numbers.{Integer}
-use Rattle.json5_layouts.specs.Json.{Minus, Fraction, Exponent}
-use Rattle.json5_text.specs.Cursor.{Cursor}
-use Rattle.json5_lexemes.specs.Plain.{Plain}
+use Rattle.json5_layouts.specs.Json.{Fraction, ExponentSign, Exponent, JsonChars, is_escape_letter}
+use Rattle.json5_lexemes.specs.SameLexemes.{is_word_part, is_line_part}
+use Rattle.json5_lexemes.specs.Plain.{JsonWord, Plain}
 use Rattle.json5_lexemes.specs.declared.plain.Last.{Last}
+use Rattle.json5_lexemes.specs.declared.plain.Last.TheVariants as last
 
--- what is left is plain exactly where what was left before is
-abbrev pub Leads : (comments : Bool) → Last → List ℕ → Last → List ℕ → Type 0
-Leads comments l x m y = Plain comments l x ↔ Plain comments m y
+-- what takes x and leaves r leaves exactly the rest; None where nothing takes x
+abbrev pub Leaves : (List ℕ → List ℕ → Type 0) → List ℕ → Option (Bor (List ℕ)) → Type 0
+Leaves Takes text result = MatchOption result ((r : List ℕ) → Takes (chars text) r → ⊥) (λ rest. (r : List ℕ) → Takes (chars text) r ↔ (r ≡ chars rest.now))
 
--- a lexeme was passed, or there is none of JSON
-abbrev pub PassesLexeme : (comments : Bool) → Last → Cursor → Cursor → Option Last → Type 0
-PassesLexeme comments l old new result = MatchOption result (Plain comments l old.unread → ⊥) (λ m. Leads comments l old.unread m new.unread × (length new.unread < length old.unread))
+-- the rest of a string and its last quote
+abbrev pub TakesString : List ℕ → List ℕ → Type 0
+TakesString x r = (s : List ℕ) × JsonChars s × (x ≡ s ++ double_quote ∷ r)
+
+-- a hexadecimal digit
+abbrev pub TakesHex : List ℕ → List ℕ → Type 0
+TakesHex x r = (c : ℕ) × (is_hex_digit c ≡ true) × (x ≡ c ∷ r)
+
+-- four hexadecimal digits
+abbrev pub TakesCode : List ℕ → List ℕ → Type 0
+TakesCode x r = (a b c d : ℕ) × Each is_hex_digit (a ∷ b ∷ c ∷ d ∷ []) × (x ≡ a ∷ b ∷ c ∷ d ∷ r)
+
+-- what follows a backslash
+pub data TakesEscape (x r : List ℕ) : Type 0 where
+  letter : (c : ℕ) → is_escape_letter c ≡ true → x ≡ c ∷ r → TakesEscape x r
+  code : (y : List ℕ) → x ≡ letter_u ∷ y → TakesCode y r → TakesEscape x r
+
+-- a number or a literal
+abbrev pub TakesWord : List ℕ → List ℕ → Type 0
+TakesWord x r = (s : List ℕ) × JsonWord s × NotBegun is_word_part r × (x ≡ s ++ r)
+
+-- the rest of a `//` comment
+abbrev pub TakesLine : List ℕ → List ℕ → Type 0
+TakesLine x r = (s : List ℕ) × Each is_line_part s × NotBegun is_line_part r × (x ≡ s ++ r)
+
+abbrev pub is_slash : ℕ → Bool
+is_slash c = c == slash_sign
+
+-- the rest of a `/* */` comment
+abbrev pub TakesBlock : List ℕ → List ℕ → Type 0
+TakesBlock x r = (s : List ℕ) × Inside s × (x ≡ s ++ star_sign ∷ slash_sign ∷ r)
+
+-- a comment after its first slash
+abbrev pub TakesComment : List ℕ → List ℕ → Type 0
+TakesComment x r = ((y : List ℕ) × (x ≡ slash_sign ∷ y) × TakesLine y r) ⊎ ((y : List ℕ) × (x ≡ star_sign ∷ y) × TakesBlock y r)
+
+-- the same, with what came last
+abbrev pub LeavesWith : (List ℕ → List ℕ → Type 0) → Last → List ℕ → Option (Last × Bor (List ℕ)) → Type 0
+LeavesWith Takes m text result = MatchOption result ((r : List ℕ) → Takes (chars text) r → ⊥) (λ p. (p.0 ≡ m) × ((r : List ℕ) → Takes (chars text) r ↔ (r ≡ chars p.1.now)))
+
+-- a sign was passed where it may come
+abbrev pub PassesSign : (May : Type 0) → List ℕ → Option (Last × Bor (List ℕ)) → Type 0
+PassesSign May after result = MatchOption result (May → ⊥) (λ p. May × (p.0 ≡ last.Sign) × (p.1.now ≡ after))
+
+-- a comment was passed where it may come
+abbrev pub PassesComment : (comments : Bool) → Last → List ℕ → Option (Last × Bor (List ℕ)) → Type 0
+PassesComment comments l after result = MatchOption result (comments ≡ true → (r : List ℕ) → TakesComment (chars after) r → ⊥)
+    (λ p. (comments ≡ true) × (p.0 ≡ l) × ((r : List ℕ) → TakesComment (chars after) r ↔ (r ≡ chars p.1.now)))
+
+-- a lexeme is passed where there is one of JSON: what is left is plain exactly where the text is
+abbrev pub PassesLexeme : (comments : Bool) → Last → List ℕ → Option (Last × Bor (List ℕ)) → Type 0
+PassesLexeme comments l text result = MatchOption result (Plain comments l (chars text) → ⊥)
+    (λ p. (Plain comments l (chars text) ↔ Plain comments p.0 (chars p.1.now)) × (length (chars p.1.now) < length (chars text)))
 
 -- ---- numbers
 
--- digits, and what follows a minus
+abbrev pub is_exponent_letter : ℕ → Bool
+is_exponent_letter c = (c == letter_e) || (c == capital_e)
+
+abbrev pub is_exponent_sign : ℕ → Bool
+is_exponent_sign c = (c == plus_sign) || (c == minus_sign)
+
+-- one digit or more
+abbrev pub Digits : List ℕ → Type 0
+Digits x = (x ≢ []) × Each is_digit x
+
+-- digits, and what may follow them
 pub data Unsigned : List ℕ → Type 0 where
   unsigned : {i f e : List ℕ} → Integer i → Fraction f → Exponent e → Unsigned (i ++ (f ++ e))
 
--- what follows the digits
 pub data AfterDigits : List ℕ → Type 0 where
   after_digits : {f e : List ℕ} → Fraction f → Exponent e → AfterDigits (f ++ e)
 
+pub data SignedDigits : List ℕ → Type 0 where
+  signed_digits : {s d : List ℕ} → ExponentSign s → Digits d → SignedDigits (s ++ d)
+
+-- the same holds of what is left; None where it holds of nothing
+abbrev pub GoesOn : (List ℕ → Type 0) → (List ℕ → Type 0) → List ℕ → Option (Bor (List ℕ)) → Type 0
+GoesOn P Q x result = MatchOption result (P x → ⊥) (λ rest. P x ↔ Q rest.now)
+
 -- a character of which JSON's numbers and literals are made
 abbrev pub is_json_part : ℕ → Bool
-is_json_part c = is_in letter_a 122 c || (is_digit c || ((c == minus_sign) || ((c == plus_sign) || ((c == point_sign) || is_in capital_a 90 c))))
+is_json_part c = is_in 97 122 c || (is_digit c || ((c == minus_sign) || ((c == plus_sign) || ((c == point_sign) || is_in 65 90 c))))

@@ -1,10 +1,13 @@
 //! The laws of lexemes, each the contract of a function that does nothing.
 
-ghost use Rattle.std.specs.Prelude.{◌≡◌, ℕ, List, map};
+ghost use Rattle.std.specs.Prelude.{◌≡◌, ℕ, true, List, map};
 ghost use Rattle.json5_grammar.specs.Language.Trees.{Tree};
 ghost use Rattle.json5_grammar.specs.Language.Documents.{Doc};
+ghost use Rattle.json5_layouts.specs.Json.{JsonText};
 ghost use Rattle.json5_lexemes.specs.Lexemes.{Lexemes, HaveSameLexemes};
+ghost use Rattle.json5_lexemes.specs.Plain.{IsPlain, IsBare};
 ghost use Rattle.json5_lexemes.specs.Tokens.{without_comments, settled, Spells};
+ghost use Rattle.json5_lexemes.specs.WithoutComments.{WithoutComments, IsJsonButForComments};
 
 /// A document has lexemes, and they spell its tree.
 pub fn document_lexemes()
@@ -36,4 +39,14 @@ pub fn same_lexemes_as()
     ensures itself { (limit : ℕ) (x : List ℕ) (t : Tree) → Doc limit x t → HaveSameLexemes x x }
     ensures swapped { (x y : List ℕ) → HaveSameLexemes x y → HaveSameLexemes y x }
     ensures through { (x y z : List ℕ) → HaveSameLexemes x y → HaveSameLexemes y z → HaveSameLexemes x z }
+{}
+
+/// A document is JSON by its lexemes exactly where it is in the grammar of RFC 8259, and JSON but for comments exactly
+/// where it is so without these. A text without its comments has the same tokens.
+pub fn plain_documents()
+    ensures bare { (limit : ℕ) (x : List ℕ) (t : Tree) → Doc limit x t → IsBare x → JsonText x }
+    ensures json { (x : List ℕ) → JsonText x → IsBare x }
+    ensures commented { (limit : ℕ) (x : List ℕ) (t : Tree) → Doc limit x t → IsPlain x → IsJsonButForComments x }
+    ensures plain { (x : List ℕ) → IsJsonButForComments x → IsPlain x }
+    ensures tokens { (x y : List ℕ) → WithoutComments true x y → (ls : List (List ℕ)) × Lexemes x ls × Lexemes y (without_comments ls) }
 {}

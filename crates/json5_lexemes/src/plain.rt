@@ -1,10 +1,16 @@
 //! Whether a text is JSON but for comments, by its lexemes.
 
-ghost use Rattle.std.specs.Prelude.{◌≡◌, ◌↔◌, IsTrue, true};
+ghost use Rattle.std.specs.Prelude.{◌≡◌, ◌≢◌, ◌↔◌, ◌∷◌, IsTrue, true, false, MatchOption};
+ghost use Rattle.std.specs.List.{prefix_len};
 ghost use Rattle.std.specs.Str.{chars};
+ghost use Rattle.json5_grammar.specs.Language.Characters.{NotBegun, is_hex_digit};
+ghost use Rattle.json5_layouts.specs.Json.{is_escape_letter, is_json_blank};
+ghost use Rattle.json5_text.specs.ByteRuns.{is_in_line, is_line_part as is_surely_in_line, is_no_star};
+ghost use Rattle.json5_text.specs.Scan.{SkipsAll, StartsWith};
 ghost use Rattle.json5_lexemes.specs.Plain.{IsPlain, KeepsPlain, Plain};
-ghost use Rattle.json5_lexemes.specs.PlainSteps.{PassesLexeme};
-ghost use Rattle.json5_lexemes.specs.declared.plain.Last.TheVariants as last;
+ghost use Rattle.json5_lexemes.specs.PlainSteps.{is_slash, Leaves, LeavesWith, PassesComment, PassesLexeme, PassesSign, TakesBlock, TakesCode, TakesComment, TakesEscape, TakesHex, TakesLine, TakesString, TakesWord};
+ghost use Rattle.json5_lexemes.specs.SameLexemes.{is_word_part};
+ghost use Rattle.json5_lexemes.specs.declared.plain.Last.TheVariants as last_tokens;
 
 use crate::json_words::{is_json_word, json_part_len};
 use crate::rest::front;
@@ -44,7 +50,7 @@ pub fn is_plain(text: &str) -> bool
 /// is_plain_with(false, "[1] // one")    // false
 /// ```
 pub fn is_plain_with(comments: bool, text: &str) -> bool
-    ensures { IsTrue result ↔ Plain comments last.Sign (chars text.now) }
+    ensures { IsTrue result ↔ Plain comments last_tokens.Sign (chars text.now) }
 {
     let mut rest = skip_json_blanks(text);
     let mut last = Last::Sign;
@@ -84,27 +90,91 @@ fn pass_lexeme<'x>(
     c: char,
     after: &'x str,
 ) -> Option<(Last, &'x str)>
+    requires { StartsWith text.now c after.now }
+    ensures { PassesLexeme comments last text.now result }
 {
     match c {
-        '"' => Some((Last::Text, skip_string(after)?)),
+        '"' => pass_string(after),
         '[' | '{' => Some((Last::Sign, after)),
-        ']' | '}' if !matches!(last, Last::Comma) => Some((Last::Sign, after)),
+        ']' | '}' => pass_closing(last, after),
         ',' => Some((Last::Comma, after)),
-        ':' if matches!(last, Last::Text) => Some((Last::Sign, after)),
-        '/' if comments => Some((last, skip_comment(after)?)),
-        _ => Some((Last::Word, skip_word(text)?)),
+        ':' => pass_colon(last, after),
+        '/' => pass_comment(comments, last, after),
+        _ => pass_word(text),
     }
+}
+
+/// The same after the first quote of a string.
+#[inline(always)]
+fn pass_string(after: &str) -> Option<(Last, &str)>
+    ensures { LeavesWith TakesString last_tokens.Text after.now result }
+{
+    let Some(left) = skip_string(after) else {
+        return None;
+    };
+    Some((Last::Text, left))
+}
+
+/// The same after a closing bracket, which may not follow a comma.
+#[inline(always)]
+fn pass_closing(last: Last, after: &str) -> Option<(Last, &str)>
+    ensures { PassesSign (last ≢ last_tokens.Comma) after.now result }
+{
+    match last {
+        Last::Comma => None,
+        _ => Some((Last::Sign, after)),
+    }
+}
+
+/// The same after a colon, which follows a string alone.
+#[inline(always)]
+fn pass_colon(last: Last, after: &str) -> Option<(Last, &str)>
+    ensures { PassesSign (last ≡ last_tokens.Text) after.now result }
+{
+    match last {
+        Last::Text => Some((Last::Sign, after)),
+        _ => None,
+    }
+}
+
+/// The same after the first slash of a comment.
+#[inline(always)]
+fn pass_comment(comments: bool, last: Last, after: &str) -> Option<(Last, &str)>
+    ensures { PassesComment comments last after.now result }
+{
+    if !comments {
+        return None;
+    }
+    let Some(left) = skip_comment(after) else {
+        return None;
+    };
+    Some((last, left))
+}
+
+/// The same of a number or a literal in front.
+#[inline(always)]
+fn pass_word(text: &str) -> Option<(Last, &str)>
+    ensures { LeavesWith TakesWord last_tokens.Word text.now result }
+{
+    let Some(left) = skip_word(text) else {
+        return None;
+    };
+    Some((Last::Word, left))
 }
 
 /// What follows the blanks of JSON in front.
 #[inline(always)]
-fn skip_json_blanks(text: &str) -> &str {
+fn skip_json_blanks(text: &str) -> &str
+    ensures { SkipsAll is_json_blank text.now result.now }
+{
     text.split_at(json_blanks_len(text.as_bytes())).1
 }
 
 /// How many blanks of JSON are in front.
 #[inline(always)]
-fn json_blanks_len(bytes: &[u8]) -> usize {
+fn json_blanks_len(bytes: &[u8]) -> usize
+    ensures { result ≡ prefix_len is_json_blank bytes.now }
+{
     let mut len = 0;
     while len < bytes.len() && matches!(bytes[len], b' ' | b'\n' | b'\t' | b'\r') {
         len += 1;
@@ -113,36 +183,86 @@ fn json_blanks_len(bytes: &[u8]) -> usize {
 }
 
 /// After the first quote of a string: what follows its last one; None if it is no string of JSON.
-fn skip_string(text: &str) -> Option<&str> {
+fn skip_string(text: &str) -> Option<&str>
+    ensures { Leaves TakesString text.now result }
+{
     let mut rest = skip_unescaped(text);
-    loop {
-        match front(rest)? {
-            ('"', after) => return Some(after),
-            ('\\', after) => rest = skip_unescaped(skip_escape(after)?),
-            _ => return None,
+    while let Some((c, after)) = front(rest) {
+        if c == '"' {
+            return Some(after);
         }
+        if c != '\\' {
+            return None;
+        }
+        let Some(next) = skip_escape(after) else {
+            return None;
+        };
+        rest = skip_unescaped(next);
     }
+    None
 }
 
 /// After a backslash: what follows the escape; None if it is none of JSON.
-fn skip_escape(text: &str) -> Option<&str> {
-    match front(text)? {
-        ('"' | '\\' | '/' | 'b' | 'f' | 'n' | 'r' | 't', after) => Some(after),
-        ('u', after) => skip_hex(skip_hex(skip_hex(skip_hex(after)?)?)?),
-        _ => None,
+fn skip_escape(text: &str) -> Option<&str>
+    ensures { Leaves TakesEscape text.now result }
+{
+    let Some((c, after)) = front(text) else {
+        return None;
+    };
+    if is_escape_letter(c) {
+        return Some(after);
     }
+    if c == 'u' {
+        return skip_code(after);
+    }
+    None
+}
+
+/// Whether the character after a backslash is an escape by itself.
+#[inline(always)]
+fn is_escape_letter(c: char) -> bool
+    ensures { result ≡ is_escape_letter c }
+{
+    matches!(c, '"' | '\\' | '/' | 'b' | 'f' | 'n' | 'r' | 't')
+}
+
+/// What follows four hexadecimal digits in front.
+fn skip_code(text: &str) -> Option<&str>
+    ensures { Leaves TakesCode text.now result }
+{
+    let Some(first) = skip_hex(text) else {
+        return None;
+    };
+    let Some(second) = skip_hex(first) else {
+        return None;
+    };
+    let Some(third) = skip_hex(second) else {
+        return None;
+    };
+    skip_hex(third)
 }
 
 /// What follows a hexadecimal digit in front.
-fn skip_hex(text: &str) -> Option<&str> {
-    match front(text)? {
-        ('0'..='9' | 'a'..='f' | 'A'..='F', after) => Some(after),
-        _ => None,
-    }
+fn skip_hex(text: &str) -> Option<&str>
+    ensures { Leaves TakesHex text.now result }
+{
+    let Some((c, after)) = front(text) else {
+        return None;
+    };
+    if is_hex_digit(c) { Some(after) } else { None }
+}
+
+#[inline(always)]
+fn is_hex_digit(c: char) -> bool
+    ensures { result ≡ is_hex_digit c }
+{
+    matches!(c, '0'..='9' | 'a'..='f' | 'A'..='F')
 }
 
 /// What follows the number or the literal in front; None if it is none of JSON.
-fn skip_word(text: &str) -> Option<&str> {
+fn skip_word(text: &str) -> Option<&str>
+    ensures { Leaves TakesWord text.now result }
+{
     let (word, rest) = text.split_at(json_part_len(text.as_bytes()));
     if is_json_word(word) && !begins_word(rest) {
         Some(rest)
@@ -152,54 +272,95 @@ fn skip_word(text: &str) -> Option<&str> {
 }
 
 /// Whether a part of a number, a literal or a name of JSON5 is in front.
-fn begins_word(text: &str) -> bool {
+fn begins_word(text: &str) -> bool
+    ensures { (result ≡ false) ↔ NotBegun is_word_part (chars text.now) }
+{
     match front(text) {
         Some((c, _)) => is_word_part(c),
         None => false,
     }
 }
 
-/// After a comment's first slash: what follows the comment, of a `//` comment with its line end; None if it is none.
+/// After a comment's first slash: what follows the comment, which a line terminator is no part of; None if it is none.
 #[inline(never)]
-fn skip_comment(text: &str) -> Option<&str> {
-    match front(text)? {
-        ('/', after) => Some(skip_line(after)),
-        ('*', after) => skip_block(after),
+fn skip_comment(text: &str) -> Option<&str>
+    ensures { Leaves TakesComment text.now result }
+{
+    let Some((c, after)) = front(text) else {
+        return None;
+    };
+    match c {
+        '/' => Some(skip_line(after)),
+        '*' => skip_block(after),
         _ => None,
     }
 }
 
 /// After `//`: what follows the comment, which ends before a line terminator.
-fn skip_line(text: &str) -> &str {
-    let mut rest = text;
-    loop {
-        rest = rest.split_at(line_len(rest.as_bytes())).1;
-        match front(rest) {
-            Some((c, after)) if !is_json5_line_terminator(c) => rest = after,
-            _ => return rest,
+fn skip_line(text: &str) -> &str
+    ensures { TakesLine (chars text.now) (chars result.now) }
+{
+    let mut rest = skip_line_part(text);
+    while let Some((c, after)) = front(rest) {
+        if is_json5_line_terminator(c) {
+            return rest;
         }
+        rest = skip_line_part(after);
     }
+    rest
+}
+
+/// What follows the characters in front that surely end no line.
+fn skip_line_part(text: &str) -> &str
+    ensures { SkipsAll is_surely_in_line text.now result.now }
+{
+    text.split_at(line_len(text.as_bytes())).1
 }
 
 /// How many bytes come before the first that may begin a line terminator.
-fn line_len(bytes: &[u8]) -> usize {
+fn line_len(bytes: &[u8]) -> usize
+    ensures { result ≡ prefix_len is_in_line bytes.now }
+{
     memchr3(b'\n', b'\r', 0xE2, bytes).unwrap_or(bytes.len())
 }
 
 /// After `/*`: what follows the first `*/`.
-fn skip_block(text: &str) -> Option<&str> {
-    let mut rest = text;
-    loop {
-        rest = rest.split_at(star_offset(rest.as_bytes())).1;
-        let (_, after) = front(rest)?;
-        if let Some(('/', end)) = front(after) {
+fn skip_block(text: &str) -> Option<&str>
+    ensures { Leaves TakesBlock text.now result }
+{
+    let mut rest = skip_to_star(text);
+    while let Some((c, after)) = front(rest) {
+        if let Some(end) = block_end(c, after) {
             return Some(end);
         }
-        rest = after;
+        rest = skip_to_star(after);
+    }
+    None
+}
+
+/// What follows a slash in front, if the character before is a star.
+fn block_end(c: char, after: &str) -> Option<&str>
+    ensures { MatchOption result (c ≡ 42 → NotBegun is_slash (chars after.now)) (λ end. (c ≡ 42) × (chars after.now ≡ 47 ∷ chars end.now)) }
+{
+    if c != '*' {
+        return None;
+    }
+    match front(after) {
+        Some(('/', end)) => Some(end),
+        _ => None,
     }
 }
 
+/// What follows the characters in front that are no star.
+fn skip_to_star(text: &str) -> &str
+    ensures { SkipsAll is_no_star text.now result.now }
+{
+    text.split_at(star_offset(text.as_bytes())).1
+}
+
 /// How many bytes come before the first star.
-fn star_offset(bytes: &[u8]) -> usize {
+fn star_offset(bytes: &[u8]) -> usize
+    ensures { result ≡ prefix_len is_no_star bytes.now }
+{
     memchr(b'*', bytes).unwrap_or(bytes.len())
 }

@@ -1,6 +1,7 @@
 //! What is left of a text that is compared with another.
 
 ghost use Rattle.std.specs.Prelude.{◌≡◌, ◌≤◌, IsTrue, false, length, slice_get};
+ghost use Rattle.json5_text.specs.Scan.{IsFront};
 ghost use Rattle.json5_lexemes.specs.Runs.{IsRun, IsSpaces, PassesRun, PassesSpaces, is_plain};
 ghost use Rattle.json5_lexemes.specs.SameSteps.{Takes};
 
@@ -59,7 +60,9 @@ impl<'x> Rest<'x> {
 
 /// The first character, and what follows it.
 #[inline(always)]
-pub(crate) fn front(text: &str) -> Option<(char, &str)> {
+pub(crate) fn front(text: &str) -> Option<(char, &str)>
+    ensures { IsFront text.now result }
+{
     let mut rest = text.chars();
     let c = rest.next()?;
     Some((c, rest.as_str()))

@@ -11,5 +11,5 @@ split_at-requires c =
 
 pub returns : goal.returns
 returns c =
-    stands_run _ _ c.utf8.text (search rules)
-    (stop_skips is_unescaped is_unescaped c.args.text.now _ _ unescaped_chars c.utf8.text (c.unescaped_len-end.ensures ∙ ap (prefix_len is_unescaped) c.as_bytes.ensures.value) c.split_at.ensures.back)
+    let run = stop_skips is_unescaped is_unescaped c.args.text.now _ _ unescaped_chars c.utf8.text (c.unescaped_len-end.ensures ∙ ap (prefix_len is_unescaped) c.as_bytes.ensures.value) c.split_at.ensures.back in
+    record { stands = stands_run _ _ c.utf8.text (search rules) run; run = run }

@@ -11,4 +11,4 @@ returns-in-Json5 c = λ t. rw c.in-Json5.is (quoted_escape_free (chars c.args.te
 pub returns-in-Json : goal.returns-in-Json
 returns-in-Json c = λ t.
     let none = empty_from c.skip_unescaped.result.now _ c.is_empty.ensures t in
-    rw c.in-Json.is (ap (λ u. 34 ∷ u ++ 34 ∷ []) (stands_all _ _ c.skip_unescaped.ensures none))
+    rw c.in-Json.is (ap (λ u. 34 ∷ u ++ 34 ∷ []) (stands_all _ _ c.skip_unescaped.ensures.stands none))

@@ -9,7 +9,7 @@ pub loop-c-smaller : goal.loop-c-smaller
 loop-c-smaller c = let less = shorter _ _ _ c.in-Some.ensures in omega arith
 
 pub loop-c-init : goal.loop-c-init
-loop-c-init c = c.skip_unescaped-rest.ensures
+loop-c-init c = c.skip_unescaped-rest.ensures.stands
 
 pub returns : goal.returns
 returns c = stands_all _ _ c.loop-c.invariant c.in_default.ensures
