@@ -1,5 +1,4 @@
 -- Lists the lemmas about lexemes.
-pub mod BarePlain
 pub mod SameSteps
 pub mod SameLists
 pub mod OneList
