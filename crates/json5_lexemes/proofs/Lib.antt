@@ -16,3 +16,6 @@ pub mod PlainTokens
 pub mod PlainNumbers
 pub mod PlainRuns
 pub mod PlainTakes
+pub mod PlainWords
+pub mod PlainWordsTaken
+pub mod PlainPassed

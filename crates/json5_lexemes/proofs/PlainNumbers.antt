@@ -1,7 +1,7 @@
 -- How a number of JSON is taken apart.
-use Rattle.std.proofs.Common.{◌≡◌, ◌≢◌, ℕ, Bool, true, false, not, ◌||◌, ◌&&◌, List, [], ◌∷◌, ◌++◌, refl, sym, ap, ◌∙◌, subst, append_assoc, arith, length}
+use Rattle.std.proofs.Common.{◌≡◌, ◌≢◌, ℕ, Bool, true, false, not, List, [], ◌∷◌, ◌++◌, refl, sym, ap, ◌∙◌, subst, arith, length}
 use denote.Ref.{Bor}
-use Rattle.std.specs.Prelude.{◌==◌, ◌↔◌, Option, Some, None, MatchOption}
+use Rattle.std.specs.Prelude.{◌==◌, Option, Some, None, MatchOption}
 use Rattle.json5_grammar.proofs.CommonLemmas.{not_eq}
 use Rattle.std.proofs.lemmas.Bool.Decides.{nat_tests}
 use Rattle.std.proofs.lemmas.List.{append-nil}
@@ -9,7 +9,7 @@ use Rattle.json5_grammar.specs.Language.Characters.{is_in, is_digit, NotBegun, E
 use Rattle.json5_grammar.specs.Language.Numbers.{Integer, lone_zero, nonzero}
 use Rattle.json5_grammar.specs.Model.ReadNumbers.{front_of, rest_of}
 use Rattle.json5_grammar.proofs.CharacterTests.{front_all, rest_all, front_each, front_rest, rest_each, nonzero_digit, digit_nonzero, e_no_digit}
-use Rattle.json5_layouts.specs.Json.{JsonNumber, json_number, Minus, no_minus, minus, Fraction, no_fraction, fraction, Exponent, no_exponent, exponent, ExponentSign, no_sign, sign}
+use Rattle.json5_layouts.specs.Json.{JsonNumber, json_number, no_minus, minus, no_fraction, fraction, Exponent, no_exponent, exponent, no_sign, sign}
 use Rattle.json5_lexemes.specs.PlainSteps.{is_exponent_letter, is_exponent_sign, Digits, Unsigned, unsigned, AfterDigits, after_digits, SignedDigits, signed_digits, GoesOn}
 
 abbrev pub is_minus : ℕ → Bool
@@ -101,9 +101,10 @@ past_point r (after_digits no_fraction (exponent {c = c} h s d)) g =
     let k : is_exponent_letter 46 ≡ true = subst (λ n. is_exponent_letter n ≡ true) same h in absurd (cc)
 past_point r (after_digits {e = e} (fraction {d = d} {ds = ds} k) x) g =
     let same : r ≡ (d ∷ ds) ++ e = cc in
-    let stop = exponent_no_digit x in
-    (λ n. let both : d ∷ ds ≡ [] = sym (ap (front_of is_digit) same ∙ front_all e k stop) ∙ n in cc,
-     subst Exponent (sym (ap (rest_of is_digit) same ∙ rest_all e k stop)) x)
+    let stop = exponent_no_digit x in (
+      λ n. let both : d ∷ ds ≡ [] = sym (ap (front_of is_digit) same ∙ front_all e k stop) ∙ n in cc,
+      subst Exponent (sym (ap (rest_of is_digit) same ∙ rest_all e k stop)) x,
+    )
 
 pub with_point : (r : List ℕ) → front_of is_digit r ≢ [] → Exponent (rest_of is_digit r) → AfterDigits (46 ∷ r)
 with_point r n e = subst (λ z. AfterDigits (46 ∷ z)) (sym (front_rest is_digit r)) (joined (front_of is_digit r) (front_each is_digit r) n)

@@ -1,17 +1,18 @@
 -- What takes the rest of a string, an escape, a comment or a word leaves one rest.
 use denote.Ref.{Bor}
-use Rattle.std.proofs.Common.{◌≡◌, ◌≢◌, ◌<◌, ◌≤◌, ℕ, Bool, true, false, ◌||◌, ◌⊎◌, inl, inr, Option, Some, None, List, [], ◌∷◌, ◌++◌, refl, sym, ap, ◌∙◌, subst, append_assoc, arith, length, length-append}
+use Rattle.std.proofs.Common.{◌≡◌, ◌≢◌, ◌<◌, ◌≤◌, ℕ, Bool, true, false, inl, inr, Option, Some, None, List, [], ◌∷◌, ◌++◌, refl, sym, ap, ◌∙◌, subst, append_assoc, arith, length, length-append}
 use Rattle.std.specs.Prelude.{◌==◌, ◌↔◌}
 use Rattle.std.specs.Str.{chars}
 use Rattle.std.proofs.lemmas.Bool.{both_ways}
 use Rattle.std.proofs.lemmas.Bool.Decides.{nat_tests}
 use Rattle.json5_grammar.specs.Language.Blanks.{Inside}
 use Rattle.json5_grammar.specs.Language.Blanks as blanks
-use Rattle.json5_grammar.specs.Language.Characters.{is_hex_digit, NotBegun, Each, no_char, char}
+use Rattle.json5_text.specs.ByteRuns as bytes
+use Rattle.json5_grammar.proofs.CharacterTests.{Each-append, each_weaken}
+use Rattle.json5_grammar.specs.Language.Characters.{is_terminator, is_hex_digit, NotBegun, Each, no_char, char}
 use Rattle.json5_layouts.specs.Json.{is_unescaped, is_escape_letter, JsonChars, no_char as json_end, unescaped, letter, code}
 use Rattle.json5_text.specs.Scan.{SkipsAll}
-use Rattle.json5_lexemes.specs.SameLexemes.{is_line_part, is_word_part}
-use Rattle.json5_lexemes.specs.Plain.{JsonWord}
+use Rattle.json5_lexemes.specs.SameLexemes.{is_line_part}
 use Rattle.json5_lexemes.specs.PlainSteps.{TakesString, TakesHex, TakesCode, TakesEscape, TakesWord, TakesLine, TakesBlock, TakesComment, Leaves}
 use Rattle.json5_lexemes.specs.PlainSteps as steps
 use Rattle.json5_grammar.proofs.CommonLemmas.{neq_from}
@@ -193,6 +194,21 @@ code_last x y w v r o p q = (there, λ t. back ((o y).1 refl) ((p w).1 refl) ((q
 pub line_one : (x r u : List ℕ) → TakesLine x r → TakesLine x u → r ≡ u
 line_one x r u (s, e, n, a) (t, f, m, b) = (one_run r u e n f m (sym a ∙ b)).1
 
+-- characters that end no line
+surely_in_line : (c : ℕ) → bytes.is_line_part c ≡ true → is_line_part c ≡ true
+surely_in_line c h = grind (arith, nat_tests)
+
+pub line_run : (x y r : List ℕ) → SkipsAll bytes.is_line_part x y → TakesLine (chars y) r → TakesLine (chars x) r
+line_run x y r s (t, e, n, f) =
+    (s.passed ++ t, Each-append (each_weaken is_line_part surely_in_line s.each) e, n, s.split ∙ ap (λ z. s.passed ++ z) f ∙ sym (append_assoc s.passed t r))
+
+pub line_goes_on : (x y : List ℕ) (c : ℕ) (r : List ℕ) → chars x ≡ c ∷ chars y → is_terminator c ≡ false → TakesLine (chars y) r → TakesLine (chars x) r
+line_goes_on x y c r e h (t, f, n, g) = (c ∷ t, char (rw h refl) f, n, e ∙ ap (λ z. c ∷ z) g)
+
+-- a character and a run
+pub skipped_less : {p : ℕ → Bool} (x y w : List ℕ) (c : ℕ) → chars x ≡ c ∷ chars y → SkipsAll p y w → length (chars w) < length (chars x)
+skipped_less x y w c e s = let k = ap length e in let j = skipped_shorter y w s in omega (arith, k, j)
+
 -- a `/* */` comment by its first character
 data BlockView (c : ℕ) (x r : List ℕ) : Type 0 where
   ends : c ≡ 42 → x ≡ 47 ∷ r → BlockView c x r
@@ -239,6 +255,23 @@ block_goes_on c x r n = (λ (s, i, e). by_view (block_view c x r i e), λ (s, i,
         let is : c ≡ 42 = grind arith in
         (42 ∷ s, blanks.star (inner s (subst (NotBegun (λ d. d == 47)) e (n is))) i, ap (λ z. z ∷ x) is ∙ ap (λ z. 42 ∷ z) e)
     by_star false h s i e = (c ∷ s, blanks.other (neq_from c 42 h) i, ap (λ z. c ∷ z) e)
+
+-- a run without a star
+pub block_run : (x y r : List ℕ) → SkipsAll bytes.is_no_star x y → TakesBlock (chars x) r ↔ TakesBlock (chars y) r
+block_run x y r s = subst (λ z. TakesBlock z r ↔ TakesBlock (chars y) r) (sym s.split) (without s.passed s.each)
+  where
+    no_star : (c : ℕ) → bytes.is_no_star c ≡ true → c ≢ 42
+    no_star c h = grind (arith, nat_tests)
+
+    without : (s : List ℕ) → Each bytes.is_no_star s → TakesBlock (s ++ chars y) r ↔ TakesBlock (chars y) r
+    without [] no_char = (λ t. t, λ t. t)
+    without (c ∷ s) (char h e) =
+        let a = block_goes_on c (s ++ chars y) r (λ is. absurd (no_star c h is)) in
+        let b = without s e in
+        (λ t. b.0 (a.0 t), λ t. a.1 (b.1 t))
+
+pub block_there : (x y w r : List ℕ) (c : ℕ) → chars x ≡ c ∷ chars y → c ≡ 42 → chars y ≡ 47 ∷ chars w → TakesBlock (chars x) r ↔ (r ≡ chars w)
+block_there x y w r c e is f = subst (λ z. TakesBlock z r ↔ (r ≡ chars w)) (sym (e ∙ ap (λ z. c ∷ z) f)) (block_ends c (chars w) r is)
 
 pub no_comment : (r : List ℕ) → TakesComment [] r → ⊥
 no_comment r (inl (y, e, t)) = cc

@@ -1,17 +1,17 @@
 -- What a plain text goes on with, by its first character, and after each token.
-use Rattle.std.proofs.Common.{◌≡◌, ◌≢◌, ℕ, Bool, true, false, not, ◌||◌, ◌⊎◌, inl, inr, List, [], ◌∷◌, ◌++◌, refl, sym, ap, ◌∙◌, subst, append_assoc, arith}
+use Rattle.std.proofs.Common.{◌≡◌, ◌≢◌, ℕ, Bool, true, false, not, ◌||◌, ◌⊎◌, inl, inr, List, [], ◌∷◌, ◌++◌, refl, sym, ◌∙◌, subst, append_assoc, arith}
 use Rattle.std.specs.Prelude.{◌==◌}
 use Rattle.std.proofs.lemmas.Bool.{both_ways}
 use Rattle.std.proofs.lemmas.Bool.Decides.{nat_tests}
 use lib.Chars.{codes}
 use Rattle.json5_grammar.specs.Language.Blanks.{Inside}
-use Rattle.json5_grammar.specs.Language.Characters.{is_in, is_blank, is_digit, is_hex_digit, slash_sign, star_sign, backslash, NotBegun, Each, no_char, char}
+use Rattle.json5_grammar.specs.Language.Characters.{is_in, is_blank, is_digit, slash_sign, star_sign, backslash, NotBegun, Each, no_char, char}
 use Rattle.json5_grammar.specs.Language.Numbers.{Integer, lone_zero, nonzero, in_run}
 use Rattle.json5_grammar.specs.Language.Strings.{is_quote}
 use Rattle.json5_grammar.proofs.BlanksRead.{printable_no_blank}
 use Rattle.json5_grammar.proofs.CharacterTests.{Each-append, each_weaken, digit_in_run, e_in_run, nonzero_digit}
 use Rattle.json5_grammar.proofs.CommonLemmas.{neq_from}
-use Rattle.json5_layouts.specs.Json.{is_json_blank, is_unescaped, is_escape_letter, JsonChars, no_char as json_end, unescaped, letter, code, JsonString, quoted, JsonNumber, json_number, Minus, no_minus, minus, Fraction, no_fraction, fraction, Exponent, no_exponent, exponent, ExponentSign, no_sign, sign}
+use Rattle.json5_layouts.specs.Json.{is_json_blank, is_unescaped, JsonChars, no_char as json_end, unescaped, letter, code, JsonString, quoted, json_number, Minus, no_minus, minus, Fraction, no_fraction, fraction, Exponent, no_exponent, exponent, ExponentSign, no_sign, sign}
 use Rattle.json5_lexemes.specs.Lexemes.{Quoted}
 use Rattle.json5_lexemes.specs.Lexemes as lexemes
 use Rattle.json5_lexemes.specs.SameLexemes.{is_separator, is_sign, is_word_part, is_line_part}
@@ -19,7 +19,7 @@ use Rattle.json5_lexemes.specs.Plain.{JsonWord, is_null, is_true, is_false, is_n
 use Rattle.json5_lexemes.specs.Plain as plain
 use Rattle.json5_lexemes.specs.declared.plain.Last.{Last}
 use Rattle.json5_lexemes.specs.declared.plain.Last.TheVariants as last
-use Rattle.json5_lexemes.proofs.OneList.{part_apart, quote_apart, sign_apart, each_head, one_string, one_block, one_run}
+use Rattle.json5_lexemes.proofs.OneList.{quote_apart, each_head, one_string, one_block, one_run}
 use Rattle.json5_lexemes.proofs.WordParts.{each_part, run_part, hex_quoted}
 
 -- ---- what JSON's tokens consist of
@@ -349,7 +349,7 @@ module _ {k : Bool} {l : Last} where
           tail : {c : ℕ} {s : List ℕ} → Each is_word_part (c ∷ s) → Each is_word_part s
           tail (char h e) = e
 
-  plain_quote : {r : List ℕ} → Plain k l (34 ∷ r) → StringThen k r
+  pub plain_quote : {r : List ℕ} → Plain k l (34 ∷ r) → StringThen k r
   plain_quote {r = r} p = let q : Asks k l 34 r = asked 34 r p refl in rw (quote_no_part 34 refl) at q
 
   no_single_quote : {r : List ℕ} → Plain k l (39 ∷ r) → ⊥

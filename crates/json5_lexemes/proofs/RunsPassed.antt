@@ -1,18 +1,18 @@
 -- Letters and digits that are passed over in both texts.
-use Rattle.std.proofs.Common.{◌≡◌, ◌≢◌, ◌≤◌, ◌<◌, ◌+◌, ◌==◌, ℕ, Bool, true, false, not, ◌||◌, ◌&&◌, nat_eq, nat_le, List, [], ◌∷◌, ◌++◌, length, take, drop, get_or, refl, sym, ap, ◌∙◌, subst, take-append-drop, length-append, arith, zero, suc}
+use Rattle.std.proofs.Common.{◌≡◌, ◌≢◌, ◌<◌, ◌+◌, ◌==◌, ℕ, Bool, true, false, not, ◌||◌, List, [], ◌∷◌, ◌++◌, length, take, drop, get_or, refl, sym, ap, ◌∙◌, subst, take-append-drop, length-append, arith, zero, suc}
 use Rattle.std.proofs.lemmas.Bool.Decides.{nat_tests}
 use Rattle.std.specs.Char.{encode_utf8, IsScalar}
 use Rattle.std.specs.Str.{chars, IsAscii, IsUtf8}
 use Rattle.std.proofs.lemmas.List.{take_more}
 use Rattle.std.proofs.lemmas.Str.{IsUtf8-from_ascii, IsUtf8-append, IsUtf8-encode, chars-append, chars-IsAscii, chars_past_char}
-use Rattle.json5_grammar.specs.Language.Characters.{is_in, is_blank, is_terminator, slash_sign, star_sign, backslash, Each, no_char, char}
+use Rattle.json5_grammar.specs.Language.Characters.{is_in, is_terminator, star_sign, backslash, Each, no_char, char}
 use Rattle.json5_grammar.specs.Language.Strings.{is_quote}
 use Rattle.json5_grammar.proofs.BlanksRead.{printable_no_blank}
 use Rattle.json5_text.specs.Cursor.{Cursor}
 use Rattle.json5_lexemes.specs.SameLexemes.{Same, Within, is_separator, is_sign, is_word_part, is_line_part}
 use Rattle.json5_lexemes.specs.SameLexemes as same
 use Rattle.json5_lexemes.specs.SameSteps.{IsFollowed, PassesWithin}
-use Rattle.json5_lexemes.specs.Runs.{is_plain, is_space, IsRun, IsSpaces, PassesRun, PassesSpaces}
+use Rattle.json5_lexemes.specs.Runs.{is_alphanumeric, is_space, IsRun, IsSpaces, PassesRun, PassesSpaces}
 
 -- ---- counting
 
@@ -23,50 +23,50 @@ each_more P (d ∷ xs) c (char q e) p = char q (each_more P xs c e p)
 pub no_run : (x y : List ℕ) → IsRun x y 0
 no_run x y = record { left = omega arith; right = omega arith; same = refl; each = no_char }
 
-pub run_more : (x y : List ℕ) (n : ℕ) → n < length x → n < length y → get_or x n 0 ≡ get_or y n 0 → is_plain (get_or x n 0) ≡ true → IsRun x y n → IsRun x y (n + 1)
+pub run_more : (x y : List ℕ) (n : ℕ) → n < length x → n < length y → get_or x n 0 ≡ get_or y n 0 → is_alphanumeric (get_or x n 0) ≡ true → IsRun x y n → IsRun x y (n + 1)
 run_more x y n hx hy same_byte plain r = record {
   left = omega (arith, hx);
   right = omega (arith, hy);
   same = take_more x n 0 hx ∙ ap (λ z. z ++ get_or x n 0 ∷ []) r.same ∙ ap (λ z. take n y ++ z ∷ []) same_byte ∙ sym (take_more y n 0 hy);
-  each = subst (Each is_plain) (sym (take_more x n 0 hx)) (each_more is_plain (take n x) (get_or x n 0) r.each plain);
+  each = subst (Each is_alphanumeric) (sym (take_more x n 0 hx)) (each_more is_alphanumeric (take n x) (get_or x n 0) r.each plain);
 }
 
 -- ---- what is plain
 
-plain_printable : (c : ℕ) → is_plain c ≡ true → is_in 33 126 c ≡ true
-plain_printable c p = grind (arith, nat_tests)
+alphanumeric_printable : (c : ℕ) → is_alphanumeric c ≡ true → is_in 33 126 c ≡ true
+alphanumeric_printable c p = grind (arith, nat_tests)
 
-plain_below : (c : ℕ) → is_plain c ≡ true → c < 128
-plain_below c p = grind (arith, nat_tests)
+alphanumeric_below : (c : ℕ) → is_alphanumeric c ≡ true → c < 128
+alphanumeric_below c p = grind (arith, nat_tests)
 
-plain_ascii : (xs : List ℕ) → Each is_plain xs → IsAscii xs
-plain_ascii [] no_char i = omega arith
-plain_ascii (c ∷ xs) (char p e) zero = plain_below c p
-plain_ascii (c ∷ xs) (char p e) (suc i) = plain_ascii xs e i
+alphanumeric_ascii : (xs : List ℕ) → Each is_alphanumeric xs → IsAscii xs
+alphanumeric_ascii [] no_char i = omega arith
+alphanumeric_ascii (c ∷ xs) (char p e) zero = alphanumeric_below c p
+alphanumeric_ascii (c ∷ xs) (char p e) (suc i) = alphanumeric_ascii xs e i
 
-pub plain_part : (c : ℕ) → is_plain c ≡ true → is_word_part c ≡ true
-plain_part c p = let b = printable_no_blank c (plain_printable c p) in rw b (others c p)
+pub alphanumeric_part : (c : ℕ) → is_alphanumeric c ≡ true → is_word_part c ≡ true
+alphanumeric_part c p = let b = printable_no_blank c (alphanumeric_printable c p) in rw b (others c p)
   where
-    others : (c : ℕ) → is_plain c ≡ true → not (((c == 44) || false) || (is_sign c || (is_quote c || (c == 47)))) ≡ true
+    others : (c : ℕ) → is_alphanumeric c ≡ true → not (((c == 44) || false) || (is_sign c || (is_quote c || (c == 47)))) ≡ true
     others c p = grind (arith, nat_tests)
 
-plain_in_line : (c : ℕ) → is_plain c ≡ true → is_terminator c ≡ false
-plain_in_line c p = grind (arith, nat_tests)
+alphanumeric_in_line : (c : ℕ) → is_alphanumeric c ≡ true → is_terminator c ≡ false
+alphanumeric_in_line c p = grind (arith, nat_tests)
 
-plain_no_star : (c : ℕ) → is_plain c ≡ true → c ≢ star_sign
-plain_no_star c p = grind (arith, nat_tests)
+alphanumeric_no_star : (c : ℕ) → is_alphanumeric c ≡ true → c ≢ star_sign
+alphanumeric_no_star c p = grind (arith, nat_tests)
 
-plain_no_backslash : (c : ℕ) → is_plain c ≡ true → c ≢ backslash
-plain_no_backslash c p = grind (arith, nat_tests)
+alphanumeric_no_backslash : (c : ℕ) → is_alphanumeric c ≡ true → c ≢ backslash
+alphanumeric_no_backslash c p = grind (arith, nat_tests)
 
-plain_no_quote : (c q : ℕ) → is_plain c ≡ true → is_quote q ≡ true → c ≢ q
-plain_no_quote c q p k = grind (arith, nat_tests)
+alphanumeric_no_quote : (c q : ℕ) → is_alphanumeric c ≡ true → is_quote q ≡ true → c ≢ q
+alphanumeric_no_quote c q p k = grind (arith, nat_tests)
 
 -- ---- what is passed over
 
-run_chars : (x : List ℕ) (n : ℕ) → Each is_plain (take n x) → chars x ≡ take n x ++ chars (drop n x)
+run_chars : (x : List ℕ) (n : ℕ) → Each is_alphanumeric (take n x) → chars x ≡ take n x ++ chars (drop n x)
 run_chars x n e =
-    let ascii = plain_ascii (take n x) e in
+    let ascii = alphanumeric_ascii (take n x) e in
     ap chars (sym (take-append-drop n x)) ∙ chars-append (take n x) (drop n x) (IsUtf8-from_ascii (take n x) ascii) ∙ ap (λ z. z ++ chars (drop n x)) (chars-IsAscii (take n x) ascii)
 
 pub passes : (x y : List ℕ) (n : ℕ) (left right after after_right : Cursor) → IsRun x y n → left.unread ≡ chars x → right.unread ≡ chars y
@@ -75,7 +75,7 @@ passes x y n left right after after_right r a b c d = record {
   run = take n x;
   each = r.each;
   in_left = a ∙ run_chars x n r.each ∙ ap (λ z. take n x ++ z) (sym c);
-  in_right = b ∙ run_chars y n (subst (Each is_plain) r.same r.each) ∙ ap (λ z. z ++ chars (drop n y)) (sym r.same) ∙ ap (λ z. take n x ++ z) (sym d);
+  in_right = b ∙ run_chars y n (subst (Each is_alphanumeric) r.same r.each) ∙ ap (λ z. z ++ chars (drop n y)) (sym r.same) ∙ ap (λ z. take n x ++ z) (sym d);
 }
 
 pub passes_none : (left right : Cursor) → PassesRun left right left right
@@ -89,27 +89,27 @@ char_taken x rest next c scalar is utf8 e =
 -- ---- the same within a lexeme
 
 -- a letter or a digit in both texts makes no difference within w
-abbrev pub TakesPlain : Within → Type 0
-TakesPlain w = (c : ℕ) (x y : List ℕ) → is_plain c ≡ true → Same w x y → Same w (c ∷ x) (c ∷ y)
+abbrev pub TakesAlphanumeric : Within → Type 0
+TakesAlphanumeric w = (c : ℕ) (x y : List ℕ) → is_alphanumeric c ≡ true → Same w x y → Same w (c ∷ x) (c ∷ y)
 
-pub in_word : TakesPlain Within.word
-in_word c x y p s = same.word_goes_on (plain_part c p) s
+pub in_word : TakesAlphanumeric Within.word
+in_word c x y p s = same.word_goes_on (alphanumeric_part c p) s
 
-pub in_string : (q : ℕ) → is_quote q ≡ true → TakesPlain (Within.string q)
-in_string q k c x y p s = same.raw (plain_no_quote c q p k) (plain_no_backslash c p) s
+pub in_string : (q : ℕ) → is_quote q ≡ true → TakesAlphanumeric (Within.string q)
+in_string q k c x y p s = same.raw (alphanumeric_no_quote c q p k) (alphanumeric_no_backslash c p) s
 
-pub in_line : TakesPlain Within.line
-in_line c x y p s = same.line_goes_on (plain_in_line c p) s
+pub in_line : TakesAlphanumeric Within.line
+in_line c x y p s = same.line_goes_on (alphanumeric_in_line c p) s
 
-pub in_block : TakesPlain Within.block
-in_block c x y p s = same.block_goes_on (plain_no_star c p) s
+pub in_block : TakesAlphanumeric Within.block
+in_block c x y p s = same.block_goes_on (alphanumeric_no_star c p) s
 
-run_on : (w : Within) → TakesPlain w → (run x y : List ℕ) → Each is_plain run → Same w x y → Same w (run ++ x) (run ++ y)
+run_on : (w : Within) → TakesAlphanumeric w → (run x y : List ℕ) → Each is_alphanumeric run → Same w x y → Same w (run ++ x) (run ++ y)
 run_on w step [] x y no_char s = s
 run_on w step (c ∷ run) x y (char p e) s = step c (run ++ x) (run ++ y) p (run_on w step run x y e s)
 
 -- a run after a step within w
-pub followed_run : (w v : Within) (left right mid mid_right after after_right : Cursor) → TakesPlain v → IsFollowed w left right v mid mid_right → PassesRun mid mid_right after after_right
+pub followed_run : (w v : Within) (left right mid mid_right after after_right : Cursor) → TakesAlphanumeric v → IsFollowed w left right v mid mid_right → PassesRun mid mid_right after after_right
     → IsFollowed w left right v after after_right
 followed_run w v left right mid mid_right after after_right step f p =
     let k : length mid.unread ≡ length p.run + length after.unread = ap length p.in_left ∙ length-append p.run after.unread in

@@ -30,12 +30,12 @@ use Rattle.json5_lexemes.specs.Tokens as tokens
 -- ---- parts of words
 
 -- printable, and no separator, sign, quote or slash
-abbrev pub is_plain : ℕ → Bool
-is_plain c = is_in 33 126 c && not ((c == comma_sign) || (is_sign c || (is_quote c || (c == slash_sign))))
+abbrev pub is_printable_part : ℕ → Bool
+is_printable_part c = is_in 33 126 c && not ((c == comma_sign) || (is_sign c || (is_quote c || (c == slash_sign))))
 
--- a plain character is part of a word
-plain_part : (c : ℕ) → is_plain c ≡ true → is_word_part c ≡ true
-plain_part c h =
+-- such a character is part of a word
+pub printable_part : (c : ℕ) → is_printable_part c ≡ true → is_word_part c ≡ true
+printable_part c h =
     let p : is_in 33 126 c ≡ true = and_left (is_in 33 126 c) _ h in
     let n = not-true _ (and_right (is_in 33 126 c) _ h) in
     let a = or_parts (c == comma_sign) _ n in
@@ -43,31 +43,31 @@ plain_part c h =
     let d = or_parts (is_quote c) (c == slash_sign) b.1 in
     rw (a.0, printable_no_blank c p, b.0, d.0, d.1) refl
 
-abbrev all_plain : List ℕ → Bool
-all_plain [] = true
-all_plain (c ∷ s) = is_plain c && all_plain s
+abbrev all_printable : List ℕ → Bool
+all_printable [] = true
+all_printable (c ∷ s) = is_printable_part c && all_printable s
 
-pub each_part : (s : List ℕ) → all_plain s ≡ true → Each is_word_part s
+pub each_part : (s : List ℕ) → all_printable s ≡ true → Each is_word_part s
 each_part [] h = no_char
-each_part (c ∷ s) h = char (plain_part c (and_left (is_plain c) (all_plain s) h)) (each_part s (and_right (is_plain c) (all_plain s) h))
+each_part (c ∷ s) h = char (printable_part c (and_left (is_printable_part c) (all_printable s) h)) (each_part s (and_right (is_printable_part c) (all_printable s) h))
 
 -- a character of a number is part of a word
 pub run_part : (c : ℕ) → in_run c ≡ true → is_word_part c ≡ true
-run_part c h = plain_part c (plain c h)
+run_part c h = printable_part c (plain c h)
   where
-    plain : (c : ℕ) → in_run c ≡ true → is_plain c ≡ true
+    plain : (c : ℕ) → in_run c ≡ true → is_printable_part c ≡ true
     plain c h = grind (arith, nat_tests)
 
 pub hex_part : (c : ℕ) → is_hex_digit c ≡ true → is_word_part c ≡ true
-hex_part c h = plain_part c (plain c h)
+hex_part c h = printable_part c (plain c h)
   where
-    plain : (c : ℕ) → is_hex_digit c ≡ true → is_plain c ≡ true
+    plain : (c : ℕ) → is_hex_digit c ≡ true → is_printable_part c ≡ true
     plain c h = grind (arith, nat_tests)
 
 hex_start_part : (c : ℕ) → hex_start c ≡ true → is_word_part c ≡ true
-hex_start_part c h = plain_part c (plain c h)
+hex_start_part c h = printable_part c (plain c h)
   where
-    plain : (c : ℕ) → hex_start c ≡ true → is_plain c ≡ true
+    plain : (c : ℕ) → hex_start c ≡ true → is_printable_part c ≡ true
     plain c h = grind (arith, nat_tests)
 
 -- ---- parts of names

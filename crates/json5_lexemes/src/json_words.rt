@@ -36,11 +36,14 @@ pub(crate) fn is_json_word(text: &str) -> bool
     requires { Each is_json_part text.now }
     ensures { IsTrue result ↔ JsonWord (chars text.now) }
 {
+    if is_json_number(text.as_bytes()) {
+        return true;
+    }
     match text {
         "null" => true,
         "true" => true,
         "false" => true,
-        _ => is_json_number(text.as_bytes()),
+        _ => false,
     }
 }
 
@@ -83,7 +86,11 @@ fn is_integer(digits: &[u8]) -> bool
     let Some((first, more)) = digits.split_first() else {
         return false;
     };
-    if *first == b'0' { more.is_empty() } else { true }
+    if *first == b'0' {
+        more.is_empty()
+    } else {
+        true
+    }
 }
 
 /// What follows a point and digits, if there is a point.
@@ -144,7 +151,11 @@ fn after_sign(bytes: &[u8]) -> &[u8]
     let Some((first, rest)) = bytes.split_first() else {
         return bytes;
     };
-    if is_exponent_sign(*first) { rest } else { bytes }
+    if is_exponent_sign(*first) {
+        rest
+    } else {
+        bytes
+    }
 }
 
 /// Whether the bytes are digits, and not none.
@@ -152,7 +163,11 @@ fn are_digits(bytes: &[u8]) -> bool
     ensures { IsTrue result ↔ Digits bytes.now }
 {
     let (_digits, rest) = split_digits(bytes);
-    if rest.is_empty() { !bytes.is_empty() } else { false }
+    if rest.is_empty() {
+        !bytes.is_empty()
+    } else {
+        false
+    }
 }
 
 /// The digits in front, and what follows them.

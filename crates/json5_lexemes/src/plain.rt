@@ -7,7 +7,7 @@ ghost use Rattle.json5_grammar.specs.Language.Characters.{NotBegun, is_hex_digit
 ghost use Rattle.json5_layouts.specs.Json.{is_escape_letter, is_json_blank};
 ghost use Rattle.json5_text.specs.ByteRuns.{is_in_line, is_line_part as is_surely_in_line, is_no_star};
 ghost use Rattle.json5_text.specs.Scan.{SkipsAll, StartsWith};
-ghost use Rattle.json5_lexemes.specs.Plain.{IsPlain, KeepsPlain, Plain};
+ghost use Rattle.json5_lexemes.specs.Plain.{is_closing, is_opening, IsPlain, KeepsPlain, Plain};
 ghost use Rattle.json5_lexemes.specs.PlainSteps.{is_slash, Leaves, LeavesWith, PassesComment, PassesLexeme, PassesSign, TakesBlock, TakesCode, TakesComment, TakesEscape, TakesHex, TakesLine, TakesString, TakesWord};
 ghost use Rattle.json5_lexemes.specs.SameLexemes.{is_word_part};
 ghost use Rattle.json5_lexemes.specs.declared.plain.Last.TheVariants as last_tokens;
@@ -90,18 +90,43 @@ fn pass_lexeme<'x>(
     c: char,
     after: &'x str,
 ) -> Option<(Last, &'x str)>
-    requires { StartsWith text.now c after.now }
+    requires front { StartsWith text.now c after.now }
+    requires solid { is_json_blank c ≡ false }
     ensures { PassesLexeme comments last text.now result }
 {
-    match c {
-        '"' => pass_string(after),
-        '[' | '{' => Some((Last::Sign, after)),
-        ']' | '}' => pass_closing(last, after),
-        ',' => Some((Last::Comma, after)),
-        ':' => pass_colon(last, after),
-        '/' => pass_comment(comments, last, after),
-        _ => pass_word(text),
+    if is_opening(c) {
+        return Some((Last::Sign, after));
     }
+    if is_closing(c) {
+        return pass_closing(last, after);
+    }
+    if c == '"' {
+        return pass_string(after);
+    }
+    if c == ',' {
+        return Some((Last::Comma, after));
+    }
+    if c == ':' {
+        return pass_colon(last, after);
+    }
+    if c == '/' {
+        return pass_comment(comments, last, after);
+    }
+    pass_word(text)
+}
+
+#[inline(always)]
+fn is_opening(c: char) -> bool
+    ensures { result ≡ is_opening c }
+{
+    c == '[' || c == '{'
+}
+
+#[inline(always)]
+fn is_closing(c: char) -> bool
+    ensures { result ≡ is_closing c }
+{
+    c == ']' || c == '}'
 }
 
 /// The same after the first quote of a string.
@@ -264,11 +289,13 @@ fn skip_word(text: &str) -> Option<&str>
     ensures { Leaves TakesWord text.now result }
 {
     let (word, rest) = text.split_at(json_part_len(text.as_bytes()));
-    if is_json_word(word) && !begins_word(rest) {
-        Some(rest)
-    } else {
-        None
+    if !is_json_word(word) {
+        return None;
     }
+    if begins_word(rest) {
+        return None;
+    }
+    Some(rest)
 }
 
 /// Whether a part of a number, a literal or a name of JSON5 is in front.

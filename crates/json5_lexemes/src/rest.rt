@@ -2,7 +2,7 @@
 
 ghost use Rattle.std.specs.Prelude.{◌≡◌, ◌≤◌, IsTrue, false, length, slice_get};
 ghost use Rattle.json5_text.specs.Scan.{IsFront};
-ghost use Rattle.json5_lexemes.specs.Runs.{IsRun, IsSpaces, PassesRun, PassesSpaces, is_plain};
+ghost use Rattle.json5_lexemes.specs.Runs.{IsRun, IsSpaces, PassesRun, PassesSpaces, is_alphanumeric};
 ghost use Rattle.json5_lexemes.specs.SameSteps.{Takes};
 
 use std::marker::Model;
@@ -114,7 +114,7 @@ fn run_len(left: &[u8], right: &[u8]) -> usize
 {
     let mut len = 0;
     while len < left.len() && len < right.len() {
-        if left[len] != right[len] || !is_plain(left[len]) {
+        if left[len] != right[len] || !is_alphanumeric(left[len]) {
             return len;
         }
         len += 1;
@@ -124,8 +124,8 @@ fn run_len(left: &[u8], right: &[u8]) -> usize
 
 /// Whether the byte is a letter or a digit of ASCII.
 #[inline(always)]
-fn is_plain(byte: u8) -> bool
-    ensures { result ≡ is_plain byte }
+fn is_alphanumeric(byte: u8) -> bool
+    ensures { result ≡ is_alphanumeric byte }
 {
     byte >= b'a' && byte <= b'z' || byte >= b'A' && byte <= b'Z' || byte >= b'0' && byte <= b'9'
 }

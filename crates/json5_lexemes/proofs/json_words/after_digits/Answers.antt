@@ -1,9 +1,5 @@
-use Rattle.std.proofs.Common.{◌≡◌, ◌≢◌, ℕ, Bool, true, false, List, [], ◌∷◌, ◌++◌, refl, sym, ap, ◌∙◌, subst, length, drop, arith, rules}
-use Rattle.std.specs.Prelude.{◌↔◌, ◌==◌, IsTrue}
-use Rattle.std.specs.Str.{chars}
-use Rattle.json5_grammar.specs.Language.Characters.{is_digit, Each, NotBegun}
-use Rattle.json5_grammar.specs.Model.ReadNumbers.{front_of, rest_of}
-use Rattle.json5_grammar.proofs.CommonLemmas.{not_eq}
+use Rattle.std.proofs.Common.{◌≡◌, true, false, refl, sym, subst}
+use Rattle.json5_grammar.specs.Language.Characters.{is_digit, Each}
 use Rattle.json5_grammar.specs.Language.Numbers.{Integer}
 use Rattle.json5_grammar.proofs.CharacterTests.{front_each}
 use Rattle.json5_lexemes.specs.PlainSteps.{AfterDigits}

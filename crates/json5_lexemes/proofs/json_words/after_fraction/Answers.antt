@@ -1,10 +1,7 @@
-use Rattle.std.proofs.Common.{◌≡◌, ◌≢◌, ℕ, Bool, true, false, List, [], ◌∷◌, ◌++◌, refl, sym, ap, ◌∙◌, subst, length, drop, arith, rules}
-use Rattle.std.specs.Prelude.{◌↔◌, ◌==◌, IsTrue}
-use Rattle.std.specs.Str.{chars}
-use Rattle.json5_grammar.specs.Language.Characters.{is_digit, Each, NotBegun}
-use Rattle.json5_grammar.specs.Model.ReadNumbers.{front_of, rest_of}
+use Rattle.std.proofs.Common.{◌∷◌, sym, ap, ◌∙◌, subst}
+use Rattle.json5_grammar.specs.Language.Characters.{NotBegun}
 use Rattle.json5_grammar.proofs.CommonLemmas.{not_eq}
-use Rattle.json5_lexemes.proofs.PlainNumbers.{is_point, past_point, without_point, exponent_after, no_first, goes_on_point}
+use Rattle.json5_lexemes.proofs.PlainNumbers.{is_point, without_point, exponent_after, no_first, goes_on_point}
 use Rattle.json5_lexemes.proofs.json_words.after_fraction.Goals as goal
 
 pub returns-in_default : goal.returns-in_default

@@ -1,11 +1,7 @@
-use Rattle.std.proofs.Common.{◌≡◌, ◌≢◌, ℕ, Bool, true, false, List, [], ◌∷◌, ◌++◌, refl, sym, ap, ◌∙◌, subst, length, drop, arith, rules}
-use Rattle.std.specs.Prelude.{◌↔◌, ◌==◌, IsTrue}
-use Rattle.std.specs.Str.{chars}
-use Rattle.json5_grammar.specs.Language.Characters.{is_digit, Each, NotBegun}
-use Rattle.json5_grammar.specs.Model.ReadNumbers.{front_of, rest_of}
+use Rattle.std.proofs.Common.{◌∷◌, sym, ap, ◌∙◌, subst}
+use Rattle.json5_grammar.specs.Language.Characters.{NotBegun}
 use Rattle.json5_grammar.proofs.CommonLemmas.{not_eq}
 use Rattle.json5_layouts.specs.Json.{JsonNumber}
-use Rattle.json5_lexemes.specs.PlainSteps.{Unsigned}
 use Rattle.json5_lexemes.proofs.PlainNumbers.{is_minus, past_minus, with_minus, without_minus, unsigned_number, no_first}
 use Rattle.json5_lexemes.proofs.json_words.after_minus.Goals as goal
 

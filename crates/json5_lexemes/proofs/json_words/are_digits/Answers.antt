@@ -1,9 +1,4 @@
-use Rattle.std.proofs.Common.{◌≡◌, ◌≢◌, ℕ, Bool, true, false, List, [], ◌∷◌, ◌++◌, refl, sym, ap, ◌∙◌, subst, length, drop, arith, rules}
-use Rattle.std.specs.Prelude.{◌↔◌, ◌==◌, IsTrue}
-use Rattle.std.specs.Str.{chars}
-use Rattle.json5_grammar.specs.Language.Characters.{is_digit, Each, NotBegun}
-use Rattle.json5_grammar.specs.Model.ReadNumbers.{front_of, rest_of}
-use Rattle.json5_grammar.proofs.CommonLemmas.{not_eq}
+use Rattle.std.proofs.Common.{sym}
 use Rattle.json5_lexemes.proofs.PlainNumbers.{all_digits, not_all_digits}
 use Rattle.json5_lexemes.proofs.json_words.are_digits.Goals as goal
 

@@ -1,4 +1,4 @@
-use Rattle.std.proofs.Common.{◌≡◌, ℕ, List, length}
+use Rattle.std.proofs.Common.{ℕ, List, length}
 use Rattle.std.specs.Prelude.{◌↔◌}
 use denote.Text.{Utf8}
 use denote.Shadow.{shadow}

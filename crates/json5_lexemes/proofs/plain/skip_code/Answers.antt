@@ -1,6 +1,3 @@
-use Rattle.std.proofs.Common.{◌≡◌, ℕ, List, [], ◌∷◌, ◌++◌, refl, sym, ap, ◌∙◌, subst, length, arith}
-use Rattle.std.specs.Prelude.{◌↔◌, ◌==◌}
-use Rattle.std.specs.Str.{chars}
 use Rattle.json5_lexemes.specs.PlainSteps.{TakesCode, TakesHex}
 use Rattle.json5_lexemes.proofs.PlainTakes.{leaves_by, code_first, code_second, code_third, code_last}
 use Rattle.json5_lexemes.proofs.plain.skip_code.Goals as goal

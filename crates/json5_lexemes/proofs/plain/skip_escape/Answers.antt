@@ -1,5 +1,5 @@
-use Rattle.std.proofs.Common.{◌≡◌, ℕ, List, [], ◌∷◌, ◌++◌, refl, sym, ap, ◌∙◌, subst, length, arith}
-use Rattle.std.specs.Prelude.{◌↔◌, ◌==◌}
+use Rattle.std.proofs.Common.{◌≡◌, ◌∷◌, sym, ap, ◌∙◌, subst}
+use Rattle.std.specs.Prelude.{◌↔◌}
 use Rattle.std.specs.Str.{chars}
 use Rattle.json5_lexemes.specs.PlainSteps.{TakesCode, TakesEscape}
 use Rattle.json5_lexemes.proofs.PlainTakes.{leaves_by, no_escape, escape_letter, escape_code, escape_stops}

@@ -1,5 +1,5 @@
-use Rattle.std.proofs.Common.{◌≡◌, ℕ, List, [], ◌∷◌, ◌++◌, refl, sym, ap, ◌∙◌, subst, length, arith}
-use Rattle.std.specs.Prelude.{◌↔◌, ◌==◌}
+use Rattle.std.proofs.Common.{◌≡◌, sym, subst}
+use Rattle.std.specs.Prelude.{◌↔◌}
 use Rattle.std.specs.Str.{chars}
 use Rattle.json5_lexemes.specs.PlainSteps.{TakesHex}
 use Rattle.json5_lexemes.proofs.PlainTakes.{no_hex, hex_ends, hex_stops}

@@ -1,4 +1,4 @@
-use Rattle.std.proofs.Common.{◌≡◌, ◌∙◌, ap, sym, drop, refl}
+use Rattle.std.proofs.Common.{◌∙◌, ap, sym, drop}
 use Rattle.std.specs.Str.{chars}
 use Rattle.json5_text.specs.Cursor.{Cursor}
 use Rattle.json5_lexemes.proofs.RunsPassed.{passes, passes_none}

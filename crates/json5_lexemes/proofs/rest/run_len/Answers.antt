@@ -7,4 +7,4 @@ loop-len-init c = no_run c.args.left.now c.args.right.now
 
 pub loop-len-preserved : goal.loop-len-preserved
 loop-len-preserved c =
-    run_more c.args.left.now c.args.right.now c.loop-len.len c.loop-len-test.true c.if-len-right.true c.if-left-len.false (sym c.if-not-is_plain.ensures) c.loop-len.invariant
+    run_more c.args.left.now c.args.right.now c.loop-len.len c.loop-len-test.true c.if-len-right.true c.if-left-len.false (sym c.if-not-is_alphanumeric.ensures) c.loop-len.invariant

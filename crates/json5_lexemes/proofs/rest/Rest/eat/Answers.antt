@@ -1,4 +1,4 @@
-use Rattle.std.proofs.Common.{◌≡◌, ◌∙◌, ◌++◌, ap, sym, refl}
+use Rattle.std.proofs.Common.{◌≡◌, ◌∙◌, ◌++◌, ap, sym}
 use Rattle.std.specs.Char.{encode_utf8}
 use Rattle.json5_text.specs.Cursor.{Cursor}
 use Rattle.json5_lexemes.proofs.RunsPassed.{char_taken}
