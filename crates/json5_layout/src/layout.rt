@@ -82,7 +82,8 @@ struct Printer {
 /// The document in the layout. Of a text that is no document it gives some bytes.
 ///
 /// ```text
-/// laid_out(alloc, Style::usual(), b"{a:1,/* b */b:[1,2,]}")?    // `{ a: 1, /* b */ b: [1, 2] }` and a line end
+/// let style = Style { indent: 2, width: 80, last_comma: true };
+/// laid_out(alloc, style, b"{a:1,/* b */b:[1,2,]}")?    // `{ a: 1, /* b */ b: [1, 2] }` and a line end
 /// ```
 ///
 /// # Errors

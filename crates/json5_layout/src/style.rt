@@ -1,7 +1,4 @@
-//! What a user may choose of the layout.
-
-ghost use Rattle.std.specs.Prelude.{◌≡◌};
-ghost use Rattle.json5_layout.specs.Styles.{usual_style};
+//! What may be chosen of the layout.
 
 /// How a document is laid out.
 #[derive(Clone, Copy, Debug, Drop)]
@@ -12,21 +9,4 @@ pub struct Style {
     pub width: usize,
     /// Whether a comma follows the last element or member of a collection over several lines.
     pub last_comma: bool,
-}
-
-impl Style {
-    /// Returns the usual style: two spaces a level, lines of 80 characters, a comma after the last.
-    ///
-    /// ```text
-    /// Style { indent: 4, ..Style::usual() }
-    /// ```
-    pub fn usual() -> Style
-        ensures { result ≡ usual_style }
-    {
-        Style {
-            indent: 2,
-            width: 80,
-            last_comma: true,
-        }
-    }
 }

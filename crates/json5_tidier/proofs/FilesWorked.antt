@@ -6,9 +6,9 @@ use Rattle.std.proofs.lemmas.List.{take_more, take_all}
 use Rattle.json5_write.specs.Pieces.{AppendsFront}
 use Rattle.json5_formatter.specs.declared.failure.Failure.TheVariants as failure
 use Rattle.json5_tidier.specs.declared.files.Outcome.TheVariants as outcome
+use Rattle.json5_tidier.specs.declared.requests.FileRequest.{FileRequest}
 use Rattle.json5_tidier.specs.declared.trouble.Trouble.{Trouble}
 use Rattle.json5_tidier.specs.declared.trouble.Trouble.TheVariants as trouble
-use Rattle.json5_tidier.specs.declared.work.Work.{Work}
 use Rattle.json5_tidier.specs.Files.{WorksOnFile, GoesThrough, tidy, untidy, bad, WorksThrough, through, stopped}
 use Rattle.json5_tidier.specs.Stores.{Known}
 use Rattle.json5_tidier.specs.Troubles.{trouble_line, trouble_status}
@@ -21,24 +21,24 @@ split_at : (names : List (String Global)) (i : ℕ) (name : String Global) → i
 split_at names i name h is =
     sym (take-append-drop (i + 1) names) ∙ ap (λ l. l ++ drop (i + 1) names) (one_more names i name h is) ∙ append_assoc (take i names) (name ∷ []) (drop (i + 1) names)
 
-module _ (known : Known) (w : Work) (output errors before after said : Option (List ℕ)) (names : List (String Global)) (i status : ℕ) (name : String Global)
-    (h : i < length names) (is : name ≡ get_or names i name) (g : GoesThrough known w output errors (take i names) before said status) where
-  pub more_tidy : WorksOnFile known w (string_bytes name) before after (Ok outcome.Tidy) → GoesThrough known w output errors (take (i + 1) names) after said status
-  more_tidy k = subst (λ l. GoesThrough known w output errors l after said status) (sym (one_more names i name h is)) (tidy name g k)
+module _ (known : Known) (request : FileRequest) (output errors before after said : Option (List ℕ)) (names : List (String Global)) (i status : ℕ) (name : String Global)
+    (h : i < length names) (is : name ≡ get_or names i name) (g : GoesThrough known request output errors (take i names) before said status) where
+  pub more_tidy : WorksOnFile known request (string_bytes name) before after (Ok outcome.Tidy) → GoesThrough known request output errors (take (i + 1) names) after said status
+  more_tidy k = subst (λ l. GoesThrough known request output errors l after said status) (sym (one_more names i name h is)) (tidy name g k)
 
-  pub more_untidy : WorksOnFile known w (string_bytes name) before after (Ok outcome.Untidy) → GoesThrough known w output errors (take (i + 1) names) after said (max status 1)
-  more_untidy k = subst (λ l. GoesThrough known w output errors l after said (max status 1)) (sym (one_more names i name h is)) (untidy name g k)
+  pub more_untidy : WorksOnFile known request (string_bytes name) before after (Ok outcome.Untidy) → GoesThrough known request output errors (take (i + 1) names) after said (max status 1)
+  more_untidy k = subst (λ l. GoesThrough known request output errors l after said (max status 1)) (sym (one_more names i name h is)) (untidy name g k)
 
-  pub more_bad : (more : Option (List ℕ)) (e : Trouble) → WorksOnFile known w (string_bytes name) before after (Err e) → e ≢ trouble.Failed failure.Write → AppendsFront said more (trouble_line (string_bytes name) e)
-      → GoesThrough known w output errors (take (i + 1) names) after more (max status (trouble_status e))
-  more_bad more e k other a = subst (λ l. GoesThrough known w output errors l after more (max status (trouble_status e))) (sym (one_more names i name h is)) (bad name e g k other a)
+  pub more_bad : (more : Option (List ℕ)) (e : Trouble) → WorksOnFile known request (string_bytes name) before after (Err e) → e ≢ trouble.Failed failure.Write → AppendsFront said more (trouble_line (string_bytes name) e)
+      → GoesThrough known request output errors (take (i + 1) names) after more (max status (trouble_status e))
+  more_bad more e k other a = subst (λ l. GoesThrough known request output errors l after more (max status (trouble_status e))) (sym (one_more names i name h is)) (bad name e g k other a)
 
-  pub stops : (more : Option (List ℕ)) (e : Trouble) → WorksOnFile known w (string_bytes name) before after (Err e) → e ≡ trouble.Failed failure.Write → AppendsFront said more (trouble_line (string_bytes name) e)
-      → WorksThrough known w output errors names after more (max status (trouble_status e)) false
+  pub stops : (more : Option (List ℕ)) (e : Trouble) → WorksOnFile known request (string_bytes name) before after (Err e) → e ≡ trouble.Failed failure.Write → AppendsFront said more (trouble_line (string_bytes name) e)
+      → WorksThrough known request output errors names after more (max status (trouble_status e)) false
   stops more e k write a =
-      subst (λ n. WorksThrough known w output errors names after more n false) (ap (λ x. max status (trouble_status x)) (sym write))
-      (stopped name (drop (i + 1) names) (split_at names i name h is) g (subst (λ x. WorksOnFile known w (string_bytes name) before after (Err x)) write k) (subst (λ x. AppendsFront said more (trouble_line (string_bytes name) x)) write a))
+      subst (λ n. WorksThrough known request output errors names after more n false) (ap (λ x. max status (trouble_status x)) (sym write))
+      (stopped name (drop (i + 1) names) (split_at names i name h is) g (subst (λ x. WorksOnFile known request (string_bytes name) before after (Err x)) write k) (subst (λ x. AppendsFront said more (trouble_line (string_bytes name) x)) write a))
 
-pub ends : (known : Known) (w : Work) (output errors after said : Option (List ℕ)) (names : List (String Global)) (i status : ℕ) → length names ≤ i
-    → GoesThrough known w output errors (take i names) after said status → WorksThrough known w output errors names after said status true
-ends known w output errors after said names i status h g = through (subst (λ l. GoesThrough known w output errors l after said status) (take_all i names h) g)
+pub ends : (known : Known) (request : FileRequest) (output errors after said : Option (List ℕ)) (names : List (String Global)) (i status : ℕ) → length names ≤ i
+    → GoesThrough known request output errors (take i names) after said status → WorksThrough known request output errors names after said status true
+ends known request output errors after said names i status h g = through (subst (λ l. GoesThrough known request output errors l after said status) (take_all i names h) g)

@@ -36,10 +36,10 @@ module _ (known : Known) (request : FileRequest) (output errors : Option (List �
 
 module _ (known : Known) (request : FileRequest) (given : List (String Global)) (name : List ℕ) (files : List (String Global)) where
   pub works_below : (output errors after said : Option (List ℕ)) (all : List (String Global)) (status : ℕ) (goes_on : Bool) → given ≡ request.options.endings.items → all ≡ files
-      → StandsFor known given name (names_of files) → WorksThrough known request.work output errors all after said status goes_on
+      → StandsFor known given name (names_of files) → WorksThrough known request output errors all after said status goes_on
       → WorksBelow known request name output errors after said status goes_on
   works_below output errors after said all status goes_on same every stands k =
-      worked files (subst (λ l. StandsFor known l name (names_of files)) same stands) (subst (λ l. WorksThrough known request.work output errors l after said status goes_on) every k)
+      worked files (subst (λ l. StandsFor known l name (names_of files)) same stands) (subst (λ l. WorksThrough known request output errors l after said status goes_on) every k)
 
   pub stands_for_none : given ≡ request.options.endings.items → length files ≡ 0 → StandsFor known given name (names_of files) → Stands known request name []
   stands_for_none same empty stands =

@@ -5,12 +5,12 @@ use Rattle.std.specs.Prelude.{String}
 use Rattle.json5_formatter.specs.declared.failure.Failure.{Failure}
 use Rattle.json5_formatter.specs.declared.failure.Failure.TheVariants as failure
 use Rattle.json5_formatter.specs.Reports.{status_of}
+use Rattle.json5_tidier.specs.declared.options.Options.{Options}
 use Rattle.json5_tidier.specs.declared.requests.FileRequest.{FileRequest}
 use Rattle.json5_tidier.specs.declared.requests.Request.{Request}
 use Rattle.json5_tidier.specs.declared.requests.Request.TheVariants as requests
 use Rattle.json5_tidier.specs.declared.trouble.Trouble.{Trouble}
 use Rattle.json5_tidier.specs.declared.trouble.Trouble.TheVariants as trouble
-use Rattle.json5_tidier.specs.declared.work.Work.{Work}
 use Rattle.json5_tidier.specs.Answers.{AnswersStream, tidies, fails, AnswersRequest, Answers, answers, says_usage, no_memory}
 use Rattle.json5_tidier.specs.Says.{SaysText, says, stops}
 use Rattle.json5_tidier.specs.CommandWords.{AsksNothing}
@@ -38,13 +38,13 @@ trouble_low trouble.NoFile = omega arith
 max_low : (a b : ℕ) → a ≤ 2 → b ≤ 2 → max a b ≤ 2
 max_low a b p q = omega (arith, p, q)
 
-goes_low : {known : Known} {w : Work} {output errors written said : Option (List ℕ)} {names : List (String Global)} {n : ℕ} → files.GoesThrough known w output errors names written said n → n ≤ 2
+goes_low : {known : Known} {request : FileRequest} {output errors written said : Option (List ℕ)} {names : List (String Global)} {n : ℕ} → files.GoesThrough known request output errors names written said n → n ≤ 2
 goes_low files.none = omega arith
 goes_low (files.tidy name g k) = goes_low g
 goes_low (files.untidy {status = status} name g k) = max_low status 1 (goes_low g) (omega arith)
 goes_low (files.bad {status = status} name e g k other a) = max_low status (trouble_status e) (goes_low g) (trouble_low e)
 
-works_low : {known : Known} {w : Work} {output errors written said : Option (List ℕ)} {names : List (String Global)} {n : ℕ} {goes_on : Bool} → files.WorksThrough known w output errors names written said n goes_on → n ≤ 2
+works_low : {known : Known} {request : FileRequest} {output errors written said : Option (List ℕ)} {names : List (String Global)} {n : ℕ} {goes_on : Bool} → files.WorksThrough known request output errors names written said n goes_on → n ≤ 2
 works_low (files.through g) = goes_low g
 works_low (files.stopped {status = status} name rest split g k a) = max_low status 2 (goes_low g) (omega arith)
 
@@ -61,7 +61,7 @@ names_low : {known : Known} {request : FileRequest} {output errors written said 
 names_low (named.through g) = each_low g
 names_low (named.stopped names rest split g) = each_low g
 
-stream_low : {input output errors written said : Option (List ℕ)} {n : ℕ} → AnswersStream input output written errors said n → n ≤ 2
+stream_low : {options : Options} {input output errors written said : Option (List ℕ)} {n : ℕ} → AnswersStream options input output written errors said n → n ≤ 2
 stream_low (tidies k) = omega arith
 stream_low (fails e k a) = trouble_low e
 

@@ -4,12 +4,14 @@ use Rattle.std.specs.Prelude.{◌==◌}
 use Rattle.std.specs.Borrow.{Bor}
 use Rattle.std.specs.Str.Parse.{IsNumeral, without_leading_plus}
 use lib.Chars.{codes}
+use Rattle.json5_tidy.specs.declared.style.LastCommas.{LastCommas}
+use Rattle.json5_tidy.specs.declared.style.LastCommas.TheVariants as commas
 use Rattle.json5_tidier.specs.declared.options.Flag.{Flag}
 use Rattle.json5_tidier.specs.declared.options.Flag.TheVariants as flags
 use Rattle.json5_tidier.specs.declared.options.Setting.{Setting}
 use Rattle.json5_tidier.specs.declared.options.Setting.TheVariants as settings
 use Rattle.json5_tidier.specs.Folders.{point}
-use Rattle.json5_tidier.specs.CommandWords.{minus, equals, end_word, IsDashed, IsFlag, setting_word, IsCount, IsIndent, IsEnding, Part, name, flag, indent, width, ending, Sets, Starts, plain, alone, joined, apart}
+use Rattle.json5_tidier.specs.CommandWords.{minus, equals, end_word, IsDashed, IsFlag, setting_word, IsCount, IsIndent, commas_word, IsEnding, Part, name, flag, indent, width, last_commas, ending, Sets, Starts, plain, alone, joined, apart}
 
 -- ---- bytes of words
 
@@ -23,11 +25,12 @@ third rest = 0
 
 -- whether the third is that of an option with a value
 abbrev is_setting : List ℕ → Bool
-is_setting word = (third word == 105) || ((third word == 119) || (third word == 101))
+is_setting word = (third word == 105) || ((third word == 119) || ((third word == 108) || ((third word == 101) || (third word == 115))))
 
 -- the option that the third byte is of
 abbrev setting_at : List ℕ → Setting
-setting_at word = cond (third word == 105) settings.Indent (cond (third word == 119) settings.Width settings.Ext)
+setting_at word =
+    cond (third word == 105) settings.Indent (cond (third word == 119) settings.Width (cond (third word == 108) settings.LastCommas (cond (third word == 101) settings.Ext settings.StdinName)))
 
 abbrev flag_at : List ℕ → Flag
 flag_at word = cond (third word == 118) flags.Version (cond (third word == 110) flags.NoLastComma flags.Help)
@@ -65,27 +68,37 @@ flag_no_end word flags.NoLastComma e n = let d : 15 ≡ 2 = ap length (sym e ∙
 setting_found : (s : Setting) (more : List ℕ) → setting_at (setting_word s ++ more) ≡ s
 setting_found settings.Indent more = refl
 setting_found settings.Width more = refl
+setting_found settings.LastCommas more = refl
 setting_found settings.Ext more = refl
+setting_found settings.StdinName more = refl
 
 setting_set : (s : Setting) (more : List ℕ) → is_setting (setting_word s ++ more) ≡ true
 setting_set settings.Indent more = refl
 setting_set settings.Width more = refl
+setting_set settings.LastCommas more = refl
 setting_set settings.Ext more = refl
+setting_set settings.StdinName more = refl
 
 setting_whole : (s : Setting) → has_equals (setting_word s) ≡ false
 setting_whole settings.Indent = refl
 setting_whole settings.Width = refl
+setting_whole settings.LastCommas = refl
 setting_whole settings.Ext = refl
+setting_whole settings.StdinName = refl
 
 joined_split : (s : Setting) (value : List ℕ) → has_equals (setting_word s ++ equals ∷ value) ≡ true
 joined_split settings.Indent value = refl
 joined_split settings.Width value = refl
+joined_split settings.LastCommas value = refl
 joined_split settings.Ext value = refl
+joined_split settings.StdinName value = refl
 
 joined_after : (s : Setting) (value : List ℕ) → after_equals (setting_word s ++ equals ∷ value) ≡ value
 joined_after settings.Indent value = refl
 joined_after settings.Width value = refl
+joined_after settings.LastCommas value = refl
 joined_after settings.Ext value = refl
+joined_after settings.StdinName value = refl
 
 -- nothing more stands behind it
 alone_word : (s : Setting) (word : List ℕ) → word ≡ setting_word s → word ≡ setting_word s ++ []
@@ -126,7 +139,9 @@ flag_dashed word flags.NoLastComma e = dashed word minus (codes "no-last-comma")
 pub setting_dashed : (s : Setting) (more word : List ℕ) → word ≡ setting_word s ++ more → IsDashed word
 setting_dashed settings.Indent more word e = dashed word minus (codes "indent" ++ more) e
 setting_dashed settings.Width more word e = dashed word minus (codes "width" ++ more) e
+setting_dashed settings.LastCommas more word e = dashed word minus (codes "last-commas" ++ more) e
 setting_dashed settings.Ext more word e = dashed word minus (codes "ext" ++ more) e
+setting_dashed settings.StdinName more word e = dashed word minus (codes "stdin-name" ++ more) e
 
 -- ---- a value sets one thing
 
@@ -145,10 +160,23 @@ ending_once value e f (x, inl a) (y, inr b) = absurd (b.1 e a)
 ending_once value e f (x, inr a) (y, inl b) = absurd (a.1 f b)
 ending_once value e f (x, inr a) (y, inr b) = sym a.0 ∙ b.0
 
+abbrev commas_at : List ℕ → LastCommas
+commas_at word = cond (second word == 117) commas.Auto (cond (second word == 108) commas.Always commas.Never)
+
+commas_found : (c : LastCommas) → commas_at (commas_word c) ≡ c
+commas_found commas.Auto = refl
+commas_found commas.Always = refl
+commas_found commas.Never = refl
+
+commas_once : (value : List ℕ) (c d : LastCommas) → value ≡ commas_word c → value ≡ commas_word d → c ≡ d
+commas_once value c d e f = sym (commas_found c) ∙ ap commas_at (sym e ∙ f) ∙ commas_found d
+
 sets_once : (s : Setting) (value : List ℕ) (p q : Part) → Sets s value p → Sets s value q → p ≡ q
 sets_once settings.Indent value p q a b = a.2 ∙ ap indent (indent_once value a.0 b.0 a.1 b.1) ∙ sym b.2
 sets_once settings.Width value p q a b = a.2 ∙ ap width (a.1.1 ∙ sym b.1.1) ∙ sym b.2
+sets_once settings.LastCommas value p q a b = a.2 ∙ ap last_commas (commas_once value a.0 b.0 a.1 b.1) ∙ sym b.2
 sets_once settings.Ext value p q a b = a.2 ∙ ap ending (ending_once value a.0 b.0 a.1 b.1) ∙ sym b.2
+sets_once settings.StdinName value p q a b = a.1 ∙ sym b.1
 
 pub like_sets : (s t : Setting) (v u : List ℕ) (p : Part) → s ≡ t → v ≡ u → Sets s v p → Sets t u p
 like_sets s t v u p e f k = subst (λ x. Sets t x p) f (subst (λ x. Sets x v p) e k)

@@ -6,10 +6,11 @@ use Rattle.json5_grammar.specs.Language.Characters.{line_feed}
 use Rattle.json5_write.specs.Pieces.{AppendsFront}
 use Rattle.json5_version.specs.declared.TheConstants.{VERSION}
 use Rattle.json5_tidier.specs.declared.reports.TheConstants.{HELP}
+use Rattle.json5_tidier.specs.declared.options.Options.{Options}
 use Rattle.json5_tidier.specs.declared.requests.Request.{Request}
 use Rattle.json5_tidier.specs.declared.requests.Request.TheVariants as requests
 use Rattle.json5_tidier.specs.declared.trouble.Trouble.{Trouble}
-use Rattle.json5_tidier.specs.CommandWords.{Asks, AsksNothing}
+use Rattle.json5_tidier.specs.CommandWords.{Asks, AsksNothing, input_name}
 use Rattle.json5_tidier.specs.Names.{WorksThroughNames}
 use Rattle.json5_tidier.specs.Says.{SaysText}
 use Rattle.json5_tidier.specs.Stores.{Known}
@@ -17,12 +18,12 @@ use Rattle.json5_tidier.specs.Tidies.{TidyTrouble, WritesTidied}
 use Rattle.json5_tidier.specs.Troubles.{memory_line, trouble_line, trouble_status, usage_line}
 
 -- what was read, what output and errors held before and after, and the status
-pub data AnswersStream (input output written errors : Option (List ℕ)) : Option (List ℕ) → ℕ → Type 0 where
+pub data AnswersStream (options : Options) (input output written errors : Option (List ℕ)) : Option (List ℕ) → ℕ → Type 0 where
   -- it wrote the document tidied
-  tidies : IfSome input (WritesTidied output written) → AnswersStream input output written errors errors 0
+  tidies : IfSome input (WritesTidied options.style (input_name options) output written) → AnswersStream options input output written errors errors 0
   -- it said why it stopped
-  fails : {said : Option (List ℕ)} (e : Trouble) → TidyTrouble (codes "stdin") input output written e
-      → AppendsFront errors said (trouble_line (codes "stdin") e) → AnswersStream input output written errors said (trouble_status e)
+  fails : {said : Option (List ℕ)} (e : Trouble) → TidyTrouble options.style (input_name options) input output written e
+      → AppendsFront errors said (trouble_line (input_name options) e) → AnswersStream options input output written errors said (trouble_status e)
 
 abbrev pub version_text : List ℕ
 version_text = codes "json5_tidy " ++ (VERSION.now ++ line_feed ∷ [])
@@ -31,7 +32,7 @@ version_text = codes "json5_tidy " ++ (VERSION.now ++ line_feed ∷ [])
 abbrev pub AnswersRequest : Known → Request → (input output errors : Option (List ℕ)) → (written said : Option (List ℕ)) → ℕ → Type 0
 AnswersRequest known requests.Help input output errors written said status = SaysText HELP.now output written errors said status
 AnswersRequest known requests.Version input output errors written said status = SaysText version_text output written errors said status
-AnswersRequest known (requests.Stream options) input output errors written said status = AnswersStream input output written errors said status
+AnswersRequest known (requests.Stream options) input output errors written said status = AnswersStream options input output written errors said status
 AnswersRequest known (requests.Files f) input output errors written said status = WorksThroughNames known f output errors written said status
 
 -- the words, what was read, what output and errors held before and after, and the status

@@ -1,10 +1,13 @@
 -- The words after the program's name, and what they ask for.
 use Rattle.std.specs.declared.alloc.Global.{Global}
-use Rattle.std.specs.Prelude.{◌≡◌, ◌≢◌, ◌⊎◌, ◌≤◌, ℕ, false, List, [], ◌∷◌, ◌++◌, Option, Some, None, String}
+use Rattle.std.specs.Prelude.{◌≡◌, ◌≢◌, ◌⊎◌, ◌≤◌, ℕ, List, [], ◌∷◌, ◌++◌, Option, Some, None, option_map, String, string_bytes}
+use Rattle.std.specs.Option.{option_map_or}
 use Rattle.std.specs.Str.Parse.{IsNumeral, digits_value, without_leading_plus}
 use lib.Chars.{codes}
-use Rattle.json5_layout.specs.declared.style.Style.{Style}
-use Rattle.json5_layout.specs.Styles.{usual_style}
+use Rattle.json5_tidy.specs.declared.style.LastCommas.{LastCommas}
+use Rattle.json5_tidy.specs.declared.style.LastCommas.TheVariants as commas
+use Rattle.json5_tidy.specs.declared.style.Style.{Style}
+use Rattle.json5_tidy.specs.Styles.{usual_style}
 use Rattle.json5_tidier.specs.declared.options.Flag.{Flag}
 use Rattle.json5_tidier.specs.declared.options.Flag.TheVariants as flags
 use Rattle.json5_tidier.specs.declared.options.Options.{Options}
@@ -48,7 +51,9 @@ IsFlag word flags.NoLastComma = word ≡ codes "--no-last-comma"
 abbrev pub setting_word : Setting → List ℕ
 setting_word settings.Indent = codes "--indent"
 setting_word settings.Width = codes "--width"
+setting_word settings.LastCommas = codes "--last-commas"
 setting_word settings.Ext = codes "--ext"
+setting_word settings.StdinName = codes "--stdin-name"
 
 -- ---- values
 
@@ -59,6 +64,12 @@ IsCount most value n = IsNumeral 10 (without_leading_plus value) × (n ≡ digit
 -- a count of spaces, or a tab, which is 0
 abbrev pub IsIndent : (value : List ℕ) → ℕ → Type 0
 IsIndent value n = ((value ≡ codes "tab") × (n ≡ 0)) ⊎ IsCount 16 value n
+
+-- where last commas come
+abbrev pub commas_word : LastCommas → List ℕ
+commas_word commas.Auto = codes "auto"
+commas_word commas.Always = codes "always"
+commas_word commas.Never = codes "never"
 
 -- an ending, given with a point in front or without
 abbrev pub IsEnding : (value : List ℕ) → List ℕ → Type 0
@@ -73,13 +84,17 @@ pub data Part : Type 0 where
   flag : Flag → Part
   indent : ℕ → Part
   width : ℕ → Part
+  last_commas : LastCommas → Part
   ending : List ℕ → Part
+  stdin_name : List ℕ → Part
 
 -- what the option says that is given this value
 abbrev pub Sets : Setting → (value : List ℕ) → Part → Type 0
 Sets settings.Indent value p = (n : ℕ) × IsIndent value n × (p ≡ indent n)
 Sets settings.Width value p = (n : ℕ) × IsCount 9999 value n × (p ≡ width n)
+Sets settings.LastCommas value p = (c : LastCommas) × (value ≡ commas_word c) × (p ≡ last_commas c)
 Sets settings.Ext value p = (e : List ℕ) × IsEnding value e × (p ≡ ending e)
+Sets settings.StdinName value p = (value ≢ []) × (p ≡ stdin_name value)
 
 -- the words begin with this part, and these words are left
 pub data Starts (words : List (List ℕ)) (p : Part) (left : List (List ℕ)) : Type 0 where
@@ -96,22 +111,25 @@ pub data Starts (words : List (List ℕ)) (p : Part) (left : List (List ℕ)) : 
 pub record Choices : Type 0 where
   pub style : Style
   pub endings : List (List ℕ)
+  pub stdin_name : Option (List ℕ)
   pub question : Option Question
   -- the words that are no options
   pub others : List (List ℕ)
 
 abbrev pub nothing_chosen : Choices
-nothing_chosen = record { style = usual_style; endings = []; question = None; others = [] }
+nothing_chosen = record { style = usual_style; endings = []; stdin_name = None; question = None; others = [] }
 
 -- after one part more; of an option that is given twice the last counts, but each ending does
 abbrev pub with_part : Part → Choices → Choices
 with_part (name word) c = record c { others = c.others ++ word ∷ [] }
 with_part (flag flags.Help) c = record c { question = Some questions.Help }
 with_part (flag flags.Version) c = record c { question = Some questions.Version }
-with_part (flag flags.NoLastComma) c = record c { style = record c.style { last_comma = false } }
+with_part (flag flags.NoLastComma) c = record c { style = record c.style { last_commas = commas.Never } }
 with_part (indent n) c = record c { style = record c.style { indent = n } }
 with_part (width n) c = record c { style = record c.style { width = n } }
+with_part (last_commas l) c = record c { style = record c.style { last_commas = l } }
 with_part (ending e) c = record c { endings = c.endings ++ e ∷ [] }
+with_part (stdin_name n) c = record c { stdin_name = Some n }
 
 -- after words that are no options
 abbrev pub with_names : List (List ℕ) → Choices → Choices
@@ -126,7 +144,11 @@ pub data Choose : Choices → (words : List (List ℕ)) → Choices → Type 0 w
 -- ---- requests
 
 abbrev pub HasOptions : Choices → Options → Type 0
-HasOptions c o = (o.style ≡ c.style) × (names_of o.endings.items ≡ c.endings)
+HasOptions c o = (o.style ≡ c.style) × (names_of o.endings.items ≡ c.endings) × (option_map string_bytes o.stdin_name ≡ c.stdin_name)
+
+-- the name of standard input
+abbrev pub input_name : Options → List ℕ
+input_name o = option_map_or string_bytes o.stdin_name (codes "stdin")
 
 -- a question counts alone; else there are a work and at least one name, or neither
 abbrev pub IsFor : Choices → Request → Type 0

@@ -9,6 +9,7 @@ use Rattle.json5_formatter.specs.declared.failure.Failure.TheVariants as failure
 use Rattle.json5_formatter.specs.Files.{Opening}
 use Rattle.json5_tidier.specs.declared.files.Outcome.{Outcome}
 use Rattle.json5_tidier.specs.declared.files.Outcome.TheVariants as outcome
+use Rattle.json5_tidier.specs.declared.requests.FileRequest.{FileRequest}
 use Rattle.json5_tidier.specs.declared.tidied.Tidied.{Tidied}
 use Rattle.json5_tidier.specs.declared.trouble.Trouble.{Trouble}
 use Rattle.json5_tidier.specs.declared.trouble.Trouble.TheVariants as trouble
@@ -66,31 +67,31 @@ abbrev pub WorksOnTidied : Known → Work → (name : List ℕ) → Tidied → (
 WorksOnTidied known w name t = WorksOnTexts (known.replaces name) w name (string_bytes t.before) (string_bytes t.after)
 
 -- the file was opened, what it held was tidied, and the work was done on that; or it held no document; or it could not be opened
-pub data WorksOn (opens : Opening) (replaces : Replacing) (w : Work) (name : List ℕ) (old new : Option (List ℕ)) (result : Result Outcome Trouble) : Type 0 where
-  worked : (held : Option (List ℕ)) (before after : List ℕ) → opens (Some held) → IfSome held (λ known. before ≡ known) → Tidies before after
-      → WorksOnTexts replaces w name before after old new result → WorksOn opens replaces w name old new result
-  refused : (held : Option (List ℕ)) (e : Trouble) → opens (Some held) → IsTroubleOf name held e → result ≡ Err e → Keeps old new → WorksOn opens replaces w name old new result
-  unopened : opens None → result ≡ Err (trouble.Failed failure.Read) → Keeps old new → WorksOn opens replaces w name old new result
+pub data WorksOn (opens : Opening) (replaces : Replacing) (request : FileRequest) (name : List ℕ) (old new : Option (List ℕ)) (result : Result Outcome Trouble) : Type 0 where
+  worked : (held : Option (List ℕ)) (before after : List ℕ) → opens (Some held) → IfSome held (λ known. before ≡ known) → Tidies request.options.style name before after
+      → WorksOnTexts replaces request.work name before after old new result → WorksOn opens replaces request name old new result
+  refused : (held : Option (List ℕ)) (e : Trouble) → opens (Some held) → IsTroubleOf name held e → result ≡ Err e → Keeps old new → WorksOn opens replaces request name old new result
+  unopened : opens None → result ≡ Err (trouble.Failed failure.Read) → Keeps old new → WorksOn opens replaces request name old new result
 
 -- the work on this file, and what output held before and after it
-abbrev pub WorksOnFile : Known → Work → (name : List ℕ) → (old new : Option (List ℕ)) → Result Outcome Trouble → Type 0
-WorksOnFile known w name = WorksOn (known.opens name) (known.replaces name) w name
+abbrev pub WorksOnFile : Known → FileRequest → (name : List ℕ) → (old new : Option (List ℕ)) → Result Outcome Trouble → Type 0
+WorksOnFile known request name = WorksOn (known.opens name) (known.replaces name) request name
 
 -- what output and errors held before and after the files, and the greatest status that was met
-pub data GoesThrough (known : Known) (w : Work) (output errors : Option (List ℕ)) : List (String Global) → Option (List ℕ) → Option (List ℕ) → ℕ → Type 0 where
-  none : GoesThrough known w output errors [] output errors 0
-  tidy : {names : List (String Global)} {before after said : Option (List ℕ)} {status : ℕ} (name : String Global) → GoesThrough known w output errors names before said status
-      → WorksOnFile known w (string_bytes name) before after (Ok outcome.Tidy) → GoesThrough known w output errors (names ++ name ∷ []) after said status
-  untidy : {names : List (String Global)} {before after said : Option (List ℕ)} {status : ℕ} (name : String Global) → GoesThrough known w output errors names before said status
-      → WorksOnFile known w (string_bytes name) before after (Ok outcome.Untidy) → GoesThrough known w output errors (names ++ name ∷ []) after said (max status 1)
-  bad : {names : List (String Global)} {before after said more : Option (List ℕ)} {status : ℕ} (name : String Global) (e : Trouble) → GoesThrough known w output errors names before said status
-      → WorksOnFile known w (string_bytes name) before after (Err e) → e ≢ trouble.Failed failure.Write → AppendsFront said more (trouble_line (string_bytes name) e)
-      → GoesThrough known w output errors (names ++ name ∷ []) after more (max status (trouble_status e))
+pub data GoesThrough (known : Known) (request : FileRequest) (output errors : Option (List ℕ)) : List (String Global) → Option (List ℕ) → Option (List ℕ) → ℕ → Type 0 where
+  none : GoesThrough known request output errors [] output errors 0
+  tidy : {names : List (String Global)} {before after said : Option (List ℕ)} {status : ℕ} (name : String Global) → GoesThrough known request output errors names before said status
+      → WorksOnFile known request (string_bytes name) before after (Ok outcome.Tidy) → GoesThrough known request output errors (names ++ name ∷ []) after said status
+  untidy : {names : List (String Global)} {before after said : Option (List ℕ)} {status : ℕ} (name : String Global) → GoesThrough known request output errors names before said status
+      → WorksOnFile known request (string_bytes name) before after (Ok outcome.Untidy) → GoesThrough known request output errors (names ++ name ∷ []) after said (max status 1)
+  bad : {names : List (String Global)} {before after said more : Option (List ℕ)} {status : ℕ} (name : String Global) (e : Trouble) → GoesThrough known request output errors names before said status
+      → WorksOnFile known request (string_bytes name) before after (Err e) → e ≢ trouble.Failed failure.Write → AppendsFront said more (trouble_line (string_bytes name) e)
+      → GoesThrough known request output errors (names ++ name ∷ []) after more (max status (trouble_status e))
 
 -- it goes through all files, or to a failed write; and whether it went through all
-pub data WorksThrough (known : Known) (w : Work) (output errors : Option (List ℕ)) : List (String Global) → Option (List ℕ) → Option (List ℕ) → ℕ → Bool → Type 0 where
-  through : {names : List (String Global)} {after said : Option (List ℕ)} {status : ℕ} → GoesThrough known w output errors names after said status
-      → WorksThrough known w output errors names after said status true
+pub data WorksThrough (known : Known) (request : FileRequest) (output errors : Option (List ℕ)) : List (String Global) → Option (List ℕ) → Option (List ℕ) → ℕ → Bool → Type 0 where
+  through : {names : List (String Global)} {after said : Option (List ℕ)} {status : ℕ} → GoesThrough known request output errors names after said status
+      → WorksThrough known request output errors names after said status true
   stopped : {all names : List (String Global)} {before after said more : Option (List ℕ)} {status : ℕ} (name : String Global) (rest : List (String Global))
-      → all ≡ names ++ name ∷ rest → GoesThrough known w output errors names before said status → WorksOnFile known w (string_bytes name) before after (Err (trouble.Failed failure.Write))
-      → AppendsFront said more (trouble_line (string_bytes name) (trouble.Failed failure.Write)) → WorksThrough known w output errors all after more (max status 2) false
+      → all ≡ names ++ name ∷ rest → GoesThrough known request output errors names before said status → WorksOnFile known request (string_bytes name) before after (Err (trouble.Failed failure.Write))
+      → AppendsFront said more (trouble_line (string_bytes name) (trouble.Failed failure.Write)) → WorksThrough known request output errors all after more (max status 2) false

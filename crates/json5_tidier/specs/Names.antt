@@ -17,7 +17,7 @@ Stands known request = StandsFor known request.options.endings.items
 -- the work on all files that a name stands for, and whether it goes on; or there is none, or no memory for their names
 pub data WorksBelow (known : Known) (request : FileRequest) (name : List ℕ) (output errors : Option (List ℕ)) : Option (List ℕ) → Option (List ℕ) → ℕ → Bool → Type 0 where
   worked : {after said : Option (List ℕ)} {status : ℕ} {goes_on : Bool} (files : List (String Global)) → Stands known request name (names_of files)
-      → WorksThrough known request.work output errors files after said status goes_on → WorksBelow known request name output errors after said status goes_on
+      → WorksThrough known request output errors files after said status goes_on → WorksBelow known request name output errors after said status goes_on
   no_file : {said : Option (List ℕ)} → Stands known request name [] → AppendsFront errors said (trouble_line name trouble.NoFile) → WorksBelow known request name output errors output said 2 true
   no_memory : {said : Option (List ℕ)} → AppendsFront errors said (trouble_line name (trouble.Failed failure.NoMemory)) → WorksBelow known request name output errors output said 2 true
 

@@ -1,6 +1,6 @@
 -- How the words of the command line are taken, one after the other.
 use Rattle.std.specs.declared.alloc.Global.{Global}
-use Rattle.std.specs.Prelude.{◌≡◌, ◌↔◌, ℕ, List, ◌∷◌, ◌++◌, None, Result, Ok, Err, String}
+use Rattle.std.specs.Prelude.{◌≡◌, ◌↔◌, ℕ, List, ◌∷◌, ◌++◌, None, option_map, Result, Ok, Err, String, string_bytes}
 use Rattle.json5_tidier.specs.declared.options.Fault.{Fault}
 use Rattle.json5_tidier.specs.declared.options.Fault.TheVariants as faults
 use Rattle.json5_tidier.specs.declared.options.Options.{Options}
@@ -12,11 +12,11 @@ use Rattle.json5_tidier.specs.Folders.{names_of}
 
 -- what was chosen so far
 abbrev pub choices_of : Words → Choices
-choices_of w = record { style = w.options.style; endings = names_of w.options.endings.items; question = w.question; others = names_of w.others.items }
+choices_of w = record { style = w.options.style; endings = names_of w.options.endings.items; stdin_name = option_map string_bytes w.options.stdin_name; question = w.question; others = names_of w.others.items }
 
 -- the same where no question was asked
 abbrev pub unasked : Options → (others : List (String Global)) → Choices
-unasked options others = record { style = options.style; endings = names_of options.endings.items; question = None; others = names_of others }
+unasked options others = record { style = options.style; endings = names_of options.endings.items; stdin_name = option_map string_bytes options.stdin_name; question = None; others = names_of others }
 
 -- one part more was taken, of those that are allowed
 abbrev pub Gains : (Part → Type 0) → (old new : Words) → Type 0

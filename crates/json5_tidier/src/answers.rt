@@ -3,13 +3,12 @@
 ghost use Rattle.json5_tidier.specs.Answers.{Answers, AnswersRequest, AnswersStream};
 
 use crate::files::work_through;
-use crate::options::Fault;
+use crate::options::{Fault, Options};
 use crate::reports::{HELP, no_memory, report_trouble, usage};
 use crate::requests::Request;
 use crate::stores::Store;
 use crate::streams::tidy_stream;
 use crate::texts::answer_with;
-use json5_tidy::Style;
 use json5_version::VERSION;
 use std::alloc::Global;
 use std::io::{Read, Write};
@@ -52,23 +51,24 @@ fn answer_request<S: Store, R: Read, W: Write, E: Write>(
     match request {
         Request::Help => answer_with(&[HELP], w, e),
         Request::Version => answer_with(&["json5_tidy ", VERSION, "\n"], w, e),
-        Request::Stream(options) => answer_stream(alloc, options.style, r, w, e),
+        Request::Stream(options) => answer_stream(alloc, options, r, w, e),
         Request::Files(files) => work_through(store, alloc, files, w, e),
     }
 }
 
-/// Tidies `r` to `w`, and writes to `e` why that ended early, under the name `stdin`.
+/// Tidies `r` to `w`, and writes to `e` why that ended early.
 fn answer_stream<R: Read, W: Write, E: Write>(
     alloc: Global,
-    style: Style,
+    options: &Options,
     r: &mut R,
     w: &mut W,
     e: &mut E,
 ) -> u8
-    ensures { AnswersStream (R.remaining r.old) (W.contents w.old) (W.contents w.new) (E.contents e.old) (E.contents e.new) result }
+    ensures { AnswersStream options.now (R.remaining r.old) (W.contents w.old) (W.contents w.new) (E.contents e.old) (E.contents e.new) result }
 {
-    match tidy_stream(alloc, "stdin", style, r, w) {
+    let name = options.name_of_input();
+    match tidy_stream(alloc, name, options.style, r, w) {
         Ok(()) => 0,
-        Err(trouble) => report_trouble("stdin", &trouble, e),
+        Err(trouble) => report_trouble(name, &trouble, e),
     }
 }

@@ -6,7 +6,6 @@ ghost use Rattle.json5_tidier.specs.Files.{PutsDiff, PutsFile, PutsTexts, WorksO
 ghost use Rattle.json5_tidier.specs.Names.{WorksBelow, WorksThroughNames};
 
 use crate::diffs::diff;
-use crate::endings::style_for;
 use crate::folders::files_of;
 use crate::reports::report_trouble;
 use crate::requests::FileRequest;
@@ -88,7 +87,7 @@ fn work_on_each<S: Store, W: Write, E: Write>(
     w: &mut W,
     e: &mut E,
 ) -> (u8, bool)
-    ensures { WorksThrough (S.known store.now) request.now.work (W.contents w.old) (E.contents e.old) names.now
+    ensures { WorksThrough (S.known store.now) request.now (W.contents w.old) (E.contents e.old) names.now
         (W.contents w.new) (E.contents e.new) result.0 result.1 }
 {
     let mut status: u8 = 0;
@@ -117,13 +116,12 @@ fn work_on<S: Store, W: Write>(
     name: &str,
     w: &mut W,
 ) -> Result<Outcome, Trouble>
-    ensures { WorksOnFile (S.known store.now) request.now.work name.now (W.contents w.old) (W.contents w.new) result }
+    ensures { WorksOnFile (S.known store.now) request.now name.now (W.contents w.old) (W.contents w.new) result }
 {
     let Ok(mut file) = store.open(name) else {
         return Err(Trouble::Failed(Failure::Read));
     };
-    let style = style_for(name, request.options.style);
-    match read_tidied(alloc, name, style, &mut file) {
+    match read_tidied(alloc, name, request.options.style, &mut file) {
         Ok(tidied) => work_on_texts(store, alloc, request.work, name, &tidied, w),
         Err(trouble) => Err(trouble),
     }

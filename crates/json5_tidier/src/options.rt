@@ -1,12 +1,13 @@
 //! The options of the command line.
 
 ghost use Rattle.std.specs.Bool.{Decides};
-ghost use Rattle.std.specs.Prelude.{◌≡◌, ◌≢◌, [], ℕ, List, MatchOption};
-ghost use Rattle.json5_layout.specs.Styles.{usual_style};
-ghost use Rattle.json5_tidier.specs.CommandWords.{IsCount, IsDashed, IsEnding, IsFlag, IsIndent, end_word, setting_word};
+ghost use Rattle.std.specs.Prelude.{◌≡◌, ◌≢◌, [], ℕ, List, MatchOption, None};
+ghost use Rattle.json5_tidy.specs.Styles.{usual_style};
+ghost use Rattle.json5_tidy.specs.declared.style.LastCommas.{LastCommas};
+ghost use Rattle.json5_tidier.specs.CommandWords.{IsCount, IsDashed, IsEnding, IsFlag, IsIndent, commas_word, end_word, input_name, setting_word};
 ghost use Rattle.json5_tidier.specs.WordSteps.{IsJoined};
 
-use json5_tidy::Style;
+use json5_tidy::{LastCommas, Style};
 use std::alloc::{AllocError, Global};
 
 /// What the options ask for.
@@ -15,6 +16,8 @@ pub struct Options {
     pub style: Style,
     /// The endings, without their points, of the files that are looked for below a folder, beside `json5`.
     pub endings: Vec<String>,
+    /// The name of standard input, if one was given: for the style, and in reports.
+    pub stdin_name: Option<String>,
 }
 
 /// An option without a value.
@@ -30,7 +33,9 @@ pub(crate) enum Flag {
 pub(crate) enum Setting {
     Indent,
     Width,
+    LastCommas,
     Ext,
+    StdinName,
 }
 
 /// What is wrong with the words.
@@ -52,14 +57,26 @@ impl From<AllocError> for Fault {
 }
 
 impl Options {
-    /// The usual style, and files that end in `.json5`.
+    /// The usual style, files that end in `.json5`, and standard input without a name.
     pub(crate) fn usual(alloc: Global) -> Options
         ensures style { result.style ≡ usual_style }
         ensures endings { result.endings.items ≡ [] }
+        ensures stdin_name { result.stdin_name ≡ None }
     {
         Options {
             style: Style::usual(),
             endings: Vec::new(alloc),
+            stdin_name: None,
+        }
+    }
+
+    /// The name of standard input: `stdin`, if no other was given.
+    pub(crate) fn name_of_input(&self) -> &str
+        ensures { result.now ≡ input_name self.now }
+    {
+        match &self.stdin_name {
+            Some(name) => name.as_str(),
+            None => "stdin",
         }
     }
 }
@@ -87,7 +104,9 @@ impl Setting {
         match word {
             "--indent" => Some(Setting::Indent),
             "--width" => Some(Setting::Width),
+            "--last-commas" => Some(Setting::LastCommas),
             "--ext" => Some(Setting::Ext),
+            "--stdin-name" => Some(Setting::StdinName),
             _ => None,
         }
     }
@@ -138,6 +157,18 @@ pub(crate) fn width_of(value: &str) -> Option<usize>
     count_of(value, 9999)
 }
 
+/// Where last commas come.
+pub(crate) fn last_commas_of(value: &str) -> Option<LastCommas>
+    ensures { MatchOption result ((c : LastCommas) → value.now ≢ commas_word c) (λ c. value.now ≡ commas_word c) }
+{
+    match value {
+        "auto" => Some(LastCommas::Auto),
+        "always" => Some(LastCommas::Always),
+        "never" => Some(LastCommas::Never),
+        _ => None,
+    }
+}
+
 /// The number, from 1 to `most`.
 fn count_of(value: &str, most: usize) -> Option<usize>
     ensures { MatchOption result ((n : ℕ) → ¬ (IsCount most value.now n)) (IsCount most value.now) }
@@ -162,7 +193,7 @@ pub(crate) fn ending_of(value: &str) -> Option<&str>
 }
 
 /// The text, unless it is empty.
-fn unless_empty(text: &str) -> Option<&str>
+pub(crate) fn unless_empty(text: &str) -> Option<&str>
     ensures { MatchOption result (text.now ≡ []) (λ same. (same.now ≡ text.now) × (text.now ≢ [])) }
 {
     if text.is_empty() {

@@ -24,14 +24,17 @@ Lays JSON5 out anew, and keeps each comment and each token as it is spelled.
 A folder stands for the files below it that end in .json5, in the order of their names.
 Folders named .git or node_modules are passed over, and links too.
 
-  --indent N        N spaces a level, 1 to 16; tab: a tab (2)
-  --width N         characters that a line may have, 1 to 9999 (80)
-  --no-last-comma   no comma after the last of a collection over several lines;
-                    so it is in files that end in .json or .jsonc
-  --ext ENDING      in folders look for files with this ending too
-  --                what follows is no option
-  --help            writes this
-  --version         writes the version
+  --indent N          N spaces a level, 1 to 16; tab: a tab (2)
+  --width N           characters that a line may have, 1 to 9999 (80)
+  --last-commas WHEN  a comma after the last of a collection over several lines:
+                      always; never; or auto: in .json5 files, never in .json
+                      and .jsonc files, in others if the text isn't JSON (auto)
+  --no-last-comma     the same as --last-commas never
+  --ext ENDING        in folders look for files with this ending too
+  --stdin-name FILE   the name of standard input: for last commas and in reports
+  --                  what follows is no option
+  --help              writes this
+  --version           writes the version
 
 The status is 0 if all is well; 1 if a text is no JSON5, or, at check and diff,
 a file isn't tidy; 2 if a file can't be read or written, memory runs out, or the

@@ -10,7 +10,8 @@ use json5_tidy::Style;
 use std::alloc::Global;
 use std::io::{Read, Write};
 
-/// Reads all of `r`, and writes it tidied to `w`, and flushes `w`. The name is that of the stream in a report.
+/// Reads all of `r`, and writes it tidied to `w`, and flushes `w`. The name is that of the stream: in a report, and for
+/// the style, since in a `.json5` file last commas come unless the style says otherwise.
 ///
 /// ```text
 /// tidy_stream(alloc, "stdin", Style::usual(), &mut rt.stdin(), &mut rt.stdout())?;
@@ -28,8 +29,8 @@ pub fn tidy_stream<R: Read, W: Write>(
     r: &mut R,
     w: &mut W,
 ) -> Result<(), Trouble>
-    ensures written { OnOk result (IfSome (R.remaining r.old) (WritesTidied (W.contents w.old) (W.contents w.new))) }
-    ensures stopped { IfErr result (TidyTrouble name.now (R.remaining r.old) (W.contents w.old) (W.contents w.new)) }
+    ensures written { OnOk result (IfSome (R.remaining r.old) (WritesTidied style name.now (W.contents w.old) (W.contents w.new))) }
+    ensures stopped { IfErr result (TidyTrouble style name.now (R.remaining r.old) (W.contents w.old) (W.contents w.new)) }
 {
     let tidied = read_tidied(alloc, name, style, r)?;
     match put_texts(w, &[tidied.after.as_str()]) {

@@ -7,8 +7,10 @@ ghost use Rattle.json5_tidier.specs.WordSteps.{BeginsPair, ChooseNothing, Gains,
 
 use crate::names::push_name;
 use crate::options::{
-    Fault, Flag, Options, Setting, ending_of, indent_of, is_dashed, is_end, width_of,
+    Fault, Flag, Options, Setting, ending_of, indent_of, is_dashed, is_end, last_commas_of,
+    unless_empty, width_of,
 };
+use json5_tidy::LastCommas;
 use std::alloc::Global;
 
 /// What the words asked for so far.
@@ -92,7 +94,7 @@ impl Words {
         match given {
             Flag::Help => self.question = Some(Question::Help),
             Flag::Version => self.question = Some(Question::Version),
-            Flag::NoLastComma => self.options.style.last_comma = false,
+            Flag::NoLastComma => self.options.style.last_commas = LastCommas::Never,
         }
     }
 
@@ -125,7 +127,9 @@ impl Words {
         match setting {
             Setting::Indent => self.set_indent(value),
             Setting::Width => self.set_width(value),
+            Setting::LastCommas => self.set_last_commas(value),
             Setting::Ext => self.add_ending(alloc, value),
+            Setting::StdinName => self.name_stdin(alloc, value),
         }
     }
 
@@ -151,6 +155,17 @@ impl Words {
         Ok(())
     }
 
+    fn set_last_commas(&mut self, value: &str) -> Result<(), Fault>
+        ensures set { OnOk result (Gains (Sets Setting.LastCommas value.now) self.old self.new) }
+        ensures refused { IfErr result (Refuses (Sets Setting.LastCommas value.now)) }
+    {
+        let Some(last_commas) = last_commas_of(value) else {
+            return Err(Fault::Unknown);
+        };
+        self.options.style.last_commas = last_commas;
+        Ok(())
+    }
+
     fn add_ending(&mut self, alloc: Global, value: &str) -> Result<(), Fault>
         ensures set { OnOk result (Gains (Sets Setting.Ext value.now) self.old self.new) }
         ensures refused { IfErr result (Refuses (Sets Setting.Ext value.now)) }
@@ -159,6 +174,17 @@ impl Words {
             return Err(Fault::Unknown);
         };
         push_name(alloc, &mut self.options.endings, ending)?;
+        Ok(())
+    }
+
+    fn name_stdin(&mut self, alloc: Global, value: &str) -> Result<(), Fault>
+        ensures set { OnOk result (Gains (Sets Setting.StdinName value.now) self.old self.new) }
+        ensures refused { IfErr result (Refuses (Sets Setting.StdinName value.now)) }
+    {
+        let Some(name) = unless_empty(value) else {
+            return Err(Fault::Unknown);
+        };
+        self.options.stdin_name = Some(String::from_str(alloc, name)?);
         Ok(())
     }
 }

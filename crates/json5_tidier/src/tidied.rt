@@ -4,6 +4,7 @@ ghost use Rattle.std.specs.Prelude.{◌≡◌, ◌≢◌, true, false, IfOk, IfE
 ghost use Rattle.json5_tidier.specs.Refusals.{IsTroubleOf};
 ghost use Rattle.json5_tidier.specs.Tidies.{HoldsText, HoldsTidied};
 
+use crate::endings::style_for;
 use crate::refusals::{refused_text, wrong_bytes};
 use crate::trouble::Trouble;
 use json5_formatter::read_whole;
@@ -28,7 +29,7 @@ impl Tidied {
     }
 }
 
-/// Reads all of `r`, under this name, and tidies it.
+/// Reads all of `r`, under this name, and tidies it in the style for that name.
 ///
 /// # Errors
 ///
@@ -40,11 +41,11 @@ pub(crate) fn read_tidied<R: Read>(
     style: Style,
     r: &mut R,
 ) -> Result<Tidied, Trouble>
-    ensures read { IfOk result (HoldsTidied (R.remaining r.old)) }
+    ensures read { IfOk result (HoldsTidied style name.now (R.remaining r.old)) }
     ensures stopped { IfErr result (IsTroubleOf name.now (R.remaining r.old)) }
 {
     let before = read_text(alloc, name, r)?;
-    match tidy_with(alloc, style, before.as_str()) {
+    match tidy_with(alloc, style_for(name, style), before.as_str()) {
         Ok(after) => Ok(Tidied { before, after }),
         Err(error) => Err(refused_text(alloc, name, before.as_str(), error)),
     }

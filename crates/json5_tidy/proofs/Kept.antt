@@ -1,11 +1,13 @@
 -- What tidying keeps, from what was read of the answer.
-use Rattle.std.proofs.Common.{ℕ, List, sym, subst, inl, inr}
+use Rattle.std.proofs.Common.{ℕ, Bool, true, false, List, sym, subst, inl, inr}
 use Rattle.std.specs.declared.alloc.Global.{Global}
 use Rattle.std.specs.Prelude.{String, string_bytes, Result, Ok, Err, IfOk}
 use Rattle.std.specs.Str.{chars}
 use Rattle.json5_grammar.specs.Language.Documents.{Doc, max_depth}
 use Rattle.json5_grammar.specs.Language.Trees.{Tree}
 use Rattle.json5_types.specs.declared.error.Error.{Error}
+use Rattle.json5_lexemes.specs.Plain.{PlainText}
+use Rattle.json5_lexemes.proofs.PlainTokens.{bare_plain}
 use Rattle.json5_lexemes.proofs.SameTrees.{same_tree, document_same}
 use Rattle.json5_tidy.specs.Tidied.{Keeps, IsAlike}
 
@@ -23,3 +25,8 @@ pub kept : (x : List ℕ) (result : Result (String Global) Error) → (t : Tree)
     → IfOk result (λ s. Keeps x (chars (string_bytes s)))
 kept x (Ok s) document alike = keeps x (chars (string_bytes s)) document alike
 kept x (Err e) document alike = tt
+
+-- JSON without comments is JSON but for comments too
+pub as_plain : (comments : Bool) (text : List ℕ) → PlainText false text → PlainText comments text
+as_plain true text plain = bare_plain plain
+as_plain false text plain = plain

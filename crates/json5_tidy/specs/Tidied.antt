@@ -1,6 +1,6 @@
 -- What tidying keeps.
 use Rattle.std.specs.declared.alloc.Global.{Global}
-use Rattle.std.specs.Prelude.{◌≡◌, ◌⊎◌, ℕ, List, Result, IfErr, IfOk, String, string_bytes}
+use Rattle.std.specs.Prelude.{◌≡◌, ◌≢◌, ◌⊎◌, ℕ, List, Result, IfErr, IfOk, String, string_bytes}
 use Rattle.std.specs.Str.{chars}
 use Rattle.json5_grammar.specs.Language.Documents.{Doc, max_depth}
 use Rattle.json5_grammar.specs.Language.Trees.{Tree}
@@ -8,6 +8,9 @@ use Rattle.json5_types.specs.declared.error.Error.{Error}
 use Rattle.json5_text.specs.Cursor.{IsOutOfMemory}
 use Rattle.json5_format.specs.DocumentReads.{IsRefused}
 use Rattle.json5_lexemes.specs.Lexemes.{HaveSameLexemes}
+use Rattle.json5_lexemes.specs.Plain.{KeepsPlain}
+use Rattle.json5_tidy.specs.declared.style.LastCommas.TheVariants as commas
+use Rattle.json5_tidy.specs.declared.style.Style.{Style}
 
 -- x and y are documents of one tree, marks included, and they have the same lexemes: tokens as they are spelled, and comments
 pub record Keeps (x y : List ℕ) : Type 0 where
@@ -38,8 +41,13 @@ TakesDocument text result = (t : Tree) → Doc max_depth (chars text) t → IfEr
 abbrev pub RefusesText : (text : List ℕ) → Result (String Global) Error → Type 0
 RefusesText text result = IfErr result (IsRefused (chars text))
 
+-- JSON stays JSON, and JSON but for comments stays so, unless last commas are to come anyhow
+abbrev pub KeepsJson : Style → (text : List ℕ) → Result (String Global) Error → Type 0
+KeepsJson style text result = style.last_commas ≢ commas.Always → IfOk result (λ s. KeepsPlain text (string_bytes s))
+
 -- what the tidied text of a text is, or why there is none
-pub record TidiesText (text : List ℕ) (result : Result (String Global) Error) : Type 0 where
+pub record TidiesText (style : Style) (text : List ℕ) (result : Result (String Global) Error) : Type 0 where
   pub kept : KeepsText text result
+  pub plain : KeepsJson style text result
   pub complete : TakesDocument text result
   pub refused : RefusesText text result

@@ -3,10 +3,13 @@
 ghost use Rattle.std.specs.Prelude.{◌≡◌, IfOk, IfErr, IsTrue, string_bytes};
 ghost use Rattle.std.specs.Str.{chars};
 ghost use Rattle.json5_text.specs.Cursor.{IsOutOfMemory};
-ghost use Rattle.json5_tidy.specs.Tidied.{IsAlike, IsLaidOut, TidiesText};
+ghost use Rattle.json5_tidy.specs.Styles.{usual_style};
+ghost use Rattle.json5_tidy.specs.Tidied.{IsAlike, IsLaidOut, KeepsJson, TidiesText};
 
+use crate::plainness::{Plainness, has_last_commas};
+use crate::style::Style;
 use json5_format::check_document;
-use json5_layout::{Style, laid_out};
+use json5_layout::laid_out;
 use json5_lexemes::same_lexemes;
 use json5_types::ErrorCode;
 use json5_types::error::{Error, Result};
@@ -22,7 +25,7 @@ use std::alloc::Global;
 ///
 /// As [`tidy_with`].
 pub fn tidy(alloc: Global, text: &str) -> Result<String>
-    ensures { TidiesText text.now result }
+    ensures { TidiesText usual_style text.now result }
 {
     tidy_with(alloc, Style::usual(), text)
 }
@@ -33,18 +36,21 @@ pub fn tidy(alloc: Global, text: &str) -> Result<String>
 /// Returns Ok exactly when the text is a document, nested at most 128 deep, unless memory runs out. What is returned
 /// is a document with the same tree and the same lexemes.
 ///
+/// Unless last commas are always to come, JSON stays JSON, and JSON but for comments stays so.
+///
 /// What was laid out is read again: where it weren't such a document, the answer would be a copy of the text. No test
 /// has met that.
 ///
 /// ```text
-/// tidy_with(alloc, Style { last_comma: false, ..Style::usual() }, "[ 1, // one\n]")?    // `[`, `  1 // one` and `]`
+/// let style = Style { last_commas: LastCommas::Always, ..Style::usual() };
+/// tidy_with(alloc, style, "[ 1, // one\n]")?    // `[`, `  1, // one` and `]`
 /// ```
 ///
 /// # Errors
 ///
 /// As `json5_format::format`, with the same positions.
 pub fn tidy_with(alloc: Global, style: Style, text: &str) -> Result<String>
-    ensures { TidiesText text.now result }
+    ensures { TidiesText style text.now result }
 {
     match check_document(alloc, text) {
         Ok(()) => laid_out_document(alloc, style, text),
@@ -52,21 +58,33 @@ pub fn tidy_with(alloc: Global, style: Style, text: &str) -> Result<String>
     }
 }
 
-/// The document laid out, if it is the same document, or the text itself.
+/// The document laid out, if it is the same document and as plain, or the text itself.
 fn laid_out_document(alloc: Global, style: Style, text: &str) -> Result<String>
     ensures laid_out { IfOk result (λ s. IsAlike (chars text.now) (chars (string_bytes s))) }
+    ensures plain { KeepsJson style text.now result }
     ensures memory { IfErr result IsOutOfMemory }
 {
-    let Ok(bytes) = laid_out(alloc, style, text.as_bytes()) else {
+    let plainness = Plainness::in_style(style, text);
+    let layout = layout_in(style, has_last_commas(style, plainness, text));
+    let Ok(bytes) = laid_out(alloc, layout, text.as_bytes()) else {
         return Err(Error::new(ErrorCode::OutOfMemory));
     };
     let Ok(tidy) = String::from_utf8(bytes) else {
         return copied(alloc, text);
     };
-    if is_laid_out(alloc, text, tidy.as_str()) {
+    if is_laid_out(alloc, text, tidy.as_str()) && plainness.is_kept(tidy.as_str()) {
         return Ok(tidy);
     }
     copied(alloc, text)
+}
+
+/// The layout in the style, with last commas or without.
+fn layout_in(style: Style, last_comma: bool) -> json5_layout::Style {
+    json5_layout::Style {
+        indent: style.indent,
+        width: style.width,
+        last_comma,
+    }
 }
 
 /// A copy of the text.

@@ -1,8 +1,9 @@
-//! Tidies the texts of the rows on standard input, and says of each whether what came is what the row says.
+//! Tidies the texts of the rows on standard input, and says of each whether what came is what the row says. What JSON
+//! becomes is read by `serde_json` too, and is to have the value that it had, unless last commas are always to come.
 #![tactic(auto)]
 
 use json5_format::read_document;
-use json5_tidy::{Style, tidy_with};
+use json5_tidy::{LastCommas, Style, tidy_with};
 use json5_types::value::Value;
 use std::alloc::Global;
 use std::io::{self, Read};
@@ -30,6 +31,8 @@ fn each_row(rt: &HostRuntime, rows: &[Value]) -> io::Result<()> {
         let name = text_of(row, "name");
         match outcome_of(rt.alloc(), row) {
             Outcome::Wanted => println!(rt; "{name}: right")?,
+            Outcome::WantedJson => println!(rt; "{name}: right, and the same JSON")?,
+            Outcome::OtherJson => println!(rt; "{name}: WRONG: other JSON, or none")?,
             Outcome::Other(other) => println!(rt; "{name}: WRONG: {other:?}")?,
             Outcome::NoMemory => println!(rt; "{name}: out of memory")?,
         }
@@ -40,7 +43,12 @@ fn each_row(rt: &HostRuntime, rows: &[Value]) -> io::Result<()> {
 /// What came of a row.
 #[derive(Drop)]
 enum Outcome {
+    /// It is wanted, and the text before is no JSON.
     Wanted,
+    /// It is wanted, and serde_json reads the same from it.
+    WantedJson,
+    /// The text before is JSON, and serde_json doesn't read the same from what came.
+    OtherJson,
     Other(String),
     NoMemory,
 }
@@ -50,10 +58,24 @@ fn outcome_of(alloc: Global, row: &Value) -> Outcome {
         Some(_) => text_of(row, "after"),
         None => text_of(row, "refused"),
     };
-    match tidy_with(alloc, style_of(row), text_of(row, "before")) {
-        Ok(tidy) if tidy.as_str() == wanted => Outcome::Wanted,
-        Ok(tidy) => Outcome::Other(tidy),
+    let (style, before) = (style_of(row), text_of(row, "before"));
+    match tidy_with(alloc, style, before) {
+        Ok(tidy) if tidy.as_str() != wanted => Outcome::Other(tidy),
+        Ok(_) if matches!(style.last_commas, LastCommas::Always) => Outcome::Wanted,
+        Ok(tidy) => compared(alloc, before, tidy.as_str()),
         Err(error) => said(wanted, format!(in alloc; "{error}").ok()),
+    }
+}
+
+/// What serde_json makes of the text, a byte order mark in front passed over, and of the wanted one that came.
+fn compared(alloc: Global, before: &str, after: &str) -> Outcome {
+    let before = before.strip_prefix('\u{FEFF}').unwrap_or(before);
+    let Ok(value) = serde_json::Value::from_str(alloc, before) else {
+        return Outcome::Wanted;
+    };
+    match serde_json::Value::from_str(alloc, after) {
+        Ok(same) if same == value => Outcome::WantedJson,
+        _ => Outcome::OtherJson,
     }
 }
 
@@ -71,7 +93,11 @@ fn style_of(row: &Value) -> Style {
     Style {
         indent: count_of(row, "indent").unwrap_or(usual.indent),
         width: count_of(row, "width").unwrap_or(usual.width),
-        last_comma: !matches!(row.get("last_comma"), Some(Value::Bool(false))),
+        last_commas: match text_of(row, "last_commas") {
+            "always" => LastCommas::Always,
+            "never" => LastCommas::Never,
+            _ => usual.last_commas,
+        },
     }
 }
 
