@@ -6,6 +6,7 @@
 mod adding;
 mod collection;
 mod gaps;
+mod habits;
 mod keys;
 mod lines;
 mod removing;
@@ -13,7 +14,8 @@ mod spots;
 
 pub use adding::{Added, Growth, entry_indentation, growth_before, growth_for};
 pub use collection::Collection;
+pub use habits::{Names, has_last_commas, step_of};
 pub use keys::{Respelling, respelling_for};
-pub use lines::indentation;
+pub use lines::{indentation, line_end};
 pub use removing::{Cut, cut_for};
 pub use spots::Which;
