@@ -53,8 +53,8 @@ means_alike x y t d spells (v, doc, is) r (u, w, k) =
     (u, w, sym (written_tree u d (sym r.same ∙ ap datum_of two)) ∙ written_tree t d (is ∙ ap datum_of one))
 
 -- the text itself does too
-pub as_it_is : (text x : List ℕ) (t : Tree) → Val x t → SpellsAlike t text x
-as_it_is text x t v = (t, v, refl, λ no. refl)
+pub as_it_is : (whole x : List ℕ) (t : Tree) → Val x t → SpellsAlike t whole x
+as_it_is whole x t v = (t, v, refl, λ no. refl)
 
 -- the marks say nothing of the depth
 mutual
