@@ -20,7 +20,7 @@ returns-in_err-alike-clause-refused g c =
 pub returns-clause-value : goal.returns-clause-value
 returns-clause-value g c =
     let (u, spells, means, marked) = c.in_ok-alike.ensures.same (marks (g.T.Serialize.tree c.args.value.now)) c.in_ok-written.ensures.value in
-    ok_then c.laid_out.result (λ new k. (u, k, means ∙ c.in_ok-written.ensures.again, marked)) (c.laid_out.ensures.same u spells)
+    ok_then c.laid_out.result (λ new k. (u, k, (means ∙ c.in_ok-written.ensures.again, marked))) (c.laid_out.ensures.same u spells)
 
 pub returns-clause-refused : goal.returns-clause-refused
 returns-clause-refused g c = err_then c.laid_out.result (λ e k. subst (RefusesWriting (written_text (g.T.Serialize.tree c.args.value.now))) (sym k) tt) c.laid_out.ensures.full
