@@ -9,6 +9,7 @@ mod gaps;
 mod habits;
 mod keys;
 mod lines;
+mod relined;
 mod removing;
 mod spots;
 
@@ -17,5 +18,6 @@ pub use collection::Collection;
 pub use habits::{Names, has_last_commas, step_of};
 pub use keys::{Respelling, respelling_for};
 pub use lines::{indentation, line_end};
+pub use relined::relined;
 pub use removing::{Cut, cut_for};
 pub use spots::Which;
