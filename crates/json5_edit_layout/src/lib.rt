@@ -9,15 +9,15 @@ mod gaps;
 mod habits;
 mod keys;
 mod lines;
-mod relined;
 mod removing;
 mod spots;
+mod value_lines;
 
 pub use adding::{Added, Growth, entry_indentation, growth_before, growth_for};
 pub use collection::Collection;
 pub use habits::{Names, has_last_commas, step_of};
 pub use keys::{Respelling, respelling_for};
 pub use lines::{indentation, line_end};
-pub use relined::relined;
 pub use removing::{Cut, cut_for};
 pub use spots::Which;
+pub use value_lines::relined;
