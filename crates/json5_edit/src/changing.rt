@@ -23,7 +23,7 @@ use crate::plain::{
 };
 use crate::renaming::renamed;
 use crate::setting::{check_value, place_of, put_made, splice};
-use json5_edit_layout::{Added, Collection, Which, cut_for, growth_before, growth_for};
+use json5_edit_layout::{Added, Collection, Names, Which, cut_for, growth_before, growth_for};
 use json5_text::scanner::Scanner;
 use json5_value::brackets::BracketKind;
 use json5_walk::place::Place;
@@ -122,9 +122,10 @@ pub fn insert_element(
     splice(alloc, text, place, new.as_str())
 }
 
-/// Returns the text with one more member, the last, of the object that the path leads to: this key, without quotes if
-/// it is a name and the object's other names have none, and `value`, a JSON5 value without blanks or comments around
-/// it. It stands and is indented like the member before it, and has a comma after it if that had one.
+/// Returns the text with one more member, the last, of the object that the path leads to: this key, and `value`, a JSON5
+/// value without blanks or comments around it. It stands and is indented like the member before it, and has a comma
+/// after it if that had one. The key is spelled like the object's other keys, or like those of the document where it
+/// has none: a name without quotes if they have none, and in quotes if they have them, or if there is no key at all.
 ///
 /// ```text
 /// insert(alloc, "{ host: 'a' }", &[], "port", "80")?    // { host: 'a', port: 80 }
@@ -147,17 +148,42 @@ pub fn insert(
     ensures inserted { IfOk result (λ made. IsInserted text.now path.now key.now value.now (string_bytes made)) }
     ensures refused { IfErr result (RefusesInsert text.now path.now key.now value.now) }
 {
+    insert_in(alloc, text, path, key, value, Names::Quoted)
+}
+
+/// The same, where the caller says how a name stands as the first key of a document.
+///
+/// ```text
+/// insert_in(alloc, "{}", &[], "port", "80", Names::Bare)?    // { port: 80 }
+/// ```
+///
+/// # Errors
+///
+/// As [`insert`].
+pub fn insert_in(
+    alloc: Global,
+    text: &str,
+    path: &[Step<'_>],
+    key: &str,
+    value: &str,
+    names: Names,
+) -> Result<String>
+    ensures inserted { IfOk result (λ made. IsInserted text.now path.now key.now value.now (string_bytes made)) }
+    ensures refused { IfErr result (RefusesInsert text.now path.now key.now value.now) }
+{
     let place = place_of(alloc, text, path)?;
     let old = part_text(text, place);
     let end = free_end(alloc, old, key, place.room)?;
     check_entry(alloc, value, place)?;
-    let collection = collection(text, place);
+    let mut collection = collection(text, place);
+    collection.names = names;
     let new = inserted(alloc, &collection, old, end, key, value, place.room)?;
     splice(alloc, text, place, new.as_str())
 }
 
 /// Returns the text with another key for the member that the path leads to: in the quotes of the old key, or without,
-/// if that has none and the new one is a name.
+/// if that has none and the new one is a name. If only the old one is a name, the quotes are those of other keys or of
+/// strings.
 ///
 /// ```text
 /// rename(alloc, "{ 'host': 'a' }", &[Step::Key("host")], "name")?    // { 'name': 'a' }
@@ -183,7 +209,8 @@ pub fn rename(alloc: Global, text: &str, path: &[Step<'_>], key: &str) -> Result
     let old = part_text(text, place);
     let start = entry_start(alloc, old, *step, place.room)?;
     check_key(alloc, old, key)?;
-    let new = renamed(alloc, old, place.room, start, name, key)?;
+    let collection = collection(text, place);
+    let new = renamed(alloc, &collection, old, place.room, start, name, key)?;
     splice(alloc, text, place, new.as_str())
 }
 
@@ -418,5 +445,6 @@ fn collection(text: &str, place: Place) -> Collection<'_> {
         document: text,
         start: place.start,
         end: place.end,
+        names: Names::Quoted,
     }
 }

@@ -12,7 +12,7 @@ use crate::faults::{EditError, Result};
 use crate::pieces::{join_five, respelled};
 use crate::places::Span;
 use crate::spelled::spelled_key;
-use json5_edit_layout::{Which, respelling_for};
+use json5_edit_layout::{Collection, Which, respelling_for};
 use json5_text::scanner::Scanner;
 use json5_types::error;
 use std::alloc::Global;
@@ -21,6 +21,7 @@ use std::alloc::Global;
 /// as json5 writes it.
 pub(crate) fn renamed(
     alloc: Global,
+    collection: &Collection<'_>,
     old: &str,
     room: usize,
     start: usize,
@@ -32,7 +33,7 @@ pub(crate) fn renamed(
     ensures renamed { IfOk result (λ new. Rekeys room name.now key.now old.now (string_bytes new)) }
     ensures full { IfErr result (λ e. e ≡ edit_errors.NoMemory) }
 {
-    match renamed_alike(alloc, old, room, name, key) {
+    match renamed_alike(alloc, collection, old, room, name, key) {
         Ok(new) => Ok(new),
         Err(EditError::NoMemory) => Err(EditError::NoMemory),
         Err(_) => with_key(alloc, old, room, start, name, key),
@@ -40,11 +41,18 @@ pub(crate) fn renamed(
 }
 
 /// The object with the key spelled like the old one, if it reads so.
-fn renamed_alike(alloc: Global, old: &str, room: usize, name: &str, key: &str) -> Result<String>
+fn renamed_alike(
+    alloc: Global,
+    collection: &Collection<'_>,
+    old: &str,
+    room: usize,
+    name: &str,
+    key: &str,
+) -> Result<String>
     requires { room ≤ max_depth }
     ensures { IfOk result (λ new. Rekeys room name.now key.now old.now (string_bytes new)) }
 {
-    let respelling = laid(respelling_for(alloc, old, Which::Key(name), key))?;
+    let respelling = laid(respelling_for(alloc, collection, Which::Key(name), key))?;
     let new = respelled(alloc, old, &respelling)?;
     match check_renamed(alloc, old, new.as_str(), name, respelling.index, key) {
         Ok(()) => fitting(alloc, new, room),

@@ -3,7 +3,7 @@
 use crate::collection::Collection;
 use crate::gaps::{Gap, between};
 use crate::keys::key_for;
-use crate::lines::{begins_line, indentation, line_start};
+use crate::lines::{has_lines, indentation, line_start};
 use crate::removing::joined;
 use crate::spots::{Around, Spot, Which, find_around};
 use json5_types::ErrorCode;
@@ -41,7 +41,7 @@ pub struct Growth {
 /// indented like it, and with a comma after it if the last entry had one.
 ///
 /// ```text
-/// let list = Collection { document: "[80]", start: 0, end: 4 };
+/// let list = Collection { document: "[80]", start: 0, end: 4, names: Names::Quoted };
 /// growth_for(alloc, &list, Added { kind: BracketKind::Array, key: "", value: "443" })?    // , 443
 /// ```
 ///
@@ -51,16 +51,17 @@ pub struct Growth {
 pub fn growth_for(alloc: Global, collection: &Collection<'_>, added: Added<'_>) -> Result<Growth> {
     let around = find_around(alloc, collection.text(), Which::Index(usize::MAX))?;
     let entry = entry(alloc, collection, around, added)?;
-    let inner = inner_indentation(alloc, collection)?;
-    let (text, end) = (collection.text(), collection.line_end());
-    let (entry, inner) = (entry.as_str(), inner.as_str());
+    let line = line_in(collection.text(), around, has_lines(added.value));
     let growth = match around.before {
-        Some(last) => after_last(alloc, text, around.close, last, end, inner, entry),
-        None => {
-            let blank = blank_beside(added.kind);
-            let outer = collection.outer();
-            into_empty(alloc, text, around.close, end, outer, inner, blank, entry)
-        }
+        Some(last) => after_last(alloc, collection, around.close, last, line, entry.as_str()),
+        None => into_empty(
+            alloc,
+            collection,
+            around.close,
+            line,
+            added.kind,
+            entry.as_str(),
+        ),
     }?;
     Ok(growth.after(around.count))
 }
@@ -74,24 +75,32 @@ impl Growth {
     }
 }
 
-/// Returns the blanks that a new entry at the end begins with, if it stands on a line of its own: those of the last
-/// entry, if that has one, or else one step more than the line on which the collection begins.
+/// Returns the blanks that the line begins with on which a new entry over several lines begins: at the end, or before the
+/// one with this index, if there is one.
 ///
 /// ```text
-/// let map = Collection { document: "{\n  a: 1,\n}", start: 0, end: 11 };
-/// entry_indentation(alloc, &map)?    // two blanks
+/// let map = Collection { document: "{\n  a: 1,\n}", start: 0, end: 11, names: Names::Quoted };
+/// entry_indentation(alloc, &map, usize::MAX)?    // two blanks
 /// ```
 ///
 /// # Errors
 ///
 /// As reading, if the text is no value; `OutOfMemory` where there is no memory for the blanks.
-pub fn entry_indentation(alloc: Global, collection: &Collection<'_>) -> Result<String> {
+pub fn entry_indentation(
+    alloc: Global,
+    collection: &Collection<'_>,
+    index: usize,
+) -> Result<String> {
     let text = collection.text();
-    match find_around(alloc, text, Which::Index(usize::MAX))?.before {
-        Some(last) if begins_line(text, last.start) => {
-            joined(alloc, &[indentation(text, last.start)])
-        }
-        _ => inner_indentation(alloc, collection),
+    let around = find_around(alloc, text, Which::Index(index))?;
+    if let Some(here) = around.here {
+        return joined(alloc, &[collection.indentation_at(here.start)]);
+    }
+    match (line_in(text, around, true), around.before) {
+        (Line::Own(at), _) => joined(alloc, &[indentation(text, at)]),
+        (Line::Inner, _) => inner_indentation(alloc, collection),
+        (Line::Same, Some(last)) => joined(alloc, &[collection.indentation_at(last.start)]),
+        (Line::Same, None) => joined(alloc, &[collection.indentation_at(0)]),
     }
 }
 
@@ -99,7 +108,7 @@ pub fn entry_indentation(alloc: Global, collection: &Collection<'_>) -> Result<S
 /// that has one, indented like it, or on the same line; in either case before the comments of that.
 ///
 /// ```text
-/// let list = Collection { document: "[80]", start: 0, end: 4 };
+/// let list = Collection { document: "[80]", start: 0, end: 4, names: Names::Quoted };
 /// growth_before(alloc, &list, 0, "443")?    // 443, with a blank after it
 /// ```
 ///
@@ -125,7 +134,7 @@ pub fn growth_before(
     let gap = Gap::of(text, from, here.start);
     let entry = joined(alloc, &[value])?;
     let (entry, end) = (entry.as_str(), collection.line_end());
-    let growth = if begins_line(text, here.start) {
+    let growth = if here.begins_line(text) {
         let indent = indentation(text, here.start);
         before_at(alloc, gap.lead, indent, entry, end)
     } else {
@@ -180,25 +189,69 @@ fn colon_like(colon: &str) -> &str {
     colon
 }
 
-/// Puts it after the last one: on a line of its own, or on the same.
-fn after_last<'x>(
+/// The line on which a new entry stands at the end.
+#[derive(Clone, Copy, Drop)]
+enum Line {
+    /// One of its own, indented like that with this offset.
+    Own(usize),
+    /// One of its own, a step further in than that on which the collection begins.
+    Inner,
+    /// That of the last entry or comment, or of the bracket.
+    Same,
+}
+
+/// The line on which a new entry stands at the end, with lines of its own if it `is_long` and there is no other.
+fn line_in(text: &str, around: Around, is_long: bool) -> Line {
+    match around.before {
+        Some(last) => line_after(text, around.close, last),
+        None => line_between(Gap::of(text, 1, around.close), text, is_long),
+    }
+}
+
+/// The line on which a new entry stands after the last one.
+fn line_after(text: &str, close: usize, last: Spot) -> Line {
+    if last.begins_line(text) {
+        return Line::Own(last.start);
+    }
+    let gap = Gap::of(text, last.full_end(), close);
+    if gap.line_end.is_some() && gap.tail > last.full_end() {
+        Line::Inner
+    } else {
+        Line::Same
+    }
+}
+
+/// The line on which a new entry stands between the brackets, where nothing but comments is.
+fn line_between(gap: Gap, text: &str, is_long: bool) -> Line {
+    match gap.line_end {
+        Some(_) if gap.mark > 1 && line_start(text, gap.mark) > 0 => Line::Own(gap.mark),
+        None if !is_long => Line::Same,
+        _ => Line::Inner,
+    }
+}
+
+/// Puts it after the last one.
+fn after_last(
     alloc: Global,
-    text: &'x str,
+    collection: &Collection<'_>,
     close: usize,
     last: Spot,
-    end: &'x str,
-    inner: &'x str,
-    entry: &'x str,
+    line: Line,
+    entry: &str,
 ) -> Result<Growth> {
+    let text = collection.text();
     let gap = Gap::of(text, last.full_end(), close);
     let comma = last.comma.is_none();
     let after = if comma { "" } else { "," };
-    let (at, before, indent) = if begins_line(text, last.start) {
-        (last.end, end, indentation(text, last.start))
-    } else if gap.line_end.is_some() && gap.tail > last.full_end() {
-        (last.end, end, inner)
-    } else {
-        (gap.tail, blank_before(text, last), "")
+    let (at, part) = match line {
+        Line::Same => {
+            let blank = blank_before(text, last);
+            (gap.tail, three(alloc, blank, entry, after)?)
+        }
+        _ => (
+            last.end,
+            on_own_line(alloc, collection, line, entry, after)?,
+        ),
     };
     Ok(Growth {
         count: 0,
@@ -206,8 +259,41 @@ fn after_last<'x>(
         at,
         start: gap.tail,
         end: gap.tail,
-        part: joined(alloc, &[before, indent, entry, after])?,
+        part,
     })
+}
+
+/// The entry on a line of its own, with what comes after it.
+fn on_own_line(
+    alloc: Global,
+    collection: &Collection<'_>,
+    line: Line,
+    entry: &str,
+    after: &str,
+) -> Result<String> {
+    let end = collection.line_end();
+    if let Line::Own(at) = line {
+        let indent = indentation(collection.text(), at);
+        return four(alloc, end, indent, entry, after);
+    }
+    let inner = inner_indentation(alloc, collection)?;
+    four(alloc, end, inner.as_str(), entry, after)
+}
+
+/// The three texts one after another.
+fn three<'x>(alloc: Global, one: &'x str, two: &'x str, three: &'x str) -> Result<String> {
+    joined(alloc, &[one, two, three])
+}
+
+/// The four texts one after another.
+fn four<'x>(
+    alloc: Global,
+    one: &'x str,
+    two: &'x str,
+    three: &'x str,
+    four: &'x str,
+) -> Result<String> {
+    joined(alloc, &[one, two, three, four])
 }
 
 /// What stands between a comma and an entry: nothing, if the last entry stands right after a comma.
@@ -221,7 +307,8 @@ fn blank_before(text: &str, last: Spot) -> &'static str {
 
 /// How what stands on lines within the collection is indented.
 fn inner_indentation(alloc: Global, collection: &Collection<'_>) -> Result<String> {
-    joined(alloc, &[collection.outer(), collection.step(alloc)?])
+    let step = collection.step(alloc)?;
+    joined(alloc, &[collection.indentation_at(0), step])
 }
 
 /// What stands between the brackets and a single entry.
@@ -232,55 +319,43 @@ fn blank_beside(kind: BracketKind) -> &'static str {
     }
 }
 
-/// Puts it between the brackets, where nothing but comments is.
-fn into_empty<'x>(
+/// Puts it between the brackets, where nothing but comments is: after these, if there are any.
+fn into_empty(
     alloc: Global,
-    text: &'x str,
+    collection: &Collection<'_>,
     close: usize,
-    end: &'x str,
-    outer: &'x str,
-    inner: &'x str,
-    blank: &'x str,
-    entry: &'x str,
+    line: Line,
+    kind: BracketKind,
+    entry: &str,
 ) -> Result<Growth> {
-    let gap = Gap::of(text, 1, close);
-    match (gap.mark > 1, gap.line_end) {
-        (true, Some(_)) if line_start(text, gap.mark) > 0 => {
-            put_at(alloc, gap.mark, end, indentation(text, gap.mark), entry)
+    let gap = Gap::of(collection.text(), 1, close);
+    let blank = blank_beside(kind);
+    match (line, gap.mark > 1) {
+        (Line::Same, true) => put_blanks(gap.mark, gap.mark, three(alloc, " ", entry, "")?),
+        (Line::Same, false) => put_blanks(1, close, three(alloc, blank, entry, blank)?),
+        (_, true) if gap.line_end.is_some() => {
+            let part = on_own_line(alloc, collection, line, entry, "")?;
+            put_blanks(gap.mark, gap.mark, part)
         }
-        (true, Some(_)) => put_at(alloc, gap.mark, end, inner, entry),
-        (true, None) => put_at(alloc, gap.mark, " ", "", entry),
-        (false, Some(_)) => alone(alloc, close, [end, inner, entry, end, outer]),
-        (false, None) => alone(alloc, close, [blank, "", entry, blank, ""]),
+        _ => {
+            let last = joined(
+                alloc,
+                &[collection.line_end(), collection.indentation_at(0)],
+            )?;
+            let part = on_own_line(alloc, collection, line, entry, last.as_str())?;
+            put_blanks(gap.mark, close, part)
+        }
     }
 }
 
-/// Puts it at this offset, with this before it.
-fn put_at<'x>(
-    alloc: Global,
-    at: usize,
-    end: &'x str,
-    indent: &'x str,
-    entry: &'x str,
-) -> Result<Growth> {
+/// Puts the part in the place of the blanks between these offsets, without a comma.
+fn put_blanks(start: usize, end: usize, part: String) -> Result<Growth> {
     Ok(Growth {
         count: 0,
         comma: false,
-        at,
-        start: at,
-        end: at,
-        part: joined(alloc, &[end, indent, entry])?,
-    })
-}
-
-/// Puts these alone between the brackets.
-fn alone<'x>(alloc: Global, close: usize, parts: [&'x str; 5]) -> Result<Growth> {
-    Ok(Growth {
-        count: 0,
-        comma: false,
-        at: 1,
-        start: 1,
-        end: close,
-        part: joined(alloc, &parts)?,
+        at: start,
+        start,
+        end,
+        part,
     })
 }

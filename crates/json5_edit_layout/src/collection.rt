@@ -1,8 +1,8 @@
 //! A collection in the text that it stands in.
 
 use crate::gaps::between;
-use crate::lines::{begins_line, indentation, line_end};
-use crate::spots::first_start;
+use crate::habits::{Names, has_last_commas, step_of};
+use crate::lines::{indentation, line_end};
 use json5_types::error::Result;
 use std::alloc::Global;
 
@@ -12,21 +12,23 @@ pub struct Collection<'t> {
     pub document: &'t str,
     pub start: usize,
     pub end: usize,
+    /// How a name stands as a key where the document has no key.
+    pub names: Names,
 }
 
 impl<'t> Collection<'t> {
     /// Returns the collection's text.
     ///
     /// ```text
-    /// Collection { document: "[[80], 1]", start: 1, end: 5 }.text()    // [80]
+    /// Collection { document: "[[80], 1]", start: 1, end: 5, names: Names::Quoted }.text()    // [80]
     /// ```
     pub fn text(&self) -> &'t str {
         between(self.document, self.start, self.end)
     }
 
-    /// The blanks before the line on which it begins.
-    pub(crate) fn outer(&self) -> &'t str {
-        indentation(self.document, self.start)
+    /// The blanks before the line on which this offset of the collection's text stands.
+    pub(crate) fn indentation_at(&self, at: usize) -> &'t str {
+        indentation(self.document, self.start.saturating_add(at))
     }
 
     /// The document's line end.
@@ -34,14 +36,8 @@ impl<'t> Collection<'t> {
         line_end(self.document)
     }
 
-    /// By how much the document indents: as its first entry stands, or two blanks.
+    /// The blanks of a level in the document.
     pub(crate) fn step(&self, alloc: Global) -> Result<&'t str> {
-        let Some(start) = first_start(alloc, self.document)? else {
-            return Ok("  ");
-        };
-        if !begins_line(self.document, start) {
-            return Ok("  ");
-        }
-        Ok(indentation(self.document, start))
+        step_of(alloc, self.document)
     }
 }

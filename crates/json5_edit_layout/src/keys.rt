@@ -2,17 +2,18 @@
 
 use crate::collection::Collection;
 use crate::gaps::between;
-use crate::spots::{Which, find_around, next_spot, opened};
+use crate::habits::{Habits, Keys, Names, is_name, quote_of};
+use crate::spots::{Which, find_around};
 use json5_types::ErrorCode;
 use json5_types::error::{Error, Result};
 use std::alloc::{AllocError, Global};
 
-/// How the keys of an object are spelled.
+/// How a key is spelled.
 #[derive(Clone, Copy, Drop)]
 struct Habit {
-    /// The quote of the last key that has one.
+    /// The quote, if it has one.
     quote: char,
-    /// Whether the last key that is a name is quoted.
+    /// Whether it has one, if it is a name.
     quotes_names: bool,
 }
 
@@ -30,10 +31,12 @@ pub struct Respelling {
 }
 
 /// Returns how the key is spelled for this member of the object: in the same quotes as its old one, or without, if that
-/// has none and the new one is a name.
+/// has none and the new one is a name. If only the old one is a name, it has the quotes of the object's other keys, or
+/// of the document's keys, or of its strings, or `"`.
 ///
 /// ```text
-/// respelling_for(alloc, "{ 'a': 1 }", Which::Key("a"), "b")?    // 'b' at 2
+/// let map = Collection { document: "{ 'a': 1 }", start: 0, end: 10, names: Names::Quoted };
+/// respelling_for(alloc, &map, Which::Key("a"), "b")?    // 'b' at 2
 /// ```
 ///
 /// # Errors
@@ -42,89 +45,79 @@ pub struct Respelling {
 /// - As reading, if the text is no value; `OutOfMemory` where there is no memory for the text.
 pub fn respelling_for(
     alloc: Global,
-    text: &str,
+    collection: &Collection<'_>,
     which: Which<'_>,
     key: &str,
 ) -> Result<Respelling> {
+    let text = collection.text();
     let around = find_around(alloc, text, which)?;
     let Some(here) = around.here else {
         return Err(Error::new(ErrorCode::Failed));
     };
-    let habit = match quote_of(between(text, here.start, here.key_end)) {
-        Some(quote) => Habit {
-            quote,
-            quotes_names: true,
-        },
-        None => Habit {
-            quote: '"',
-            quotes_names: false,
-        },
-    };
+    let old = quote_of(between(text, here.start, here.key_end));
     Ok(Respelling {
         index: around.index,
         at: here.start,
-        key: spelled(alloc, habit, key)?,
+        key: spelled(alloc, renaming_habit(alloc, collection, old, key)?, key)?,
     })
 }
 
-/// The key as the object's other keys are spelled, or those of the document where it has none.
-pub(crate) fn key_for(alloc: Global, collection: &Collection<'_>, key: &str) -> Result<String> {
-    let habit = match habit_of(alloc, collection.text())? {
-        Some(habit) => habit,
-        None => match habit_of(alloc, collection.document)? {
-            Some(habit) => habit,
-            None => Habit {
-                quote: '"',
-                quotes_names: false,
-            },
-        },
+/// How the key is spelled in the place of one that has this quote or none.
+fn renaming_habit(
+    alloc: Global,
+    collection: &Collection<'_>,
+    old: Option<char>,
+    key: &str,
+) -> Result<Habit> {
+    let quote = match old {
+        Some(quote) => quote,
+        None if is_name(key) => '"',
+        None => quote_in(
+            Keys::of(alloc, collection.text())?,
+            Habits::of(alloc, collection.document)?,
+        ),
     };
+    Ok(Habit {
+        quote,
+        quotes_names: old.is_some(),
+    })
+}
+
+/// The key as the object's other keys are spelled, or where it has none, as those of the document are.
+pub(crate) fn key_for(alloc: Global, collection: &Collection<'_>, key: &str) -> Result<String> {
+    let habit = inserting_habit(alloc, collection, key)?;
     spelled(alloc, habit, key)
 }
 
-/// How the keys in the text are spelled; None if it has none.
-fn habit_of(alloc: Global, text: &str) -> Result<Option<Habit>> {
-    let mut walk = opened(alloc, text)?;
-    let mut quote = None;
-    let mut quotes_names = None;
-    for _ in 0..text.len() {
-        let Some((spot, key)) = next_spot(&mut walk)? else {
-            break;
-        };
-        let found = quote_of(between(text, spot.start, spot.key_end));
-        quote = found.or(quote);
-        if is_name(key.as_str()) {
-            quotes_names = Some(found.is_some());
+/// How the key of a new member is spelled.
+fn inserting_habit(alloc: Global, collection: &Collection<'_>, key: &str) -> Result<Habit> {
+    let own = Keys::of(alloc, collection.text())?;
+    match (own.quotes_names(), own.quote) {
+        (Some(false), _) if is_name(key) => Ok(Habit {
+            quote: '"',
+            quotes_names: false,
+        }),
+        (Some(quotes_names), Some(quote)) => Ok(Habit {
+            quote,
+            quotes_names,
+        }),
+        (quotes_names, _) => {
+            let habits = Habits::of(alloc, collection.document)?;
+            let there = quotes_names.or(habits.keys.quotes_names());
+            Ok(Habit {
+                quote: quote_in(own, habits),
+                quotes_names: there.unwrap_or(matches!(collection.names, Names::Quoted)),
+            })
         }
-    }
-    if quote.is_none() && quotes_names.is_none() {
-        return Ok(None);
-    }
-    Ok(Some(Habit {
-        quote: quote.unwrap_or('"'),
-        quotes_names: quotes_names.unwrap_or(false),
-    }))
-}
-
-/// The quote that a spelled key begins with, if it does.
-fn quote_of(spelled: &str) -> Option<char> {
-    match spelled.chars().next() {
-        Some('"') => Some('"'),
-        Some('\'') => Some('\''),
-        _ => None,
     }
 }
 
-/// Whether it may stand without quotes: of the names that may, those in ASCII.
-fn is_name(key: &str) -> bool {
-    let mut is_first = true;
-    for c in key.chars() {
-        if !(c.is_ascii_alphabetic() || matches!(c, '$' | '_') || c.is_ascii_digit() && !is_first) {
-            return false;
-        }
-        is_first = false;
-    }
-    !is_first
+/// The quote of the object's keys, or of the document's keys, or of its strings, or `"`.
+fn quote_in(own: Keys, habits: Habits<'_>) -> char {
+    own.quote
+        .or(habits.keys.quote)
+        .or(habits.quote)
+        .unwrap_or('"')
 }
 
 fn spelled(alloc: Global, habit: Habit, key: &str) -> Result<String> {

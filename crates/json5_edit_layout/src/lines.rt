@@ -41,33 +41,24 @@ pub(crate) fn after_empty_line(text: &str, at: usize) -> usize {
     at
 }
 
-/// Whether blanks and comments alone stand before this offset on its line, and it isn't the first line.
-pub(crate) fn begins_line(text: &str, at: usize) -> bool {
-    let start = line_start(text, at);
-    start > 0 && begins_blank(between(text, start, at))
-}
-
-/// Whether a comment comes first after blanks, or nothing.
-fn begins_blank(part: &str) -> bool {
-    for c in part.chars() {
-        if c == '/' {
-            return true;
-        }
-        if !matches!(c, ' ' | '\t') {
-            return false;
-        }
-    }
-    true
-}
-
-/// The line end that the text has first, or else LF.
-pub(crate) fn line_end(text: &str) -> &str {
+/// Returns the line end that the text has first, of LF, CR and both, or else LF. The line ends that a string may hold are
+/// none of these.
+///
+/// ```text
+/// line_end("[\r\n]")    // CR and LF
+/// ```
+pub fn line_end(text: &str) -> &str {
     for (offset, c) in text.char_indices() {
-        if is_line_end(c) {
+        if matches!(c, '\n' | '\r') {
             return line_end_at(text, offset, c);
         }
     }
     "\n"
+}
+
+/// Whether the text has more than one line.
+pub(crate) fn has_lines(text: &str) -> bool {
+    text.contains('\n') || text.contains('\r')
 }
 
 /// The line end at this offset.

@@ -1,5 +1,6 @@
 //! Where the elements or members of a collection stand in its text.
 
+use crate::gaps::Gap;
 use json5_types::ErrorCode;
 use json5_types::cow_str::CowStr;
 use json5_types::error::{Error, Result};
@@ -12,6 +13,8 @@ use std::alloc::Global;
 /// Where an element or a member stands, in bytes of the collection's text.
 #[derive(Clone, Copy, Drop)]
 pub(crate) struct Spot {
+    /// Where the blanks before it begin.
+    from: usize,
     /// Where the key begins and ends: in an array both are where the value begins.
     pub(crate) start: usize,
     pub(crate) key_end: usize,
@@ -28,6 +31,11 @@ impl Spot {
             Some(comma) => comma.saturating_add(1),
             None => self.end,
         }
+    }
+
+    /// Whether blanks and comments alone stand before it on its line, and it isn't the first line.
+    pub(crate) fn begins_line(self, text: &str) -> bool {
+        Gap::of(text, self.from, self.start).line_end.is_some()
     }
 }
 
@@ -65,16 +73,6 @@ pub(crate) struct Around {
     /// How many there are in all.
     pub(crate) count: usize,
     pub(crate) close: usize,
-}
-
-/// Where the first entry begins, or None if there is none.
-pub(crate) fn first_start(alloc: Global, text: &str) -> Result<Option<usize>> {
-    let mut walk = opened(alloc, text)?;
-    walk.gap()?;
-    if walk.close().is_some() {
-        return Ok(None);
-    }
-    Ok(Some(walk.offset()))
 }
 
 /// The entry that is meant, and what is beside it; where there is none, the last entry is before it.
@@ -122,6 +120,7 @@ pub(crate) fn opened(alloc: Global, text: &str) -> Result<Walk<'_>> {
 
 /// The next entry and its key, or None after the closing bracket, which is taken.
 pub(crate) fn next_spot<'t>(walk: &mut Walk<'t>) -> Result<Option<(Spot, CowStr<'t>)>> {
+    let from = walk.offset();
     walk.gap()?;
     if walk.close().is_some() {
         return Ok(None);
@@ -137,6 +136,7 @@ pub(crate) fn next_spot<'t>(walk: &mut Walk<'t>) -> Result<Option<(Spot, CowStr<
     let comma = walk.offset();
     let comma = if walk.comma() { Some(comma) } else { None };
     let spot = Spot {
+        from,
         start,
         key_end,
         value,

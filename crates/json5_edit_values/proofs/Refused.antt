@@ -1,14 +1,15 @@
 -- What an edit with a text says of an edit with a value that the text spells.
-use Rattle.std.proofs.Common.{◌≤◌, ◌<◌, ◌⊎◌, inl, inr, ℕ, ◌+◌, List, length, sym, subst, arith}
+use Rattle.std.proofs.Common.{◌≤◌, ◌<◌, ◌⊎◌, inl, inr, ℕ, ◌+◌, List, [], length, sym, subst, arith}
 use Rattle.std.specs.Str.{chars}
 use Rattle.json5_grammar.specs.Language.Documents.{max_depth}
 use Rattle.json5_grammar.specs.Language.Trees.{Tree, depth}
 use Rattle.json5_grammar.specs.Language.Values.{Val}
 use Rattle.json5_value.specs.declared.brackets.BracketKind.{BracketKind as Kind}
+use Rattle.json5_value.specs.declared.brackets.BracketKind.TheVariants as kind
 use Rattle.json5_write.specs.EscapeFreeMarks.{marks}
 use Rattle.json5_write.specs.Out.{written_text}
 use Rattle.json5_write.specs.WrittenTrees.{Written}
-use Rattle.json5_edit.specs.Changes.{Gains, GainsAt, IsChanged}
+use Rattle.json5_edit.specs.Changes.{Gains, GainsAt, IsChanged, IsInserted, IsPushed, IsPutIn}
 use Rattle.json5_edit.specs.Comparing.{IsWithAt, IsWithLast}
 use Rattle.json5_edit.specs.Pieces.{Grows}
 use Rattle.json5_edit.specs.Refusals.{Misfits, RefusesInsert, RefusesPush, RefusesPutIn, RefusesSet}
@@ -17,15 +18,16 @@ use Rattle.json5_edit.specs.declared.faults.EditError.{EditError}
 use Rattle.json5_edit.specs.declared.faults.EditError.TheVariants as error
 use Rattle.json5_edit.specs.declared.paths.Step.{Step}
 use Rattle.json5_edit_values.specs.Refusals.{IsPlaceless, IsTooDeepFor, RefusesInsertOf, RefusesPushOf, RefusesPutInOf, RefusesSetTo, RefusesWriting}
-use Rattle.json5_edit_values.specs.Trees.{IsSetTo}
-use Rattle.json5_edit_values.proofs.ValuesSpelled.{one_value}
+use Rattle.json5_edit_values.specs.Spelled.{IsTreeOf, Spells}
+use Rattle.json5_edit_values.specs.Trees.{IsInsertedAs, IsPushedAs, IsPutInAs, IsSetTo}
+use Rattle.json5_edit_values.proofs.ValuesSpelled.{alike_depth, one_value}
 
 -- ---- what is made
 
-pub set_to : (t : Tree) (text : List ℕ) (path : List Step) (new made : List ℕ) → Val (chars new) t → IsSet text path new made → IsSetTo t text path made
-set_to t text path new made v s = (new, s, one_value (chars new) s.new_tree t s.new_value v)
+pub set_to : (t : Written) (text : List ℕ) (path : List Step) (new made : List ℕ) → Spells t text (chars new) → IsSet text path new made → IsSetTo t text path made
+set_to t text path new made (u, v, k) s = (new, s, subst (IsTreeOf t text) (sym (one_value (chars new) s.new_tree u s.new_value v)) k)
 
-pub changed_as : (Change Other : Tree → Tree → Type 0) (text : List ℕ) (path : List Step) (made : List ℕ) → ((t u : Tree) → Change t u → Other t u)
+changed_as : (Change Other : Tree → Tree → Type 0) (text : List ℕ) (path : List Step) (made : List ℕ) → ((t u : Tree) → Change t u → Other t u)
     → (c : IsChanged Change text path made) × Grows c.old c.new → (c : IsChanged Other text path made) × Grows c.old c.new
 changed_as Change Other text path made more (c, g) = (
   record {
@@ -50,23 +52,32 @@ changed_as Change Other text path made more (c, g) = (
   g,
 )
 
-pub last_of : (k : Kind) (key new : List ℕ) (v : Tree) → Val (chars new) v → (t u : Tree) → Gains k key new t u → IsWithLast k key v t u
+last_of : (k : Kind) (key new : List ℕ) (v : Tree) → Val (chars new) v → (t u : Tree) → Gains k key new t u → IsWithLast k key v t u
 last_of k key new v is t u (w, spells, last) = subst (λ z. IsWithLast k key z t u) (one_value (chars new) w v spells is) last
 
-pub at_of : (i : ℕ) (new : List ℕ) (v : Tree) → Val (chars new) v → (t u : Tree) → GainsAt i new t u → IsWithAt i v t u
+at_of : (i : ℕ) (new : List ℕ) (v : Tree) → Val (chars new) v → (t u : Tree) → GainsAt i new t u → IsWithAt i v t u
 at_of i new v is t u (w, spells, there) = subst (λ z. IsWithAt i z t u) (one_value (chars new) w v spells is) there
+
+pub pushed_as : (t : Written) (text : List ℕ) (path : List Step) (new made : List ℕ) → Spells t text (chars new) → IsPushed text path new made → IsPushedAs t text path made
+pushed_as t text path new made (u, v, k) c = (u, k, changed_as (Gains kind.Array [] new) (IsWithLast kind.Array [] u) text path made (last_of kind.Array [] new u v) c)
+
+pub put_in_as : (t : Written) (text : List ℕ) (path : List Step) (i : ℕ) (new made : List ℕ) → Spells t text (chars new) → IsPutIn text path i new made → IsPutInAs t text path i made
+put_in_as t text path i new made (u, v, k) c = (u, k, changed_as (GainsAt i new) (IsWithAt i u) text path made (at_of i new u v) c)
+
+pub inserted_as : (t : Written) (text : List ℕ) (path : List Step) (key new made : List ℕ) → Spells t text (chars new) → IsInserted text path key new made → IsInsertedAs t text path key made
+inserted_as t text path key new made (u, v, k) c = (u, k, changed_as (Gains kind.Object key new) (IsWithLast kind.Object key u) text path made (last_of kind.Object key new u v) c)
 
 -- ---- why it isn't made
 
 within_or_past : (n limit : ℕ) → (n ≤ limit) ⊎ (limit < n)
 within_or_past n limit = grind arith
 
-too_deep : (further : ℕ) (t : Tree) (text : List ℕ) (path : List Step) (new : List ℕ) → Val (chars new) t → Misfits further text path new → IsTooDeepFor further t text path
-too_deep further t text path new v m =
-    record { tree = m.tree; document = m.document; positions = m.positions; led = m.led; deep = deep (within_or_past ((length m.positions + further) + depth t) max_depth) }
+too_deep : (further : ℕ) (t : Written) (text : List ℕ) (path : List Step) (new : List ℕ) → Spells t text (chars new) → Misfits further text path new → IsTooDeepFor further (marks t) text path
+too_deep further t text path new (u, v, k) m =
+    record { tree = m.tree; document = m.document; positions = m.positions; led = m.led; deep = deep (within_or_past ((length m.positions + further) + depth (marks t)) max_depth) }
   where
-    deep : ((length m.positions + further) + depth t ≤ max_depth) ⊎ (max_depth < (length m.positions + further) + depth t) → max_depth < (length m.positions + further) + depth t
-    deep (inl l) = absurd (m.misfit (t, v, omega (arith, l)))
+    deep : ((length m.positions + further) + depth (marks t) ≤ max_depth) ⊎ (max_depth < (length m.positions + further) + depth (marks t)) → max_depth < (length m.positions + further) + depth (marks t)
+    deep (inl l) = let same = alike_depth u t k.0 in absurd (m.misfit (u, v, omega (arith, l, same)))
     deep (inr l) = l
 
 pub set_writing : (t : Written) (text : List ℕ) (path : List Step) (e : EditError) → RefusesWriting (written_text t) e → RefusesSetTo t text path e
@@ -113,8 +124,8 @@ insert_writing t text path key error.NotArray r = absurd r
 insert_writing t text path key error.NoKey r = absurd r
 insert_writing t text path key error.Failed r = absurd r
 
-pub set_refused : (t : Written) (text : List ℕ) (path : List Step) (new : List ℕ) (e r : EditError) → Val (chars new) (marks t) → RefusesSet text path new e → IsPlaceless e r → RefusesSetTo t text path r
-set_refused t text path new (error.Value e) r v m (f, says, is) = subst (RefusesSetTo t text path) (sym is) (inr (says, too_deep 0 (marks t) text path new v m))
+pub set_refused : (t : Written) (text : List ℕ) (path : List Step) (new : List ℕ) (e r : EditError) → Spells t text (chars new) → RefusesSet text path new e → IsPlaceless e r → RefusesSetTo t text path r
+set_refused t text path new (error.Value e) r v m (f, says, is) = subst (RefusesSetTo t text path) (sym is) (inr (says, too_deep 0 t text path new v m))
 set_refused t text path new (error.Text e) r v m is = subst (RefusesSetTo t text path) (sym is) m
 set_refused t text path new error.Nowhere r v m is = subst (RefusesSetTo t text path) (sym is) m
 set_refused t text path new error.Taken r v m is = subst (RefusesSetTo t text path) (sym is) m
@@ -124,8 +135,8 @@ set_refused t text path new error.NoKey r v m is = subst (RefusesSetTo t text pa
 set_refused t text path new error.NoMemory r v m is = subst (RefusesSetTo t text path) (sym is) m
 set_refused t text path new error.Failed r v m is = subst (RefusesSetTo t text path) (sym is) m
 
-pub push_refused : (t : Written) (text : List ℕ) (path : List Step) (new : List ℕ) (e r : EditError) → Val (chars new) (marks t) → RefusesPush text path new e → IsPlaceless e r → RefusesPushOf t text path r
-push_refused t text path new (error.Value e) r v m (f, says, is) = subst (RefusesPushOf t text path) (sym is) (inr (says, too_deep 1 (marks t) text path new v m))
+pub push_refused : (t : Written) (text : List ℕ) (path : List Step) (new : List ℕ) (e r : EditError) → Spells t text (chars new) → RefusesPush text path new e → IsPlaceless e r → RefusesPushOf t text path r
+push_refused t text path new (error.Value e) r v m (f, says, is) = subst (RefusesPushOf t text path) (sym is) (inr (says, too_deep 1 t text path new v m))
 push_refused t text path new (error.Text e) r v m is = subst (RefusesPushOf t text path) (sym is) m
 push_refused t text path new error.Nowhere r v m is = subst (RefusesPushOf t text path) (sym is) m
 push_refused t text path new error.Taken r v m is = subst (RefusesPushOf t text path) (sym is) m
@@ -135,8 +146,8 @@ push_refused t text path new error.NoKey r v m is = subst (RefusesPushOf t text 
 push_refused t text path new error.NoMemory r v m is = subst (RefusesPushOf t text path) (sym is) m
 push_refused t text path new error.Failed r v m is = subst (RefusesPushOf t text path) (sym is) m
 
-pub put_in_refused : (t : Written) (text : List ℕ) (path : List Step) (i : ℕ) (new : List ℕ) (e r : EditError) → Val (chars new) (marks t) → RefusesPutIn text path i new e → IsPlaceless e r → RefusesPutInOf t text path i r
-put_in_refused t text path i new (error.Value e) r v m (f, says, is) = subst (RefusesPutInOf t text path i) (sym is) (inr (says, too_deep 1 (marks t) text path new v m))
+pub put_in_refused : (t : Written) (text : List ℕ) (path : List Step) (i : ℕ) (new : List ℕ) (e r : EditError) → Spells t text (chars new) → RefusesPutIn text path i new e → IsPlaceless e r → RefusesPutInOf t text path i r
+put_in_refused t text path i new (error.Value e) r v m (f, says, is) = subst (RefusesPutInOf t text path i) (sym is) (inr (says, too_deep 1 t text path new v m))
 put_in_refused t text path i new (error.Text e) r v m is = subst (RefusesPutInOf t text path i) (sym is) m
 put_in_refused t text path i new error.Nowhere r v m is = subst (RefusesPutInOf t text path i) (sym is) m
 put_in_refused t text path i new error.Taken r v m is = subst (RefusesPutInOf t text path i) (sym is) m
@@ -146,8 +157,8 @@ put_in_refused t text path i new error.NoKey r v m is = subst (RefusesPutInOf t 
 put_in_refused t text path i new error.NoMemory r v m is = subst (RefusesPutInOf t text path i) (sym is) m
 put_in_refused t text path i new error.Failed r v m is = subst (RefusesPutInOf t text path i) (sym is) m
 
-pub insert_refused : (t : Written) (text : List ℕ) (path : List Step) (key new : List ℕ) (e r : EditError) → Val (chars new) (marks t) → RefusesInsert text path key new e → IsPlaceless e r → RefusesInsertOf t text path key r
-insert_refused t text path key new (error.Value e) r v m (f, says, is) = subst (RefusesInsertOf t text path key) (sym is) (inr (says, too_deep 1 (marks t) text path new v m))
+pub insert_refused : (t : Written) (text : List ℕ) (path : List Step) (key new : List ℕ) (e r : EditError) → Spells t text (chars new) → RefusesInsert text path key new e → IsPlaceless e r → RefusesInsertOf t text path key r
+insert_refused t text path key new (error.Value e) r v m (f, says, is) = subst (RefusesInsertOf t text path key) (sym is) (inr (says, too_deep 1 t text path new v m))
 insert_refused t text path key new (error.Text e) r v m is = subst (RefusesInsertOf t text path key) (sym is) m
 insert_refused t text path key new error.Nowhere r v m is = subst (RefusesInsertOf t text path key) (sym is) m
 insert_refused t text path key new error.Taken r v m is = subst (RefusesInsertOf t text path key) (sym is) m

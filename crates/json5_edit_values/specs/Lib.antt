@@ -1,3 +1,4 @@
 -- Lists the definitions of edits with values.
+pub mod Spelled
 pub mod Trees
 pub mod Refusals

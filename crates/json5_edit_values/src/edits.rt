@@ -3,11 +3,11 @@
 ghost use Rattle.std.specs.Prelude.{IfOk, IfErr, string_bytes};
 ghost use Rattle.json5_edit_values.specs.Refusals.{IsPlaceless, RefusesInsertOf, RefusesPushOf, RefusesPutInOf, RefusesSetTo};
 ghost use Rattle.json5_edit_values.specs.Trees.{IsInsertedAs, IsPushedAs, IsPutInAs, IsSetTo};
-ghost use Rattle.json5_write.specs.EscapeFreeMarks.{marks};
 
+use crate::choices::Choices;
 use crate::seats::Goes;
 use crate::spelled::spelled;
-use json5_edit::{EditError, Result, Step, insert, insert_element, push, set};
+use json5_edit::{EditError, Result, Step, insert_element, insert_in, push, set};
 use json5_ser::Serialize;
 use json5_types::ErrorCode;
 use json5_types::error::Error;
@@ -31,10 +31,32 @@ pub fn set_value<T: Serialize>(
     path: &[Step<'_>],
     value: &T,
 ) -> Result<String>
-    ensures set { IfOk result (λ made. IsSetTo (marks (T.tree value.now)) text.now path.now (string_bytes made)) }
+    ensures set { IfOk result (λ made. IsSetTo (T.tree value.now) text.now path.now (string_bytes made)) }
     ensures refused { IfErr result (RefusesSetTo (T.tree value.now) text.now path.now) }
 {
-    let new = spelled(alloc, value, text, path, Goes::Instead)?;
+    set_value_in(alloc, Choices::of_text(), text, path, value)
+}
+
+/// As [`set_value`], with these choices.
+///
+/// ```text
+/// set_value_in(alloc, choices, text, path, value)?    // with Some(Layout::compact()) a list stands as [80,443]
+/// ```
+///
+/// # Errors
+///
+/// As [`set_value`].
+pub fn set_value_in<T: Serialize>(
+    alloc: Global,
+    choices: Choices,
+    text: &str,
+    path: &[Step<'_>],
+    value: &T,
+) -> Result<String>
+    ensures set { IfOk result (λ made. IsSetTo (T.tree value.now) text.now path.now (string_bytes made)) }
+    ensures refused { IfErr result (RefusesSetTo (T.tree value.now) text.now path.now) }
+{
+    let new = spelled(alloc, value, text, path, Goes::Instead, choices.layout)?;
     match set(alloc, text, path, new.as_str()) {
         Ok(made) => Ok(made),
         Err(error) => Err(placeless(error)),
@@ -58,10 +80,32 @@ pub fn push_value<T: Serialize>(
     path: &[Step<'_>],
     value: &T,
 ) -> Result<String>
-    ensures pushed { IfOk result (λ made. IsPushedAs (marks (T.tree value.now)) text.now path.now (string_bytes made)) }
+    ensures pushed { IfOk result (λ made. IsPushedAs (T.tree value.now) text.now path.now (string_bytes made)) }
     ensures refused { IfErr result (RefusesPushOf (T.tree value.now) text.now path.now) }
 {
-    let new = spelled(alloc, value, text, path, Goes::Into(0))?;
+    push_value_in(alloc, Choices::of_text(), text, path, value)
+}
+
+/// As [`push_value`], with these choices.
+///
+/// ```text
+/// push_value_in(alloc, choices, text, path, value)?    // with Some(Layout::compact()) a list stands as [80,443]
+/// ```
+///
+/// # Errors
+///
+/// As [`push_value`].
+pub fn push_value_in<T: Serialize>(
+    alloc: Global,
+    choices: Choices,
+    text: &str,
+    path: &[Step<'_>],
+    value: &T,
+) -> Result<String>
+    ensures pushed { IfOk result (λ made. IsPushedAs (T.tree value.now) text.now path.now (string_bytes made)) }
+    ensures refused { IfErr result (RefusesPushOf (T.tree value.now) text.now path.now) }
+{
+    let new = spelled(alloc, value, text, path, Goes::Last(0), choices.layout)?;
     match push(alloc, text, path, new.as_str()) {
         Ok(made) => Ok(made),
         Err(error) => Err(placeless(error)),
@@ -86,10 +130,40 @@ pub fn insert_element_value<T: Serialize>(
     index: usize,
     value: &T,
 ) -> Result<String>
-    ensures put_in { IfOk result (λ made. IsPutInAs (marks (T.tree value.now)) text.now path.now index (string_bytes made)) }
+    ensures put_in { IfOk result (λ made. IsPutInAs (T.tree value.now) text.now path.now index (string_bytes made)) }
     ensures refused { IfErr result (RefusesPutInOf (T.tree value.now) text.now path.now index) }
 {
-    let new = spelled(alloc, value, text, path, Goes::Into(0))?;
+    insert_element_value_in(alloc, Choices::of_text(), text, path, index, value)
+}
+
+/// As [`insert_element_value`], with these choices.
+///
+/// ```text
+/// insert_element_value_in(alloc, choices, text, path, index, value)?    // with Some(Layout::compact()) a list stands as [80,443]
+/// ```
+///
+/// # Errors
+///
+/// As [`insert_element_value`].
+pub fn insert_element_value_in<T: Serialize>(
+    alloc: Global,
+    choices: Choices,
+    text: &str,
+    path: &[Step<'_>],
+    index: usize,
+    value: &T,
+) -> Result<String>
+    ensures put_in { IfOk result (λ made. IsPutInAs (T.tree value.now) text.now path.now index (string_bytes made)) }
+    ensures refused { IfErr result (RefusesPutInOf (T.tree value.now) text.now path.now index) }
+{
+    let new = spelled(
+        alloc,
+        value,
+        text,
+        path,
+        Goes::Before(index),
+        choices.layout,
+    )?;
     match insert_element(alloc, text, path, index, new.as_str()) {
         Ok(made) => Ok(made),
         Err(error) => Err(placeless(error)),
@@ -114,11 +188,41 @@ pub fn insert_value<T: Serialize>(
     key: &str,
     value: &T,
 ) -> Result<String>
-    ensures inserted { IfOk result (λ made. IsInsertedAs (marks (T.tree value.now)) text.now path.now key.now (string_bytes made)) }
+    ensures inserted { IfOk result (λ made. IsInsertedAs (T.tree value.now) text.now path.now key.now (string_bytes made)) }
     ensures refused { IfErr result (RefusesInsertOf (T.tree value.now) text.now path.now key.now) }
 {
-    let new = spelled(alloc, value, text, path, Goes::Into(key.len()))?;
-    match insert(alloc, text, path, key, new.as_str()) {
+    insert_value_in(alloc, Choices::of_text(), text, path, key, value)
+}
+
+/// As [`insert_value`], with these choices.
+///
+/// ```text
+/// insert_value_in(alloc, choices, text, path, key, value)?    // with Some(Layout::compact()) a list stands as [80,443]
+/// ```
+///
+/// # Errors
+///
+/// As [`insert_value`].
+pub fn insert_value_in<T: Serialize>(
+    alloc: Global,
+    choices: Choices,
+    text: &str,
+    path: &[Step<'_>],
+    key: &str,
+    value: &T,
+) -> Result<String>
+    ensures inserted { IfOk result (λ made. IsInsertedAs (T.tree value.now) text.now path.now key.now (string_bytes made)) }
+    ensures refused { IfErr result (RefusesInsertOf (T.tree value.now) text.now path.now key.now) }
+{
+    let new = spelled(
+        alloc,
+        value,
+        text,
+        path,
+        Goes::Last(key.len()),
+        choices.layout,
+    )?;
+    match insert_in(alloc, text, path, key, new.as_str(), choices.names) {
         Ok(made) => Ok(made),
         Err(error) => Err(placeless(error)),
     }

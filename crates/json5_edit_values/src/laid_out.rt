@@ -12,6 +12,7 @@ ghost use Rattle.json5_grammar.specs.Language.Values.{Val};
 use crate::lines::arranged;
 use crate::seats::{Goes, seat_of};
 use json5_edit::{EditError, Result, Step};
+use json5_layouts::Layout;
 use json5_lexemes::same_lexemes;
 use json5_text::scanner::Scanner;
 use json5_value::skip::skip_value;
@@ -23,6 +24,7 @@ pub(crate) fn laid_out(
     text: &str,
     path: &[Step<'_>],
     goes: Goes,
+    layout: Option<Layout>,
     written: String,
 ) -> Result<String>
     ensures same { (t : Tree) → Val (chars (string_bytes written)) t → IfOk result (λ new. Val (chars (string_bytes new)) t) }
@@ -31,7 +33,7 @@ pub(crate) fn laid_out(
     if !written.as_str().contains('\n') {
         return Ok(written);
     }
-    let Ok(made) = seated(alloc, text, path, goes, written.as_str()) else {
+    let Ok(made) = seated(alloc, text, path, goes, layout, written.as_str()) else {
         return Err(EditError::NoMemory);
     };
     if lays_out(alloc, written.as_str(), made.as_str()) {
@@ -46,9 +48,10 @@ fn seated(
     text: &str,
     path: &[Step<'_>],
     goes: Goes,
+    layout: Option<Layout>,
     written: &str,
 ) -> std::result::Result<String, AllocError> {
-    let seat = seat_of(alloc, text, path, goes)?;
+    let seat = seat_of(alloc, text, path, goes, layout)?;
     arranged(alloc, &seat, written)
 }
 
@@ -63,7 +66,7 @@ fn lays_out(alloc: Global, written: &str, made: &str) -> bool
 }
 
 /// Whether the text is a value, without blanks or comments around it.
-fn is_value(alloc: Global, made: &str) -> bool
+pub(crate) fn is_value(alloc: Global, made: &str) -> bool
     ensures { OnTrue result (IsValue max_depth (chars made.now)) }
 {
     let mut scanner = Scanner::new(alloc, made);

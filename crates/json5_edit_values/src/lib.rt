@@ -5,10 +5,17 @@
 //! ```
 #![tactic(auto)]
 
+mod choices;
 mod edits;
+mod json;
 mod laid_out;
 mod lines;
 mod seats;
 mod spelled;
 
-pub use edits::{insert_element_value, insert_value, push_value, set_value};
+pub use choices::Choices;
+pub use edits::{
+    insert_element_value, insert_element_value_in, insert_value, insert_value_in, push_value,
+    push_value_in, set_value, set_value_in,
+};
+pub use json5_layouts::Layout;

@@ -1,7 +1,10 @@
 //! Where a value goes, and how lines are there.
 
-use json5_edit::{Span, Step, find};
-use json5_edit_layout::{Collection, entry_indentation, indentation};
+use json5_edit::{Names, Span, Step, find};
+use json5_edit_layout::{
+    Collection, entry_indentation, has_last_commas, indentation, line_end, step_of,
+};
+use json5_layouts::Layout;
 use std::alloc::{AllocError, Global};
 
 /// Where a value goes.
@@ -9,37 +12,52 @@ use std::alloc::{AllocError, Global};
 pub(crate) enum Goes {
     /// In the place of the value that the path leads to.
     Instead,
-    /// Into the collection that the path leads to, after a key of so many bytes.
-    Into(usize),
+    /// To the end of the collection that the path leads to, after a key of so many bytes.
+    Last(usize),
+    /// Before this element of the array that the path leads to.
+    Before(usize),
+}
+
+/// On how many lines a value stands.
+#[derive(Clone, Copy, Drop)]
+pub(crate) enum Lines {
+    /// On one, if it is short, else on several.
+    Fitting,
+    Many,
+    /// On one, without blanks.
+    Tight,
 }
 
 /// How lines are where a value goes.
 #[derive(Drop)]
 pub(crate) struct Seat<'t> {
+    pub(crate) lines: Lines,
     /// The blanks before the line on which it begins.
     pub(crate) indent: String,
     /// How many characters stand before it on that line.
     pub(crate) column: usize,
-    /// Whether it stands on several lines, however short it is.
-    pub(crate) is_long: bool,
     /// The blanks of a level.
     pub(crate) step: String,
     pub(crate) line_end: &'t str,
+    /// Whether a comma stands before a closing bracket on a line of its own, if the value has one there.
+    pub(crate) has_last_commas: bool,
 }
 
-/// The seat of a value.
+/// The seat of a value in this layout, or in that of the text.
 pub(crate) fn seat_of<'t>(
     alloc: Global,
     text: &'t str,
     path: &[Step<'_>],
     goes: Goes,
+    layout: Option<Layout>,
 ) -> Result<Seat<'t>, AllocError> {
     let mut seat = Seat {
+        lines: lines_in(layout),
         indent: String::new(alloc),
         column: 0,
-        is_long: false,
-        step: step_of(alloc, text)?,
+        step: step_in(alloc, text, layout)?,
         line_end: line_end(text),
+        has_last_commas: !matches!(has_last_commas(alloc, text), Ok(Some(false))),
     };
     let Ok(Some(span)) = find(alloc, text, path) else {
         return Ok(seat);
@@ -48,18 +66,51 @@ pub(crate) fn seat_of<'t>(
         Goes::Instead => {
             seat.indent.push_str(indentation(text, span.start))?;
             seat.column = column_of(text, span.start);
-            seat.is_long = part(text, span).contains('\n');
+            if layout.is_none() && has_lines(text, span) {
+                seat.lines = Lines::Many;
+            }
         }
-        Goes::Into(key) => {
-            seat.indent = indentation_in(alloc, text, span)?;
+        Goes::Last(key) => {
+            seat.indent = indentation_in(alloc, text, span, usize::MAX)?;
             seat.column = seat.indent.len().saturating_add(key);
+        }
+        Goes::Before(index) => {
+            seat.indent = indentation_in(alloc, text, span, index)?;
+            seat.column = seat.indent.len();
         }
     }
     Ok(seat)
 }
 
-fn part(text: &str, span: Span) -> &str {
-    text.get(span.start..span.end).unwrap_or("")
+fn lines_in(layout: Option<Layout>) -> Lines {
+    match layout {
+        None => Lines::Fitting,
+        Some(Layout::Compact) => Lines::Tight,
+        Some(_) => Lines::Many,
+    }
+}
+
+/// The blanks of a level in the layout, or else in the text.
+fn step_in(alloc: Global, text: &str, layout: Option<Layout>) -> Result<String, AllocError> {
+    match layout {
+        Some(Layout::Spaces(count)) => spaces(alloc, count),
+        Some(Layout::Tabs) => String::from_str(alloc, "\t"),
+        _ => String::from_str(alloc, step_of(alloc, text).unwrap_or("  ")),
+    }
+}
+
+fn spaces(alloc: Global, count: u8) -> Result<String, AllocError> {
+    let mut made = String::new(alloc);
+    for _ in 0..count {
+        made.push(' ')?;
+    }
+    Ok(made)
+}
+
+/// Whether the part has more than one line.
+fn has_lines(text: &str, span: Span) -> bool {
+    let part = text.get(span.start..span.end).unwrap_or("");
+    part.contains('\n') || part.contains('\r')
 }
 
 /// How many characters of its line are before this offset.
@@ -71,31 +122,21 @@ fn column_of(text: &str, at: usize) -> usize {
     }
 }
 
-/// How entries of the collection are indented.
-fn indentation_in(alloc: Global, text: &str, span: Span) -> Result<String, AllocError> {
+/// How the line is indented on which a new entry of the collection begins: before the one with this index, or at the end.
+fn indentation_in(
+    alloc: Global,
+    text: &str,
+    span: Span,
+    index: usize,
+) -> Result<String, AllocError> {
     let collection = Collection {
         document: text,
         start: span.start,
         end: span.end,
+        names: Names::Quoted,
     };
-    match entry_indentation(alloc, &collection) {
+    match entry_indentation(alloc, &collection, index) {
         Ok(indent) => Ok(indent),
         Err(_) => String::from_str(alloc, "  "),
-    }
-}
-
-/// The blanks of a level: how the outermost entries are indented.
-fn step_of(alloc: Global, text: &str) -> Result<String, AllocError> {
-    match find(alloc, text, &[]) {
-        Ok(Some(span)) => indentation_in(alloc, text, span),
-        _ => String::from_str(alloc, "  "),
-    }
-}
-
-/// The end of the text's first line.
-fn line_end(text: &str) -> &'static str {
-    match text.split_once('\n') {
-        Some((line, _)) if line.ends_with('\r') => "\r\n",
-        _ => "\n",
     }
 }

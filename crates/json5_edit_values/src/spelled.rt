@@ -1,39 +1,45 @@
 //! How a value is spelled where it goes.
 
-ghost use Rattle.std.specs.Prelude.{IfOk, IfErr, string_bytes};
+ghost use Rattle.std.specs.Prelude.{◌≡◌, IfOk, IfErr, OnOk, string_bytes};
 ghost use Rattle.std.specs.Str.{chars};
 ghost use Rattle.json5_edit_values.specs.Refusals.{RefusesWriting};
+ghost use Rattle.json5_edit_values.specs.Spelled.{Spells};
 ghost use Rattle.json5_grammar.specs.Language.Values.{Val};
-ghost use Rattle.json5_write.specs.EscapeFreeMarks.{marks};
+ghost use Rattle.json5_write.specs.EscapeFreeMarks.{marks, unmarked};
 ghost use Rattle.json5_write.specs.Out.{Out, written_text};
 ghost use Rattle.json5_write.specs.WholeOutputs.{RefusesToString};
 
+use crate::json::spelled_like;
 use crate::laid_out::laid_out;
 use crate::seats::Goes;
 use json5_edit::{EditError, Result, Step};
+use json5_layouts::Layout;
 use json5_ser::{Serialize, to_string};
 use json5_types::ErrorCode;
 use json5_types::error::Error;
 use std::alloc::Global;
 
-/// The value as json5 writes it, laid out for where it goes.
+/// The value, laid out for where it goes: as JSON in a plain text, if JSON has it, else as json5 writes it.
 pub(crate) fn spelled<T: Serialize>(
     alloc: Global,
     value: &T,
     text: &str,
     path: &[Step<'_>],
     goes: Goes,
+    layout: Option<Layout>,
 ) -> Result<String>
-    ensures value { IfOk result (λ new. Val (chars (string_bytes new)) (marks (T.tree value.now))) }
+    ensures value { IfOk result (λ new. Spells (T.tree value.now) text.now (chars (string_bytes new))) }
     ensures refused { IfErr result (RefusesWriting (written_text (T.tree value.now))) }
 {
     let written = written(alloc, value)?;
-    laid_out(alloc, text, path, goes, written)
+    let alike = spelled_like(alloc, text, written)?;
+    laid_out(alloc, text, path, goes, layout, alike)
 }
 
 /// The value as json5 writes it.
 fn written<T: Serialize>(alloc: Global, value: &T) -> Result<String>
     ensures value { IfOk result (λ new. Val (chars (string_bytes new)) (marks (T.tree value.now))) }
+    ensures again { OnOk result (unmarked (marks (T.tree value.now)) ≡ T.tree value.now) }
     ensures refused { IfErr result (RefusesWriting (written_text (T.tree value.now))) }
 {
     match to_string(alloc, value) {

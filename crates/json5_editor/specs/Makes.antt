@@ -1,6 +1,8 @@
 -- What is made of a text.
 use Rattle.std.specs.declared.alloc.Global.{Global}
-use Rattle.std.specs.Prelude.{◌≡◌, ◌⊎◌, ℕ, List, [], ◌∷◌, ◌++◌, Result, Ok, Err, String}
+use Rattle.std.specs.Prelude.{◌≡◌, ◌≢◌, ◌⊎◌, ℕ, List, [], ◌∷◌, ◌++◌, Result, Ok, Err, String}
+use Rattle.std.specs.Str.{chars}
+use Rattle.json5_lexemes.specs.Lexemes.{HaveSameLexemes}
 use Rattle.json5_edit.specs.Changes.{IsInserted, IsPushed, IsPutIn, IsRekeyed, IsRemoved}
 use Rattle.json5_edit.specs.Refusals.{RefusesInsert, RefusesPath, RefusesPush, RefusesPutIn, RefusesRemove, RefusesRename, RefusesSet}
 use Rattle.json5_edit.specs.Sets.{IsSet}
@@ -39,6 +41,10 @@ Makes work.Insert text steps value made = Inserts text steps value made
 Makes work.Remove text steps value made = IsRemoved text steps made
 Makes work.Push text steps value made = IsPushed text steps value made
 Makes work.Rename text steps value made = IsRekeyed text steps value made
+
+-- the same with this value; or, unless it is a key, with another that has its lexemes
+abbrev pub MakesLaid : Work → List ℕ → List Step → List ℕ → List ℕ → Type 0
+MakesLaid w text steps value made = Makes w text steps value made ⊎ ((w ≢ work.Rename) × ((placed : List ℕ) × HaveSameLexemes (chars value) (chars placed) × Makes w text steps placed made))
 
 abbrev pub RefusesEdit : Work → List ℕ → List Step → List ℕ → EditError → Type 0
 RefusesEdit work.Get text steps value e = RefusesPath text steps e

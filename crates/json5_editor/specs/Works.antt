@@ -15,7 +15,7 @@ use Rattle.json5_editor.specs.declared.requests.Task.{Task}
 use Rattle.json5_editor.specs.declared.requests.Work.TheVariants as work
 use Rattle.json5_editor.specs.declared.trouble.Trouble.{Trouble}
 use Rattle.json5_editor.specs.declared.trouble.Trouble.TheVariants as trouble
-use Rattle.json5_editor.specs.Makes.{Makes, RefusesWork}
+use Rattle.json5_editor.specs.Makes.{MakesLaid, RefusesWork}
 use Rattle.json5_editor.specs.Troubles.{edit_status, trouble_status}
 
 -- ---- reading
@@ -58,12 +58,12 @@ PutsNot new output written _ = ⊥
 
 -- what was asked for was made of the text and put where it goes
 abbrev pub Works : Known → Task → List ℕ → List Step → Option (List ℕ) → Option (List ℕ) → Type 0
-Works known t text steps output written = (made : List ℕ) × Makes t.work text steps t.value.now made × Puts known t text made output written
+Works known t text steps output written = (made : List ℕ) × MakesLaid t.work text steps t.value.now made × Puts known t text made output written
 
 -- it wasn't made, or it wasn't put there
 abbrev pub WorksNot : Task → List ℕ → List Step → Option (List ℕ) → Option (List ℕ) → Trouble → Type 0
 WorksNot t text steps output written x =
-    (RefusesWork t.work text steps t.value.now x × Keeps output written) ⊎ ((made : List ℕ) × Makes t.work text steps t.value.now made × PutsNot made output written x)
+    (RefusesWork t.work text steps t.value.now x × Keeps output written) ⊎ ((made : List ℕ) × MakesLaid t.work text steps t.value.now made × PutsNot made output written x)
 
 -- with the text that was read: what output and errors held before and after, and the status
 pub data DoesAt (known : Known) (t : Task) (text : List ℕ) (output errors written : Option (List ℕ)) : Option (List ℕ) → ℕ → Type 0 where

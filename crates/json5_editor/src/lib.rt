@@ -11,6 +11,7 @@ mod edits;
 mod host_program;
 mod lines;
 mod parts;
+mod placed;
 mod requests;
 mod texts;
 mod trouble;

@@ -7,7 +7,7 @@ use Rattle.json5_value.specs.declared.brackets.BracketKind.TheVariants as kind
 use Rattle.json5_edit.proofs.Placed.{ok_then}
 use Rattle.json5_edit.proofs.Changed.{has_place, is_small, changed_within}
 use Rattle.json5_edit.proofs.Refused.{lacking, path_insert, free_insert, new_insert, value_fits}
-use Rattle.json5_edit.proofs.changing.insert.Goals as goal
+use Rattle.json5_edit.proofs.changing.insert_in.Goals as goal
 
 pub part_text-old-requires : goal.part_text-old-requires
 part_text-old-requires c = has_place c.in_ok-place.ensures.found

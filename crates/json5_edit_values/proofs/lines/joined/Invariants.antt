@@ -1,6 +1,6 @@
 use denote.Text.{Utf8}
 use denote.Shadow.{shadow}
-use Rattle.json5_edit_values.proofs.lines.on_one_line.Given as goal
+use Rattle.json5_edit_values.proofs.lines.joined.Given as goal
 
 -- the line before is text
 abbrev pub invariant-loop-line : goal.invariant-loop-line
