@@ -1,22 +1,58 @@
--- How a number of JSON is taken apart.
-use Rattle.std.proofs.Common.{◌≡◌, ◌≢◌, ℕ, Bool, true, false, not, List, [], ◌∷◌, ◌++◌, refl, sym, ap, ◌∙◌, subst, arith, length}
+-- How a number of JSON is passed, part by part.
 use denote.Ref.{Bor}
-use Rattle.std.specs.Prelude.{◌==◌, Option, Some, None, MatchOption}
-use Rattle.json5_grammar.proofs.CommonLemmas.{not_eq}
+use Rattle.std.proofs.Common.{◌≡◌, ◌≢◌, ℕ, Bool, true, false, List, [], ◌∷◌, ◌++◌, refl, sym, ap, ◌∙◌, subst, append_assoc, arith}
+use Rattle.std.specs.Prelude.{◌==◌, ◌↔◌, Option, Some, None}
+use Rattle.std.specs.Str.{chars}
+use Rattle.std.proofs.lemmas.Bool.{both_ways}
 use Rattle.std.proofs.lemmas.Bool.Decides.{nat_tests}
-use Rattle.std.proofs.lemmas.List.{append-nil}
-use Rattle.json5_grammar.specs.Language.Characters.{is_in, is_digit, NotBegun, Each, no_char, char}
+use Rattle.json5_grammar.specs.Language.Characters.{is_in, is_digit, Begun, NotBegun, Each, no_char, char}
 use Rattle.json5_grammar.specs.Language.Numbers.{Integer, lone_zero, nonzero}
-use Rattle.json5_grammar.specs.Model.ReadNumbers.{front_of, rest_of}
-use Rattle.json5_grammar.proofs.CharacterTests.{front_all, rest_all, front_each, front_rest, rest_each, nonzero_digit, digit_nonzero, e_no_digit}
+use Rattle.json5_grammar.proofs.CharacterTests.{nonzero_digit, digit_nonzero, e_no_digit}
+use Rattle.json5_grammar.proofs.CommonLemmas.{not_eq}
 use Rattle.json5_layouts.specs.Json.{JsonNumber, json_number, no_minus, minus, no_fraction, fraction, Exponent, no_exponent, exponent, no_sign, sign}
-use Rattle.json5_lexemes.specs.PlainSteps.{is_exponent_letter, is_exponent_sign, Digits, Unsigned, unsigned, AfterDigits, after_digits, SignedDigits, signed_digits, GoesOn}
+use Rattle.json5_text.specs.Scan.{SkipsAll}
+use Rattle.json5_lexemes.specs.SameLexemes.{is_word_part}
+use Rattle.json5_lexemes.specs.PlainSteps.{is_exponent_letter, is_exponent_sign, is_json_part, Digits, Unsigned, unsigned, AfterDigits, after_digits, SignedDigits, signed_digits, IsEmpty, Then, GoesOn, GoesOnIf, PassesDigits}
+use Rattle.json5_lexemes.proofs.OneList.{one_run}
+use Rattle.json5_lexemes.proofs.PlainTokens.{same_tail}
+use Rattle.json5_lexemes.proofs.PlainWordsTaken.{json_part_of_word}
 
 abbrev pub is_minus : ℕ → Bool
 is_minus c = c == 45
 
 abbrev pub is_point : ℕ → Bool
 is_point c = c == 46
+
+-- ---- what may follow
+
+-- what goes on no word is no such character
+stops : (p : ℕ → Bool) → ((c : ℕ) → p c ≡ true → is_json_part c ≡ true) → (r : List ℕ) → NotBegun is_word_part r → NotBegun p r
+stops p h [] n = tt
+stops p h (c ∷ r) n = by_value (p c) refl
+  where
+    by_value : (b : Bool) → p c ≡ b → p c ≡ false
+    by_value true e = absurd (both_ways (is_word_part c) n (json_part_of_word c (h c e)))
+    by_value false e = e
+
+digit_part : (c : ℕ) → is_digit c ≡ true → is_json_part c ≡ true
+digit_part c h = grind (arith, nat_tests)
+
+point_part : (c : ℕ) → is_point c ≡ true → is_json_part c ≡ true
+point_part c h = grind (arith, nat_tests)
+
+letter_part : (c : ℕ) → is_exponent_letter c ≡ true → is_json_part c ≡ true
+letter_part c h = grind (arith, nat_tests)
+
+stops_digits : (r : List ℕ) → NotBegun is_word_part r → NotBegun is_digit r
+stops_digits = stops is_digit digit_part
+
+exponent_stops : {e : List ℕ} (r : List ℕ) → Exponent e → NotBegun is_word_part r → NotBegun is_digit (e ++ r)
+exponent_stops r no_exponent n = stops_digits r n
+exponent_stops r (exponent {c = c} h s d) n = e_no_digit c h
+
+after_stops : {s : List ℕ} (r : List ℕ) → AfterDigits s → NotBegun is_word_part r → NotBegun is_digit (s ++ r)
+after_stops r (after_digits no_fraction e) n = exponent_stops r e n
+after_stops r (after_digits (fraction d) e) n = refl
 
 -- ---- a minus
 
@@ -27,187 +63,215 @@ integer_no_minus r (nonzero {c = c} h e) = apart c h
     apart : (c : ℕ) → is_in 49 57 c ≡ true → (c == 45) ≡ false
     apart c h = grind (arith, nat_tests)
 
-no_unsigned_minus : {x : List ℕ} → Unsigned x → NotBegun is_minus x
-no_unsigned_minus (unsigned {f = f} {e = e} i a b) = integer_no_minus (f ++ e) i
+unsigned_no_minus : {s : List ℕ} (r : List ℕ) → Unsigned s → NotBegun is_minus (s ++ r)
+unsigned_no_minus r (unsigned {i = i} {f = f} {e = e} a b d) = subst (NotBegun is_minus) (sym (append_assoc i (f ++ e) r)) (integer_no_minus ((f ++ e) ++ r) a)
 
-pub past_minus : {x : List ℕ} (r : List ℕ) → JsonNumber x → x ≡ 45 ∷ r → Unsigned r
-past_minus r (json_number no_minus i f e) g = let k = subst (NotBegun is_minus) g (no_unsigned_minus (unsigned i f e)) in absurd (cc)
-past_minus r (json_number {i = i} {f = f} {e = e} minus a b d) g = let same : i ++ (f ++ e) ≡ r = cc in subst Unsigned same (unsigned a b d)
+no_minus_begun : (p : ℕ → Bool) (x y : List ℕ) (c : ℕ) → NotBegun p x → x ≡ c ∷ y → p c ≡ true → ⊥
+no_minus_begun p x y c n e h = both_ways (p c) (subst (NotBegun p) e n) h
 
-pub with_minus : {r : List ℕ} → Unsigned r → JsonNumber (45 ∷ r)
-with_minus (unsigned i f e) = json_number minus i f e
+pub minus_passed : (x r : List ℕ) → Then JsonNumber (45 ∷ x) r ↔ Then Unsigned x r
+minus_passed x r = (λ (s, k, n, e). there s k n e, λ (s, u, n, e). (45 ∷ s, back u, n, ap (λ z. 45 ∷ z) e))
+  where
+    there : (s : List ℕ) → JsonNumber s → NotBegun is_word_part r → 45 ∷ x ≡ s ++ r → Then Unsigned x r
+    there s (json_number no_minus i f e) n g = absurd (no_minus_begun is_minus (s ++ r) x 45 (unsigned_no_minus r (unsigned i f e)) (sym g) refl)
+    there s (json_number {i = i} {f = f} {e = e} minus a b d) n g = (i ++ (f ++ e), unsigned a b d, n, same_tail 45 x ((i ++ (f ++ e)) ++ r) g)
 
-pub without_minus : {x : List ℕ} → JsonNumber x → NotBegun is_minus x → Unsigned x
-without_minus (json_number no_minus i f e) n = unsigned i f e
-without_minus (json_number minus i f e) n = absurd (cc)
+    back : {s : List ℕ} → Unsigned s → JsonNumber (45 ∷ s)
+    back (unsigned i f e) = json_number minus i f e
 
-pub unsigned_number : {x : List ℕ} → Unsigned x → JsonNumber x
-unsigned_number (unsigned i f e) = json_number no_minus i f e
+pub no_minus_passed : (x r : List ℕ) → NotBegun is_minus x → Then JsonNumber x r ↔ Then Unsigned x r
+no_minus_passed x r m = (λ (s, k, n, e). there s k n e, λ (s, u, n, e). (s, back u, n, e))
+  where
+    there : (s : List ℕ) → JsonNumber s → NotBegun is_word_part r → x ≡ s ++ r → Then Unsigned x r
+    there s (json_number no_minus i f e) n g = (s, unsigned i f e, n, g)
+    there s (json_number {i = i} {f = f} {e = e} minus a b d) n g = absurd (no_minus_begun is_minus x ((i ++ (f ++ e)) ++ r) 45 m g refl)
+
+    back : {s : List ℕ} → Unsigned s → JsonNumber s
+    back (unsigned i f e) = json_number no_minus i f e
 
 -- ---- digits
-
-exponent_no_digit : {e : List ℕ} → Exponent e → NotBegun is_digit e
-exponent_no_digit no_exponent = tt
-exponent_no_digit (exponent {c = c} h s d) = e_no_digit c h
-
-pub after_no_digit : {x : List ℕ} → AfterDigits x → NotBegun is_digit x
-after_no_digit (after_digits no_fraction e) = exponent_no_digit e
-after_no_digit (after_digits (fraction d) e) = refl
 
 integer_digits : {i : List ℕ} → Integer i → Each is_digit i
 integer_digits lone_zero = char refl no_char
 integer_digits (nonzero {c = c} h e) = char (nonzero_digit c h) e
 
--- the digits in front, and what follows them
-record Split (x : List ℕ) : Type 0 where
-  integer : Integer (front_of is_digit x)
-  after : AfterDigits (rest_of is_digit x)
-
-split : {x : List ℕ} → Unsigned x → Split x
-split (unsigned {i = i} {f = f} {e = e} a b d) =
-    let after : AfterDigits (f ++ e) = after_digits b d in
-    let stop : NotBegun is_digit (f ++ e) = after_no_digit after in
-    record { integer = subst Integer (sym (front_all (f ++ e) (integer_digits a) stop)) a; after = subst AfterDigits (sym (rest_all (f ++ e) (integer_digits a) stop)) after }
-
-pub past_digits : {x : List ℕ} → Unsigned x → AfterDigits (rest_of is_digit x)
-past_digits u = let s = split u in s.after
-
-pub in_digits : {x : List ℕ} → Unsigned x → Integer (front_of is_digit x)
-in_digits u = let s = split u in s.integer
-
-pub with_digits : (x : List ℕ) → Integer (front_of is_digit x) → AfterDigits (rest_of is_digit x) → Unsigned x
-with_digits x i a = subst Unsigned (sym (front_rest is_digit x)) (joined (front_of is_digit x) (rest_of is_digit x) i a)
+pub zero_passed : (x r : List ℕ) → Then Unsigned (48 ∷ x) r ↔ Then AfterDigits x r
+zero_passed x r = (λ (s, u, n, e). there s u n e, λ (s, a, n, e). (48 ∷ s, back a, n, ap (λ z. 48 ∷ z) e))
   where
-    joined : (i r : List ℕ) → Integer i → AfterDigits r → Unsigned (i ++ r)
-    joined i r a (after_digits f e) = unsigned a f e
+    there : (s : List ℕ) → Unsigned s → NotBegun is_word_part r → 48 ∷ x ≡ s ++ r → Then AfterDigits x r
+    there s (unsigned {f = f} {e = e} lone_zero b d) n g = (f ++ e, after_digits b d, n, same_tail 48 x ((f ++ e) ++ r) g)
+    there s (unsigned (nonzero {c = c} h i) b d) n g =
+        let same : c ≡ 48 = cc in
+        let k : is_in 49 57 48 ≡ true = subst (λ z. is_in 49 57 z ≡ true) same h in absurd (cc)
 
--- no integer is empty, and none but zero begins with a zero
-pub no_integer : {x : List ℕ} → x ≡ [] → Integer x → ⊥
-no_integer e lone_zero = cc
-no_integer e (nonzero h d) = cc
+    back : {s : List ℕ} → AfterDigits s → Unsigned (48 ∷ s)
+    back (after_digits f e) = unsigned lone_zero f e
 
-pub no_zeros : {x : List ℕ} (c d : ℕ) (r : List ℕ) → x ≡ c ∷ d ∷ r → c ≡ 48 → Integer x → ⊥
-no_zeros c d r e z lone_zero = cc
-no_zeros c d r e z (nonzero {c = b} h i) =
-    let same : b ≡ 48 = cc in
-    let k : is_in 49 57 48 ≡ true = subst (λ n. is_in 49 57 n ≡ true) same h in cc
+-- digits that don't begin with a zero
+pub digits_passed : (x d y r : List ℕ) (c : ℕ) (z : List ℕ) → x ≡ d ++ y → Each is_digit d → NotBegun is_digit y → x ≡ c ∷ z → c ≢ 48 → Begun is_digit x → Then Unsigned x r ↔ Then AfterDigits y r
+digits_passed x d y r c z e k st f nz b = (λ (s, u, n, g). there s u n g, λ (s, a, n, g). back d e k s a n g)
+  where
+    there : (s : List ℕ) → Unsigned s → NotBegun is_word_part r → x ≡ s ++ r → Then AfterDigits y r
+    there s (unsigned {i = i} {f = h} {e = w} a j v) n g =
+        let stop : NotBegun is_digit ((h ++ w) ++ r) = after_stops r (after_digits j v) n in
+        let same = one_run y ((h ++ w) ++ r) k st (integer_digits a) stop (sym e ∙ g ∙ append_assoc i (h ++ w) r) in
+        (h ++ w, after_digits j v, n, same.1)
+
+    back : (d : List ℕ) → x ≡ d ++ y → Each is_digit d → (s : List ℕ) → AfterDigits s → NotBegun is_word_part r → y ≡ s ++ r → Then Unsigned x r
+    back [] e no_char s a n g = absurd (none y (sym (sym f ∙ e)) st)
+      where
+        digit : is_digit c ≡ true
+        digit = subst (Begun is_digit) f b
+
+        none : (y : List ℕ) → y ≡ c ∷ z → NotBegun is_digit y → ⊥
+        none y h n = both_ways (is_digit c) (subst (NotBegun is_digit) h n) digit
+    back (a ∷ ds) e (char h k) s (after_digits {f = p} {e = q} j v) n g =
+        let same : a ≡ c = cc in
+        let i : Integer (a ∷ ds) = nonzero (digit_nonzero a h (not_eq a 48 (λ t. nz (sym same ∙ t)))) k in
+        ((a ∷ ds) ++ (p ++ q), unsigned i j v, n, e ∙ ap (λ z. (a ∷ ds) ++ z) g ∙ sym (append_assoc (a ∷ ds) (p ++ q) r))
+
+unsigned_digit : {s : List ℕ} (r : List ℕ) → Unsigned s → Begun is_digit (s ++ r)
+unsigned_digit r (unsigned lone_zero b d) = refl
+unsigned_digit r (unsigned (nonzero {c = c} h i) b d) = nonzero_digit c h
+
+pub no_digits : (x r : List ℕ) → NotBegun is_digit x → Then Unsigned x r → ⊥
+no_digits x r m (s, u, n, e) = apart x m (subst (Begun is_digit) (sym e) (unsigned_digit r u))
+  where
+    apart : (x : List ℕ) → NotBegun is_digit x → Begun is_digit x → ⊥
+    apart [] m b = b
+    apart (c ∷ x) m b = both_ways (is_digit c) m b
 
 -- ---- a fraction
 
-pub past_point : {x : List ℕ} (r : List ℕ) → AfterDigits x → x ≡ 46 ∷ r → (front_of is_digit r ≢ []) × Exponent (rest_of is_digit r)
-past_point r (after_digits no_fraction no_exponent) g = absurd (cc)
-past_point r (after_digits no_fraction (exponent {c = c} h s d)) g =
-    let same : c ≡ 46 = cc in
-    let k : is_exponent_letter 46 ≡ true = subst (λ n. is_exponent_letter n ≡ true) same h in absurd (cc)
-past_point r (after_digits {e = e} (fraction {d = d} {ds = ds} k) x) g =
-    let same : r ≡ (d ∷ ds) ++ e = cc in
-    let stop = exponent_no_digit x in (
-      λ n. let both : d ∷ ds ≡ [] = sym (ap (front_of is_digit) same ∙ front_all e k stop) ∙ n in cc,
-      subst Exponent (sym (ap (rest_of is_digit) same ∙ rest_all e k stop)) x,
-    )
-
-pub with_point : (r : List ℕ) → front_of is_digit r ≢ [] → Exponent (rest_of is_digit r) → AfterDigits (46 ∷ r)
-with_point r n e = subst (λ z. AfterDigits (46 ∷ z)) (sym (front_rest is_digit r)) (joined (front_of is_digit r) (front_each is_digit r) n)
+exponent_no_point : {s : List ℕ} (r : List ℕ) → Exponent s → NotBegun is_word_part r → NotBegun is_point (s ++ r)
+exponent_no_point r no_exponent n = stops is_point point_part r n
+exponent_no_point r (exponent {c = c} h a k) n = apart c h
   where
-    joined : (d : List ℕ) → Each is_digit d → d ≢ [] → AfterDigits (46 ∷ (d ++ rest_of is_digit r))
-    joined [] k n = absurd (n refl)
-    joined (c ∷ d) k n = after_digits (fraction k) e
+    apart : (c : ℕ) → is_exponent_letter c ≡ true → (c == 46) ≡ false
+    apart c h = grind (arith, nat_tests)
 
-pub without_point : {x : List ℕ} → AfterDigits x → NotBegun is_point x → Exponent x
-without_point (after_digits no_fraction e) n = e
-without_point (after_digits (fraction k) e) n = absurd (cc)
+pub point_passed : (x d y r : List ℕ) → x ≡ d ++ y → Each is_digit d → NotBegun is_digit y → Begun is_digit x → Then AfterDigits (46 ∷ x) r ↔ Then Exponent y r
+point_passed x d y r e k st b = (λ (s, a, n, g). there s a n g, λ (s, z, n, g). back d e k s z n g)
+  where
+    there : (s : List ℕ) → AfterDigits s → NotBegun is_word_part r → 46 ∷ x ≡ s ++ r → Then Exponent y r
+    there s (after_digits no_fraction z) n g = absurd (no_minus_begun is_point (s ++ r) x 46 (exponent_no_point r z n) (sym g) refl)
+    there s (after_digits {e = w} (fraction {d = a} {ds = ds} j) z) n g =
+        let tail : x ≡ (a ∷ ds) ++ (w ++ r) = same_tail 46 x (((a ∷ ds) ++ w) ++ r) g ∙ append_assoc (a ∷ ds) w r in
+        let same = one_run y (w ++ r) k st j (exponent_stops r z n) (sym e ∙ tail) in
+        (w, z, n, same.1)
 
-pub exponent_after : {x : List ℕ} → Exponent x → AfterDigits x
-exponent_after e = after_digits no_fraction e
+    back : (d : List ℕ) → x ≡ d ++ y → Each is_digit d → (s : List ℕ) → Exponent s → NotBegun is_word_part r → y ≡ s ++ r → Then AfterDigits (46 ∷ x) r
+    back [] e no_char s z n g = absurd (apart y st (subst (Begun is_digit) e b))
+      where
+        apart : (y : List ℕ) → NotBegun is_digit y → Begun is_digit y → ⊥
+        apart [] m b = b
+        apart (c ∷ y) m b = both_ways (is_digit c) m b
+    back (a ∷ ds) e (char h j) s z n g = (46 ∷ (a ∷ ds) ++ s, after_digits (fraction (char h j)) z, n, ap (λ w. 46 ∷ w) (e ∙ ap (λ w. (a ∷ ds) ++ w) g ∙ sym (append_assoc (a ∷ ds) s r)))
+
+pub no_point_digits : (x r : List ℕ) → NotBegun is_digit x → Then AfterDigits (46 ∷ x) r → ⊥
+no_point_digits x r m (s, after_digits no_fraction z, n, g) = no_minus_begun is_point (s ++ r) x 46 (exponent_no_point r z n) (sym g) refl
+no_point_digits x r m (s, after_digits {e = w} (fraction {d = a} {ds = ds} (char h j)) z, n, g) =
+    both_ways (is_digit a) (subst (NotBegun is_digit) (same_tail 46 x (((a ∷ ds) ++ w) ++ r) g) m) h
+
+pub no_point_passed : (x r : List ℕ) → NotBegun is_point x → Then AfterDigits x r ↔ Then Exponent x r
+no_point_passed x r m = (λ (s, a, n, g). there s a n g, λ (s, z, n, g). (s, after_digits no_fraction z, n, g))
+  where
+    there : (s : List ℕ) → AfterDigits s → NotBegun is_word_part r → x ≡ s ++ r → Then Exponent x r
+    there s (after_digits no_fraction z) n g = (s, z, n, g)
+    there s (after_digits {e = w} (fraction {d = a} {ds = ds} j) z) n g = absurd (no_minus_begun is_point x (((a ∷ ds) ++ w) ++ r) 46 m g refl)
 
 -- ---- an exponent
 
-pub past_letter : {x : List ℕ} (c : ℕ) (r : List ℕ) → Exponent x → x ≡ c ∷ r → (is_exponent_letter c ≡ true) × SignedDigits r
-past_letter c r no_exponent g = absurd (cc)
-past_letter c r (exponent {c = b} {d = d} {s = s} {ds = ds} h a k) g =
-    let head : b ≡ c = cc in
-    let tail : s ++ d ∷ ds ≡ r = cc in
-    (subst (λ n. is_exponent_letter n ≡ true) head h, subst SignedDigits tail (signed_digits a (λ e. cc, k)))
+pub letter_passed : (c : ℕ) (x r : List ℕ) → is_exponent_letter c ≡ true → Then Exponent (c ∷ x) r ↔ Then SignedDigits x r
+letter_passed c x r h = (λ (s, z, n, g). there s z n g, λ (s, k, n, g). (c ∷ s, back k, n, ap (λ w. c ∷ w) g))
+  where
+    there : (s : List ℕ) → Exponent s → NotBegun is_word_part r → c ∷ x ≡ s ++ r → Then SignedDigits x r
+    there s no_exponent n g = absurd (no_minus_begun is_exponent_letter r x c (stops is_exponent_letter letter_part r n) (sym g) h)
+    there s (exponent {d = d} {s = a} {ds = ds} j m k) n g = (a ++ d ∷ ds, signed_digits m (λ e. cc, k), n, cc)
 
-pub with_letter : (c : ℕ) {r : List ℕ} → is_exponent_letter c ≡ true → SignedDigits r → Exponent (c ∷ r)
-with_letter c h (signed_digits {s = s} {d = []} a (n, k)) = absurd (n refl)
-with_letter c h (signed_digits {s = s} {d = d ∷ ds} a (n, k)) = exponent h a k
+    back : {s : List ℕ} → SignedDigits s → Exponent (c ∷ s)
+    back (signed_digits {d = []} a (n, k)) = absurd (n refl)
+    back (signed_digits {d = d ∷ ds} a (n, k)) = exponent h a k
 
-digit_no_sign : {d : List ℕ} → Digits d → NotBegun is_exponent_sign d
-digit_no_sign {d = []} (n, k) = tt
-digit_no_sign {d = c ∷ d} (n, char h e) = apart c h
+pub no_letter_passed : (x r : List ℕ) → NotBegun is_exponent_letter x → Then Exponent x r ↔ Then IsEmpty x r
+no_letter_passed x r m = (λ (s, z, n, g). there s z n g, λ (s, e, n, g). (s, subst Exponent (sym e) no_exponent, n, g))
+  where
+    there : (s : List ℕ) → Exponent s → NotBegun is_word_part r → x ≡ s ++ r → Then IsEmpty x r
+    there s no_exponent n g = ([], refl, n, g)
+    there s (exponent {c = c} {d = d} {s = a} {ds = ds} j k l) n g = absurd (no_minus_begun is_exponent_letter x ((a ++ d ∷ ds) ++ r) c m g j)
+
+digits_no_sign : {d : List ℕ} (r : List ℕ) → Digits d → NotBegun is_exponent_sign (d ++ r)
+digits_no_sign {d = []} r (n, k) = absurd (n refl)
+digits_no_sign {d = c ∷ d} r (n, char h e) = apart c h
   where
     apart : (c : ℕ) → is_digit c ≡ true → is_exponent_sign c ≡ false
     apart c h = grind (arith, nat_tests)
 
-pub past_sign : {x : List ℕ} (c : ℕ) (r : List ℕ) → is_exponent_sign c ≡ true → SignedDigits x → x ≡ c ∷ r → Digits r
-past_sign c r h (signed_digits no_sign k) g = let z = subst (NotBegun is_exponent_sign) g (digit_no_sign k) in absurd (cc)
-past_sign c r h (signed_digits {d = d} (sign j) k) g = let tail : d ≡ r = cc in subst Digits tail k
-
-pub with_sign : (c : ℕ) {r : List ℕ} → is_exponent_sign c ≡ true → Digits r → SignedDigits (c ∷ r)
-with_sign c h k = signed_digits (sign h) k
-
-pub without_sign : {x : List ℕ} → SignedDigits x → NotBegun is_exponent_sign x → Digits x
-without_sign (signed_digits no_sign k) n = k
-without_sign (signed_digits (sign {c = c} j) k) n = absurd (cc)
-
-pub digits_signed : {x : List ℕ} → Digits x → SignedDigits x
-digits_signed k = signed_digits no_sign k
-
--- ---- the first byte
-
-pub empty_list : (x : List ℕ) → length x ≡ 0 → x ≡ []
-empty_list [] e = refl
-empty_list (c ∷ x) e = absurd (omega (arith, e))
-
--- nothing begins an empty list
-pub no_first : (p : ℕ → Bool) (x : List ℕ) → length x ≡ 0 → NotBegun p x
-no_first p [] e = tt
-no_first p (c ∷ x) e = absurd (omega (arith, e))
-
-pub empty_test : (x : List ℕ) → (length x == 0) ≡ true → x ≡ []
-empty_test [] h = refl
-empty_test (c ∷ x) h = absurd (grind (arith, nat_tests))
-
-pub some_test : (x : List ℕ) → (length x == 0) ≡ false → x ≡ [] → ⊥
-some_test x h e = let k = ap length e in grind (arith, nat_tests)
-
--- a zero is an integer alone
-pub zero_alone : (x r : List ℕ) (b : Bool) → x ≡ 48 ∷ r → b ≡ (length r == 0) → (b ≡ true → Integer x) × (Integer x → b ≡ true)
-zero_alone x [] b e f = (λ t. subst Integer (sym e) lone_zero, λ i. f)
-zero_alone x (d ∷ r) b e f = (λ t. absurd (some (sym f ∙ t)), λ i. absurd (no_zeros 48 d r e refl i))
+pub sign_passed : (c : ℕ) (x r : List ℕ) → is_exponent_sign c ≡ true → Then SignedDigits (c ∷ x) r ↔ Then Digits x r
+sign_passed c x r h = (λ (s, k, n, g). there s k n g, λ (s, k, n, g). (c ∷ s, signed_digits (sign h) k, n, ap (λ w. c ∷ w) g))
   where
-    some : (length (d ∷ r) == 0) ≡ true → ⊥
-    some h = grind (arith, nat_tests)
+    there : (s : List ℕ) → SignedDigits s → NotBegun is_word_part r → c ∷ x ≡ s ++ r → Then Digits x r
+    there s (signed_digits {d = d} no_sign k) n g = absurd (no_minus_begun is_exponent_sign (d ++ r) x c (digits_no_sign r k) (sym g) h)
+    there s (signed_digits {d = d} (sign j) k) n g = (d, k, n, cc)
 
-pub nonzero_integer : (x r : List ℕ) (c : ℕ) → x ≡ c ∷ r → c ≢ 48 → Each is_digit x → Integer x
-nonzero_integer x r c e n k = subst Integer (sym e) (one (subst (Each is_digit) e k))
+pub no_sign_passed : (x r : List ℕ) → NotBegun is_exponent_sign x → Then SignedDigits x r ↔ Then Digits x r
+no_sign_passed x r m = (λ (s, k, n, g). there s k n g, λ (s, k, n, g). (s, signed_digits no_sign k, n, g))
   where
-    one : Each is_digit (c ∷ r) → Integer (c ∷ r)
-    one (char h e) = nonzero (digit_nonzero c h (not_eq c 48 n)) e
+    there : (s : List ℕ) → SignedDigits s → NotBegun is_word_part r → x ≡ s ++ r → Then Digits x r
+    there s (signed_digits {d = d} no_sign k) n g = (d, k, n, g)
+    there s (signed_digits {d = d} (sign {c = c} j) k) n g = absurd (no_minus_begun is_exponent_sign x (d ++ r) c m g j)
 
-pub goes_on_point : (x r : List ℕ) (result : Option (Bor (List ℕ))) → x ≡ 46 ∷ r
-    → MatchOption result (front_of is_digit r ≡ []) (λ rest. (front_of is_digit r ≢ []) × (rest.now ≡ rest_of is_digit r)) → GoesOn AfterDigits Exponent x result
-goes_on_point x r None e n = λ a. (past_point r a e).0 n
-goes_on_point x r (Some rest) e (n, f) = (λ a. subst Exponent (sym f) (past_point r a e).1, λ d. subst AfterDigits (sym e) (with_point r n (subst Exponent f d)))
-
--- nothing but digits
-pub all_digits : (x r : List ℕ) (b : Bool) → r ≡ rest_of is_digit x → (length r == 0) ≡ true → b ≡ (length x == 0) → (not b ≡ true → Digits x) × (Digits x → not b ≡ true)
-all_digits x r b e h f = (λ t. (λ n. some_test x (sym f ∙ opposite b t) n, each), λ d. some (b) f d.0)
+pub last_digits : (x d y r : List ℕ) → x ≡ d ++ y → Each is_digit d → NotBegun is_digit y → Begun is_digit x → Then Digits x r ↔ Then IsEmpty y r
+last_digits x d y r e k st b = (λ (s, j, n, g). ([], refl, n, (one_run y r k st j.1 (stops_digits r n) (sym e ∙ g)).1), λ (s, f, n, g). (d, (some d e, k), n, e ∙ ap (λ z. d ++ z) (g ∙ ap (λ z. z ++ r) f)))
   where
-    opposite : (b : Bool) → not b ≡ true → b ≡ false
-    opposite false t = refl
-    opposite true t = absurd (cc)
+    some : (d : List ℕ) → x ≡ d ++ y → d ≢ []
+    some [] e f = apart y st (subst (Begun is_digit) e b)
+      where
+        apart : (y : List ℕ) → NotBegun is_digit y → Begun is_digit y → ⊥
+        apart [] m b = b
+        apart (c ∷ y) m b = both_ways (is_digit c) m b
+    some (c ∷ d) e f = cc
 
-    nothing : rest_of is_digit x ≡ []
-    nothing = sym e ∙ empty_test r h
+pub no_last_digits : (x r : List ℕ) → NotBegun is_digit x → Then Digits x r → ⊥
+no_last_digits x r m ([], (n, k), st, g) = n refl
+no_last_digits x r m (c ∷ s, (n, char h k), st, g) = both_ways (is_digit c) (subst (NotBegun is_digit) g m) h
 
-    each : Each is_digit x
-    each = subst (Each is_digit) (sym (front_rest is_digit x ∙ ap (λ z. front_of is_digit x ++ z) nothing ∙ append-nil (front_of is_digit x))) (front_each is_digit x)
+-- ---- as the calls say it
 
-    some : (b : Bool) → b ≡ (length x == 0) → x ≢ [] → not b ≡ true
-    some false f n = refl
-    some true f n = absurd (n (empty_test x (sym f)))
+-- a text that doesn't begin so
+pub not_begun : (p : ℕ → Bool) (x : List ℕ) (c : ℕ) (y : List ℕ) → x ≡ c ∷ y → p c ≡ false → NotBegun p x
+not_begun p x c y e h = subst (NotBegun p) (sym e) h
 
-pub not_all_digits : (x r : List ℕ) → r ≡ rest_of is_digit x → (length r == 0) ≡ false → Each is_digit x → ⊥
-not_all_digits x r e h k = some_test r h (e ∙ rest_each k)
+pub none_begun : (p : ℕ → Bool) (x : List ℕ) → x ≡ [] → NotBegun p x
+none_begun p x e = subst (NotBegun p) (sym e) tt
+
+pub fraction_goes : (text after : List ℕ) (result : Option (Bor (List ℕ))) → chars text ≡ 46 ∷ chars after → PassesDigits after result → GoesOnIf AfterDigits Exponent text result
+fraction_goes text after None e n = λ r t. no_point_digits (chars after) r n (subst (λ z. Then AfterDigits z r) e t)
+fraction_goes text after (Some rest) e (b, s) = λ r. subst (λ z. Then AfterDigits z r ↔ Then Exponent (chars rest.now) r) (sym e) (point_passed (chars after) s.passed (chars rest.now) r s.split s.each s.stops b)
+
+pub integer_goes : (text after : List ℕ) (c : ℕ) (result : Option (Bor (List ℕ))) → chars text ≡ c ∷ chars after → c ≢ 48 → PassesDigits text result → GoesOnIf Unsigned AfterDigits text result
+integer_goes text after c None e nz n = λ r t. no_digits (chars text) r n t
+integer_goes text after c (Some rest) e nz (b, s) = λ r. digits_passed (chars text) s.passed (chars rest.now) r c (chars after) s.split s.each s.stops e nz b
+
+pub exponent_goes : (text after digits : List ℕ) (c : ℕ) (result : Option (Bor (List ℕ))) → chars text ≡ c ∷ chars after → is_exponent_letter c ≡ true → GoesOn SignedDigits Digits after digits → PassesDigits digits result → GoesOnIf Exponent IsEmpty text result
+exponent_goes text after digits c None e h o n = λ r t. no_last_digits (chars digits) r n ((o r).0 ((letter_passed c (chars after) r h).0 (subst (λ z. Then Exponent z r) e t)))
+exponent_goes text after digits c (Some rest) e h o (b, s) = λ r.
+    let a = subst (λ z. Then Exponent z r ↔ Then SignedDigits (chars after) r) (sym e) (letter_passed c (chars after) r h) in
+    let d = o r in
+    let f = last_digits (chars digits) s.passed (chars rest.now) r s.split s.each s.stops b in
+    (λ t. f.0 (d.0 (a.0 t)), λ t. a.1 (d.1 (f.1 t)))
+
+-- two parts, one after the other
+pub goes_through : (P Q S : List ℕ → Type 0) (text rest : List ℕ) (result : Option (Bor (List ℕ))) → GoesOn P Q text rest → GoesOnIf Q S rest result → GoesOnIf P S text result
+goes_through P Q S text rest None a b = λ r t. b r ((a r).0 t)
+goes_through P Q S text rest (Some left) a b = λ r. (λ t. (b r).0 ((a r).0 t), λ t. (a r).1 ((b r).1 t))
+
+pub goes_nowhere : (P Q : List ℕ → Type 0) (text rest : List ℕ) → GoesOn P Q text rest → ((r : List ℕ) → Then Q (chars rest) r → ⊥) → (r : List ℕ) → Then P (chars text) r → ⊥
+goes_nowhere P Q text rest a b = λ r t. b r ((a r).0 t)
+
+pub goes_far : (P Q S : List ℕ → Type 0) (text rest left : List ℕ) → GoesOn P Q text rest → GoesOn Q S rest left → GoesOn P S text left
+goes_far P Q S text rest left a b = λ r. (λ t. (b r).0 ((a r).0 t), λ t. (a r).1 ((b r).1 t))
+
+-- a digit in front of those that were passed
+pub one_more_digit : (text after rest : List ℕ) (c : ℕ) → chars text ≡ c ∷ chars after → is_digit c ≡ true → SkipsAll is_digit after rest → SkipsAll is_digit text rest
+one_more_digit text after rest c e h s = record { passed = c ∷ s.passed; split = e ∙ ap (λ z. c ∷ z) s.split; each = char h s.each; stops = s.stops }

@@ -286,7 +286,7 @@ blank_apart c h =
 pub heads_apart : (c d : ℕ) (x y : List ℕ) → (c == d) ≡ false → c ∷ x ≡ d ∷ y → ⊥
 heads_apart c d x y h e = let same : c ≡ d = cc in neq_from c d h same
 
-same_tail : (c : ℕ) (x y : List ℕ) → c ∷ x ≡ c ∷ y → x ≡ y
+pub same_tail : (c : ℕ) (x y : List ℕ) → c ∷ x ≡ c ∷ y → x ≡ y
 same_tail c x y e = cc
 
 module _ {k : Bool} {l : Last} where

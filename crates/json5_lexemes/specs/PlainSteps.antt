@@ -3,8 +3,10 @@ use denote.Ref.{Bor}
 use Rattle.std.specs.Prelude.{◌≡◌, ◌<◌, ◌⊎◌, ◌↔◌, ◌||◌, ◌==◌, ◌≢◌, ℕ, Bool, true, List, [], ◌∷◌, ◌++◌, length, Option, MatchOption}
 use Rattle.std.specs.Str.{chars}
 use Rattle.json5_grammar.specs.Language.Blanks.{Inside}
-use Rattle.json5_grammar.specs.Language.Characters.{double_quote, slash_sign, star_sign, plus_sign, minus_sign, point_sign, letter_e, capital_e, letter_u, is_digit, is_hex_digit, is_in, NotBegun, Each}
+use Rattle.json5_grammar.specs.Language.Characters.{double_quote, slash_sign, star_sign, plus_sign, minus_sign, point_sign, letter_e, capital_e, letter_f, letter_n, letter_t, letter_u, is_digit, is_hex_digit, is_in, Begun, NotBegun, Each}
 use Rattle.json5_grammar.specs.Language.Numbers.{Integer}
+use Rattle.json5_grammar.specs.Language.Values.{null_text, true_text, false_text}
+use Rattle.json5_text.specs.Scan.{SkipsAll}
 use Rattle.json5_layouts.specs.Json.{Fraction, ExponentSign, Exponent, JsonChars, is_escape_letter}
 use Rattle.json5_lexemes.specs.SameLexemes.{is_word_part, is_line_part}
 use Rattle.json5_lexemes.specs.Plain.{JsonWord, Plain}
@@ -32,9 +34,13 @@ pub data TakesEscape (x r : List ℕ) : Type 0 where
   letter : (c : ℕ) → is_escape_letter c ≡ true → x ≡ c ∷ r → TakesEscape x r
   code : (y : List ℕ) → x ≡ letter_u ∷ y → TakesCode y r → TakesEscape x r
 
+-- x is such a part, and r, which goes on no word
+abbrev pub Then : (List ℕ → Type 0) → List ℕ → List ℕ → Type 0
+Then Part x r = (s : List ℕ) × Part s × NotBegun is_word_part r × (x ≡ s ++ r)
+
 -- a number or a literal
 abbrev pub TakesWord : List ℕ → List ℕ → Type 0
-TakesWord x r = (s : List ℕ) × JsonWord s × NotBegun is_word_part r × (x ≡ s ++ r)
+TakesWord = Then JsonWord
 
 -- the rest of a `//` comment
 abbrev pub TakesLine : List ℕ → List ℕ → Type 0
@@ -91,9 +97,31 @@ pub data AfterDigits : List ℕ → Type 0 where
 pub data SignedDigits : List ℕ → Type 0 where
   signed_digits : {s d : List ℕ} → ExponentSign s → Digits d → SignedDigits (s ++ d)
 
--- the same holds of what is left; None where it holds of nothing
-abbrev pub GoesOn : (List ℕ → Type 0) → (List ℕ → Type 0) → List ℕ → Option (Bor (List ℕ)) → Type 0
-GoesOn P Q x result = MatchOption result (P x → ⊥) (λ rest. P x ↔ Q rest.now)
+-- after what was passed, the other part is left of this one
+abbrev pub GoesOn : (Part Other : List ℕ → Type 0) → (text rest : List ℕ) → Type 0
+GoesOn Part Other text rest = (r : List ℕ) → Then Part (chars text) r ↔ Then Other (chars rest) r
+
+-- the same; None where there is no such part
+abbrev pub GoesOnIf : (Part Other : List ℕ → Type 0) → (text : List ℕ) → Option (Bor (List ℕ)) → Type 0
+GoesOnIf Part Other text result = MatchOption result ((r : List ℕ) → Then Part (chars text) r → ⊥) (λ rest. GoesOn Part Other text rest.now)
+
+abbrev pub IsEmpty : List ℕ → Type 0
+IsEmpty x = x ≡ []
+
+-- digits were passed, if there are any
+abbrev pub PassesDigits : (text : List ℕ) → Option (Bor (List ℕ)) → Type 0
+PassesDigits text result = MatchOption result (NotBegun is_digit (chars text)) (λ rest. Begun is_digit (chars text) × SkipsAll is_digit text rest.now)
+
+-- ---- literals
+
+abbrev pub begins_literal : ℕ → Bool
+begins_literal c = (c == letter_n) || ((c == letter_t) || (c == letter_f))
+
+-- null, true or false
+pub data IsLiteral : List ℕ → Type 0 where
+  is_null : IsLiteral null_text
+  is_true : IsLiteral true_text
+  is_false : IsLiteral false_text
 
 -- a character of which JSON's numbers and literals are made
 abbrev pub is_json_part : ℕ → Bool

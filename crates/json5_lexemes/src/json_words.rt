@@ -1,15 +1,14 @@
 //! Numbers and literals of JSON (RFC 8259, sections 3 and 6).
 
-ghost use Rattle.std.specs.Prelude.{◌≡◌, ◌≢◌, ◌↔◌, [], IsTrue, MatchOption};
+ghost use Rattle.std.specs.Prelude.{◌≡◌, ◌↔◌, IsTrue};
 ghost use Rattle.std.specs.List.{prefix_len};
 ghost use Rattle.std.specs.Str.{chars};
 ghost use Rattle.json5_grammar.specs.Language.Characters.{Each, is_digit};
-ghost use Rattle.json5_grammar.specs.Language.Numbers.{Integer};
-ghost use Rattle.json5_grammar.specs.Model.ReadNumbers.{front_of, rest_of};
 ghost use Rattle.json5_layouts.specs.Json.{Exponent, JsonNumber};
-ghost use Rattle.json5_lexemes.specs.Plain.{JsonWord};
-ghost use Rattle.json5_lexemes.specs.PlainSteps.{AfterDigits, Digits, GoesOn, SignedDigits, Unsigned, is_exponent_letter, is_exponent_sign, is_json_part};
+ghost use Rattle.json5_text.specs.Scan.{SkipsAll};
+ghost use Rattle.json5_lexemes.specs.PlainSteps.{AfterDigits, Digits, GoesOn, GoesOnIf, IsEmpty, IsLiteral, PassesDigits, SignedDigits, Unsigned, is_exponent_letter, is_exponent_sign, is_json_part};
 
+use crate::rest::front;
 use json5_types::digit_runs::is_digit;
 
 /// How many bytes in front are characters of which JSON's numbers and literals are made.
@@ -31,14 +30,10 @@ fn is_json_part(byte: u8) -> bool
     matches!(byte, b'0'..=b'9' | b'a'..=b'z' | b'A'..=b'Z' | b'-' | b'+' | b'.')
 }
 
-/// Whether the text is a literal or a number.
-pub(crate) fn is_json_word(text: &str) -> bool
-    requires { Each is_json_part text.now }
-    ensures { IsTrue result ↔ JsonWord (chars text.now) }
+/// Whether the text is a literal.
+pub(crate) fn is_literal(text: &str) -> bool
+    ensures { IsTrue result ↔ IsLiteral text.now }
 {
-    if is_json_number(text.as_bytes()) {
-        return true;
-    }
     match text {
         "null" => true,
         "true" => true,
@@ -47,138 +42,129 @@ pub(crate) fn is_json_word(text: &str) -> bool
     }
 }
 
-/// Whether the bytes are a number.
-fn is_json_number(bytes: &[u8]) -> bool
-    ensures { IsTrue result ↔ JsonNumber bytes.now }
+/// What follows the number in front; None if it is none.
+#[inline(always)]
+pub(crate) fn skip_number(text: &str) -> Option<&str>
+    ensures { GoesOnIf JsonNumber IsEmpty text.now result }
 {
-    let Some(rest) = after_digits(after_minus(bytes)) else {
-        return false;
+    let unsigned = skip_minus(text);
+    let Some(fraction) = skip_integer(unsigned) else {
+        return None;
     };
-    match after_fraction(rest) {
-        Some(rest) => is_exponent(rest),
-        None => false,
-    }
+    let Some(exponent) = skip_fraction(fraction) else {
+        return None;
+    };
+    skip_exponent(exponent)
 }
 
 /// What follows a minus, if there is one.
-fn after_minus(bytes: &[u8]) -> &[u8]
-    ensures { JsonNumber bytes.now ↔ Unsigned result.now }
+#[inline(always)]
+fn skip_minus(text: &str) -> &str
+    ensures { GoesOn JsonNumber Unsigned text.now result.now }
 {
-    let Some((first, rest)) = bytes.split_first() else {
-        return bytes;
+    let Some((c, after)) = front(text) else {
+        return text;
     };
-    if *first == b'-' { rest } else { bytes }
+    if c == '-' { after } else { text }
 }
 
-/// What follows digits without a zero in front.
-fn after_digits(bytes: &[u8]) -> Option<&[u8]>
-    ensures { GoesOn Unsigned AfterDigits bytes.now result }
+/// What follows digits of which no zero is in front of others. A digit after such a zero is left.
+#[inline(always)]
+fn skip_integer(text: &str) -> Option<&str>
+    ensures { GoesOnIf Unsigned AfterDigits text.now result }
 {
-    let (digits, rest) = split_digits(bytes);
-    if is_integer(digits) { Some(rest) } else { None }
-}
-
-/// Whether digits are some, and no zero is in front of others.
-fn is_integer(digits: &[u8]) -> bool
-    requires { Each is_digit digits.now }
-    ensures { IsTrue result ↔ Integer digits.now }
-{
-    let Some((first, more)) = digits.split_first() else {
-        return false;
+    let Some((c, after)) = front(text) else {
+        return None;
     };
-    if *first == b'0' {
-        more.is_empty()
-    } else {
-        true
+    if c == '0' {
+        return Some(after);
     }
+    skip_some_digits(text)
 }
 
 /// What follows a point and digits, if there is a point.
-fn after_fraction(bytes: &[u8]) -> Option<&[u8]>
-    ensures { GoesOn AfterDigits Exponent bytes.now result }
+#[inline(always)]
+fn skip_fraction(text: &str) -> Option<&str>
+    ensures { GoesOnIf AfterDigits Exponent text.now result }
 {
-    let Some((first, rest)) = bytes.split_first() else {
-        return Some(bytes);
+    let Some((c, after)) = front(text) else {
+        return Some(text);
     };
-    if *first == b'.' {
-        return after_some_digits(rest);
+    if c == '.' {
+        return skip_some_digits(after);
     }
-    Some(bytes)
+    Some(text)
 }
 
-/// What follows digits; None where there are none.
-fn after_some_digits(bytes: &[u8]) -> Option<&[u8]>
-    ensures { MatchOption result (front_of is_digit bytes.now ≡ []) (λ rest. (front_of is_digit bytes.now ≢ []) × (rest.now ≡ rest_of is_digit bytes.now)) }
+/// What follows an exponent, if there is one.
+#[inline(always)]
+fn skip_exponent(text: &str) -> Option<&str>
+    ensures { GoesOnIf Exponent IsEmpty text.now result }
 {
-    let (digits, rest) = split_digits(bytes);
-    if digits.is_empty() {
-        return None;
-    }
-    Some(rest)
-}
-
-/// Whether the bytes are an exponent, or nothing.
-fn is_exponent(bytes: &[u8]) -> bool
-    ensures { IsTrue result ↔ Exponent bytes.now }
-{
-    let Some((first, rest)) = bytes.split_first() else {
-        return true;
+    let Some((c, after)) = front(text) else {
+        return Some(text);
     };
-    if is_exponent_letter(*first) {
-        return are_digits(after_sign(rest));
+    if is_exponent_letter(c) {
+        return skip_some_digits(skip_sign(after));
     }
-    false
+    Some(text)
 }
 
 #[inline(always)]
-fn is_exponent_letter(byte: u8) -> bool
-    ensures { result ≡ is_exponent_letter byte }
+fn is_exponent_letter(c: char) -> bool
+    ensures { result ≡ is_exponent_letter c }
 {
-    byte == b'e' || byte == b'E'
-}
-
-#[inline(always)]
-fn is_exponent_sign(byte: u8) -> bool
-    ensures { result ≡ is_exponent_sign byte }
-{
-    byte == b'+' || byte == b'-'
+    c == 'e' || c == 'E'
 }
 
 /// What follows a plus or a minus, if there is one.
-fn after_sign(bytes: &[u8]) -> &[u8]
-    ensures { SignedDigits bytes.now ↔ Digits result.now }
+fn skip_sign(text: &str) -> &str
+    ensures { GoesOn SignedDigits Digits text.now result.now }
 {
-    let Some((first, rest)) = bytes.split_first() else {
-        return bytes;
+    let Some((c, after)) = front(text) else {
+        return text;
     };
-    if is_exponent_sign(*first) {
-        rest
-    } else {
-        bytes
-    }
+    if is_exponent_sign(c) { after } else { text }
 }
 
-/// Whether the bytes are digits, and not none.
-fn are_digits(bytes: &[u8]) -> bool
-    ensures { IsTrue result ↔ Digits bytes.now }
+#[inline(always)]
+fn is_exponent_sign(c: char) -> bool
+    ensures { result ≡ is_exponent_sign c }
 {
-    let (_digits, rest) = split_digits(bytes);
-    if rest.is_empty() {
-        !bytes.is_empty()
-    } else {
-        false
-    }
+    c == '+' || c == '-'
 }
 
-/// The digits in front, and what follows them.
-fn split_digits(bytes: &[u8]) -> (&[u8], &[u8])
-    ensures front { result.0.now ≡ front_of is_digit bytes.now }
-    ensures rest { result.1.now ≡ rest_of is_digit bytes.now }
+/// What follows digits; None where there are none.
+#[inline(always)]
+fn skip_some_digits(text: &str) -> Option<&str>
+    ensures { PassesDigits text.now result }
 {
-    bytes.split_at(digits_len(bytes))
+    let Some((c, after)) = front(text) else {
+        return None;
+    };
+    if !is_decimal_digit(c) {
+        return None;
+    }
+    Some(skip_digits(after))
+}
+
+#[inline(always)]
+fn is_decimal_digit(c: char) -> bool
+    ensures { result ≡ is_digit c }
+{
+    c >= '0' && c <= '9'
+}
+
+/// What follows the digits in front.
+#[inline(always)]
+fn skip_digits(text: &str) -> &str
+    ensures { SkipsAll is_digit text.now result.now }
+{
+    text.split_at(digits_len(text.as_bytes())).1
 }
 
 /// How many digits are in front.
+#[inline(always)]
 fn digits_len(bytes: &[u8]) -> usize
     ensures { result ≡ prefix_len is_digit bytes.now }
 {

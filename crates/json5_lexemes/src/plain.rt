@@ -8,11 +8,11 @@ ghost use Rattle.json5_layouts.specs.Json.{is_escape_letter, is_json_blank};
 ghost use Rattle.json5_text.specs.ByteRuns.{is_in_line, is_line_part as is_surely_in_line, is_no_star};
 ghost use Rattle.json5_text.specs.Scan.{SkipsAll, StartsWith};
 ghost use Rattle.json5_lexemes.specs.Plain.{is_closing, is_opening, IsPlain, KeepsPlain, Plain};
-ghost use Rattle.json5_lexemes.specs.PlainSteps.{is_slash, Leaves, LeavesWith, PassesComment, PassesLexeme, PassesSign, TakesBlock, TakesCode, TakesComment, TakesEscape, TakesHex, TakesLine, TakesString, TakesWord};
+ghost use Rattle.json5_lexemes.specs.PlainSteps.{begins_literal, is_slash, IsLiteral, Leaves, LeavesWith, PassesComment, PassesLexeme, PassesSign, TakesBlock, TakesCode, TakesComment, TakesEscape, TakesHex, TakesLine, TakesString, TakesWord, Then};
 ghost use Rattle.json5_lexemes.specs.SameLexemes.{is_word_part};
 ghost use Rattle.json5_lexemes.specs.declared.plain.Last.TheVariants as last_tokens;
 
-use crate::json_words::{is_json_word, json_part_len};
+use crate::json_words::{is_literal, json_part_len, skip_number};
 use crate::rest::front;
 use crate::same::is_word_part;
 use json5_layouts::json_runs::skip_unescaped;
@@ -201,10 +201,17 @@ fn json_blanks_len(bytes: &[u8]) -> usize
     ensures { result ≡ prefix_len is_json_blank bytes.now }
 {
     let mut len = 0;
-    while len < bytes.len() && matches!(bytes[len], b' ' | b'\n' | b'\t' | b'\r') {
+    while len < bytes.len() && is_json_blank(bytes[len]) {
         len += 1;
     }
     len
+}
+
+#[inline(always)]
+fn is_json_blank(byte: u8) -> bool
+    ensures { result ≡ is_json_blank byte }
+{
+    byte <= b' ' && (byte == b' ' || byte == b'\n' || byte == b'\r' || byte == b'\t')
 }
 
 /// After the first quote of a string: what follows its last one; None if it is no string of JSON.
@@ -285,11 +292,38 @@ fn is_hex_digit(c: char) -> bool
 }
 
 /// What follows the number or the literal in front; None if it is none of JSON.
+#[inline(always)]
 fn skip_word(text: &str) -> Option<&str>
     ensures { Leaves TakesWord text.now result }
 {
+    let Some((c, _)) = front(text) else {
+        return None;
+    };
+    if begins_literal(c) {
+        return skip_literal(text);
+    }
+    let Some(rest) = skip_number(text) else {
+        return None;
+    };
+    if begins_word(rest) {
+        return None;
+    }
+    Some(rest)
+}
+
+#[inline(always)]
+fn begins_literal(c: char) -> bool
+    ensures { result ≡ begins_literal c }
+{
+    c == 'n' || c == 't' || c == 'f'
+}
+
+/// What follows the literal in front; None if it is none of JSON.
+fn skip_literal(text: &str) -> Option<&str>
+    ensures { Leaves (Then IsLiteral) text.now result }
+{
     let (word, rest) = text.split_at(json_part_len(text.as_bytes()));
-    if !is_json_word(word) {
+    if !is_literal(word) {
         return None;
     }
     if begins_word(rest) {

@@ -1,32 +1,28 @@
-use Rattle.std.proofs.Common.{◌≡◌, true, false, ◌++◌, refl, sym, ap, ◌∙◌, subst}
-use Rattle.std.specs.Str.{chars}
+use Rattle.std.proofs.Common.{◌≡◌, [], true, false, refl, sym, subst}
 use Rattle.json5_grammar.specs.Language.Characters.{NotBegun}
-use Rattle.std.specs.List.{prefix_len}
 use Rattle.json5_lexemes.specs.SameLexemes.{is_word_part}
-use Rattle.json5_lexemes.specs.PlainSteps.{is_json_part}
-use Rattle.json5_lexemes.proofs.PlainRuns.{part_is_ascii, ascii_boundary}
-use Rattle.json5_lexemes.proofs.PlainWordsTaken.{front_parts, parted, taken}
+use Rattle.json5_lexemes.specs.PlainSteps.{IsLiteral, TakesWord, Then}
+use Rattle.json5_lexemes.proofs.PlainTakes.{leaves_by}
+use Rattle.json5_lexemes.proofs.PlainWords.{literal_alone, number_alone, no_word, number_ends}
 use Rattle.json5_lexemes.proofs.plain.skip_word.Goals as goal
 
-pub split_at-requires : goal.split_at-requires
-split_at-requires c = ascii_boundary is_json_part _ _ part_is_ascii c.utf8.text (c.json_part_len.ensures ∙ ap (prefix_len is_json_part) c.as_bytes.ensures.value)
+pub returns-in_default : goal.returns-in_default
+returns-in_default c = λ r t. no_word _ r c.in_default.ensures t
 
-pub is_json_word-requires : goal.is_json_word-requires
-is_json_word-requires c = front_parts _ _ _ c.split_at.ensures.front (c.json_part_len.ensures ∙ ap (prefix_len is_json_part) c.as_bytes.ensures.value)
+pub returns-then-begins_literal : goal.returns-then-begins_literal
+returns-then-begins_literal c =
+    leaves_by TakesWord (Then IsLiteral) _ c.args.text.now c.skip_literal.result (λ r. literal_alone _ _ _ r c.in-Some.ensures.chars (sym c.if-begins_literal.ensures)) c.skip_literal.ensures
 
-pub returns-then-not-is_json_word : goal.returns-then-not-is_json_word
-returns-then-not-is_json_word c = λ r t.
-    let p = parted _ c.split_at.result.0.now _ _ c.utf8.text c.split_at.ensures.front c.split_at.ensures.back (c.json_part_len.ensures ∙ ap (prefix_len is_json_part) c.as_bytes.ensures.value) in
-    let k = taken _ _ _ r p t in
-    let is : false ≡ true = c.if-not-is_json_word.ensures.1 k.is_word in cc
+pub returns-in_default-skip_number : goal.returns-in_default-skip_number
+returns-in_default-skip_number c = λ r t. c.in_default-skip_number.ensures r ((number_alone _ _ _ r c.in-Some.ensures.chars (sym c.if-begins_literal.ensures)).0 t)
 
 pub returns-then-begins_word : goal.returns-then-begins_word
 returns-then-begins_word c = λ r t.
-    let p = parted _ c.split_at.result.0.now _ _ c.utf8.text c.split_at.ensures.front c.split_at.ensures.back (c.json_part_len.ensures ∙ ap (prefix_len is_json_part) c.as_bytes.ensures.value) in
-    let k = taken _ _ _ r p t in
-    let is : true ≡ false = c.if-begins_word.ensures.1 k.stops in cc
+    let k = (c.in-Some-skip_number.ensures r).0 ((number_alone _ _ _ r c.in-Some.ensures.chars (sym c.if-begins_literal.ensures)).0 t) in
+    let is : true ≡ false = c.if-begins_word.ensures.1 (number_ends _ r k).0 in cc
 
 pub returns : goal.returns
 returns c = λ r.
-    let p = parted _ c.split_at.result.0.now _ _ c.utf8.text c.split_at.ensures.front c.split_at.ensures.back (c.json_part_len.ensures ∙ ap (prefix_len is_json_part) c.as_bytes.ensures.value) in
-    (λ t. (taken _ _ _ r p t).left, λ e. (chars c.split_at.result.0.now, c.if-not-is_json_word.ensures.0 refl, subst (NotBegun is_word_part) (sym e) (c.if-begins_word.ensures.0 refl), p.split ∙ ap (λ z. chars c.split_at.result.0.now ++ z) (sym e)))
+    let a = number_alone _ _ _ r c.in-Some.ensures.chars (sym c.if-begins_literal.ensures) in
+    let b = c.in-Some-skip_number.ensures r in
+    (λ t. (number_ends _ r (b.0 (a.0 t))).1, λ e. a.1 (b.1 ([], refl, subst (λ z. NotBegun is_word_part z) (sym e) (c.if-begins_word.ensures.0 refl), sym e)))
