@@ -13,8 +13,9 @@ use json5_types::ErrorCode;
 use json5_types::error::Error;
 use std::alloc::Global;
 
-/// Returns the text with the value that the path leads to replaced by this one, as json5 writes it: on one line, if that
-/// has at most 80 characters and the old value stands on one, else on lines that are indented like the document's.
+/// Returns the text with the value that the path leads to replaced by this one, spelled as the text is: as JSON, if that
+/// is JSON but for comments and JSON has the value, else as json5 writes it. It stands on one line, if that has at most
+/// 80 characters and the old value stands on one, else on lines that are indented like the document's.
 ///
 /// ```text
 /// set_value(alloc, "{ port: 80 } // web", &[Step::Key("port")], &8080u16)?    // { port: 8080 } // web
@@ -63,8 +64,8 @@ pub fn set_value_in<T: Serialize>(
     }
 }
 
-/// Returns the text with one more element at the end of the array that the path leads to: this value, as json5 writes
-/// it, laid out as [`set_value`] does. The rest is as [`push`] has it.
+/// Returns the text with one more element at the end of the array that the path leads to: this value, spelled and laid
+/// out as [`set_value`] does. The rest is as [`push`] has it.
 ///
 /// ```text
 /// push_value(alloc, "{ ports: [80] }", &[Step::Key("ports")], &443u16)?    // { ports: [80, 443] }
@@ -113,7 +114,7 @@ pub fn push_value_in<T: Serialize>(
 }
 
 /// Returns the text with one more element of the array that the path leads to, before that with this index: this value,
-/// as json5 writes it, laid out as [`set_value`] does. The rest is as [`insert_element`] has it.
+/// spelled and laid out as [`set_value`] does. The rest is as [`insert_element`] has it.
 ///
 /// ```text
 /// insert_element_value(alloc, "{ ports: [443] }", &[Step::Key("ports")], 0, &80u16)?    // { ports: [80, 443] }
@@ -170,8 +171,8 @@ pub fn insert_element_value_in<T: Serialize>(
     }
 }
 
-/// Returns the text with one more member, the last, of the object that the path leads to: this key, and this value, as
-/// json5 writes it, laid out as [`set_value`] does. The rest is as [`insert`] has it.
+/// Returns the text with one more member, the last, of the object that the path leads to: this key, and this value,
+/// spelled and laid out as [`set_value`] does. The rest is as [`insert_in`] has it, with names between quotes.
 ///
 /// ```text
 /// insert_value(alloc, "{ host: 'a' }", &[], "port", &80u16)?    // { host: 'a', port: 80 }
@@ -180,7 +181,7 @@ pub fn insert_element_value_in<T: Serialize>(
 /// # Errors
 ///
 /// - `Value` as [`set_value`].
-/// - `Text`, `Nowhere`, `NotObject`, `Taken` and `NoMemory` as [`insert`].
+/// - `Text`, `Nowhere`, `NotObject`, `Taken` and `NoMemory` as [`insert_in`].
 pub fn insert_value<T: Serialize>(
     alloc: Global,
     text: &str,
