@@ -61,7 +61,7 @@ all_chars : (u : List ℕ) → JsonChars (json_escaped_all u)
 all_chars [] = json.no_char
 all_chars (c ∷ u) = one_char c (json_escaped_all u) (all_chars u)
 
-string_is : (u : List ℕ) → JsonString (json_string u)
+pub string_is : (u : List ℕ) → JsonString (json_string u)
 string_is u = quoted (all_chars u)
 
 -- ---- values

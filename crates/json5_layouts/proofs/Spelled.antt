@@ -98,7 +98,7 @@ json_items (c ∷ u) = json_char c u (json_escaped_all u) (json_items u)
 json_text_is : (u : List ℕ) → (escape_free : Bool) × Str (json_string u) u escape_free
 json_text_is u = let i = json_items u in (i.0, quoted refl i.1)
 
-json_key_is : (u : List ℕ) → (escape_free : Bool) × KeyText (json_string u) u escape_free
+pub json_key_is : (u : List ℕ) → (escape_free : Bool) × KeyText (json_string u) u escape_free
 json_key_is u = let k = json_text_is u in (k.0, string_key k.1)
 
 pub json_style : (l : Layout) → IsStyle (style_of spelling.Json l)

@@ -1,12 +1,13 @@
 -- What is returned of a text that was put into a string.
 use Rattle.std.proofs.Common.{◌≡◌, ◌≤◌, ◌+◌, ◌∙◌, ℕ, true, false, List, [], Some, None, Result, Ok, Err, sym, arith}
-use Rattle.std.specs.Prelude.{⊤, IfOk, IfErr, IsOk, OnOk, String}
+use Rattle.std.specs.Prelude.{⊤, IfOk, IfErr, IsOk, OnOk, String, string_bytes}
+use Rattle.std.specs.Str.{chars}
 use Rattle.std.specs.declared.alloc.Global.{Global}
 use Rattle.std.proofs.lemmas.Bool.Decides.{nat_tests}
 use Rattle.json5_grammar.specs.Language.Documents.{max_depth}
 use Rattle.json5_grammar.specs.declared.error_code.ErrorCode.TheVariants as codes
 use Rattle.json5_types.specs.declared.error.Error.{Error}
-use Rattle.json5_types.specs.Errors.{code, SaysAt}
+use Rattle.json5_types.specs.Errors.{code, SaysAt, LacksMemory}
 use Rattle.json5_types.specs.ValueLookups.{fits, datum_depth}
 use Rattle.json5_types.specs.ValueMeanings.{Datum}
 use Rattle.json5_write.specs.Out.{piece}
@@ -31,6 +32,17 @@ pub laid_returned : (t : List ℕ) (x : Datum) (old new : SerializerState) (item
 laid_returned t x old new items printed (Ok s) fit live p e f h k = (fit, text_returned (piece t) old new items printed (Ok s) p e f h)
 laid_returned t x old new items (Ok y) (Err z) fit live p e f h k = absurd k
 laid_returned t x old new items (Err r) (Err z) fit live p e f h k = rw fit (no_memory t old new r z live p k)
+
+-- a string that was put
+pub string_spelled : (t : List ℕ) (old new : SerializerState) (items : List ℕ) (printed : Result ⊤ Refused) (result : Result (String Global) Error) → Puts (piece t) old printed new → old.known ≡ Some [] → Some items ≡ new.known → IfOk result (IsTextOf printed items) → IfOk result (λ s. chars (string_bytes s) ≡ t)
+string_spelled t old new items printed (Ok s) p e f h = (text_returned (piece t) old new items printed (Ok s) p e f h).characters
+string_spelled t old new items printed (Err z) p e f h = tt
+
+-- a string is refused only for want of memory
+pub string_refused : (t : List ℕ) (old new : SerializerState) (printed : Result ⊤ Refused) (result : Result (String Global) Error) → old.failed ≡ false → Puts (piece t) old printed new → IfErr result (RefusesTextOf printed) → IfErr result LacksMemory
+string_refused t old new printed (Ok s) live p k = tt
+string_refused t old new (Ok y) (Err z) live p k = absurd k
+string_refused t old new (Err r) (Err z) live p k = let h = no_memory t old new r z live p k in record { kind = h.kind; place = h.place }
 
 pub shallow : (x : Datum) → fits x ≡ true → datum_depth x + 0 ≤ max_depth
 shallow x h = grind (arith, nat_tests)

@@ -18,5 +18,7 @@ mod writers;
 
 pub use json_values::is_json;
 pub use layout::{Layout, Spelling};
-pub use whole_texts::{to_json, to_json_compact, to_json_in, to_string_in, to_vec_in};
+pub use whole_texts::{
+    to_json, to_json_compact, to_json_in, to_json_string, to_string_in, to_vec_in,
+};
 pub use writers::{to_json_writer, to_json_writer_in, to_writer_in};

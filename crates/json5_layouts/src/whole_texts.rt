@@ -1,6 +1,6 @@
 //! Whole texts of values, in a layout.
 
-ghost use Rattle.std.specs.Prelude.{◌≡◌, true, false, MatchResult, None, IsOk, IfOk, string_bytes, vec_items};
+ghost use Rattle.std.specs.Prelude.{◌≡◌, true, false, MatchResult, None, IsOk, IfOk, IfErr, string_bytes, vec_items};
 ghost use Rattle.std.specs.Str.{chars};
 ghost use Rattle.json5_grammar.specs.Language.Documents.{max_depth};
 ghost use Rattle.json5_types.specs.Errors.{IsCustomAt, LacksMemory};
@@ -8,12 +8,14 @@ ghost use Rattle.json5_types.specs.ValueLookups.{fits};
 ghost use Rattle.json5_types.specs.ValueMeanings.{value_of};
 ghost use Rattle.json5_layouts.specs.Layouts.{laid_in, laid_out, json_text};
 ghost use Rattle.json5_layouts.specs.Json.{JsonText};
+ghost use Rattle.json5_layouts.specs.JsonTexts.{json_string};
 ghost use Rattle.json5_layouts.specs.LaidBack.{HasNumbers, ReadsAs};
 ghost use Rattle.json5_layouts.specs.WholeTexts.{LaysOut, LaysOutAs, RefusesText, WritesJson};
 ghost use Rattle.json5_layouts.specs.declared.layout.Layout.TheVariants as layout;
 
 use crate::json_values::{can_be_written, path_in};
 use crate::layout::{Form, Layout, Spelling};
+use crate::strings::put_string;
 use crate::value::put_value;
 use json5_types::ErrorCode;
 use json5_types::error::{Error, Result};
@@ -109,6 +111,24 @@ pub fn to_json_compact(alloc: Global, value: &Value) -> Result<String>
     ensures reads_back { IfOk result (λ s. ReadsAs max_depth (chars (string_bytes s)) (value_of value.now)) }
 {
     to_json_in(alloc, Layout::compact(), value)
+}
+
+/// Returns the text of a string as JSON, between double quotes. It is that of a key too.
+///
+/// ```text
+/// to_json_string(alloc, "port")?    // "port", with the quotes
+/// ```
+///
+/// # Errors
+///
+/// `OutOfMemory` where a request for memory was refused. It has no position.
+pub fn to_json_string(alloc: Global, text: &str) -> Result<String>
+    ensures spelled { IfOk result (λ s. chars (string_bytes s) ≡ json_string (chars text.now)) }
+    ensures refused { IfErr result LacksMemory }
+{
+    let mut printer = Printer::within(StringWriter::new(alloc), Limit::full());
+    let put = put_string(text, Spelling::Json, &mut printer);
+    text_of(put, printer.into_inner().into_bytes())
 }
 
 /// Why a value can't be written as JSON.
