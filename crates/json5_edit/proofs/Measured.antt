@@ -29,11 +29,13 @@ use Rattle.json5_types.specs.Errors.{LacksMemory}
 use Rattle.json5_value.specs.declared.brackets.BracketKind.{BracketKind as Kind}
 use Rattle.json5_value.specs.declared.brackets.BracketKind.TheVariants as kind
 use Rattle.json5_value.specs.ModelSteps.{RefusesRead, Gave, value_at}
-use Rattle.json5_walk.proofs.Rests.{token_reads}
+use Rattle.json5_walk.proofs.Rests.{append_nil, token_reads}
 use Rattle.json5_walk.proofs.Calls.{passed, bytes_joined}
 use Rattle.json5_walk.proofs.Determined.{here, sign_left, value_left_over, tail_left, pairs_left, tail_after_comma, pairs_after_comma}
 use Rattle.json5_edit.specs.Pieces.{IsName, IsEnd}
-use Rattle.json5_edit.specs.Spots.{Goes, Parts, first_element, first_member, Passed, ReadsThen, ReadsColon, Measures, IsColonBefore, IsNameBefore, PassedBefore, BeginsWithEntry}
+use Rattle.json5_edit.specs.Spots.{Goes, Parts, first_element, first_member, Passed, ReadsThen, ReadsColon, Measures, IsColonBefore, IsNameBefore, PassedBefore, BeginsWithEntry, BeginsWithComma, IsCommaSpan}
+use Rattle.json5_edit.specs.declared.plain.CommaSpan.{CommaSpan}
+use Rattle.json5_edit.specs.declared.plain.EntryLen.{EntryLen}
 
 -- ---- blanks
 
@@ -174,14 +176,6 @@ measured_at bytes part z n now is input split at =
     let rest = ap bytes_in is in
     omega (arith, at, all, rest)
 
--- the entry without a comma after it, or with one
-pub measured : (kd : Kind) (room : ℕ) (bytes : List ℕ) (n : ℕ) (first now : Cursor) → first ≡ record { input = chars bytes; unread = chars bytes } → Passed first now → n ≡ offset_of now → ((u t r : Tree) → Parts kd u t r → Goes false u first.unread → Goes false r now.unread) → Measures kd room bytes n
-measured kd room bytes n first now is (part, took) at k = λ u t r parts goes d.
-    let start : first.unread ≡ chars bytes = ap (λ (s : Cursor). s.unread) is in
-    let input : now.input ≡ chars bytes = took.same ∙ ap (λ (s : Cursor). s.input) is in
-    let split : chars bytes ≡ part ++ now.unread = sym start ∙ took.split in
-    (part, now.unread, split, measured_at bytes part now.unread n now refl input split at, k u t r parts (subst (Goes false u) (sym start) goes))
-
 -- blanks were taken
 abbrev pub TookBlanks : Cursor → Cursor → Type 0
 TookBlanks old new = (w : List ℕ) × Took old w new × Gap w new.unread × Solid new.unread
@@ -201,18 +195,6 @@ value_past_blanks {new = new} t r (w, took, gap, solid) h = value_after_gap w ne
 -- what a name leads to
 abbrev pub Named : Kind → Cursor → Cursor → Type 0
 Named k old new = (u t r : Tree) → Parts k u t r → Goes false u old.unread → ReadsThen t r new.unread
-
--- an entry with a comma after it
-pub with_comma : {s0 s1 s2 s3 s4 s5 : Cursor} (k : Kind) (room : ℕ) (bytes : List ℕ) (n : ℕ) → s0 ≡ record { input = chars bytes; unread = chars bytes } → TookBlanks s0 s1 → Passed s1 s2 → Named k s1 s2 → Gave (value_at room s2) tt s2 s3 → TookBlanks s3 s4 → Took s4 (44 ∷ []) s5 → n ≡ offset_of s5 → Measures k room bytes n
-with_comma {s0 = s0} {s4 = s4} {s5 = s5} k room bytes n is blanks name named value gap comma at =
-    measured k room bytes n s0 s5 is (passed_on (blanks_passed blanks) (passed_on name (passed_on (value_gave room value) (passed_on (blanks_passed gap) (44 ∷ [], comma))))) at
-    (λ u t r parts goes. comma_passed s4.unread s5.unread r comma.split (past_blanks true r gap (value_passed room t r value (named u t r parts (past_blanks false u blanks goes)))))
-
--- without one
-pub without_comma : {s0 s1 s2 s3 s4 : Cursor} (k : Kind) (room : ℕ) (bytes : List ℕ) (n : ℕ) → s0 ≡ record { input = chars bytes; unread = chars bytes } → TookBlanks s0 s1 → Passed s1 s2 → Named k s1 s2 → Gave (value_at room s2) tt s2 s3 → TookBlanks s3 s4 → NotBegun (λ c. c == 44) s4.unread → n ≡ offset_of s3 → Measures k room bytes n
-without_comma {s0 = s0} {s3 = s3} {s4 = s4} k room bytes n is blanks name named value (w, took, gap, solid) none at =
-    measured k room bytes n s0 s3 is (passed_on (blanks_passed blanks) (passed_on name (value_gave room value))) at
-    (λ u t r parts goes. no_comma_passed s3.unread r (no_comma_here s3.unread w s4.unread took.split gap solid none) (value_passed room t r value (named u t r parts (past_blanks false u blanks goes))))
 
 pub starts_goes : {s : Cursor} (bytes : List ℕ) (u : Tree) → s ≡ record { input = chars bytes; unread = chars bytes } → Goes false u (chars bytes) → Goes false u s.unread
 starts_goes bytes u is h = subst (Goes false u) (sym (ap (λ (s : Cursor). s.unread) is)) h
@@ -241,39 +223,111 @@ name_there x r c (inl e) = inl e
 name_there x r c (inr (k, y, u, e, is, key, (b, w, split, first, gap))) =
     inr (subst IsName (sym (is ∙ ap (λ z. k ++ z) split)) (IsName.name key first (gap_blanks c r gap)))
 
-pub entry_spelled : {s0 s1 s2 s3 : Cursor} (room : ℕ) (bytes end : List ℕ) (n : ℕ) (now : Cursor) → s0 ≡ record { input = chars bytes; unread = chars bytes } → TookBlanks s0 s1 → PassedBefore IsNameBefore s1 s2 → Gave (value_at room s2) tt s2 s3 → Took s3 end now → IsEnd end → n ≡ offset_of now → Solid (chars bytes) → BeginsWithEntry (chars bytes) n
-entry_spelled {s0 = s0} {s1 = s1} {s2 = s2} {s3 = s3} room bytes end n now is (w, took, gap, solid) (name, named, is_name) g ended is_end at whole =
+-- an entry up to its value, and what stands at its end
+pub measured : {s0 s1 s2 s3 : Cursor} (k : Kind) (room : ℕ) (bytes end : List ℕ) (n : EntryLen) (now : Cursor) → s0 ≡ record { input = chars bytes; unread = chars bytes } → TookBlanks s0 s1 → PassedBefore IsNameBefore s1 s2 → Named k s1 s2 → Gave (value_at room s2) tt s2 s3 → Took s3 end now → IsEnd end → n.bare ≡ offset_of s3 → n.whole ≡ offset_of now → ((r : Tree) → Goes true r s3.unread → Goes false r now.unread) → Solid (chars bytes) → Measures k room bytes n
+measured {s0 = s0} {s1 = s1} {s2 = s2} {s3 = s3} k room bytes end n now is (w, took, gap, solid) (name, named, is_name) leads g ended is_end at_value at_end later whole =
     let q = passed g in
     let h = val_head q.value in
     let start : w ++ s1.unread ≡ chars bytes = sym took.split ∙ ap (λ (s : Cursor). s.unread) is in
     let none = one_gap w s1.unread [] (chars bytes) gap solid (Gap.blanks Blanks.empty) whole start in
     let value : s2.unread ≡ h.char ∷ (h.more ++ s3.unread) = q.split ∙ ap (λ z. z ++ s3.unread) h.is in
     let left : s3.unread ≡ end ++ now.unread = ended.split in
-    let split : chars bytes ≡ (name ++ (q.taken ++ end)) ++ now.unread =
-    none.1 ∙ named.split ∙ ap (λ z. name ++ z) (q.split ∙ ap (λ z. q.taken ++ z) left ∙ sym (append_assoc q.taken end now.unread)) ∙ sym (append_assoc name (q.taken ++ end) now.unread) in
-    let input : now.input ≡ chars bytes = ended.same ∙ g.took.same ∙ named.same ∙ took.same ∙ ap (λ (s : Cursor). s.input) is in (
-      name ++ (q.taken ++ end),
-      now.unread,
-      split,
-      measured_at bytes (name ++ (q.taken ++ end)) now.unread n now refl input split at,
-      record {
-        name = name;
-        value = q.taken;
-        end = end;
-        tree = q.tree;
-        split = refl;
-        is_name = name_there name (h.more ++ s3.unread) h.char (subst (λ z. IsNameBefore z name) value is_name);
-        is_value = q.value;
-        is_end = is_end;
-      },
-    )
+    let bare : chars bytes ≡ (name ++ q.taken) ++ s3.unread = none.1 ∙ named.split ∙ ap (λ z. name ++ z) q.split ∙ sym (append_assoc name q.taken s3.unread) in
+    let split : chars bytes ≡ (name ++ q.taken) ++ (end ++ now.unread) = bare ∙ ap (λ z. (name ++ q.taken) ++ z) left in
+    let input : s3.input ≡ chars bytes = g.took.same ∙ named.same ∙ took.same ∙ ap (λ (s : Cursor). s.input) is in
+    record {
+      name = name;
+      value = q.taken;
+      end = end;
+      rest = now.unread;
+      tree = q.tree;
+      split = split;
+      bare = measured_at bytes (name ++ q.taken) s3.unread n.bare s3 refl input bare at_value;
+      whole = measured_at bytes ((name ++ q.taken) ++ end) now.unread n.whole now refl (ended.same ∙ input) (split ∙ sym (append_assoc (name ++ q.taken) end now.unread)) at_end;
+      is_name = name_there name (h.more ++ s3.unread) h.char (subst (λ z. IsNameBefore z name) value is_name);
+      is_value = q.value;
+      is_end = is_end;
+      goes = λ u t r parts goes d.
+          let there = value_passed room t r g (leads u t r parts (past_blanks false u (w, took, gap, solid) (starts_goes bytes u is goes))) in
+          (subst (Goes true r) left there, later r there);
+    }
 
-pub spelled_with_comma : {s0 s1 s2 s3 s4 s5 : Cursor} (room : ℕ) (bytes : List ℕ) (n : ℕ) → s0 ≡ record { input = chars bytes; unread = chars bytes } → TookBlanks s0 s1 → PassedBefore IsNameBefore s1 s2 → Gave (value_at room s2) tt s2 s3 → TookBlanks s3 s4 → Took s4 (44 ∷ []) s5 → n ≡ offset_of s5 → Solid (chars bytes) → BeginsWithEntry (chars bytes) n
+pub with_comma : {s0 s1 s2 s3 s4 s5 : Cursor} (k : Kind) (room : ℕ) (bytes : List ℕ) (n : EntryLen) → s0 ≡ record { input = chars bytes; unread = chars bytes } → TookBlanks s0 s1 → PassedBefore IsNameBefore s1 s2 → Named k s1 s2 → Gave (value_at room s2) tt s2 s3 → TookBlanks s3 s4 → Took s4 (44 ∷ []) s5 → n.bare ≡ offset_of s3 → n.whole ≡ offset_of s5 → Solid (chars bytes) → Measures k room bytes n
 unfolding passed_on
-spelled_with_comma {s5 = s5} room bytes n is blanks name value (v, took, gap, solid) comma at =
+with_comma {s4 = s4} {s5 = s5} k room bytes n is blanks name named value (v, took, gap, solid) comma at_value at_end =
     let (end, ended) = passed_on (v, took) (44 ∷ [], comma) in
-    entry_spelled room bytes end n s5 is blanks name value ended (inr (v, gap_blanks 44 s5.unread (subst (Gap v) comma.split gap), refl)) at
+    measured k room bytes end n s5 is blanks name named value ended (inr (v, gap_blanks 44 s5.unread (subst (Gap v) comma.split gap), refl)) at_value at_end
+    (λ r h. comma_passed s4.unread s5.unread r comma.split (past_blanks true r (v, took, gap, solid) h))
 
-pub spelled_without_comma : {s0 s1 s2 s3 : Cursor} (room : ℕ) (bytes : List ℕ) (n : ℕ) → s0 ≡ record { input = chars bytes; unread = chars bytes } → TookBlanks s0 s1 → PassedBefore IsNameBefore s1 s2 → Gave (value_at room s2) tt s2 s3 → n ≡ offset_of s3 → Solid (chars bytes) → BeginsWithEntry (chars bytes) n
+pub without_comma : {s0 s1 s2 s3 s4 : Cursor} (k : Kind) (room : ℕ) (bytes : List ℕ) (n : EntryLen) → s0 ≡ record { input = chars bytes; unread = chars bytes } → TookBlanks s0 s1 → PassedBefore IsNameBefore s1 s2 → Named k s1 s2 → Gave (value_at room s2) tt s2 s3 → TookBlanks s3 s4 → NotBegun (λ c. c == 44) s4.unread → n.bare ≡ offset_of s3 → n.whole ≡ offset_of s3 → Solid (chars bytes) → Measures k room bytes n
 unfolding nothing_passed
-spelled_without_comma {s3 = s3} room bytes n is blanks name value at = entry_spelled room bytes [] n s3 is blanks name value (nothing_passed s3).1 (inl refl) at
+without_comma {s3 = s3} {s4 = s4} k room bytes n is blanks name named value (w, took, gap, solid) none at_value at_end =
+    measured k room bytes [] n s3 is blanks name named value (nothing_passed s3).1 (inl refl) at_value at_end
+    (λ r h. no_comma_passed s3.unread r (no_comma_here s3.unread w s4.unread took.split gap solid none) h)
+
+-- ---- the parts of an entry
+
+-- with what stands at its end, or without
+pub whole_entry : {k : Kind} {limit : ℕ} {bytes : List ℕ} {n : EntryLen} → Measures k limit bytes n → BeginsWithEntry (chars bytes) n.whole
+whole_entry m = (
+  (m.name ++ m.value) ++ m.end,
+  m.rest,
+  m.split ∙ sym (append_assoc (m.name ++ m.value) m.end m.rest),
+  m.whole,
+  record { name = m.name; value = m.value; end = m.end; tree = m.tree; split = append_assoc m.name m.value m.end; is_name = m.is_name; is_value = m.is_value; is_end = m.is_end },
+)
+
+pub bare_entry : {k : Kind} {limit : ℕ} {bytes : List ℕ} {n : EntryLen} → Measures k limit bytes n → BeginsWithEntry (chars bytes) n.bare
+bare_entry m = (
+  m.name ++ m.value,
+  m.end ++ m.rest,
+  m.split,
+  m.bare,
+  record { name = m.name; value = m.value; end = []; tree = m.tree; split = ap (λ z. m.name ++ z) (sym (append_nil m.value)); is_name = m.is_name; is_value = m.is_value; is_end = inl refl },
+)
+
+-- ---- a comma in front
+
+pub comma_spanned : {s0 s1 s2 s3 : Cursor} (bytes : List ℕ) (n : CommaSpan) → s0 ≡ record { input = chars bytes; unread = chars bytes } → TookBlanks s0 s1 → Took s1 (44 ∷ []) s2 → TookBlanks s2 s3 → n.start ≡ offset_of s1 → n.end ≡ offset_of s2 → n.next ≡ offset_of s3 → IsCommaSpan bytes n
+comma_spanned {s1 = s1} {s2 = s2} {s3 = s3} bytes n is (b, before, first, x) comma (a, after, second, solid) at_start at_end at_next =
+    let split1 : chars bytes ≡ b ++ s1.unread = sym (ap (λ (s : Cursor). s.unread) is) ∙ before.split in
+    let split2 : chars bytes ≡ b ++ (44 ∷ s2.unread) = split1 ∙ ap (λ z. b ++ z) comma.split in
+    let split3 : chars bytes ≡ b ++ (44 ∷ (a ++ s3.unread)) = split2 ∙ ap (λ z. b ++ (44 ∷ z)) after.split in
+    let input1 : s1.input ≡ chars bytes = before.same ∙ ap (λ (s : Cursor). s.input) is in
+    let input2 = comma.same ∙ input1 in
+    let input3 = after.same ∙ input2 in
+    record {
+      before = b;
+      after = a;
+      rest = s3.unread;
+      split = split3;
+      starts = measured_at bytes b s1.unread n.start s1 refl input1 split1 at_start;
+      ends = measured_at bytes (b ++ 44 ∷ []) s2.unread n.end s2 refl input2 (split2 ∙ sym (append_assoc b (44 ∷ []) s2.unread)) at_end;
+      follows = measured_at bytes (b ++ 44 ∷ a) s3.unread n.next s3 refl input3 (split3 ∙ sym (append_assoc b (44 ∷ a) s3.unread)) at_next;
+      is_before = gap_blanks 44 s2.unread (subst (Gap b) comma.split first);
+      is_after = second;
+      solid = solid;
+    }
+
+-- where the text begins with a comma, no fault comes up to the next entry
+pub before_comma_spares : {s : Cursor} {e : Error} (bytes : List ℕ) → s ≡ record { input = chars bytes; unread = chars bytes } → Refused FaultyBlanks s e → BeginsWithComma (chars bytes) → LacksMemory e
+before_comma_spares {s = s} bytes is f (k, u, t, r, parts, goes) = goes_spare true u (subst (Goes true u) (sym (ap (λ (s : Cursor). s.unread) is)) goes) f
+
+parts_comma : {k : Kind} {u t r : Tree} {x : List ℕ} → Parts k u t r → Goes true u x → (y : List ℕ) × IsSign 44 x y
+parts_comma (first_element t us) (y, (z, a, p), tl) = (z, a)
+parts_comma (first_member u e t qs) (y, z, (w, a, k), v, tl) = (w, a)
+
+pub no_comma_spares : {s0 s1 : Cursor} {e : Error} (bytes : List ℕ) → s0 ≡ record { input = chars bytes; unread = chars bytes } → TookBlanks s0 s1 → NotBegun (λ c. c == 44) s1.unread → BeginsWithComma (chars bytes) → LacksMemory e
+no_comma_spares {s0 = s0} {s1 = s1} bytes is (w, took, gap, solid) none (k, u, t, r, parts, goes) =
+    let (y, a) = parts_comma parts goes in
+    absurd (no_comma_here (chars bytes) w s1.unread (sym (ap (λ (s : Cursor). s.unread) is) ∙ took.split) gap solid none y a)
+
+pub after_comma_spares : {s0 s1 s2 : Cursor} {e : Error} (bytes : List ℕ) → s0 ≡ record { input = chars bytes; unread = chars bytes } → TookBlanks s0 s1 → Took s1 (44 ∷ []) s2 → Refused FaultyBlanks s2 e → BeginsWithComma (chars bytes) → LacksMemory e
+after_comma_spares {s0 = s0} {s1 = s1} {s2 = s2} bytes is blanks comma f (k, u, t, r, parts, goes) =
+    goes_spare false u (comma_passed s1.unread s2.unread u comma.split (past_blanks true u blanks (subst (Goes true u) (sym (ap (λ (s : Cursor). s.unread) is)) goes))) f
+
+-- what goes on after the comma
+pub goes_past_comma : (before after rest x : List ℕ) (u : Tree) → Blanks before → Gap after rest → Solid rest → x ≡ before ++ (44 ∷ (after ++ rest)) → Goes true u x → Goes false u rest
+goes_past_comma before after rest x u b gap solid is goes =
+    let comma = goes_after_gap before (44 ∷ (after ++ rest)) true u (Gap.blanks b) (begins_solid 44 (after ++ rest) comma_solid) (subst (Goes true u) is goes) in
+    goes_after_gap after rest false u gap solid (comma_passed (44 ∷ (after ++ rest)) (after ++ rest) u refl comma)

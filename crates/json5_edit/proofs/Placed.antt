@@ -198,6 +198,17 @@ pub ok_then : {A B : Type 0} {P Q : A → Type 0} (r : Result A B) → ((a : A) 
 ok_then (Ok a) k p = k a p
 ok_then (Err e) k p = tt
 
+-- the characters of a text with another one in the place
+pub made_chars : (bytes new made b o a : List ℕ) → IsUtf8 bytes → IsUtf8 new → chars bytes ≡ b ++ (o ++ a) → made ≡ encode_utf8_all b ++ (new ++ encode_utf8_all a) → chars made ≡ b ++ (chars new ++ a)
+made_chars bytes new made b o a u v split now =
+    let scalars : all_scalars (b ++ (o ++ a)) ≡ true = ap all_scalars (sym split) ∙ scalars-chars bytes u in
+    let b_scalars = scalars_left b (o ++ a) scalars in
+    let a_scalars = scalars_right o a (scalars_right b (o ++ a) scalars) in
+    ap chars now ∙ chars-append (encode_utf8_all b) (new ++ encode_utf8_all a) (encoded b b_scalars)
+    ∙ ap (λ z. z ++ chars (new ++ encode_utf8_all a)) (chars-encodes b b_scalars)
+    ∙ ap (λ z. b ++ z) (chars-append new (encode_utf8_all a) v)
+    ∙ ap (λ z. b ++ (chars new ++ z)) (chars-encodes a a_scalars)
+
 pub set_at : (bytes new made : List ℕ) (path : List Step) (p : Place) → IsUtf8 bytes → IsUtf8 new → (leads : Leads bytes path (Some p)) → IsValue p.room (chars new) → ((before old after : List ℕ) → IsPart bytes p before old after → made ≡ encode_utf8_all before ++ (new ++ encode_utf8_all after)) → (s : IsSet bytes path new made) × (s.old ≡ encode_utf8_all leads.placed.old)
 set_at bytes new made path p u v leads (t, val, d) k =
     let q = leads.placed in
@@ -210,11 +221,7 @@ set_at bytes new made path p u v leads (t, val, d) k =
     let o_scalars = scalars_left o a rest_scalars in
     let a_scalars = scalars_right o a rest_scalars in
     let now : made ≡ encode_utf8_all b ++ (new ++ encode_utf8_all a) = k b o a q.cut in
-    let whole : chars made ≡ b ++ (chars new ++ a) =
-    ap chars now ∙ chars-append (encode_utf8_all b) (new ++ encode_utf8_all a) (encoded b b_scalars)
-    ∙ ap (λ z. z ++ chars (new ++ encode_utf8_all a)) (chars-encodes b b_scalars)
-    ∙ ap (λ z. b ++ z) (chars-append new (encode_utf8_all a) v)
-    ∙ ap (λ z. b ++ (chars new ++ z)) (chars-encodes a a_scalars) in (
+    let whole = made_chars bytes new made b o a u v q.cut.whole now in (
       record {
         before = encode_utf8_all b;
         old = encode_utf8_all o;

@@ -25,13 +25,12 @@ use Rattle.json5_lexemes.specs.Lexemes.{HaveSameLexemes, no_lexeme}
 use Rattle.json5_edit.specs.Changes.{Gains, GainsAt}
 use Rattle.json5_edit.specs.Comparing.{IsWithLast, step_kind, step_key}
 use Rattle.json5_edit.specs.Entries.{elements, members, entries, kind_of}
-use Rattle.json5_edit.specs.Pieces.{IsComma, Grows, SpellsKey, IsEntryText}
+use Rattle.json5_edit.specs.Pieces.{IsComma, Grows, SpellsKey}
 use Rattle.json5_edit.specs.Places.{IsValue}
-use Rattle.json5_edit.specs.Spots.{Goes, joined, Spot, HasEntry, HasEnd, Removes, Adds, Parts, first_element, first_member, Measures, SpellsEntry, spells_element, spells_member, comma_for}
+use Rattle.json5_edit.specs.Spots.{Goes, joined, Spot, HasEntry, HasEnd, Adds, Parts, first_element, first_member, SpellsEntry, spells_element, spells_member, comma_for}
 use Rattle.json5_edit.specs.declared.paths.Step.{Step}
 use Rattle.json5_edit.specs.declared.paths.Step.TheVariants as step
 use Rattle.json5_edit.specs.declared.plain.End.{End}
-use Rattle.json5_edit.proofs.TakenApart.{alone}
 use Rattle.json5_edit.proofs.PiecesJoined.{no_characters}
 use Rattle.json5_edit.proofs.Placed.{scalars_left, scalars_right, bytes_cut, encoded, seam}
 use Rattle.json5_edit.proofs.Refused.{begins_with}
@@ -43,7 +42,7 @@ no_rest : (es fs : List (List ℕ × Tree)) → es ≡ es ++ fs → fs ≡ []
 no_rest [] fs e = sym e
 no_rest (a ∷ es) fs e = no_rest es fs (ap later_entries e)
 
-same_rest : (es fs gs : List (List ℕ × Tree)) → es ++ fs ≡ es ++ gs → fs ≡ gs
+pub same_rest : (es fs gs : List (List ℕ × Tree)) → es ++ fs ≡ es ++ gs → fs ≡ gs
 same_rest [] fs gs e = e
 same_rest (a ∷ es) fs gs e = same_rest es fs gs (ap later_entries e)
 
@@ -57,7 +56,7 @@ pub record HasFirst (k : Kind) (u : Tree) (gone : Tree) (after : List (List ℕ 
   pub less : depth rest ≤ depth u
   pub fits : depth gone ≤ depth u
 
-first_of : (k : Kind) (u gone : Tree) (key : List ℕ) (after : List (List ℕ × Tree)) → IsOf k u → entries u ≡ (key, gone) ∷ after → HasFirst k u gone after
+pub first_of : (k : Kind) (u gone : Tree) (key : List ℕ) (after : List (List ℕ × Tree)) → IsOf k u → entries u ≡ (key, gone) ∷ after → HasFirst k u gone after
 first_of kind.Array (array (more t us)) gone key after k e =
     let same : t ≡ gone = ap first_tree e in
     let rest : elements us ≡ after = ap later_entries e in
@@ -145,61 +144,8 @@ cut_there {bytes = bytes} u p =
     let scalars : all_scalars (p.front ++ p.rest) ≡ true = ap all_scalars (sym p.split) ∙ scalars-chars bytes u in
     (bytes_cut bytes p.front p.rest u p.split, scalars_left p.front p.rest scalars, scalars_right p.front p.rest scalars)
 
-chars_joined : (x y : List ℕ) → all_scalars x ≡ true → all_scalars y ≡ true → chars (encode_utf8_all x ++ encode_utf8_all y) ≡ x ++ y
+pub chars_joined : (x y : List ℕ) → all_scalars x ≡ true → all_scalars y ≡ true → chars (encode_utf8_all x ++ encode_utf8_all y) ≡ x ++ y
 chars_joined x y a b = chars-append (encode_utf8_all x) (encode_utf8_all y) (encoded x a) ∙ ap (λ z. z ++ chars (encode_utf8_all y)) (chars-encodes x a) ∙ ap (λ z. x ++ z) (chars-encodes y b)
-
-pub removed : (s : Step) (limit n : ℕ) (kd : Kind) (bytes new front back gone rest : List ℕ) (size : ℕ) → kd ≡ step_kind s → limit ≤ max_depth → IsUtf8 bytes → (h : HasEntry s limit bytes n) → front ≡ encode_utf8_all h.entry.spot.front → rest ≡ encode_utf8_all h.entry.spot.rest → rest ≡ gone ++ back → Measures kd limit rest size → ((part z : List ℕ) → chars rest ≡ part ++ z → size ≡ bytes_in part → back ≡ encode_utf8_all z) → IsEntryText (chars gone) → new ≡ front ++ back → Removes s limit bytes new
-removed s limit n kd bytes new front back gone rest size is_kind small utf8 h front_is rest_is split measures back_is entry now =
-    let e = h.entry in
-    let p = e.spot in
-    let k : Kind = step_kind s in
-    let kt : IsOf k e.before = e.same_kind ∙ h.kind in
-    let (whole, scalar_front, scalar_rest) = cut_there utf8 p in
-    let (u, same, goes, small_u, joins) = p.back h.tree (spells_value limit (chars bytes) h.tree h.value h.shallow) in
-    let ku : IsOf k u = same ∙ kt in
-    let left : entries u ≡ (step_key s, e.gone) ∷ e.after = same_rest (entries e.before) (entries u) ((step_key s, e.gone) ∷ e.after) (sym (entries_joined k e.before u kt ku) ∙ sym (ap entries joins) ∙ e.all) in
-    let f = first_of k u e.gone (step_key s) e.after ku left in
-    let chars_rest : chars rest ≡ p.rest = ap chars rest_is ∙ chars-encodes p.rest scalar_rest in
-    let less = f.less in
-    let fits = f.fits in
-    let (part, z, cut, count, left_over) = measures u e.gone f.rest (subst (λ x. Parts x u e.gone f.rest) (sym is_kind) f.parts) (subst (Goes false u) (sym chars_rest) goes) (omega (arith, fits, small_u)) in
-    let kr : IsOf k f.rest = f.same_kind ∙ ku in
-    let (val, shallow) = makes h.value h.shallow h.kind kt p f.rest z kr left_over (omega (arith, less, small_u)) in
-    let w : Tree = joined e.before f.rest in
-    let scalar_z : all_scalars z ≡ true = scalars_right part z (ap all_scalars (sym cut ∙ chars_rest) ∙ scalar_rest) in
-    let made : new ≡ encode_utf8_all p.front ++ encode_utf8_all z = now ∙ ap (λ x. x ++ back) front_is ∙ ap (λ x. encode_utf8_all p.front ++ x) (back_is part z cut count) in
-    let spelled : chars new ≡ p.front ++ z = ap chars made ∙ chars_joined p.front z scalar_front scalar_z in
-    let value : Val (chars new) w = subst (λ x. Val x w) (sym spelled) val in
-    let d = h.shallow in (
-      (
-        h.tree,
-        w,
-        value_document max_depth (chars bytes) h.tree h.value (omega (arith, d, small)),
-        value_document max_depth (chars new) w value (omega (arith, shallow, small)),
-        record {
-          was_kind = h.kind;
-          kind = joined_kind k e.before f.rest kt kr;
-          before = entries e.before;
-          after = e.after;
-          gone = e.gone;
-          was = e.all;
-          now = entries_joined k e.before f.rest kt kr ∙ ap (λ x. entries e.before ++ x) f.others;
-          there = e.there;
-        },
-      ),
-      record {
-        front = front;
-        comma = [];
-        middle = [];
-        gone = gone;
-        back = back;
-        was = whole ∙ ap (λ x. x ++ encode_utf8_all p.rest) (sym front_is) ∙ ap (λ x. front ++ x) (sym rest_is ∙ split);
-        now = now;
-        is_comma = inl refl;
-        belongs = alone (front ++ []) gone back entry;
-      },
-      (w, value, shallow),
-    )
 
 -- ---- an entry more
 
@@ -302,18 +248,18 @@ made_there {t = t} part utf8 part_utf8 v d kw kt p now u ku g small =
 pub fits_inside : (limit d : ℕ) (k : Kind) (w : Tree) → IsOf k w → depth w ≤ limit → d ≤ limit - 1 → d + 1 ≤ limit
 fits_inside limit d k w e l h = let n = at_least_one k w e in omega (arith, n, l, h)
 
-ascii_comma : chars (44 ∷ []) ≡ 44 ∷ []
+pub ascii_comma : chars (44 ∷ []) ≡ 44 ∷ []
 unfolding lib.Utf8.encode
 ascii_comma = chars-encodes (44 ∷ []) refl
 
-ascii_utf8 : IsUtf8 (44 ∷ [])
+pub ascii_utf8 : IsUtf8 (44 ∷ [])
 unfolding lib.Utf8.encode
 ascii_utf8 = encoded (44 ∷ []) refl
 
-chars_both : (x y : List ℕ) → IsUtf8 x → IsUtf8 y → chars (x ++ y) ≡ chars x ++ chars y
+pub chars_both : (x y : List ℕ) → IsUtf8 x → IsUtf8 y → chars (x ++ y) ≡ chars x ++ chars y
 chars_both x y a b = chars-append x y a
 
-utf8_both : (x y : List ℕ) → IsUtf8 x → IsUtf8 y → IsUtf8 (x ++ y)
+pub utf8_both : (x y : List ℕ) → IsUtf8 x → IsUtf8 y → IsUtf8 (x ++ y)
 utf8_both x y a b = IsUtf8-append x y a b
 
 -- before the element that begins at the offset
@@ -460,11 +406,6 @@ ahead s limit n kd bytes rest is_kind utf8 h is =
     let chars_rest : chars rest ≡ p.rest = ap chars (is ∙ rest_there utf8 p) ∙ chars-encodes p.rest scalar_rest in
     let fits = f.fits in
     record { all = u; gone = e.gone; others = f.rest; parts = subst (λ x. Parts x u e.gone f.rest) (sym is_kind) f.parts; goes = subst (Goes false u) (sym chars_rest) goes; fits = omega (arith, fits, small_u) }
-
-pub measured_boundary : {k : Kind} {limit : ℕ} (rest : List ℕ) (size : ℕ) → IsUtf8 rest → Ahead k limit rest → Measures k limit rest size → IsCharBoundary rest size
-measured_boundary rest size u a m =
-    let (part, z, split, at, goes) = m a.all a.gone a.others a.parts a.goes a.fits in
-    subst (IsCharBoundary rest) (sym at) (seam rest part z u split)
 
 pub cut_in_two : {front back bytes : List ℕ} (n : ℕ) → front ≡ take n bytes → back ≡ drop n bytes → bytes ≡ front ++ back
 cut_in_two {front = front} {bytes = bytes} n f b = sym (take-append-drop n bytes) ∙ ap (λ z. z ++ drop n bytes) (sym f) ∙ ap (λ z. front ++ z) (sym b)

@@ -17,9 +17,14 @@ use Rattle.json5_grammar.proofs.BlanksSound.{one_gap}
 use Rattle.json5_grammar.proofs.CharacterClasses.{colon_no_name}
 use Rattle.json5_grammar.proofs.ObjectsRead.{opening_brace_solid, brace_solid, brace_no_key, one_reads_key}
 use Rattle.json5_grammar.proofs.ValueHeads.{key_before_blanks, key_spelling, val_head, value_solid}
+use Rattle.json5_layouts.specs.Json.{JsonString}
+use Rattle.json5_lexemes.specs.Plain.{Plain, KeepsPlain}
+use Rattle.json5_lexemes.specs.LastTokens as last
+use Rattle.json5_lexemes.proofs.PlainSeams.{seam as plain_seam, blank_seam, key_seam as plain_key_seam}
 use Rattle.json5_text.specs.Outcome.{bytes_in}
 use Rattle.json5_value.specs.declared.brackets.BracketKind.TheVariants as kind
 use Rattle.json5_walk.specs.Frames.{value_end, Spells}
+use Rattle.json5_walk.specs.Seams.{WholeTokens}
 use Rattle.json5_walk.proofs.Calls.{sign_front}
 use Rattle.json5_walk.proofs.Rests.{append_nil}
 use Rattle.json5_edit.specs.Changes.{ChangesBy}
@@ -33,6 +38,7 @@ use Rattle.json5_edit.specs.declared.faults.EditError.{EditError}
 use Rattle.json5_edit.proofs.Compared.{alone}
 use Rattle.json5_edit.proofs.Placed.{bytes_cut, encoded, scalars_left, scalars_right, seam}
 use Rattle.json5_edit.proofs.Seeks.{object_begins}
+use Rattle.json5_edit.proofs.PlainPlaces.{apart, spanned}
 
 -- ---- members
 
@@ -59,6 +65,8 @@ pub record Renamed (limit : ℕ) (qs : Members) (u : List ℕ) (b : Bool) (y : L
   pub is : qs ≡ member u b value after
   pub other : (w c v : List ℕ) (g : Bool) → Blanks w → KeyText c v g → MembersTail (member v g value after) false (w ++ (c ++ y)) []
   pub shallow : (v : List ℕ) (g : Bool) → depth (object (member v g value after)) ≤ limit
+  pub next : List ℕ
+  pub colon : IsSign 58 y next
 
 rename_first : (limit : ℕ) (qs : Members) (u x y : List ℕ) (b : Bool) → ReadsKey x u b y → MembersTail qs false x [] → depth (object qs) ≤ limit → Renamed limit qs u b y
 rename_first limit no_member u x y b k a d = absurd (brace_no_key x y [] u b a k)
@@ -77,6 +85,8 @@ rename_first limit (member v c t qs) u x y b k (w, z, key, (n, a, p), tl) d =
         tl,
       );
       shallow = λ m g. d;
+      next = n;
+      colon = sign;
     }
 
 -- ---- values alone
@@ -123,6 +133,7 @@ pub record KeyThere (room : ℕ) (name old : List ℕ) (start : ℕ) (t : Tree) 
   pub rest : List ℕ
   pub split : chars old ≡ front ++ rest
   pub starts : start ≡ bytes_in front
+  pub tokens : WholeTokens false front
   pub goes : (qs : Members) (z : List ℕ) → MembersTail qs false z [] → depth (object qs) ≤ room → Spells value_end room (front ++ z) (object (joined_members passed qs))
   pub tail : MembersTail coming false rest []
   pub shallow : depth (object coming) ≤ room
@@ -152,6 +163,7 @@ module _ (room : ℕ) (name old : List ℕ) (start : ℕ) (t : Tree) (v : Val (c
         rest = s.rest;
         split = s.split;
         starts = s.starts;
+        tokens = s.passed;
         goes = λ ms z m l. s.goes (object ms) z refl m l;
         tail = tl;
         shallow = deep;
@@ -265,8 +277,23 @@ module _ (room : ℕ) (name old : List ℕ) (start : ℕ) (utf8 : IsUtf8 old) (f
       was : old ≡ front ++ (blank ++ (ahead.gone ++ back))
       was = sym (take-append-drop start old) ∙ ap (λ x. x ++ drop start old) (sym is_front) ∙ ap (λ x. front ++ x) (sym is_rest ∙ ahead.split)
 
-      pub rekeyed : room ≤ max_depth → Rekeys room name key old new_text
-      rekeyed small = (
+      -- the old key is a string where the text is plain, and so is the new one
+      plain_kept : JsonString (chars came) → KeepsPlain old new_text
+      plain_kept json k p =
+          let sign = first.colon in
+          let s = spanned at.tokens in
+          let back_is : chars back ≡ sign.front ++ 58 ∷ first.next = sign.split in
+          let old_is : chars old ≡ at.front ++ (chars blank ++ (chars ahead.gone ++ (sign.front ++ 58 ∷ first.next))) = at.split ∙ ap (λ z. at.front ++ z) (unread ∙ ap (λ z. chars blank ++ (chars ahead.gone ++ z)) back_is) in
+          let gone = chars ahead.gone ++ (sign.front ++ 58 ∷ first.next) in
+          let comes = chars came ++ (sign.front ++ 58 ∷ first.next) in
+          let front = plain_seam (chars blank ++ gone) s.spans (apart s (chars blank ++ gone)) (subst (Plain k last.sign) old_is p) in
+          let gap = blank_seam gone ahead.is_blank front.rest in
+          let is_key = plain_key_seam first.next (key_spelling ahead.key) sign.blank gap.rest in
+          let made = front.again (chars blank ++ comes) (apart s (chars blank ++ comes)) (gap.again s.kind comes (is_key.again s.kind (chars came) json)) in
+          subst (Plain k last.sign) (sym (new_is ∙ ap (λ z. at.front ++ (chars blank ++ (chars came ++ z))) back_is)) made
+
+      pub rekeyed : JsonString (chars came) → room ≤ max_depth → Rekeys room name key old new_text
+      rekeyed json small = (
         (found.2.tree, new_tree, fitting room (chars old) found.2.tree small found.2.value found.2.shallow, fitting room (chars new_text) new_tree small new_value reads.1, changed),
         record {
           front = front ++ blank;
@@ -279,10 +306,11 @@ module _ (room : ℕ) (name old : List ℕ) (start : ℕ) (utf8 : IsUtf8 old) (f
           new_key = (spells.0, spells.1, spells.2);
         },
         (new_tree, new_value, reads.1),
+        plain_kept json,
       )
 
 -- ---- the layout's spelling
 
-pub laid_rekeys : (room : ℕ) (name key old new : List ℕ) (r : Result (String Global) EditError) → IfOk r (λ made. string_bytes made ≡ new) → OnOk r (IsValue room (chars new)) → ChangesBy (IsRenamed name key) old new → Respells old new → IfOk r (λ made. Rekeys room name key old (string_bytes made))
-laid_rekeys room name key old new (Ok made) same fits change how = subst (Rekeys room name key old) (sym same) (change, how, fits)
-laid_rekeys room name key old new (Err e) same fits change how = tt
+pub laid_rekeys : (room : ℕ) (name key old new : List ℕ) (r : Result (String Global) EditError) → IfOk r (λ made. string_bytes made ≡ new) → OnOk r (IsValue room (chars new)) → OnOk r (KeepsPlain old new) → ChangesBy (IsRenamed name key) old new → Respells old new → IfOk r (λ made. Rekeys room name key old (string_bytes made))
+laid_rekeys room name key old new (Ok made) same fits plain change how = subst (Rekeys room name key old) (sym same) (change, how, fits, plain)
+laid_rekeys room name key old new (Err e) same fits plain change how = tt

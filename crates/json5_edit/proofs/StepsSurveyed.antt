@@ -13,9 +13,10 @@ use Rattle.json5_edit.specs.Entries.{elements, members, entries, kind_of}
 use Rattle.json5_edit.specs.Parts.{element_of, later_or, member_of, in_element, in_member, positions_of}
 use Rattle.json5_edit.specs.Places.{IsValue, LeadsNowhere}
 use Rattle.json5_edit.specs.Refusals.{BeginsNo, HasKey, IsNo}
-use Rattle.json5_edit.specs.Spots.{Misses, IsEntry, Surveys}
+use Rattle.json5_edit.specs.Spots.{Misses, IsFound, Surveys}
 use Rattle.json5_edit.specs.declared.paths.Step.{Step}
 use Rattle.json5_edit.specs.declared.paths.Step.TheVariants as step
+use Rattle.json5_edit.specs.declared.survey.Found.{Found}
 use Rattle.json5_edit.specs.declared.survey.Survey.{Survey}
 use Rattle.json5_edit.proofs.Spotted.{value_document, first_key, later_entries}
 
@@ -82,7 +83,7 @@ found_some None_is Some_is None a e m = absurd (cc)
 pub no_entry : {limit : ℕ} {bytes : List ℕ} {found : Survey} (s : Step) → limit ≤ max_depth → found.entry ≡ None → Surveys s limit bytes found → LeadsNowhere bytes (s ∷ [])
 no_entry {limit = limit} {bytes = bytes} {found = found} s small e p =
     let d = p.shallow in
-    (p.tree, value_document max_depth (chars bytes) p.tree p.value (omega (arith, d, small)), misses_all s p.tree p.kind (found_none (Misses s (entries p.tree)) (IsEntry s limit bytes p.tree) found.entry e p.entry))
+    (p.tree, value_document max_depth (chars bytes) p.tree p.value (omega (arith, d, small)), misses_all s p.tree p.kind (found_none (Misses s (entries p.tree)) (IsFound s limit bytes p.tree) found.entry e p.entry))
 
 -- ---- a key that a member has
 
@@ -112,11 +113,11 @@ in_tree k (boolean b) before after g e is = absurd (cc)
 in_tree k (number n) before after g e is = absurd (cc)
 in_tree k (text u b) before after g e is = absurd (cc)
 
-pub key_taken : {limit : ℕ} {bytes : List ℕ} {found : Survey} (k : Bor (List ℕ)) (n : ℕ) → limit ≤ max_depth → found.entry ≡ Some n → Surveys (step.Key k) limit bytes found → (t : Tree) × Doc max_depth (chars bytes) t × HasKey k.now t
+pub key_taken : {limit : ℕ} {bytes : List ℕ} {found : Survey} (k : Bor (List ℕ)) (n : Found) → limit ≤ max_depth → found.entry ≡ Some n → Surveys (step.Key k) limit bytes found → (t : Tree) × Doc max_depth (chars bytes) t × HasKey k.now t
 key_taken {limit = limit} {bytes = bytes} {found = found} k n small e p =
-    let q = found_some (Misses (step.Key k) (entries p.tree)) (IsEntry (step.Key k) limit bytes p.tree) found.entry n e p.entry in
+    let q = found_some (Misses (step.Key k) (entries p.tree)) (IsFound (step.Key k) limit bytes p.tree) found.entry n e p.entry in
     let d = p.shallow in
-    (p.tree, value_document max_depth (chars bytes) p.tree p.value (omega (arith, d, small)), in_tree k.now p.tree (entries q.before) q.after q.gone p.kind q.all)
+    (p.tree, value_document max_depth (chars bytes) p.tree p.value (omega (arith, d, small)), in_tree k.now p.tree (entries q.entry.before) q.entry.after q.entry.gone p.kind q.entry.all)
 
 -- ---- a text that was made and checked
 

@@ -4,7 +4,7 @@ use Rattle.std.specs.Prelude.{◌≢◌, ◌==◌, MatchOption}
 use Rattle.std.specs.Cmp.Lexicographic.{pointwise, bytes_decides}
 use Rattle.std.specs.Str.{chars, IsUtf8, encode_utf8_all}
 use Rattle.std.proofs.lemmas.Bool.{eqb-false, eqb-true}
-use Rattle.std.proofs.lemmas.List.{length-append}
+use Rattle.std.proofs.lemmas.List.{append_cancel_right, length-append}
 use Rattle.std.proofs.lemmas.Str.{length-le-encodes}
 use Rattle.json5_grammar.specs.Language.Blanks.{Solid}
 use Rattle.json5_grammar.specs.Language.Characters.{NotBegun}
@@ -14,12 +14,14 @@ use Rattle.json5_grammar.proofs.ArraysRead.{array_front}
 use Rattle.json5_grammar.proofs.ArraysPartlyRead.{sign_shorter}
 use Rattle.json5_grammar.proofs.ObjectsRead.{object_front}
 use Rattle.json5_grammar.proofs.OneTree.{one_tree}
+use Rattle.json5_grammar.proofs.ValueHeads.{val_head}
 use Rattle.json5_types.specs.declared.error.Error.{Error}
 use Rattle.json5_types.specs.Errors.{LacksMemory}
 use Rattle.json5_value.specs.declared.brackets.BracketKind.{BracketKind as Kind}
 use Rattle.json5_value.specs.declared.brackets.BracketKind.TheVariants as kind
 use Rattle.json5_value.specs.Brackets.{brackets_of}
 use Rattle.json5_walk.specs.Nexts.{takes_value}
+use Rattle.json5_walk.specs.Seams.{WholeTokens, is_unended}
 use Rattle.json5_walk.specs.Frames.{Frame, in_object, value_end, Spells, At, at_value, at_element, at_key, at_colon, at_comma, next_of, value_frames}
 use Rattle.json5_walk.specs.Moves.{Stays, Opens, opens_array, opens_object, TakesComma, after_element, after_member, Closes}
 use Rattle.json5_walk.specs.Walks.{Walked, at_start, Trail, IsAt, Live, Moved, PassesValue, NotOpened, IsDocumentWithin, IsHopeless, AwaitsValue}
@@ -30,9 +32,10 @@ use Rattle.json5_edit.specs.Parts.{count, count_members}
 use Rattle.json5_edit.specs.Places.{IsValue}
 use Rattle.json5_edit.specs.Refusals.{BeginsNo}
 use Rattle.json5_edit.specs.Seeks.{Named, Stands, IsAfterEntry}
-use Rattle.json5_edit.specs.Spots.{Spot, awaits_comma, Inside, Names, NamesSpare, latest, Misses, IsEntry, Surveys}
+use Rattle.json5_edit.specs.Spots.{Spot, awaits_comma, Inside, Names, NamesSpare, latest, Misses, EndsWithValue, LastEnds, IsFound, Surveys}
 use Rattle.json5_edit.specs.declared.paths.Step.{Step}
 use Rattle.json5_edit.specs.declared.paths.Step.TheVariants as step
+use Rattle.json5_edit.specs.declared.survey.Found.{Found}
 use Rattle.json5_edit.specs.declared.survey.Survey.{Survey}
 use Rattle.json5_edit.proofs.Compared.{alone, lacks_key_more}
 use Rattle.json5_edit.proofs.EntriesPassed.{elements_snoc, members_snoc, same_collection, opened_in, closed_in}
@@ -138,6 +141,7 @@ pub record Before (limit : ℕ) (bytes : List ℕ) (t : Tree) (key : List ℕ) (
   pub now : At
   pub marked : Option (List Frame)
   pub is_at : IsAt v (record { now = now; marked = marked })
+  pub ended : is_unended now ≡ false
   pub inside : (w : Tree) → is_inside (at_comma w (value_frames now)) ≡ true
   pub outermost : (w : Tree) → around (at_comma w (value_frames now)) ≡ []
   pub same_kind : (w : Tree) → kind_of (read_in (at_comma w (value_frames now))) ≡ kind_of t
@@ -150,6 +154,7 @@ before_element {t = t} {v = v} {m = m} (at_element ts o) same_text same_limit f 
   now = at_element ts o;
   marked = m;
   is_at = f;
+  ended = refl;
   inside = λ w. refl;
   outermost = λ w. e;
   same_kind = λ w. ap kind_of r;
@@ -202,6 +207,7 @@ in_object_before {w = w} key same h k p =
         now = at_value (in_object q.ps u e ∷ q.frames);
         marked = q.marked;
         is_at = f;
+        ended = refl;
         inside = λ w. refl;
         outermost = λ w. q.outermost;
         same_kind = λ w. ap kind_of q.read;
@@ -214,16 +220,17 @@ in_object_before {w = w} key same h k p =
 -- ---- an entry
 
 -- so many entries were passed
-pub record Passing (s : Step) (first now : Walked) (n : ℕ) (found : Option ℕ) : Type 0 where
+pub record Passing (s : Step) (first now : Walked) (n : ℕ) (found : Option Found) (end : Option ℕ) : Type 0 where
   pub tree : Tree
   pub inside : Inside first.limit first.text tree false now
   pub kind : kind_of tree ≡ Some (step_kind s)
   pub size : length (entries tree) ≡ n
-  pub entry : MatchOption found (Misses s (entries tree)) (IsEntry s first.limit first.text tree)
+  pub entry : MatchOption found (Misses s (entries tree)) (IsFound s first.limit first.text tree)
+  pub last : MatchOption end (entries tree ≡ []) (LastEnds first.limit first.text tree)
 
-pub starts_passing : (s : Step) (v : Walked) → Inside v.limit v.text (empty_of (step_kind s)) false v → Passing s v v 0 None
-starts_passing (step.Index i) v h = record { tree = array no_more; inside = h; kind = refl; size = refl; entry = omega arith }
-starts_passing (step.Key k) v h = record { tree = object no_member; inside = h; kind = refl; size = refl; entry = tt }
+pub starts_passing : (s : Step) (v : Walked) → Inside v.limit v.text (empty_of (step_kind s)) false v → Passing s v v 0 None None
+starts_passing (step.Index i) v h = record { tree = array no_more; inside = h; kind = refl; size = refl; entry = omega arith; last = refl }
+starts_passing (step.Key k) v h = record { tree = object no_member; inside = h; kind = refl; size = refl; entry = tt; last = refl }
 
 -- with its key, where it has one, and whether the step goes to it
 pub record Sought (s : Step) (limit : ℕ) (bytes : List ℕ) (t : Tree) (same : Bool) (v w : Walked) : Type 0 where
@@ -274,12 +281,13 @@ sought {s = step.Key key} {t = t} n same h k size p =
     }
 
 -- an entry was passed: where a comma is due
-pub record Entered (s : Step) (first now : Walked) (n : ℕ) (found : Option ℕ) : Type 0 where
+pub record Entered (s : Step) (first now : Walked) (n : ℕ) (found : Option Found) (end : ℕ) : Type 0 where
   pub tree : Tree
   pub inside : Inside first.limit first.text tree true now
   pub kind : kind_of tree ≡ Some (step_kind s)
   pub size : length (entries tree) ≡ n + 1
-  pub entry : MatchOption found (Misses s (entries tree)) (IsEntry s first.limit first.text tree)
+  pub entry : MatchOption found (Misses s (entries tree)) (IsFound s first.limit first.text tree)
+  pub last : LastEnds first.limit first.text tree end
 
 -- the value that was passed
 pub record Valued (limit : ℕ) (bytes : List ℕ) (t : Tree) (key : List ℕ) (v : Walked) : Type 0 where
@@ -288,9 +296,10 @@ pub record Valued (limit : ℕ) (bytes : List ℕ) (t : Tree) (key : List ℕ) (
   pub inside : Inside limit bytes tree true v
   pub same_kind : kind_of tree ≡ kind_of t
   pub one_more : entries tree ≡ entries t ++ ((key, value) ∷ [])
+  pub ends : (front : List ℕ) → chars bytes ≡ front ++ v.unread → EndsWithValue front
 
 valued : {limit : ℕ} {bytes : List ℕ} {t : Tree} {key : List ℕ} {v w : Walked} → Before limit bytes t key v → Moved (PassesValue v w) v w → Valued limit bytes t key w
-valued {w = w} b p =
+valued {bytes = bytes} {v = v} {w = w} b p =
     let (a, is, g) = p.leads (record { now = b.now; marked = b.marked }) b.is_at in
     let (u, x, at, d, split, val, small) = value_taken is in
     let f : IsAt w (record { now = at_comma u (value_frames b.now); marked = b.marked }) = there at g in
@@ -300,58 +309,77 @@ valued {w = w} b p =
       inside = record { same_text = p.text ∙ b.same_text; same_limit = p.limit ∙ b.same_limit; now = at_comma u (value_frames b.now); marked = b.marked; is_at = f; inside = b.inside u; read = refl; outermost = b.outermost u; is_due = refl };
       same_kind = b.same_kind u;
       one_more = b.one_more u;
+      ends = λ front whole.
+          let h = val_head val in
+          let some : v.unread ≡ [] → ⊥ = λ none. not_empty h.char (h.more ++ w.unread) (sym (split ∙ ap (λ z. z ++ w.unread) h.is) ∙ none) in
+          let before = b.is_at.front in
+          let same : front ++ w.unread ≡ (before ++ x) ++ w.unread = sym whole ∙ ap chars (sym b.same_text) ∙ b.is_at.split ∙ ap (λ z. before ++ z) split ∙ sym (append_assoc before x w.unread) in
+          (before, x, u, append_cancel_right front (before ++ x) w.unread same, subst (λ z. WholeTokens z before) b.ended (b.is_at.passed some), val);
     }
+  where
+    not_empty : (c : ℕ) (r : List ℕ) → c ∷ r ≡ [] → ⊥
+    not_empty c r e = cc
 
-entry_stays : {s : Step} {limit : ℕ} {bytes : List ℕ} {t w : Tree} {n : ℕ} (key : List ℕ) (value : Tree) → kind_of w ≡ kind_of t → entries w ≡ entries t ++ ((key, value) ∷ []) → ((es before : List (List ℕ × Tree)) (u : Tree) → GoesTo s before es → GoesTo s before (es ++ ((key, u) ∷ []))) → IsEntry s limit bytes t n → IsEntry s limit bytes w n
-entry_stays {s = s} key value k e more_there q =
+found_stays : {s : Step} {limit : ℕ} {bytes : List ℕ} {t w : Tree} {f : Found} (key : List ℕ) (value : Tree) → kind_of w ≡ kind_of t → entries w ≡ entries t ++ ((key, value) ∷ []) → ((es before : List (List ℕ × Tree)) (u : Tree) → GoesTo s before es → GoesTo s before (es ++ ((key, u) ∷ []))) → IsFound s limit bytes t f → IsFound s limit bytes w f
+found_stays {s = s} key value k e more_there m =
+    let q = m.entry in
     let one : List (List ℕ × Tree) = (key, value) ∷ [] in
     record {
-      before = q.before;
-      gone = q.gone;
-      after = q.after ++ one;
-      same_kind = q.same_kind ∙ sym k;
-      all = e ∙ ap (λ z. z ++ one) q.all ∙ append_assoc (entries q.before) ((step_key s, q.gone) ∷ q.after) one;
-      there = more_there q.after (entries q.before) value q.there;
-      spot = q.spot;
-      solid = q.solid;
+      entry = record {
+        before = q.before;
+        gone = q.gone;
+        after = q.after ++ one;
+        same_kind = q.same_kind ∙ sym k;
+        all = e ∙ ap (λ z. z ++ one) q.all ∙ append_assoc (entries q.before) ((step_key s, q.gone) ∷ q.after) one;
+        there = more_there q.after (entries q.before) value q.there;
+        spot = q.spot;
+        solid = q.solid;
+      };
+      before = m.before;
     }
 
-latest_entry : {s : Step} {limit : ℕ} {bytes : List ℕ} {t : Tree} {same : Bool} {v w x : Walked} (b : Bool) (n : ℕ) (found : Option ℕ) → same ≡ b → MatchOption found (Misses s (entries t)) (IsEntry s limit bytes t) → (q : Sought s limit bytes t same v w) → (p : Valued limit bytes t q.key x) → (here : Spot limit bytes t false n) → Solid here.rest → MatchOption (latest b n found) (Misses s (entries p.tree)) (IsEntry s limit bytes p.tree)
-latest_entry {t = t} true n found e m q p here solid =
+latest_entry : {s : Step} {limit : ℕ} {bytes : List ℕ} {t : Tree} {same : Bool} {v w x : Walked} (b : Bool) (n : Found) (found : Option Found) → same ≡ b → MatchOption found (Misses s (entries t)) (IsFound s limit bytes t) → MatchOption n.before (entries t ≡ []) (LastEnds limit bytes t) → (q : Sought s limit bytes t same v w) → (p : Valued limit bytes t q.key x) → (here : Spot limit bytes t false n.start) → Solid here.rest → MatchOption (latest b n found) (Misses s (entries p.tree)) (IsFound s limit bytes p.tree)
+latest_entry {t = t} true n found e m last q p here solid =
     let (key, goes) = q.is_so e in
     record {
-      before = t;
-      gone = p.value;
-      after = [];
-      same_kind = sym p.same_kind;
-      all = p.one_more ∙ ap (λ k. entries t ++ ((k, p.value) ∷ [])) key;
-      there = goes;
-      spot = here;
-      solid = solid;
+      entry = record {
+        before = t;
+        gone = p.value;
+        after = [];
+        same_kind = sym p.same_kind;
+        all = p.one_more ∙ ap (λ k. entries t ++ ((k, p.value) ∷ [])) key;
+        there = goes;
+        spot = here;
+        solid = solid;
+      };
+      before = last;
     }
-latest_entry {s = s} false n None e m q p here solid = subst (Misses s) (sym p.one_more) (q.is_other e m p.value)
-latest_entry false n (Some k) e m q p here solid = entry_stays q.key p.value p.same_kind p.one_more (q.stays e) m
+latest_entry {s = s} false n None e m last q p here solid = subst (Misses s) (sym p.one_more) (q.is_other e m p.value)
+latest_entry false n (Some k) e m last q p here solid = found_stays q.key p.value p.same_kind p.one_more (q.stays e) m
 
-pub entered : {s : Step} {first now mid named new : Walked} {n start : ℕ} {found after : Option ℕ} (same : Bool) → Passing s first now n found → Moved Stays now mid → Solid mid.unread → IsValue first.limit (chars first.text) → start ≡ length mid.text - bytes_in mid.unread → Names s n same mid named → after ≡ latest same start found → Moved (PassesValue named new) named new → Entered s first new n after
-entered {s = s} {first = first} {new = new} {n = n} {start = start} {found = found} {after = after} same p gap solid value at names is skip =
+pub entered : {s : Step} {first now mid named new : Walked} {n start end : ℕ} {found after : Option Found} {before : Option ℕ} (same : Bool) → Passing s first now n found before → Moved Stays now mid → Solid mid.unread → IsValue first.limit (chars first.text) → start ≡ length mid.text - bytes_in mid.unread → Names s n same mid named → after ≡ latest same (record { start = start; before = before }) found → Moved (PassesValue named new) named new → end ≡ length new.text - bytes_in new.unread → Entered s first new n after end
+entered {s = s} {first = first} {new = new} {n = n} {start = start} {end = end} {found = found} {before = before} same p gap solid value at names is skip at_end =
     let here = stays_inside p.inside gap in
     let q = sought n same here p.kind p.size names in
     let v = valued q.before skip in
-    let (place, rest_is) = spot value.0 start here (whole first.limit first.text value) at in
+    let all = whole first.limit first.text value in
+    let (place, rest_is) = spot value.0 start here all at in
+    let (after_value, left) = spot value.0 end v.inside all at_end in
     record {
       tree = v.tree;
       inside = v.inside;
       kind = v.same_kind ∙ p.kind;
       size = ap length v.one_more ∙ one_longer (entries p.tree) q.key v.value ∙ ap (λ z. z + 1) p.size;
-      entry = subst (λ z. MatchOption z (Misses s (entries v.tree)) (IsEntry s first.limit first.text v.tree)) (sym is) (latest_entry same start found refl p.entry q v place (subst Solid (sym rest_is) solid));
+      entry = subst (λ z. MatchOption z (Misses s (entries v.tree)) (IsFound s first.limit first.text v.tree)) (sym is) (latest_entry same (record { start = start; before = before }) found refl p.entry p.last q v place (subst Solid (sym rest_is) solid));
+      last = record { spot = after_value; ends = v.ends after_value.front (after_value.split ∙ ap (λ z. after_value.front ++ z) left) };
     }
 
-pub goes_on_passing : {s : Step} {first now new : Walked} {n : ℕ} {found : Option ℕ} → Entered s first now n found → Moved TakesComma now new → Passing s first new (n + 1) found
-goes_on_passing p q = record { tree = p.tree; inside = comma_inside p.inside q; kind = p.kind; size = p.size; entry = p.entry }
+pub goes_on_passing : {s : Step} {first now new : Walked} {n end : ℕ} {found : Option Found} → Entered s first now n found end → Moved TakesComma now new → Passing s first new (n + 1) found (Some end)
+goes_on_passing p q = record { tree = p.tree; inside = comma_inside p.inside q; kind = p.kind; size = p.size; entry = p.entry; last = p.last }
 
 -- ---- the end
 
-surveyed : {s : Step} {limit : ℕ} {bytes : List ℕ} (t : Tree) (found : Survey) → (value : IsValue limit (chars bytes)) → value.0 ≡ t → kind_of t ≡ Some (step_kind s) → MatchOption found.entry (Misses s (entries t)) (IsEntry s limit bytes t) → Spot limit bytes t found.comma found.end → Surveys s limit bytes found
+surveyed : {s : Step} {limit : ℕ} {bytes : List ℕ} (t : Tree) (found : Survey) → (value : IsValue limit (chars bytes)) → value.0 ≡ t → kind_of t ≡ Some (step_kind s) → MatchOption found.entry (Misses s (entries t)) (IsFound s limit bytes t) → Spot limit bytes t found.comma found.end → Surveys s limit bytes found
 surveyed {limit = limit} {bytes = bytes} t found (w, v, d) is k e p = record {
   tree = t;
   value = subst (Val (chars bytes)) is v;
@@ -361,10 +389,10 @@ surveyed {limit = limit} {bytes = bytes} t found (w, v, d) is k e p = record {
   end = p;
 }
 
-pub passing_ends : {s : Step} {first now new : Walked} {n end : ℕ} {found : Option ℕ} → Passing s first now n found → (value : IsValue first.limit (chars first.text)) → end ≡ length now.text - bytes_in now.unread → Moved Closes now new → Surveys s first.limit first.text (record { entry = found; end = end; comma = false })
+pub passing_ends : {s : Step} {first now new : Walked} {n end : ℕ} {found : Option Found} {before : Option ℕ} → Passing s first now n found before → (value : IsValue first.limit (chars first.text)) → end ≡ length now.text - bytes_in now.unread → Moved Closes now new → Surveys s first.limit first.text (record { entry = found; end = end; comma = false })
 passing_ends {first = first} {end = end} {found = found} p value at closes = surveyed p.tree (record { entry = found; end = end; comma = false }) value (closes_whole p.inside closes value) p.kind p.entry (spot value.0 end p.inside (whole first.limit first.text value) at).0
 
-pub entered_ends : {s : Step} {first now new : Walked} {n end : ℕ} {found : Option ℕ} → Entered s first now n found → (value : IsValue first.limit (chars first.text)) → end ≡ length now.text - bytes_in now.unread → Moved Closes now new → Surveys s first.limit first.text (record { entry = found; end = end; comma = true })
+pub entered_ends : {s : Step} {first now new : Walked} {n end : ℕ} {found : Option Found} → Entered s first now n found end → (value : IsValue first.limit (chars first.text)) → end ≡ length now.text - bytes_in now.unread → Moved Closes now new → Surveys s first.limit first.text (record { entry = found; end = end; comma = true })
 entered_ends {first = first} {end = end} {found = found} p value at closes = surveyed p.tree (record { entry = found; end = end; comma = true }) value (closes_whole p.inside closes value) p.kind p.entry (spot value.0 end p.inside (whole first.limit first.text value) at).0
 
 -- ---- refusals
@@ -390,19 +418,19 @@ after_entry (at_element ts o) i e = absurd (cc)
 after_entry (at_key ps o) i e = absurd (cc)
 after_entry (at_colon ps u b o) i e = absurd (cc)
 
-pub comma_spares : {s : Step} {first now : Walked} {n : ℕ} {found : Option ℕ} {e : Error} → Entered s first now n found → IsValue first.limit (chars first.text) → ((t : Trail) → IsAt now t → IsAfterEntry t.now → IsHopeless now) → LacksMemory e
+pub comma_spares : {s : Step} {first now : Walked} {n end : ℕ} {found : Option Found} {e : Error} → Entered s first now n found end → IsValue first.limit (chars first.text) → ((t : Trail) → IsAt now t → IsAfterEntry t.now → IsHopeless now) → LacksMemory e
 comma_spares p value k =
     let h = p.inside in
     absurd (k (record { now = h.now; marked = h.marked }) h.is_at (after_entry h.now h.inside h.is_due) (within h value))
 
-pub sought_spares : {s : Step} {first now mid : Walked} {n : ℕ} {found : Option ℕ} {e : Error} → Passing s first now n found → Moved Stays now mid → Stands mid → IsValue first.limit (chars first.text) → NamesSpare s mid e → LacksMemory e
+pub sought_spares : {s : Step} {first now mid : Walked} {n : ℕ} {found : Option Found} {before : Option ℕ} {e : Error} → Passing s first now n found before → Moved Stays now mid → Stands mid → IsValue first.limit (chars first.text) → NamesSpare s mid e → LacksMemory e
 sought_spares {s = step.Index i} p gap stands value k = absurd k
 sought_spares {s = step.Key key} p gap stands value k =
     let h = stays_inside p.inside gap in
     let q = in_object_due h p.kind in
     k (record { now = at_key q.ps q.frames; marked = q.marked }) q.is_at (awaits_key q.is_at stands) (within h value)
 
-pub skip_spares : {s : Step} {first now mid named : Walked} {n : ℕ} {found : Option ℕ} {e : Error} (same : Bool) → Passing s first now n found → Moved Stays now mid → Stands mid → IsValue first.limit (chars first.text) → Names s n same mid named → (Solid mid.unread → Solid named.unread) → (AwaitsValue named → IsHopeless named) → LacksMemory e
+pub skip_spares : {s : Step} {first now mid named : Walked} {n : ℕ} {found : Option Found} {before : Option ℕ} {e : Error} (same : Bool) → Passing s first now n found before → Moved Stays now mid → Stands mid → IsValue first.limit (chars first.text) → Names s n same mid named → (Solid mid.unread → Solid named.unread) → (AwaitsValue named → IsHopeless named) → LacksMemory e
 skip_spares {named = named} {n = n} same p gap stands value names solid k =
     let q = sought n same (stays_inside p.inside gap) p.kind p.size names in
     absurd (k (q.awaits stands solid) (is_within named value q.before.same_text q.before.same_limit))
@@ -436,7 +464,7 @@ few_entries k x (boolean b) v e = absurd (cc)
 few_entries k x (number q) v e = absurd (cc)
 few_entries k x (text u b) v e = absurd (cc)
 
-pub too_many_entries : {s : Step} {first now : Walked} {n : ℕ} {found : Option ℕ} {e : Error} → Passing s first now n found → IsUtf8 first.text → (value : IsValue first.limit (chars first.text)) → length first.text ≤ n → LacksMemory e
+pub too_many_entries : {s : Step} {first now : Walked} {n : ℕ} {found : Option Found} {before : Option ℕ} {e : Error} → Passing s first now n found before → IsUtf8 first.text → (value : IsValue first.limit (chars first.text)) → length first.text ≤ n → LacksMemory e
 too_many_entries {s = s} {first = first} {now = now} {n = n} p utf8 value l =
     let (place, rest_is) = spot value.0 (length now.text - bytes_in now.unread) p.inside (whole first.limit first.text value) refl in
     let (u, k, g, d, is) = place.back value.0 (whole first.limit first.text value) in

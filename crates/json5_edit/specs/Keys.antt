@@ -6,6 +6,7 @@ use Rattle.json5_grammar.specs.Language.Blanks.{Blanks, Gap}
 use Rattle.json5_grammar.specs.Language.Names.{Key}
 use Rattle.json5_grammar.specs.Language.Trees.{Tree, Members, member}
 use Rattle.json5_grammar.specs.Model.Collections.{MembersTail}
+use Rattle.json5_lexemes.specs.Plain.{KeepsPlain}
 use Rattle.json5_text.specs.Outcome.{bytes_in}
 use Rattle.json5_edit.specs.Changes.{ChangesBy}
 use Rattle.json5_edit.specs.Comparing.{IsRenamed}
@@ -47,6 +48,7 @@ pub record KeySpan (text : List ℕ) (span : Span) : Type 0 where
   pub escape_free : Bool
   pub key : Key gone back meaning escape_free
 
--- the new text is that of an object that fits in the room, with another key for its last member that has this one
+-- the new text is that of an object that fits in the room, with another key for its last member that has this one; it is
+-- as plain as the old one
 abbrev pub Rekeys : ℕ → List ℕ → List ℕ → List ℕ → List ℕ → Type 0
-Rekeys room name key old new = ChangesBy (IsRenamed name key) old new × Respells old new × IsValue room (chars new)
+Rekeys room name key old new = ChangesBy (IsRenamed name key) old new × Respells old new × IsValue room (chars new) × KeepsPlain old new

@@ -1,11 +1,12 @@
 -- Where an entry stands in the text of a collection, and where one more may stand.
 use Rattle.std.specs.Prelude.{◌≡◌, ◌⊎◌, ℕ, ◌+◌, ◌≤◌, Bool, true, false, nat_eq, List, [], ◌∷◌, ◌++◌, length, Option, Some, MatchOption}
-use Rattle.std.specs.Str.{chars, encode_utf8_all}
+use Rattle.std.specs.Str.{chars, IsUtf8, encode_utf8_all}
 use Rattle.json5_grammar.specs.Language.Blanks.{Blanks, Gap, Solid}
 use Rattle.json5_grammar.specs.Language.Characters.{comma_sign, colon_sign}
 use Rattle.json5_grammar.specs.Language.Trees.{Tree, null, boolean, number, text, array, object, Trees, Members, more, member, depth}
 use Rattle.json5_grammar.specs.Language.Values.{Val, KeyText, Reads}
 use Rattle.json5_grammar.specs.Model.Collections.{IsKeyValue, Tail, MembersTail, joined_trees, joined_members}
+use Rattle.json5_lexemes.specs.Plain.{KeepsPlain}
 use Rattle.json5_text.specs.Cursor.{Cursor, Took}
 use Rattle.json5_text.specs.Outcome.{bytes_in}
 use Rattle.json5_types.specs.declared.error.Error.{Error}
@@ -17,12 +18,15 @@ use Rattle.json5_walk.specs.Walks.{Walked, Trail, IsAt, AwaitsKey}
 use Rattle.json5_edit.specs.Changes.{ChangesBy}
 use Rattle.json5_edit.specs.Comparing.{LacksKey, GoesTo, IsWithout, IsWithLast, step_kind, step_key}
 use Rattle.json5_edit.specs.Entries.{entries, kind_of, is_inside, read_in, around}
-use Rattle.json5_edit.specs.Pieces.{Cuts, Grows, IsEntryText}
+use Rattle.json5_edit.specs.Pieces.{Cuts, Grows, IsEnd, IsEntryText, IsName}
 use Rattle.json5_edit.specs.Places.{IsValue}
 use Rattle.json5_edit.specs.Seeks.{Named, NeedsMemory}
 use Rattle.json5_edit.specs.declared.paths.Step.{Step}
 use Rattle.json5_edit.specs.declared.paths.Step.TheVariants as step
+use Rattle.json5_edit.specs.declared.plain.CommaSpan.{CommaSpan}
 use Rattle.json5_edit.specs.declared.plain.End.{End}
+use Rattle.json5_edit.specs.declared.plain.EntryLen.{EntryLen}
+use Rattle.json5_edit.specs.declared.survey.Found.{Found}
 use Rattle.json5_edit.specs.declared.survey.Survey.{Survey}
 
 -- x goes on with the entries of this collection and its closing bracket, and ends there; before them a comma is due or
@@ -84,7 +88,7 @@ abbrev pub NamesSpare : Step → Walked → Error → Type 0
 NamesSpare (step.Index i) v e = ⊥
 NamesSpare (step.Key k) v e = (s : Trail) → IsAt v s → AwaitsKey v → NeedsMemory v e
 
-abbrev pub latest : Bool → ℕ → Option ℕ → Option ℕ
+abbrev pub latest : Bool → Found → Option Found → Option Found
 latest true n before = Some n
 latest false n before = before
 
@@ -104,6 +108,20 @@ pub record IsEntry (s : Step) (limit : ℕ) (bytes : List ℕ) (t : Tree) (n : �
   pub spot : Spot limit bytes before false n
   pub solid : Solid spot.rest
 
+-- x ends with a value, and whole tokens come before it
+abbrev pub EndsWithValue : List ℕ → Type 0
+EndsWithValue x = (head s : List ℕ) × (t : Tree) × (x ≡ head ++ s) × WholeTokens false head × Val s t
+
+-- the value of the last entry of t ends at the offset n
+pub record LastEnds (limit : ℕ) (bytes : List ℕ) (t : Tree) (n : ℕ) : Type 0 where
+  pub spot : Spot limit bytes t true n
+  pub ends : EndsWithValue spot.front
+
+-- the entry of t that the step goes to is there, and the one before it, if there is one
+pub record IsFound (s : Step) (limit : ℕ) (bytes : List ℕ) (t : Tree) (f : Found) : Type 0 where
+  pub entry : IsEntry s limit bytes t f.start
+  pub before : MatchOption f.before (entries entry.before ≡ []) (LastEnds limit bytes entry.before)
+
 -- the text is a collection of the step's kind; what was found is where the entry begins that the step goes to, and where
 -- one more may stand at the end
 pub record Surveys (s : Step) (limit : ℕ) (bytes : List ℕ) (found : Survey) : Type 0 where
@@ -111,7 +129,7 @@ pub record Surveys (s : Step) (limit : ℕ) (bytes : List ℕ) (found : Survey) 
   pub value : Val (chars bytes) tree
   pub shallow : depth tree ≤ limit
   pub kind : kind_of tree ≡ Some (step_kind s)
-  pub entry : MatchOption found.entry (Misses s (entries tree)) (IsEntry s limit bytes tree)
+  pub entry : MatchOption found.entry (Misses s (entries tree)) (IsFound s limit bytes tree)
   pub end : Spot limit bytes tree found.comma found.end
 
 -- ---- what an edit makes of a collection's text
@@ -124,6 +142,18 @@ pub record HasEntry (s : Step) (limit : ℕ) (bytes : List ℕ) (n : ℕ) : Type
   pub kind : kind_of tree ≡ Some (step_kind s)
   pub entry : IsEntry s limit bytes tree n
 
+-- the same, with the entry before it
+pub record HasFound (s : Step) (limit : ℕ) (bytes : List ℕ) (f : Found) : Type 0 where
+  pub tree : Tree
+  pub value : Val (chars bytes) tree
+  pub shallow : depth tree ≤ limit
+  pub kind : kind_of tree ≡ Some (step_kind s)
+  pub entry : IsFound s limit bytes tree f
+
+-- the same, where the value of the entry before it ends at the offset m
+abbrev pub HasBefore : Step → ℕ → List ℕ → ℕ → ℕ → Type 0
+HasBefore s limit bytes n m = (h : HasEntry s limit bytes n) × LastEnds limit bytes h.entry.before m
+
 -- the text is a collection of this kind that fits, and one more entry may stand there at its end
 pub record HasEnd (k : Kind) (limit : ℕ) (bytes : List ℕ) (e : End) : Type 0 where
   pub tree : Tree
@@ -132,9 +162,9 @@ pub record HasEnd (k : Kind) (limit : ℕ) (bytes : List ℕ) (e : End) : Type 0
   pub kind : kind_of tree ≡ Some k
   pub end : Spot limit bytes tree e.comma e.at
 
--- without the entry that the step goes to
+-- without the entry that the step goes to, and as plain as before
 abbrev pub Removes : Step → ℕ → List ℕ → List ℕ → Type 0
-Removes s limit old new = ChangesBy (IsWithout s) old new × Cuts old new × IsValue limit (chars new)
+Removes s limit old new = ChangesBy (IsWithout s) old new × Cuts old new × IsValue limit (chars new) × KeepsPlain old new
 
 -- so changed, by one part more
 abbrev pub Adds : (Tree → Tree → Type 0) → ℕ → List ℕ → List ℕ → Type 0
@@ -188,7 +218,57 @@ PassedBefore Is old new = (taken : List ℕ) × Took old taken new × Is new.unr
 abbrev pub BeginsWithEntry : List ℕ → ℕ → Type 0
 BeginsWithEntry x n = (part z : List ℕ) × (x ≡ part ++ z) × (n ≡ bytes_in part) × IsEntryText part
 
--- the first n bytes of the text are an entry and the comma after it, if there is one: where the entries of u go on, those
--- of r go on after them
-abbrev pub Measures : Kind → ℕ → List ℕ → ℕ → Type 0
-Measures k limit bytes n = (u t r : Tree) → Parts k u t r → Goes false u (chars bytes) → depth t ≤ limit → (part z : List ℕ) × (chars bytes ≡ part ++ z) × (n ≡ bytes_in part) × Goes false r z
+-- a text begins with an entry of these lengths: where the entries of u go on, those of r go on after it, with the comma
+-- after it or without
+pub record Measures (k : Kind) (limit : ℕ) (bytes : List ℕ) (n : EntryLen) : Type 0 where
+  pub name : List ℕ
+  pub value : List ℕ
+  pub end : List ℕ
+  pub rest : List ℕ
+  pub tree : Tree
+  pub split : chars bytes ≡ (name ++ value) ++ (end ++ rest)
+  pub bare : n.bare ≡ bytes_in (name ++ value)
+  pub whole : n.whole ≡ bytes_in ((name ++ value) ++ end)
+  pub is_name : (name ≡ []) ⊎ IsName name
+  pub is_value : Val value tree
+  pub is_end : IsEnd end
+  pub goes : (u t r : Tree) → Parts k u t r → Goes false u (chars bytes) → depth t ≤ limit → Goes true r (end ++ rest) × Goes false r rest
+
+-- x goes on with an entry that fits, from its first token
+pub record IsAhead (k : Kind) (limit : ℕ) (x : List ℕ) : Type 0 where
+  pub all : Tree
+  pub gone : Tree
+  pub others : Tree
+  pub parts : Parts k all gone others
+  pub goes : Goes false all x
+  pub fits : depth gone ≤ limit
+  pub solid : Solid x
+
+-- ---- a comma in front of a text
+
+-- x goes on with a comma and an entry
+abbrev pub BeginsWithComma : List ℕ → Type 0
+BeginsWithComma x = (k : Kind) × (u t r : Tree) × Parts k u t r × Goes true u x
+
+-- a comma stands there, after blanks
+pub record IsCommaSpan (text : List ℕ) (span : CommaSpan) : Type 0 where
+  pub before : List ℕ
+  pub after : List ℕ
+  pub rest : List ℕ
+  pub split : chars text ≡ before ++ comma_sign ∷ (after ++ rest)
+  pub starts : span.start ≡ bytes_in before
+  pub ends : span.end ≡ bytes_in (before ++ comma_sign ∷ [])
+  pub follows : span.next ≡ bytes_in (before ++ comma_sign ∷ after)
+  pub is_before : Blanks before
+  pub is_after : Gap after rest
+  pub solid : Solid rest
+
+-- the blanks before and after a comma that is in front, and what follows them
+pub record TakesCommaAhead (text before after rest : List ℕ) : Type 0 where
+  pub split : text ≡ before ++ comma_sign ∷ (after ++ rest)
+  pub before_text : IsUtf8 before
+  pub after_text : IsUtf8 after
+  pub rest_text : IsUtf8 rest
+  pub is_before : Blanks (chars before)
+  pub is_after : Blanks (chars after)
+  pub solid : Solid (chars rest)

@@ -60,7 +60,7 @@ fn split_entry(alloc: Global, text: &str, kind: BracketKind, room: usize) -> Res
     ensures own { IfErr result IsOwn }
 {
     match entry_len(alloc, text, kind, room) {
-        Ok(len) => split(text, len),
+        Ok(len) => split(text, len.whole),
         Err(error) => Err(EditError::of_made(error)),
     }
 }

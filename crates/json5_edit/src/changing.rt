@@ -5,11 +5,12 @@ ghost use Rattle.json5_edit.specs.Changes.{ChangesBy, Gains, GainsAt, IsRemoved,
 ghost use Rattle.json5_edit.specs.Pieces.{Grows};
 ghost use Rattle.json5_edit.specs.Places.{HasPlace, IsPart, IsValue};
 ghost use Rattle.json5_edit.specs.Refusals.{RefusesRemove, RefusesPush, RefusesPutIn, RefusesInsert, RefusesRename, RefusesKind, RefusesKey, RefusesValue, IsOwn, BeginsNo};
-ghost use Rattle.json5_edit.specs.Spots.{Adds, HasEnd, HasEntry, Removes};
+ghost use Rattle.json5_edit.specs.Spots.{Adds, HasEnd, HasEntry, HasFound, Removes};
 ghost use Rattle.json5_edit.specs.declared.faults.EditError.TheVariants as edit_errors;
 ghost use Rattle.json5_edit.specs.declared.paths.Step.TheVariants as step;
 ghost use Rattle.json5_value.specs.declared.brackets.BracketKind.TheVariants as kind;
 ghost use Rattle.json5_grammar.specs.Language.Documents.{max_depth};
+ghost use Rattle.json5_lexemes.specs.Plain.{KeepsPlain};
 ghost use Rattle.json5_walk.specs.Walks.{IsDocument};
 ghost use Rattle.std.specs.Str.{chars, encode_utf8_all};
 
@@ -19,11 +20,14 @@ use crate::paths::Step;
 use crate::pieces::{cut, grown};
 use crate::places::walked_place;
 use crate::plain::{
-    End, array_end, entry_start, free_end, with_element, with_last, with_member, without_entry,
+    End, array_end, entry_found, entry_start, free_end, with_element, with_last, with_member,
+    without_entry,
 };
 use crate::renaming::renamed;
 use crate::setting::{check_value, place_of, put_made, splice};
+use crate::survey::Found;
 use json5_edit_layout::{Added, Collection, Names, Which, cut_for, growth_before, growth_for};
+use json5_lexemes::keeps_plain;
 use json5_text::scanner::Scanner;
 use json5_value::brackets::BracketKind;
 use json5_walk::place::Place;
@@ -31,7 +35,8 @@ use std::alloc::Global;
 
 /// Returns the text without the element or the member that the path leads to: without its comma, the comments that
 /// belong to it, and its line, if it has one to itself. A comment belongs to it that stands after it on its line, or
-/// on the lines right before it. No other comment goes but those within the entry.
+/// on the lines right before it. No other comment goes but those within the entry. A text that is JSON, or JSON but for
+/// comments, stays so.
 ///
 /// ```text
 /// remove(alloc, "{ host: 'a', /* web */ port: 80 }", &[Step::Key("port")])?    // { host: 'a' }
@@ -44,6 +49,7 @@ use std::alloc::Global;
 /// - `NoMemory` where there is no memory for the text, or for a key with an escape.
 pub fn remove(alloc: Global, text: &str, path: &[Step<'_>]) -> Result<String>
     ensures removed { IfOk result (λ made. IsRemoved text.now path.now (string_bytes made)) }
+    ensures plain { IfOk result (λ made. KeepsPlain text.now (string_bytes made)) }
     ensures refused { IfErr result (RefusesRemove text.now path.now) }
 {
     let Some((step, outer)) = path.split_last() else {
@@ -51,8 +57,8 @@ pub fn remove(alloc: Global, text: &str, path: &[Step<'_>]) -> Result<String>
     };
     let place = place_of(alloc, text, outer)?;
     let old = part_text(text, place);
-    let start = entry_start(alloc, old, *step, place.room)?;
-    let new = removed(alloc, old, *step, start, place.room)?;
+    let found = entry_found(alloc, old, *step, place.room)?;
+    let new = removed(alloc, old, *step, found, place.room)?;
     splice(alloc, text, place, new.as_str())
 }
 
@@ -183,7 +189,7 @@ pub fn insert_in(
 
 /// Returns the text with another key for the member that the path leads to: in the quotes of the old key, or without,
 /// if that has none and the new one is a name. If only the old one is a name, the quotes are those of other keys or of
-/// strings.
+/// strings. A text that is JSON, or JSON but for comments, stays so.
 ///
 /// ```text
 /// rename(alloc, "{ 'host': 'a' }", &[Step::Key("host")], "name")?    // { 'name': 'a' }
@@ -197,6 +203,7 @@ pub fn insert_in(
 /// - `NoMemory` where there is no memory for the text, or for a key with an escape.
 pub fn rename(alloc: Global, text: &str, path: &[Step<'_>], key: &str) -> Result<String>
     ensures rekeyed { IfOk result (λ made. IsRekeyed text.now path.now key.now (string_bytes made)) }
+    ensures plain { IfOk result (λ made. KeepsPlain text.now (string_bytes made)) }
     ensures refused { IfErr result (RefusesRename text.now path.now key.now) }
 {
     let Some((step, outer)) = path.split_last() else {
@@ -256,18 +263,18 @@ fn check_key(alloc: Global, old: &str, key: &str) -> Result<()>
     }
 }
 
-/// The collection without the entry that begins at the offset: without its lines and comments, if that reads so, or
-/// else without it and its comma alone.
-fn removed(alloc: Global, old: &str, step: Step<'_>, start: usize, room: usize) -> Result<String>
+/// The collection without the entry that was found: without its lines and comments, if that reads so, or else without it
+/// and a comma alone.
+fn removed(alloc: Global, old: &str, step: Step<'_>, found: Found, room: usize) -> Result<String>
     requires small { room ≤ max_depth }
-    requires entry { HasEntry step room old.now start }
+    requires entry { HasFound step room old.now found }
     ensures removed { IfOk result (λ new. Removes step.entry room old.now (string_bytes new)) }
     ensures full { IfErr result (λ e. e ≡ edit_errors.NoMemory) }
 {
     match removed_by_lines(alloc, old, step, room) {
         Ok(new) => Ok(new),
         Err(EditError::NoMemory) => Err(EditError::NoMemory),
-        Err(_) => without_entry(alloc, old, step, start, room),
+        Err(_) => without_entry(alloc, old, step, found, room),
     }
 }
 
@@ -279,7 +286,7 @@ fn removed_by_lines(alloc: Global, old: &str, step: Step<'_>, room: usize) -> Re
     let gone = laid(cut_for(alloc, old, which(step)))?;
     let new = cut(alloc, old, gone, kind(step), room)?;
     match check_removed(alloc, old, new.as_str(), step, gone.index) {
-        Ok(()) => fitting(alloc, new, room),
+        Ok(()) => kept_plain(alloc, old, new, room),
         Err(error) => Err(EditError::of_made(error)),
     }
 }
@@ -294,6 +301,19 @@ pub(crate) fn fitting(alloc: Global, new: String, room: usize) -> Result<String>
         Ok(()) => Ok(new),
         Err(error) => Err(EditError::of_made(error)),
     }
+}
+
+/// The text, if it is a value that fits, and as plain as the old one.
+pub(crate) fn kept_plain(alloc: Global, old: &str, new: String, room: usize) -> Result<String>
+    requires { room ≤ max_depth }
+    ensures same { IfOk result (λ made. string_bytes made ≡ string_bytes new) }
+    ensures value { OnOk result (IsValue room (chars (string_bytes new))) }
+    ensures plain { OnOk result (KeepsPlain old.now (string_bytes new)) }
+{
+    if !keeps_plain(old, new.as_str()) {
+        return Err(EditError::Failed);
+    }
+    fitting(alloc, new, room)
 }
 
 /// The array with one more element: with its lines and comments, if that reads so, or else at its end alone.

@@ -10,7 +10,7 @@ ghost use Rattle.json5_value.specs.declared.brackets.BracketKind.TheVariants as 
 ghost use Rattle.json5_edit.specs.Changes.{Gains, GainsAt};
 ghost use Rattle.json5_edit.specs.Places.{IsValue};
 ghost use Rattle.json5_edit.specs.Refusals.{RefusesFree, RefusesKind, RefusesStep};
-ghost use Rattle.json5_edit.specs.Spots.{Adds, AddsEntry, BeginsWithEntry, Goes, HasEnd, HasEntry, IsColonBefore, IsNameBefore, Measures, Parts, PassedBefore, ReadsColon, ReadsThen, Removes, comma_for};
+ghost use Rattle.json5_edit.specs.Spots.{Adds, AddsEntry, Goes, HasEnd, HasEntry, HasFound, HasBefore, IsAhead, BeginsWithComma, IsCommaSpan, TakesCommaAhead, IsColonBefore, IsNameBefore, Measures, Parts, PassedBefore, ReadsColon, ReadsThen, Removes, comma_for};
 ghost use Rattle.json5_edit.specs.declared.faults.EditError.TheVariants as edit_errors;
 ghost use Rattle.json5_edit.specs.declared.paths.Step.TheVariants as step;
 
@@ -20,7 +20,7 @@ use crate::faults::{EditError, Result};
 use crate::paths::Step;
 use crate::setting::join;
 use crate::spelled::spelled_key;
-use crate::survey::find_entry;
+use crate::survey::{Found, find_entry};
 use json5_text::scanner::Scanner;
 use json5_types::error;
 use json5_value::brackets::BracketKind;
@@ -34,9 +34,20 @@ pub(crate) fn entry_start(alloc: Global, old: &str, step: Step<'_>, room: usize)
     ensures found { IfOk result (HasEntry step.entry room old.now) }
     ensures refused { IfErr result (RefusesStep old.now step.entry) }
 {
+    let found = entry_found(alloc, old, step, room)?;
+    Ok(found.start)
+}
+
+/// Where the entry stands that the step goes to.
+pub(crate) fn entry_found(alloc: Global, old: &str, step: Step<'_>, room: usize) -> Result<Found>
+    requires small { room ≤ max_depth }
+    requires value { IsValue room (chars old.now) }
+    ensures found { IfOk result (HasFound step.entry room old.now) }
+    ensures refused { IfErr result (RefusesStep old.now step.entry) }
+{
     match find_entry(alloc, old, step, room) {
         Ok(Some(found)) => match found.entry {
-            Some(start) => Ok(start),
+            Some(entry) => Ok(entry),
             None => Err(EditError::Nowhere),
         },
         Ok(None) => Err(EditError::Nowhere),
@@ -82,27 +93,105 @@ pub(crate) fn free_end(alloc: Global, old: &str, key: &str, room: usize) -> Resu
     }
 }
 
-/// The text without the entry that begins at the offset, and without the comma after it.
+/// The text without an entry and the comma after it, or the one before it if none comes after.
 pub(crate) fn without_entry(
     alloc: Global,
     old: &str,
     step: Step<'_>,
-    start: usize,
+    found: Found,
     room: usize,
 ) -> Result<String>
     requires small { room ≤ max_depth }
-    requires entry { HasEntry step room old.now start }
+    requires entry { HasFound step room old.now found }
     ensures removed { IfOk result (λ new. Removes step.entry room old.now (string_bytes new)) }
     ensures full { IfErr result (λ e. e ≡ edit_errors.NoMemory) }
 {
-    let (front, rest) = old.split_at(start);
-    match entry_len(alloc, rest, kind(step), room) {
-        Ok(len) => {
-            let (_gone, back) = rest.split_at(len);
-            join(alloc, front, back, "")
+    let (front, rest) = old.split_at(found.start);
+    let len = len_ahead(alloc, rest, kind(step), room)?;
+    let (_gone, back) = rest.split_at(len.whole);
+    let Some(end) = found.before else {
+        return join(alloc, front, back, "");
+    };
+    if len.bare == len.whole {
+        return without_last(alloc, old, step, found, end, room);
+    }
+    join(alloc, front, back, "")
+}
+
+/// The text without an entry and the comma before it, where the entry before it ends at the offset.
+fn without_last(
+    alloc: Global,
+    old: &str,
+    step: Step<'_>,
+    found: Found,
+    end: usize,
+    room: usize,
+) -> Result<String>
+    requires small { room ≤ max_depth }
+    requires entry { HasBefore step room old.now found.start end }
+    ensures removed { IfOk result (λ new. Removes step.entry room old.now (string_bytes new)) }
+    ensures full { IfErr result (λ e. e ≡ edit_errors.NoMemory) }
+{
+    let (front, text) = old.split_at(end);
+    let (before, after, rest) = comma_ahead(alloc, text)?;
+    let len = len_ahead(alloc, rest, kind(step), room)?;
+    let (_gone, back) = rest.split_at(len.bare);
+    join_four(alloc, front, before, after, back)
+}
+
+/// How long the entry in front of the text is.
+fn len_ahead(alloc: Global, rest: &str, kind: BracketKind, room: usize) -> Result<EntryLen>
+    requires small { room ≤ max_depth }
+    requires ahead { IsAhead kind room (chars rest.now) }
+    ensures measured { IfOk result (Measures kind room rest.now) }
+    ensures full { IfErr result (λ e. e ≡ edit_errors.NoMemory) }
+{
+    match entry_len(alloc, rest, kind, room) {
+        Ok(len) => Ok(len),
+        Err(error) => Err(EditError::of_made(error)),
+    }
+}
+
+/// What stands before and after the comma in front of the text, up to the next entry, and what follows.
+fn comma_ahead(alloc: Global, text: &str) -> Result<(&str, &str, &str)>
+    requires { BeginsWithComma (chars text.now) }
+    ensures taken { IfOk result (λ parts. TakesCommaAhead text.now parts.0.now parts.1.now parts.2.now) }
+    ensures full { IfErr result (λ e. e ≡ edit_errors.NoMemory) }
+{
+    match comma_span(alloc, text) {
+        Ok(span) => {
+            let (before, _) = text.split_at(span.start);
+            let (head, rest) = text.split_at(span.next);
+            let (_, after) = head.split_at(span.end);
+            Ok((before, after, rest))
         }
         Err(error) => Err(EditError::of_made(error)),
     }
+}
+
+/// Where a comma stands in a text, and where the next token begins.
+#[derive(Clone, Copy, Drop)]
+pub(crate) struct CommaSpan {
+    pub(crate) start: usize,
+    pub(crate) end: usize,
+    pub(crate) next: usize,
+}
+
+/// Where the comma in front of the text stands, after blanks.
+fn comma_span(alloc: Global, text: &str) -> error::Result<CommaSpan>
+    ensures taken { IfOk result (IsCommaSpan text.now) }
+    ensures refused { IfErr result (λ e. BeginsWithComma (chars text.now) → LacksMemory e) }
+{
+    let mut scanner = Scanner::new(alloc, text);
+    scanner.skip_blank()?;
+    let start = scanner.offset();
+    if !scanner.eat(',') {
+        return Err(failed());
+    }
+    let end = scanner.offset();
+    scanner.skip_blank()?;
+    let next = scanner.offset();
+    Ok(CommaSpan { start, end, next })
 }
 
 /// The array with the value before the element that begins at the offset.
@@ -189,28 +278,35 @@ fn comma_for(due: bool) -> &'static str
     if due { "," } else { "" }
 }
 
-/// How long the entry is in front of the text, with the comma after it, if there is one.
+/// How long an entry is: up to the end of its value, and with the comma after it, if there is one.
+#[derive(Clone, Copy, Drop)]
+pub(crate) struct EntryLen {
+    pub(crate) bare: usize,
+    pub(crate) whole: usize,
+}
+
+/// How long the entry is in front of the text.
 pub(crate) fn entry_len(
     alloc: Global,
     rest: &str,
     kind: BracketKind,
     room: usize,
-) -> error::Result<usize>
+) -> error::Result<EntryLen>
     requires { room ≤ max_depth }
-    ensures measured { IfOk result (Measures kind room rest.now) }
-    ensures spelled { IfOk result (λ n. Solid (chars rest.now) → BeginsWithEntry (chars rest.now) n) }
+    ensures measured { IfOk result (λ n. Solid (chars rest.now) → Measures kind room rest.now n) }
     ensures refused { IfErr result (λ e. (u t r : Tree) → Parts kind u t r → Goes false u (chars rest.now) → depth t ≤ room → LacksMemory e) }
 {
     let mut scanner = Scanner::new(alloc, rest);
     scanner.skip_blank()?;
     pass_name(&mut scanner, kind)?;
     skip_value(&mut scanner, room)?;
-    let end = scanner.offset();
+    let bare = scanner.offset();
     scanner.skip_blank()?;
     if scanner.eat(',') {
-        return Ok(scanner.offset());
+        let whole = scanner.offset();
+        return Ok(EntryLen { bare, whole });
     }
-    Ok(end)
+    Ok(EntryLen { bare, whole: bare })
 }
 
 /// Passes over the key of a member and the colon with the blanks around it, or over nothing in an array.

@@ -6,19 +6,19 @@ ghost use Rattle.json5_types.specs.Errors.{LacksMemory};
 ghost use Rattle.json5_edit.specs.Keys.{BeginsWithMember, KeySpan, KeyStarts, Rekeys, TakesKeyAhead};
 ghost use Rattle.json5_edit.specs.declared.faults.EditError.TheVariants as edit_errors;
 
-use crate::changing::{fitting, laid};
+use crate::changing::{kept_plain, laid};
 use crate::comparing::check_renamed;
 use crate::faults::{EditError, Result};
 use crate::pieces::{join_five, respelled};
 use crate::places::Span;
-use crate::spelled::spelled_key;
+use crate::spelled::json_key;
 use json5_edit_layout::{Collection, Which, respelling_for};
 use json5_text::scanner::Scanner;
 use json5_types::error;
 use std::alloc::Global;
 
 /// The object with another key for its last member that has this one: spelled like the old one if that reads so, else
-/// as json5 writes it.
+/// as JSON writes it.
 pub(crate) fn renamed(
     alloc: Global,
     collection: &Collection<'_>,
@@ -55,12 +55,12 @@ fn renamed_alike(
     let respelling = laid(respelling_for(alloc, collection, Which::Key(name), key))?;
     let new = respelled(alloc, old, &respelling)?;
     match check_renamed(alloc, old, new.as_str(), name, respelling.index, key) {
-        Ok(()) => fitting(alloc, new, room),
+        Ok(()) => kept_plain(alloc, old, new, room),
         Err(error) => Err(EditError::of_made(error)),
     }
 }
 
-/// The object with the key as json5 writes it, in the place of the old one.
+/// The object with the key as JSON writes it, in the place of the old one.
 fn with_key(
     alloc: Global,
     old: &str,
@@ -76,7 +76,7 @@ fn with_key(
 {
     let (front, rest) = old.split_at(start);
     let (blank, back) = key_ahead(alloc, rest)?;
-    let came = spelled_key(alloc, key)?;
+    let came = json_key(alloc, key)?;
     join_five(alloc, front, "", blank, came.as_str(), back)
 }
 

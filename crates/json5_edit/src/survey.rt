@@ -20,11 +20,18 @@ use json5_types::nesting::Limit;
 use json5_walk::walk::Walk;
 use std::alloc::Global;
 
-/// Where the entry begins that a step goes to, if there is one, and where one more entry may stand at the end, with a
-/// comma before it or without.
+/// Where an entry begins, and where the value of the entry before it ends, if there is one.
+#[derive(Clone, Copy, Drop)]
+pub(crate) struct Found {
+    pub(crate) start: usize,
+    pub(crate) before: Option<usize>,
+}
+
+/// The entry that a step goes to, if there is one, and where one more entry may stand at the end, with a comma before it
+/// or without.
 #[derive(Clone, Copy, Drop)]
 pub(crate) struct Survey {
-    pub(crate) entry: Option<usize>,
+    pub(crate) entry: Option<Found>,
     pub(crate) end: usize,
     pub(crate) comma: bool,
 }
@@ -58,6 +65,7 @@ fn survey_entries(walk: &mut Walk<'_>, step: Step<'_>) -> Result<Survey>
     ensures refused { IfErr result LacksMemory }
 {
     let mut entry = None;
+    let mut before = None;
     for count in 0..walk.text().len() {
         let end = walk.offset();
         if ends(walk)? {
@@ -69,9 +77,10 @@ fn survey_entries(walk: &mut Walk<'_>, step: Step<'_>) -> Result<Survey>
         }
         let start = walk.offset();
         let same = is_sought(walk, step, count)?;
-        entry = latest(same, start, entry);
+        entry = latest(same, Found { start, before }, entry);
         walk.skip()?;
         let end = walk.offset();
+        before = Some(end);
         if !goes_on(walk)? {
             return Ok(Survey {
                 entry,
@@ -95,11 +104,11 @@ fn is_sought(walk: &mut Walk<'_>, step: Step<'_>, count: usize) -> Result<bool>
     }
 }
 
-/// The entry that begins at the offset, if it is the one that was sought, or the one found before.
-fn latest(same: bool, start: usize, before: Option<usize>) -> Option<usize>
-    ensures { result ≡ latest same start before }
+/// This entry, if it is the one that was sought, or the one found before.
+fn latest(same: bool, now: Found, before: Option<Found>) -> Option<Found>
+    ensures { result ≡ latest same now before }
 {
-    if same { Some(start) } else { before }
+    if same { Some(now) } else { before }
 }
 
 /// The limit with so much room.

@@ -5,6 +5,7 @@ use Rattle.json5_edit.specs.Pieces.{Respells}
 use Rattle.json5_edit.specs.Refusals.{RefusesRename}
 use Rattle.json5_edit.specs.Spots.{HasEntry}
 use Rattle.json5_edit.proofs.Placed.{ok_then}
+use Rattle.json5_edit.proofs.PlainCuts.{keeps_within}
 use Rattle.json5_edit.proofs.Changed.{has_place, is_small, changed_within}
 use Rattle.json5_edit.proofs.Refused.{no_steps, lacking, path_rename, step_rename, key_rename, value_fits, old_document}
 use Rattle.json5_edit.proofs.changing.rename.Goals as goal
@@ -54,7 +55,10 @@ returns-in_err-new-clause-refused c =
     rw (is, from, c.in_err-new.ensures.full) tt
 
 pub returns-clause-rekeyed : goal.returns-clause-rekeyed
-returns-clause-rekeyed c = ok_then c.splice.result (λ made k. let q = changed_within Respells (IsRenamed c.in-Key.name.now c.args.key.now) c.args.text.now c.part_text-old.result.now c.as_str.result.now (string_bytes c.in_ok-new.new) (string_bytes made) c.in-Some.outer.now c.in_ok-place.place c.utf8.text c.as_str.utf8 c.as_str.ensures.value c.in_ok-place.ensures.found c.part_text-old.ensures c.in_ok-new.ensures.renamed k in (c.in-Some.outer.now, c.in-Key.name, c.in-Some.ensures.cases.0 ∙ ap (λ s. c.in-Some.outer.now ++ (s ∷ [])) c.in-Key.is, q.0, q.1)) c.splice.ensures.spliced
+returns-clause-rekeyed c = ok_then c.splice.result (λ made k. let q = changed_within Respells (IsRenamed c.in-Key.name.now c.args.key.now) c.args.text.now c.part_text-old.result.now c.as_str.result.now (string_bytes c.in_ok-new.new) (string_bytes made) c.in-Some.outer.now c.in_ok-place.place c.utf8.text c.as_str.utf8 c.as_str.ensures.value c.in_ok-place.ensures.found c.part_text-old.ensures (let q = c.in_ok-new.ensures.renamed in (q.0, q.1, q.2)) k in (c.in-Some.outer.now, c.in-Key.name, c.in-Some.ensures.cases.0 ∙ ap (λ s. c.in-Some.outer.now ++ (s ∷ [])) c.in-Key.is, q.0, q.1)) c.splice.ensures.spliced
+
+pub returns-clause-plain : goal.returns-clause-plain
+returns-clause-plain c = ok_then c.splice.result (λ made k. let q = c.in_ok-new.ensures.renamed in keeps_within c.args.text.now c.part_text-old.result.now c.as_str.result.now (string_bytes c.in_ok-new.new) (string_bytes made) c.in-Some.outer.now c.in_ok-place.place c.utf8.text c.as_str.utf8 c.as_str.ensures.value c.in_ok-place.ensures.found c.part_text-old.ensures q.2 q.3 k) c.splice.ensures.spliced
 
 pub returns-clause-refused : goal.returns-clause-refused
 returns-clause-refused c = lacking (RefusesRename c.args.text.now c.args.path.now c.args.key.now) c.splice.result tt c.splice.ensures.full

@@ -1,19 +1,13 @@
 use Rattle.std.proofs.Common.{refl}
 use Rattle.std.proofs.lemmas.Result.{err_from_is_err_and}
-use Rattle.json5_edit.proofs.Measured.{with_comma, without_comma, past_blanks, goes_spare, value_refused, value_passed, starts_goes, name_passed, spelled_with_comma, spelled_without_comma}
+use Rattle.json5_edit.proofs.Measured.{with_comma, without_comma, past_blanks, goes_spare, value_refused, value_passed, starts_goes}
 use Rattle.json5_edit.proofs.plain.entry_len.Goals as goal
 
 pub returns-then-eat-clause-measured : goal.returns-then-eat-clause-measured
-returns-then-eat-clause-measured c = with_comma c.args.kind c.args.room c.args.rest.now c.offset.result c.new-scanner.ensures c.in_ok-skip_blank.ensures.passed (name_passed c.in_ok-pass_name.ensures.passed) c.in_ok-pass_name.ensures.named c.in_ok-skip_value.ensures.given c.in_ok-skip_blank-2.ensures.passed (c.if-eat.ensures.taken refl) c.offset.ensures.counted
+returns-then-eat-clause-measured c = with_comma c.args.kind c.args.room c.args.rest.now _ c.new-scanner.ensures c.in_ok-skip_blank.ensures.passed c.in_ok-pass_name.ensures.passed c.in_ok-pass_name.ensures.named c.in_ok-skip_value.ensures.given c.in_ok-skip_blank-2.ensures.passed (c.if-eat.ensures.taken refl) c.offset-bare.ensures.counted c.offset-whole.ensures.counted
 
 pub returns-clause-measured : goal.returns-clause-measured
-returns-clause-measured c = without_comma c.args.kind c.args.room c.args.rest.now c.offset-end.result c.new-scanner.ensures c.in_ok-skip_blank.ensures.passed (name_passed c.in_ok-pass_name.ensures.passed) c.in_ok-pass_name.ensures.named c.in_ok-skip_value.ensures.given c.in_ok-skip_blank-2.ensures.passed (c.if-eat.ensures.kept refl).1 c.offset-end.ensures.counted
-
-pub returns-then-eat-clause-spelled : goal.returns-then-eat-clause-spelled
-returns-then-eat-clause-spelled c = spelled_with_comma c.args.room c.args.rest.now c.offset.result c.new-scanner.ensures c.in_ok-skip_blank.ensures.passed c.in_ok-pass_name.ensures.passed c.in_ok-skip_value.ensures.given c.in_ok-skip_blank-2.ensures.passed (c.if-eat.ensures.taken refl) c.offset.ensures.counted
-
-pub returns-clause-spelled : goal.returns-clause-spelled
-returns-clause-spelled c = spelled_without_comma c.args.room c.args.rest.now c.offset-end.result c.new-scanner.ensures c.in_ok-skip_blank.ensures.passed c.in_ok-pass_name.ensures.passed c.in_ok-skip_value.ensures.given c.offset-end.ensures.counted
+returns-clause-measured c = without_comma c.args.kind c.args.room c.args.rest.now _ c.new-scanner.ensures c.in_ok-skip_blank.ensures.passed c.in_ok-pass_name.ensures.passed c.in_ok-pass_name.ensures.named c.in_ok-skip_value.ensures.given c.in_ok-skip_blank-2.ensures.passed (c.if-eat.ensures.kept refl).1 c.offset-bare.ensures.counted c.offset-bare.ensures.counted
 
 pub returns-in_err-skip_blank-clause-refused : goal.returns-in_err-skip_blank-clause-refused
 returns-in_err-skip_blank-clause-refused c =

@@ -11,10 +11,10 @@ pub returns-then-branch-clause-surveyed : goal.returns-then-branch-clause-survey
 returns-then-branch-clause-surveyed c = passing_ends c.loop-count.invariant c.requires.value c.offset-end.ensures (subst (λ b. Ended b c.loop-count.walk c.ends.new.walk) c.if-branch.true c.in_ok-ends.ensures.ended)
 
 pub returns-then-not-branch-clause-surveyed : goal.returns-then-not-branch-clause-surveyed
-returns-then-not-branch-clause-surveyed c = entered_ends (entered _ c.loop-count.invariant (subst (λ b. Ended b c.loop-count.walk c.ends.new.walk) c.if-branch.false c.in_ok-ends.ensures.ended) (c.in_ok-ends.ensures.stands c.if-branch.false).0 c.requires.value c.offset-start.ensures c.in_ok-same.ensures.named c.latest-entry.ensures c.in_ok-skip.ensures.passed) c.requires.value c.offset-end-in-loop-count.ensures (subst (λ b. WentOn b c.skip.new.self c.goes_on.new.walk) c.if-not-branch.true c.in_ok-goes_on.ensures.went)
+returns-then-not-branch-clause-surveyed c = entered_ends (entered _ c.loop-count.invariant (subst (λ b. Ended b c.loop-count.walk c.ends.new.walk) c.if-branch.false c.in_ok-ends.ensures.ended) (c.in_ok-ends.ensures.stands c.if-branch.false).0 c.requires.value c.offset-start.ensures c.in_ok-same.ensures.named c.latest-entry.ensures c.in_ok-skip.ensures.passed c.offset-end-in-loop-count.ensures) c.requires.value c.offset-end-in-loop-count.ensures (subst (λ b. WentOn b c.skip.new.self c.goes_on.new.walk) c.if-not-branch.true c.in_ok-goes_on.ensures.went)
 
 pub loop-count-preserved : goal.loop-count-preserved
-loop-count-preserved c = goes_on_passing (entered _ c.loop-count.invariant (subst (λ b. Ended b c.loop-count.walk c.ends.new.walk) c.if-branch.false c.in_ok-ends.ensures.ended) (c.in_ok-ends.ensures.stands c.if-branch.false).0 c.requires.value c.offset-start.ensures c.in_ok-same.ensures.named c.latest-entry.ensures c.in_ok-skip.ensures.passed) (subst (λ b. WentOn b c.skip.new.self c.goes_on.new.walk) c.if-not-branch.false c.in_ok-goes_on.ensures.went)
+loop-count-preserved c = goes_on_passing (entered _ c.loop-count.invariant (subst (λ b. Ended b c.loop-count.walk c.ends.new.walk) c.if-branch.false c.in_ok-ends.ensures.ended) (c.in_ok-ends.ensures.stands c.if-branch.false).0 c.requires.value c.offset-start.ensures c.in_ok-same.ensures.named c.latest-entry.ensures c.in_ok-skip.ensures.passed c.offset-end-in-loop-count.ensures) (subst (λ b. WentOn b c.skip.new.self c.goes_on.new.walk) c.if-not-branch.false c.in_ok-goes_on.ensures.went)
 
 pub returns-in_err-ends-clause-refused : goal.returns-in_err-ends-clause-refused
 returns-in_err-ends-clause-refused c =
@@ -34,7 +34,7 @@ returns-in_err-skip-clause-refused c =
 pub returns-in_err-goes_on-clause-refused : goal.returns-in_err-goes_on-clause-refused
 returns-in_err-goes_on-clause-refused c =
     let (y, is, from) = err_from_is_err_and c.from_residual-in_err-goes_on.result c.from_residual-in_err-goes_on.ensures.1 in
-    rw (is, from) (comma_spares (entered _ c.loop-count.invariant (subst (λ b. Ended b c.loop-count.walk c.ends.new.walk) c.if-branch.false c.in_ok-ends.ensures.ended) (c.in_ok-ends.ensures.stands c.if-branch.false).0 c.requires.value c.offset-start.ensures c.in_ok-same.ensures.named c.latest-entry.ensures c.in_ok-skip.ensures.passed) c.requires.value c.in_err-goes_on.ensures.refused)
+    rw (is, from) (comma_spares (entered _ c.loop-count.invariant (subst (λ b. Ended b c.loop-count.walk c.ends.new.walk) c.if-branch.false c.in_ok-ends.ensures.ended) (c.in_ok-ends.ensures.stands c.if-branch.false).0 c.requires.value c.offset-start.ensures c.in_ok-same.ensures.named c.latest-entry.ensures c.in_ok-skip.ensures.passed c.offset-end-in-loop-count.ensures) c.requires.value c.in_err-goes_on.ensures.refused)
 
 pub returns-clause-refused : goal.returns-clause-refused
 returns-clause-refused c = too_many_entries c.loop-count.invariant c.requires.inside.is_at.is_text c.requires.value (subst (λ x. length x ≤ c.loop-count.count) c.text-count-end.ensures c.loop-count-test.false)

@@ -1,5 +1,5 @@
 use Rattle.json5_edit.proofs.StepsSurveyed.{no_collection, no_entry}
-use Rattle.json5_edit.proofs.plain.entry_start.Goals as goal
+use Rattle.json5_edit.proofs.plain.entry_found.Goals as goal
 
 pub returns-in-None-clause-refused : goal.returns-in-None-clause-refused
 returns-in-None-clause-refused c = no_entry {found = c.in-Ok-Some.found} c.args.step c.requires.small (rw c.in-Ok-Some.field-0-is at c.in-None.is) (rw c.in-Ok-Some.field-0-is at c.in-Ok-Some.ensures.surveyed)
