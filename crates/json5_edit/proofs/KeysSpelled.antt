@@ -15,6 +15,10 @@ use Rattle.json5_grammar.proofs.BlanksRead.{skip_blanks}
 use Rattle.json5_grammar.proofs.BlanksSound.{blank_refused, gap_blanks}
 use Rattle.json5_grammar.proofs.Refusals.{not_both}
 use Rattle.json5_grammar.proofs.ValueHeads.{key_head, skip_key}
+use Rattle.json5_layouts.specs.Json.{JsonString}
+use Rattle.json5_layouts.specs.JsonTexts.{json_string}
+use Rattle.json5_layouts.proofs.JsonWritten.{string_is}
+use Rattle.json5_layouts.proofs.Spelled.{json_key_is}
 use Rattle.json5_text.specs.Cursor.{Cursor, Took, Refused, offset_of}
 use Rattle.json5_text.specs.Outcome.{bytes_in}
 use Rattle.json5_text.specs.TokenFaults.{FaultyBlanks}
@@ -42,6 +46,13 @@ pub key_spelled : (key bytes : List ℕ) → IsUtf8 key → IsText (key_out (nam
 key_spelled key bytes u t =
     let free = is_escape_free_key (chars key) in
     (chars key, free, subst (λ z. KeyText z (chars key) free) (sym t.characters) (written_key (chars key)), encodes-chars key u)
+
+-- the same of what was written as JSON has it
+pub json_key_spelled : (key bytes : List ℕ) → IsUtf8 key → chars bytes ≡ json_string (chars key) → SpellsKey key bytes
+json_key_spelled key bytes u is = let (free, text) = json_key_is (chars key) in (chars key, free, subst (λ z. KeyText z (chars key) free) (sym is) text, encodes-chars key u)
+
+pub json_key_plain : (key bytes : List ℕ) → chars bytes ≡ json_string (chars key) → JsonString (chars bytes)
+json_key_plain key bytes is = subst JsonString (sym is) (string_is (chars key))
 
 -- a key is refused where memory is, and nowhere else
 refused_so : (u : List ℕ) (old new : SerializerState) (r : PutRefused) (e : Error) → old.failed ≡ false → Puts (key_out (named u)) old (Err r) new → SaysAt (text_kind_by r) None e → LacksMemory e

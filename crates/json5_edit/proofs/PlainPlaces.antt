@@ -1,11 +1,10 @@
 -- A plain text keeps plain around a place: what was passed is whole tokens, and a plain value comes there.
-use Rattle.std.proofs.Common.{◌≡◌, ◌≢◌, ℕ, Bool, true, false, ◌||◌, ◌⊎◌, inl, inr, List, [], ◌∷◌, ◌++◌, refl, ap, sym, ◌∙◌, append_assoc, subst, Some, arith}
-use Rattle.std.specs.Prelude.{◌==◌, string_bytes, IfOk, Result}
+use Rattle.std.proofs.Common.{◌≡◌, ◌≢◌, ℕ, Bool, true, false, inl, inr, List, [], ◌∷◌, ◌++◌, refl, ap, sym, ◌∙◌, subst, Some, arith}
+use Rattle.std.specs.Prelude.{◌==◌}
 use Rattle.std.specs.Str.{chars, IsUtf8, all_scalars, encode_utf8_all}
 use Rattle.std.proofs.lemmas.Bool.Decides.{nat_tests}
 use Rattle.std.proofs.lemmas.List.{append-nil}
 use Rattle.std.proofs.lemmas.Str.{chars-encodes, scalars-chars}
-use Rattle.json5_grammar.specs.Language.Blanks.{Blanks}
 use Rattle.json5_grammar.specs.Language.Characters.{comma_sign, NotBegun}
 use Rattle.json5_grammar.specs.Language.Trees.{Tree}
 use Rattle.json5_grammar.specs.Language.Values.{Val}
@@ -13,8 +12,8 @@ use Rattle.json5_lexemes.specs.Plain.{is_closing, Plain, PlainText, StaysPlain}
 use Rattle.json5_lexemes.specs.SameLexemes.{is_sign, is_word_part}
 use Rattle.json5_lexemes.specs.Spans.{Spans, Apart, AfterEntry, at_comma, at_bracket, at_end}
 use Rattle.json5_lexemes.specs.Spans as spans
-use Rattle.json5_lexemes.specs.declared.plain.Last.{Last}
-use Rattle.json5_lexemes.specs.declared.plain.Last.TheVariants as last
+use Rattle.json5_lexemes.specs.LastTokens.{LastToken}
+use Rattle.json5_lexemes.specs.LastTokens as last
 use Rattle.json5_lexemes.proofs.DocumentLexemes.{blanks_stop, sign_no_part, not_part}
 use Rattle.json5_lexemes.proofs.PlainSeams.{seam, front_plain, free_turn, value_begins, after_stops, value_changed}
 use Rattle.json5_lexemes.proofs.TokensSpanned.{joined, sign_span, comma_span, blanks_span, value_alone, key_alone, SpansAlone}
@@ -28,9 +27,9 @@ use Rattle.json5_edit.proofs.Placed.{made_chars, scalars_left, scalars_right}
 
 -- the text by the kind of its last token, which is no word where a key or a value may follow
 pub record Spanned (unended : Bool) (x : List ℕ) : Type 0 where
-  pub kind : Last
-  pub spans : Spans last.Sign x kind
-  pub no_word : unended ≡ false → kind ≢ last.Word
+  pub kind : LastToken
+  pub spans : Spans last.sign x kind
+  pub no_word : unended ≡ false → kind ≢ last.word
 
 -- where the last token is no word, whatever follows it doesn't go on with it
 pub apart : {x : List ℕ} (s : Spanned false x) (r : List ℕ) → Apart s.kind r
@@ -47,12 +46,12 @@ punctuated {x = x} c s h = by_comma (c == comma_sign) refl
 
     by_comma : (b : Bool) → (c == comma_sign) ≡ b → Spanned false (x ++ c ∷ [])
     by_comma true e = subst (λ z. Spanned false (x ++ z ∷ [])) (comma c e) (record {
-      kind = last.Comma;
+      kind = last.comma;
       spans = joined (comma_sign ∷ []) s.spans (λ w. not_part comma_sign refl) (comma_span s.kind);
       no_word = λ f g. absurd (cc);
     })
     by_comma false e = record {
-      kind = last.Sign;
+      kind = last.sign;
       spans = joined (c ∷ []) s.spans (λ w. sign_no_part c (sign c h e)) (sign_span s.kind c (sign c h e));
       no_word = λ f g. absurd (cc);
     }
@@ -61,7 +60,7 @@ alone_after : {x s : List ℕ} → Spanned false x → SpansAlone s → Spanned 
 alone_after {s = y} s a = record { kind = a.kind; spans = joined y s.spans (apart s y) (a.spans s.kind); no_word = λ f g. absurd (cc) }
 
 pub spanned : {u : Bool} {x : List ℕ} → WholeTokens u x → Spanned u x
-spanned no_token = record { kind = last.Sign; spans = spans.nothing; no_word = λ f g. absurd (cc) }
+spanned no_token = record { kind = last.sign; spans = spans.nothing; no_word = λ f g. absurd (cc) }
 spanned (then_blanks {w = w} h b) =
     let s = spanned h in
     record { kind = s.kind; spans = joined w s.spans (λ e. subst (NotBegun is_word_part) (append-nil w) (blanks_stop [] b tt)) (blanks_span s.kind b); no_word = s.no_word }
@@ -92,15 +91,15 @@ value_ends (inr l) = at_end l
 -- ---- in a place
 
 -- the value in the place is plain by itself
-pub part_plain : {k : Bool} {before old after : List ℕ} {t : Tree} → WholeTokens false before → EndsValue after → Val old t → Plain k last.Sign (before ++ (old ++ after)) → Plain k last.Sign old
+pub part_plain : {k : Bool} {before old after : List ℕ} {t : Tree} → WholeTokens false before → EndsValue after → Val old t → Plain k last.sign (before ++ (old ++ after)) → Plain k last.sign old
 part_plain {old = old} {after = after} h e v p =
     let s = spanned h in
     let a = value_alone v in
     let f = seam (old ++ after) s.spans (apart s (old ++ after)) p in
-    front_plain after (a.spans last.Sign) (λ w. after_stops (value_ends e)) (free_turn last.Sign after (value_begins v) refl f.rest)
+    front_plain after (a.spans last.sign) (λ w. after_stops (value_ends e)) (free_turn last.sign after (value_begins v) refl f.rest)
 
 -- the text with another plain value there is plain
-pub place_plain : {k : Bool} {before old new after : List ℕ} {t u : Tree} → WholeTokens false before → EndsValue after → Val old t → Val new u → Plain k last.Sign (before ++ (old ++ after)) → Plain k last.Sign new → Plain k last.Sign (before ++ (new ++ after))
+pub place_plain : {k : Bool} {before old new after : List ℕ} {t u : Tree} → WholeTokens false before → EndsValue after → Val old t → Val new u → Plain k last.sign (before ++ (old ++ after)) → Plain k last.sign new → Plain k last.sign (before ++ (new ++ after))
 place_plain {old = old} {new = new} {after = after} h e v w p q =
     let s = spanned h in
     value_changed after s.spans (apart s (old ++ after)) (apart s (new ++ after)) v w (value_ends e) p q
@@ -110,7 +109,7 @@ pub plain_there : (bytes new made : List ℕ) (path : List Step) (p : Place) →
 plain_there bytes new made path p u v leads (t, val, d) k comments was came =
     let q = leads.placed in
     let whole = made_chars bytes new made q.before q.old q.after u v q.cut.whole (k q.before q.old q.after q.cut) in
-    subst (Plain comments last.Sign) (sym whole) (place_plain q.passed q.ends q.value val (subst (Plain comments last.Sign) q.cut.whole was) came)
+    subst (Plain comments last.sign) (sym whole) (place_plain q.passed q.ends q.value val (subst (Plain comments last.sign) q.cut.whole was) came)
 
 -- what holds of a value in the place and of the one that is put there, of their being plain, holds of the texts
 pub plain_within : (bytes old value new text made : List ℕ) (path : List Step) (p : Place) → IsUtf8 bytes → IsUtf8 new → new ≡ text → Leads bytes path (Some p) → ((before o after : List ℕ) → IsPart bytes p before o after → old ≡ encode_utf8_all o) → IsValue p.room (chars text) → StaysPlain old value text → ((before o after : List ℕ) → IsPart bytes p before o after → made ≡ encode_utf8_all before ++ (new ++ encode_utf8_all after)) → StaysPlain bytes value made
@@ -118,6 +117,6 @@ plain_within bytes old value new text made path p u v is leads there fits stays 
     let q = leads.placed in
     let scalars : all_scalars (q.before ++ (q.old ++ q.after)) ≡ true = ap all_scalars (sym q.cut.whole) ∙ scalars-chars bytes u in
     let old_is : chars old ≡ q.old = ap chars (there q.before q.old q.after q.cut) ∙ chars-encodes q.old (scalars_left q.old q.after (scalars_right q.before (q.old ++ q.after) scalars)) in
-    let old_plain = part_plain q.passed q.ends q.value (subst (Plain comments last.Sign) q.cut.whole was) in
-    let new_plain : PlainText comments new = subst (PlainText comments) (sym is) (stays comments (subst (Plain comments last.Sign) (sym old_is) old_plain) came) in
+    let old_plain = part_plain q.passed q.ends q.value (subst (Plain comments last.sign) q.cut.whole was) in
+    let new_plain : PlainText comments new = subst (PlainText comments) (sym is) (stays comments (subst (Plain comments last.sign) (sym old_is) old_plain) came) in
     plain_there bytes new made path p u v leads (subst (λ x. IsValue p.room (chars x)) (sym is) fits) k comments was new_plain

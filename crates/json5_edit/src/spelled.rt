@@ -1,10 +1,13 @@
 //! How a key is spelled.
 
 ghost use Rattle.std.specs.Prelude.{◌≡◌, IfOk, IfErr, string_bytes};
+ghost use Rattle.std.specs.Str.{chars};
+ghost use Rattle.json5_layouts.specs.Json.{JsonString};
 ghost use Rattle.json5_edit.specs.Pieces.{SpellsKey};
 ghost use Rattle.json5_edit.specs.declared.faults.EditError.TheVariants as edit_errors;
 
 use crate::faults::{EditError, Result};
+use json5_layouts::to_json_string;
 use json5_types::nesting::Limit;
 use json5_write::string_writer::StringWriter;
 use json5_write::{Printer, text_of};
@@ -18,6 +21,18 @@ pub(crate) fn spelled_key(alloc: Global, key: &str) -> Result<String>
     let mut printer = Printer::within(StringWriter::new(alloc), Limit::full());
     let put = printer.put_key(key);
     match text_of(put, printer.into_inner().into_bytes()) {
+        Ok(made) => Ok(made),
+        Err(error) => Err(EditError::of_made(error)),
+    }
+}
+
+/// The key as JSON writes it: between double quotes.
+pub(crate) fn json_key(alloc: Global, key: &str) -> Result<String>
+    ensures spelled { IfOk result (λ made. SpellsKey key.now (string_bytes made)) }
+    ensures plain { IfOk result (λ made. JsonString (chars (string_bytes made))) }
+    ensures full { IfErr result (λ e. e ≡ edit_errors.NoMemory) }
+{
+    match to_json_string(alloc, key) {
         Ok(made) => Ok(made),
         Err(error) => Err(EditError::of_made(error)),
     }

@@ -8,3 +8,4 @@ pub mod Plain
 pub mod Spans
 pub mod WithoutComments
 pub mod PlainSteps
+pub mod LastTokens
