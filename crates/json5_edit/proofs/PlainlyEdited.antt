@@ -175,7 +175,7 @@ goes_after_comma (number n) x g = absurd g
 goes_after_comma (text v e) x g = absurd g
 
 -- at the closing bracket no comma is due
-goes_closed : (u : Tree) (x : List ℕ) → entries u ≡ [] → Goes false u x → Goes true u x
+pub goes_closed : (u : Tree) (x : List ℕ) → entries u ≡ [] → Goes false u x → Goes true u x
 goes_closed (array no_more) x e g = inl g
 goes_closed (object no_member) x e g = inl g
 goes_closed (array (more t us)) x e g = absurd (cc)
@@ -310,7 +310,7 @@ comma_is : (due : Bool) → IsComma (comma_for due)
 comma_is true = inr refl
 comma_is false = inl refl
 
-comma_utf8 : (due : Bool) → IsUtf8 (comma_for due)
+pub comma_utf8 : (due : Bool) → IsUtf8 (comma_for due)
 comma_utf8 true = ascii_utf8
 comma_utf8 false = encoded [] refl
 
@@ -320,6 +320,12 @@ last_goes false entry rest key v u utf8 none g f = f.goes rest (goes_closed u re
 last_goes true entry rest key v u utf8 none g f =
     let is : chars ((44 ∷ []) ++ entry) ++ rest ≡ 44 ∷ (chars entry ++ rest) = ap (λ z. z ++ rest) (chars_both (44 ∷ []) entry ascii_utf8 utf8 ∙ ap (λ z. z ++ chars entry) ascii_comma) in
     subst (Goes true f.all) (sym is) (goes_after_comma f.all (chars entry ++ rest) (f.goes rest g))
+
+-- what goes on at the end of a collection has no entry
+pub last_closed : {k : Kind} {limit : ℕ} {bytes : List ℕ} {end : End} → (h : HasEnd k limit bytes end) → (u : Tree) × (entries u ≡ []) × Goes end.comma u h.end.rest
+last_closed {k = k} {limit = limit} {bytes = bytes} h =
+    let (u, same, goes, small, joins) = h.end.back h.tree (spells_value limit (chars bytes) h.tree h.value h.shallow) in
+    (u, no_rest (entries h.tree) (entries u) (ap entries joins ∙ entries_joined k h.tree u h.kind (same ∙ h.kind)), goes)
 
 -- at the end
 pub last_added : (k : Kind) (limit : ℕ) (end : End) (bytes new front back entry comma : List ℕ) → limit ≤ max_depth → IsUtf8 bytes → IsUtf8 entry → (h : HasEnd k limit bytes end) → front ≡ encode_utf8_all h.end.front → back ≡ encode_utf8_all h.end.rest → comma ≡ comma_for end.comma → new ≡ front ++ (comma ++ (entry ++ back)) → (key : List ℕ) (v : Tree) → SpellsEntry k key v (chars entry) → depth v + 1 ≤ limit → Adds (IsWithLast k key v) limit bytes new
@@ -418,12 +424,16 @@ colon_utf8 : IsUtf8 (58 ∷ [])
 unfolding lib.Utf8.encode
 colon_utf8 = encoded (58 ∷ []) refl
 
+-- the characters of a member
+pub member_chars : (value name entry : List ℕ) → IsUtf8 name → IsUtf8 value → entry ≡ name ++ ((58 ∷ []) ++ value) → chars entry ≡ chars name ++ (58 ∷ chars value)
+member_chars value name entry name_utf8 value_utf8 is =
+    ap chars is ∙ chars_both name ((58 ∷ []) ++ value) name_utf8 (utf8_both (58 ∷ []) value colon_utf8 value_utf8)
+    ∙ ap (λ z. chars name ++ z) (chars_both (58 ∷ []) value colon_utf8 value_utf8 ∙ ap (λ z. z ++ chars value) ascii_colon)
+
 -- a member that is spelled so
 pub member_added : {end : End} (key value : List ℕ) (limit : ℕ) (bytes new name entry : List ℕ) → IsUtf8 name → IsUtf8 value → SpellsKey key name → entry ≡ name ++ ((58 ∷ []) ++ value) → HasEnd kind.Object limit bytes end → IsValue (limit - 1) (chars value) → ((k : List ℕ) (v : Tree) → SpellsEntry kind.Object k v (chars entry) → depth v + 1 ≤ limit → Adds (IsWithLast kind.Object k v) limit bytes new) → Adds (Gains kind.Object key value) limit bytes new
 member_added key value limit bytes new name entry name_utf8 value_utf8 (u, b, spelled, means) is h (v, val, d) adds =
-    let parts : chars entry ≡ chars name ++ (58 ∷ chars value) =
-    ap chars is ∙ chars_both name ((58 ∷ []) ++ value) name_utf8 (utf8_both (58 ∷ []) value colon_utf8 value_utf8)
-    ∙ ap (λ z. chars name ++ z) (chars_both (58 ∷ []) value colon_utf8 value_utf8 ∙ ap (λ z. z ++ chars value) ascii_colon) in
+    let parts = member_chars value name entry name_utf8 value_utf8 is in
     let one : SpellsEntry kind.Object (encode_utf8_all u) v (chars entry) = subst (SpellsEntry kind.Object (encode_utf8_all u) v) (sym parts) (spells_member (chars name) (chars value) u b v spelled val) in
     let same : SpellsEntry kind.Object key v (chars entry) = subst (λ k. SpellsEntry kind.Object k v (chars entry)) means one in
     gains kind.Object key value v limit bytes new val (adds key v same (fits_inside limit (depth v) kind.Object h.tree h.kind h.shallow d))

@@ -5,6 +5,9 @@ use Rattle.std.specs.Str.{chars}
 use Rattle.json5_grammar.specs.Language.Documents.{Doc, max_depth}
 use Rattle.json5_grammar.specs.Language.Trees.{Tree}
 use Rattle.json5_grammar.specs.Language.Values.{Val}
+use Rattle.json5_edit_layout.specs.declared.habits.Names.{Names}
+use Rattle.json5_edit_layout.specs.declared.habits.Names.TheVariants as names
+use Rattle.json5_lexemes.specs.Plain.{StaysPlain}
 use Rattle.json5_value.specs.declared.brackets.BracketKind.{BracketKind as Kind}
 use Rattle.json5_value.specs.declared.brackets.BracketKind.TheVariants as kind
 use Rattle.json5_edit.specs.Comparing.{IsWithout, IsWithLast, IsWithAt, IsRenamed}
@@ -69,3 +72,7 @@ IsInserted text path key value made = (c : IsChanged (Gains kind.Object key valu
 -- with another key for the member that the path leads to: one key is spelled anew
 abbrev pub IsRekeyed : List ℕ → List Step → List ℕ → List ℕ → Type 0
 IsRekeyed text path key made = (outer : List Step) × (k : Bor (List ℕ)) × (path ≡ outer ++ (step.Key k ∷ [])) × (c : IsChanged (IsRenamed k.now key) text outer made) × Respells c.old c.new
+
+-- made is as plain as the text where the value is so too, if a name stands between quotes as the first key
+abbrev pub StaysPlainQuoted : Names → List ℕ → List ℕ → List ℕ → Type 0
+StaysPlainQuoted first text value made = first ≡ names.Quoted → StaysPlain text value made

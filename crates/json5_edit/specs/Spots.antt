@@ -6,7 +6,7 @@ use Rattle.json5_grammar.specs.Language.Characters.{comma_sign, colon_sign}
 use Rattle.json5_grammar.specs.Language.Trees.{Tree, null, boolean, number, text, array, object, Trees, Members, more, member, depth}
 use Rattle.json5_grammar.specs.Language.Values.{Val, KeyText, Reads}
 use Rattle.json5_grammar.specs.Model.Collections.{IsKeyValue, Tail, MembersTail, joined_trees, joined_members}
-use Rattle.json5_lexemes.specs.Plain.{KeepsPlain}
+use Rattle.json5_lexemes.specs.Plain.{KeepsPlain, StaysPlain}
 use Rattle.json5_text.specs.Cursor.{Cursor, Took}
 use Rattle.json5_text.specs.Outcome.{bytes_in}
 use Rattle.json5_types.specs.declared.error.Error.{Error}
@@ -178,6 +178,10 @@ pub data SpellsEntry : Kind → List ℕ → Tree → List ℕ → Type 0 where
 -- with these characters as one more entry at the end, of whatever key and value they are an entry that fits
 abbrev pub AddsEntry : Kind → List ℕ → ℕ → List ℕ → List ℕ → Type 0
 AddsEntry k x limit old new = (key : List ℕ) (v : Tree) → SpellsEntry k key v x → depth v + 1 ≤ limit → Adds (IsWithLast k key v) limit old new
+
+-- and of whatever key and value they are an entry, the collection stays as plain as it was where the entry is so too
+abbrev pub AddsPlainly : Kind → List ℕ → List ℕ → List ℕ → Type 0
+AddsPlainly k entry old new = (key : List ℕ) (v : Tree) → SpellsEntry k key v (chars entry) → StaysPlain old entry new
 
 abbrev pub comma_for : Bool → List ℕ
 comma_for true = comma_sign ∷ []

@@ -1,19 +1,22 @@
 //! Adds, removes and renames the entries of a collection.
 
 ghost use Rattle.std.specs.Prelude.{◌≡◌, ◌≤◌, ◌-◌, ℕ, List, [], false, IfOk, IfErr, OnOk, string_bytes};
-ghost use Rattle.json5_edit.specs.Changes.{ChangesBy, Gains, GainsAt, IsRemoved, IsPushed, IsPutIn, IsInserted, IsRekeyed};
+ghost use Rattle.json5_edit.specs.Changes.{ChangesBy, Gains, GainsAt, IsRemoved, IsPushed, IsPutIn, IsInserted, IsRekeyed, StaysPlainQuoted};
 ghost use Rattle.json5_edit.specs.Pieces.{Grows};
 ghost use Rattle.json5_edit.specs.Places.{HasPlace, IsPart, IsValue};
 ghost use Rattle.json5_edit.specs.Refusals.{RefusesRemove, RefusesPush, RefusesPutIn, RefusesInsert, RefusesRename, RefusesKind, RefusesKey, RefusesValue, IsOwn, BeginsNo};
 ghost use Rattle.json5_edit.specs.Spots.{Adds, HasEnd, HasEntry, HasFound, Removes};
 ghost use Rattle.json5_edit.specs.declared.faults.EditError.TheVariants as edit_errors;
 ghost use Rattle.json5_edit.specs.declared.paths.Step.TheVariants as step;
+ghost use Rattle.json5_edit_layout.specs.declared.habits.Names.TheVariants as layout_names;
+ghost use Rattle.json5_lexemes.specs.Plain.{StaysPlain};
 ghost use Rattle.json5_value.specs.declared.brackets.BracketKind.TheVariants as kind;
 ghost use Rattle.json5_grammar.specs.Language.Documents.{max_depth};
 ghost use Rattle.json5_lexemes.specs.Plain.{KeepsPlain};
 ghost use Rattle.json5_walk.specs.Walks.{IsDocument};
 ghost use Rattle.std.specs.Str.{chars, encode_utf8_all};
 
+use crate::as_plain::fitting_as_plain;
 use crate::comparing::{check_added, check_put_in, check_removed, kind};
 use crate::faults::{EditError, Result};
 use crate::paths::Step;
@@ -64,7 +67,8 @@ pub fn remove(alloc: Global, text: &str, path: &[Step<'_>]) -> Result<String>
 
 /// Returns the text with one more element at the end of the array that the path leads to: `value`, a JSON5 value
 /// without blanks or comments around it. It stands on a line of its own if the element before it does, indented like
-/// it, and has a comma after it if that had one.
+/// it, and has a comma after it if that had one. A text that is JSON, or JSON but for comments, stays so if the value
+/// is.
 ///
 /// ```text
 /// push(alloc, "{ ports: [80] }", &[Step::Key("ports")], "443")?    // { ports: [80, 443] }
@@ -78,6 +82,7 @@ pub fn remove(alloc: Global, text: &str, path: &[Step<'_>]) -> Result<String>
 /// - `NoMemory` where there is no memory for the text, or for a key with an escape.
 pub fn push(alloc: Global, text: &str, path: &[Step<'_>], value: &str) -> Result<String>
     ensures pushed { IfOk result (λ made. IsPushed text.now path.now value.now (string_bytes made)) }
+    ensures plain { IfOk result (λ made. StaysPlain text.now value.now (string_bytes made)) }
     ensures refused { IfErr result (RefusesPush text.now path.now value.now) }
 {
     let place = place_of(alloc, text, path)?;
@@ -93,7 +98,7 @@ pub fn push(alloc: Global, text: &str, path: &[Step<'_>], value: &str) -> Result
 
 /// Returns the text with one more element of the array that the path leads to, before that with this index: `value`, a
 /// JSON5 value without blanks or comments around it. It stands on a line of its own if that element does, indented like
-/// it, before the comments that belong to it.
+/// it, before the comments that belong to it. A text that is JSON, or JSON but for comments, stays so if the value is.
 ///
 /// ```text
 /// insert_element(alloc, "{ ports: [443] }", &[Step::Key("ports")], 0, "80")?    // { ports: [80, 443] }
@@ -114,6 +119,7 @@ pub fn insert_element(
     value: &str,
 ) -> Result<String>
     ensures put_in { IfOk result (λ made. IsPutIn text.now path.now index value.now (string_bytes made)) }
+    ensures plain { IfOk result (λ made. StaysPlain text.now value.now (string_bytes made)) }
     ensures refused { IfErr result (RefusesPutIn text.now path.now index value.now) }
 {
     let place = place_of(alloc, text, path)?;
@@ -132,6 +138,7 @@ pub fn insert_element(
 /// value without blanks or comments around it. It stands and is indented like the member before it, and has a comma
 /// after it if that had one. The key is spelled like the object's other keys, or like those of the document where it
 /// has none: a name without quotes if they have none, and in quotes if they have them, or if there is no key at all.
+/// A text that is JSON, or JSON but for comments, stays so if the value is.
 ///
 /// ```text
 /// insert(alloc, "{ host: 'a' }", &[], "port", "80")?    // { host: 'a', port: 80 }
@@ -152,12 +159,14 @@ pub fn insert(
     value: &str,
 ) -> Result<String>
     ensures inserted { IfOk result (λ made. IsInserted text.now path.now key.now value.now (string_bytes made)) }
+    ensures plain { IfOk result (λ made. StaysPlain text.now value.now (string_bytes made)) }
     ensures refused { IfErr result (RefusesInsert text.now path.now key.now value.now) }
 {
     insert_in(alloc, text, path, key, value, Names::Quoted)
 }
 
-/// The same, where the caller says how a name stands as the first key of a document.
+/// The same, where the caller says how a name stands as the first key of a document. With `Names::Bare` a document of
+/// JSON may come to have a key without quotes.
 ///
 /// ```text
 /// insert_in(alloc, "{}", &[], "port", "80", Names::Bare)?    // { port: 80 }
@@ -175,6 +184,7 @@ pub fn insert_in(
     names: Names,
 ) -> Result<String>
     ensures inserted { IfOk result (λ made. IsInserted text.now path.now key.now value.now (string_bytes made)) }
+    ensures plain { IfOk result (λ made. StaysPlainQuoted names text.now value.now (string_bytes made)) }
     ensures refused { IfErr result (RefusesInsert text.now path.now key.now value.now) }
 {
     let place = place_of(alloc, text, path)?;
@@ -328,6 +338,7 @@ fn pushed(
     requires old { IsValue room (chars old.now) }
     requires value { IsValue (room - 1) (chars value.now) }
     ensures pushed { IfOk result (λ new. Adds (Gains kind.Array [] value.now) room old.now (string_bytes new)) }
+    ensures plain { IfOk result (λ new. StaysPlainQuoted collection.now.names old.now value.now (string_bytes new)) }
     ensures refused { IfErr result (RefusesKind kind.Array old.now) }
 {
     match added_by_lines(alloc, collection, old, BracketKind::Array, "", value, room) {
@@ -354,6 +365,7 @@ fn inserted(
     requires end { HasEnd kind.Object room old.now end }
     requires value { IsValue (room - 1) (chars value.now) }
     ensures inserted { IfOk result (λ new. Adds (Gains kind.Object key.now value.now) room old.now (string_bytes new)) }
+    ensures plain { IfOk result (λ new. StaysPlainQuoted collection.now.names old.now value.now (string_bytes new)) }
     ensures full { IfErr result (λ e. e ≡ edit_errors.NoMemory) }
 {
     match added_by_lines(
@@ -382,13 +394,14 @@ fn added_by_lines(
     room: usize,
 ) -> Result<String>
     requires { room ≤ max_depth }
-    ensures { IfOk result (λ new. Adds (Gains kind key.now value.now) room old.now (string_bytes new)) }
+    ensures added { IfOk result (λ new. Adds (Gains kind key.now value.now) room old.now (string_bytes new)) }
+    ensures plain { IfOk result (λ new. StaysPlainQuoted collection.now.names old.now value.now (string_bytes new)) }
 {
     let added = Added { kind, key, value };
     let growth = laid(growth_for(alloc, collection, added))?;
     let new = grown(alloc, old, &growth)?;
     match check_added(alloc, old, new.as_str(), growth.count, kind, key, value) {
-        Ok(()) => fitting(alloc, new, room),
+        Ok(()) => fitting_as_plain(alloc, collection.names, old, value, new, room),
         Err(error) => Err(EditError::of_made(error)),
     }
 }
@@ -408,6 +421,7 @@ fn put_in(
     requires entry { HasEntry (step.Index index) room old.now start }
     requires value { IsValue (room - 1) (chars value.now) }
     ensures put_in { IfOk result (λ new. Adds (GainsAt index value.now) room old.now (string_bytes new)) }
+    ensures plain { IfOk result (λ new. StaysPlain old.now value.now (string_bytes new)) }
     ensures full { IfErr result (λ e. e ≡ edit_errors.NoMemory) }
 {
     match put_in_by_lines(alloc, collection, old, index, value, room) {
@@ -427,12 +441,13 @@ fn put_in_by_lines(
     room: usize,
 ) -> Result<String>
     requires { room ≤ max_depth }
-    ensures { IfOk result (λ new. Adds (GainsAt index value.now) room old.now (string_bytes new)) }
+    ensures added { IfOk result (λ new. Adds (GainsAt index value.now) room old.now (string_bytes new)) }
+    ensures plain { IfOk result (λ new. StaysPlain old.now value.now (string_bytes new)) }
 {
     let growth = laid(growth_before(alloc, collection, index, value))?;
     let new = grown(alloc, old, &growth)?;
     match check_put_in(alloc, old, new.as_str(), index, value) {
-        Ok(()) => fitting(alloc, new, room),
+        Ok(()) => fitting_as_plain(alloc, Names::Quoted, old, value, new, room),
         Err(error) => Err(EditError::of_made(error)),
     }
 }
@@ -460,7 +475,9 @@ fn check_entry(alloc: Global, value: &str, place: Place) -> Result<()>
 }
 
 /// The collection in the place.
-fn collection(text: &str, place: Place) -> Collection<'_> {
+fn collection(text: &str, place: Place) -> Collection<'_>
+    ensures { result.names ≡ layout_names.Quoted }
+{
     Collection {
         document: text,
         start: place.start,

@@ -5,12 +5,13 @@ ghost use Rattle.std.specs.Str.{chars};
 ghost use Rattle.json5_grammar.specs.Language.Blanks.{Solid};
 ghost use Rattle.json5_grammar.specs.Language.Documents.{max_depth};
 ghost use Rattle.json5_grammar.specs.Language.Trees.{Tree, depth};
+ghost use Rattle.json5_lexemes.specs.Plain.{StaysPlain};
 ghost use Rattle.json5_types.specs.Errors.{LacksMemory};
 ghost use Rattle.json5_value.specs.declared.brackets.BracketKind.TheVariants as kind;
 ghost use Rattle.json5_edit.specs.Changes.{Gains, GainsAt};
 ghost use Rattle.json5_edit.specs.Places.{IsValue};
 ghost use Rattle.json5_edit.specs.Refusals.{RefusesFree, RefusesKind, RefusesStep};
-ghost use Rattle.json5_edit.specs.Spots.{Adds, AddsEntry, Goes, HasEnd, HasEntry, HasFound, HasBefore, IsAhead, BeginsWithComma, IsCommaSpan, TakesCommaAhead, IsColonBefore, IsNameBefore, Measures, Parts, PassedBefore, ReadsColon, ReadsThen, Removes, comma_for};
+ghost use Rattle.json5_edit.specs.Spots.{Adds, AddsEntry, AddsPlainly, Goes, HasEnd, HasEntry, HasFound, HasBefore, IsAhead, BeginsWithComma, IsCommaSpan, TakesCommaAhead, IsColonBefore, IsNameBefore, Measures, Parts, PassedBefore, ReadsColon, ReadsThen, Removes, comma_for};
 ghost use Rattle.json5_edit.specs.declared.faults.EditError.TheVariants as edit_errors;
 ghost use Rattle.json5_edit.specs.declared.paths.Step.TheVariants as step;
 
@@ -19,7 +20,7 @@ use crate::entries::failed;
 use crate::faults::{EditError, Result};
 use crate::paths::Step;
 use crate::setting::join;
-use crate::spelled::spelled_key;
+use crate::spelled::json_key;
 use crate::survey::{Found, find_entry};
 use json5_text::scanner::Scanner;
 use json5_types::error;
@@ -207,6 +208,7 @@ pub(crate) fn with_element(
     requires entry { HasEntry (step.Index index) room old.now start }
     requires value { IsValue (room - 1) (chars value.now) }
     ensures added { IfOk result (λ new. Adds (GainsAt index value.now) room old.now (string_bytes new)) }
+    ensures plain { IfOk result (λ new. StaysPlain old.now value.now (string_bytes new)) }
     ensures full { IfErr result (λ e. e ≡ edit_errors.NoMemory) }
 {
     let (front, back) = old.split_at(start);
@@ -233,6 +235,7 @@ pub(crate) fn with_last(
     requires small { room ≤ max_depth }
     requires end { HasEnd kind room old.now end }
     ensures added { IfOk result (λ new. AddsEntry kind (chars entry.now) room old.now (string_bytes new)) }
+    ensures plain { IfOk result (λ new. AddsPlainly kind entry.now old.now (string_bytes new)) }
     ensures full { IfErr result (λ e. e ≡ edit_errors.NoMemory) }
 {
     let (front, back) = old.split_at(end.at);
@@ -252,9 +255,10 @@ pub(crate) fn with_member(
     requires end { HasEnd kind.Object room old.now end }
     requires value { IsValue (room - 1) (chars value.now) }
     ensures added { IfOk result (λ new. Adds (Gains kind.Object key.now value.now) room old.now (string_bytes new)) }
+    ensures plain { IfOk result (λ new. StaysPlain old.now value.now (string_bytes new)) }
     ensures full { IfErr result (λ e. e ≡ edit_errors.NoMemory) }
 {
-    let name = spelled_key(alloc, key)?;
+    let name = json_key(alloc, key)?;
     let member = join(alloc, name.as_str(), ":", value)?;
     with_last(alloc, old, BracketKind::Object, end, member.as_str(), room)
 }

@@ -6,6 +6,7 @@ use Rattle.json5_edit.specs.Refusals.{RefusesPutIn}
 use Rattle.json5_value.specs.declared.brackets.BracketKind.TheVariants as kind
 use Rattle.json5_edit.proofs.Placed.{ok_then}
 use Rattle.json5_edit.proofs.Changed.{has_place, is_small, changed_within}
+use Rattle.json5_edit.proofs.PlainPlaces.{plain_within}
 use Rattle.json5_edit.proofs.Refused.{lacking, path_put_in, reaches_no, step_put_in, new_put_in, value_fits}
 use Rattle.json5_edit.proofs.changing.insert_element.Goals as goal
 
@@ -52,6 +53,9 @@ returns-in_err-new-clause-refused c =
 
 pub returns-clause-put_in : goal.returns-clause-put_in
 returns-clause-put_in c = ok_then c.splice.result (λ made k. changed_within Grows (GainsAt c.args.index c.args.value.now) c.args.text.now c.part_text-old.result.now c.as_str.result.now (string_bytes c.in_ok-new.new) (string_bytes made) c.args.path.now c.in_ok-place.place c.utf8.text c.as_str.utf8 c.as_str.ensures.value c.in_ok-place.ensures.found c.part_text-old.ensures c.in_ok-new.ensures.put_in k) c.splice.ensures.spliced
+
+pub returns-clause-plain : goal.returns-clause-plain
+returns-clause-plain c = ok_then c.splice.result (λ made k. plain_within c.args.text.now c.part_text-old.result.now c.args.value.now c.as_str.result.now (string_bytes c.in_ok-new.new) (string_bytes made) c.args.path.now c.in_ok-place.place c.utf8.text c.as_str.utf8 c.as_str.ensures.value c.in_ok-place.ensures.found c.part_text-old.ensures c.in_ok-new.ensures.put_in.2 c.in_ok-new.ensures.plain k) c.splice.ensures.spliced
 
 pub returns-clause-refused : goal.returns-clause-refused
 returns-clause-refused c = lacking (RefusesPutIn c.args.text.now c.args.path.now c.args.index c.args.value.now) c.splice.result tt c.splice.ensures.full
