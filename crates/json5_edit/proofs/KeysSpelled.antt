@@ -1,6 +1,5 @@
 -- A key as json5 writes it, and the key in front of a text.
-use Rattle.std.proofs.Common.{◌≡◌, ℕ, ◌+◌, Bool, true, false, List, [], ◌++◌, sym, ap, ◌∙◌, append_assoc, subst, None, Result, Ok, Err, take, drop, arith}
-use Rattle.std.specs.Prelude.{⊤}
+use Rattle.std.proofs.Common.{◌≡◌, ℕ, ◌+◌, Bool, true, false, List, [], ◌++◌, sym, ap, ◌∙◌, append_assoc, subst, take, drop, arith}
 use Rattle.std.specs.Str.{chars, IsUtf8, IsCharBoundary, all_scalars, encode_utf8_all}
 use Rattle.std.proofs.lemmas.Str.{encodes-chars, chars-encodes, scalars-chars, encodes-append}
 use Rattle.std.proofs.Math.Seq.{drop-append_seam, take-append_seam}
@@ -23,17 +22,8 @@ use Rattle.json5_text.specs.Cursor.{Cursor, Took, Refused, offset_of}
 use Rattle.json5_text.specs.Outcome.{bytes_in}
 use Rattle.json5_text.specs.TokenFaults.{FaultyBlanks}
 use Rattle.json5_types.specs.declared.error.Error.{Error}
-use Rattle.json5_types.specs.Errors.{LacksMemory, SaysAt}
+use Rattle.json5_types.specs.Errors.{LacksMemory}
 use Rattle.json5_walk.proofs.Calls.{bytes_joined}
-use Rattle.json5_write.specs.EscapeFreeMarks.{is_escape_free_key}
-use Rattle.json5_write.specs.Out.{whole, invalid_key, too_deep, key_out}
-use Rattle.json5_write.specs.ShortWrites.{Puts}
-use Rattle.json5_write.specs.WholeOutputs.{IsText, RefusesTextOf, text_kind_by}
-use Rattle.json5_write.specs.WrittenTrees.{named}
-use Rattle.json5_write.specs.Writes.{SerializerState}
-use Rattle.json5_write.specs.declared.refusal.Refused.{Refused as PutRefused}
-use Rattle.json5_write.specs.declared.refusal.Refused.TheVariants as refused
-use Rattle.json5_write.proofs.ReadBack.{written_key}
 use Rattle.json5_edit.specs.Keys.{BeginsWithMember, KeySpan, TakesKeyAhead}
 use Rattle.json5_edit.specs.Pieces.{SpellsKey}
 use Rattle.json5_edit.specs.Spots.{first_member}
@@ -41,29 +31,12 @@ use Rattle.json5_edit.specs.declared.places.Span.{Span}
 use Rattle.json5_edit.proofs.Measured.{goes_after_gap, key_first}
 use Rattle.json5_edit.proofs.Placed.{bytes_cut, encoded, scalars_left, scalars_right, seam}
 
--- what was written of a key spells it
-pub key_spelled : (key bytes : List ℕ) → IsUtf8 key → IsText (key_out (named (chars key))) bytes → SpellsKey key bytes
-key_spelled key bytes u t =
-    let free = is_escape_free_key (chars key) in
-    (chars key, free, subst (λ z. KeyText z (chars key) free) (sym t.characters) (written_key (chars key)), encodes-chars key u)
-
--- the same of what was written as JSON has it
+-- what was written of a key as JSON has it spells it, and is a string
 pub json_key_spelled : (key bytes : List ℕ) → IsUtf8 key → chars bytes ≡ json_string (chars key) → SpellsKey key bytes
 json_key_spelled key bytes u is = let (free, text) = json_key_is (chars key) in (chars key, free, subst (λ z. KeyText z (chars key) free) (sym is) text, encodes-chars key u)
 
 pub json_key_plain : (key bytes : List ℕ) → chars bytes ≡ json_string (chars key) → JsonString (chars bytes)
 json_key_plain key bytes is = subst JsonString (sym is) (string_is (chars key))
-
--- a key is refused where memory is, and nowhere else
-refused_so : (u : List ℕ) (old new : SerializerState) (r : PutRefused) (e : Error) → old.failed ≡ false → Puts (key_out (named u)) old (Err r) new → SaysAt (text_kind_by r) None e → LacksMemory e
-refused_so u old new refused.Before e live p h = let x : true ≡ false = sym p.was ∙ live in absurd (cc)
-refused_so u old new refused.ByWriter e live p h = record { kind = h.kind; place = h.place }
-refused_so u old new refused.TooDeep e live p h = let x : whole ≡ too_deep = p.stop in absurd (cc)
-refused_so u old new refused.Key e live p h = let x : whole ≡ invalid_key = p.stop in absurd (cc)
-
-pub key_refused : (u : List ℕ) (old new : SerializerState) (printed : Result ⊤ PutRefused) (e : Error) → old.failed ≡ false → Puts (key_out (named u)) old printed new → RefusesTextOf printed e → LacksMemory e
-key_refused u old new (Ok x) e live p h = absurd h
-key_refused u old new (Err r) e live p h = refused_so u old new r e live p h
 
 -- ---- the key in front of a text
 

@@ -7,7 +7,7 @@ use Rattle.json5_edit.specs.declared.faults.EditError.{EditError}
 use Rattle.std.specs.Str.{chars, IsUtf8, IsCharBoundary, all_scalars, encode_utf8_all}
 use Rattle.std.proofs.Math.Seq.{drop-append_seam, take-append_seam}
 use Rattle.json5_text.specs.Outcome.{bytes_in}
-use Rattle.std.proofs.lemmas.Str.{chars-encodes, encodes-append, encodes-chars, scalars-chars}
+use Rattle.std.proofs.lemmas.Str.{chars-encodes, encodes-append, scalars-chars}
 use Rattle.json5_grammar.specs.Language.Blanks.{Blanks, Gap, Solid}
 use Rattle.json5_grammar.specs.Language.Documents.{max_depth}
 use Rattle.json5_grammar.specs.Language.Trees.{Tree, null, boolean, number, text, array, object, no_more, more, no_member, member, depth}
@@ -23,9 +23,9 @@ use Rattle.json5_walk.proofs.Determined.{here}
 use Rattle.json5_walk.proofs.Rests.{append_nil}
 use Rattle.json5_edit.specs.Changes.{ChangesBy}
 use Rattle.json5_edit.specs.Comparing.{IsWithout, step_kind, step_key}
-use Rattle.json5_edit.specs.Entries.{entries, kind_of}
+use Rattle.json5_edit.specs.Entries.{entries}
 use Rattle.json5_edit.specs.Places.{IsValue}
-use Rattle.json5_edit.specs.Spots.{BeginsWithComma, Goes, HasBefore, HasEntry, HasFound, IsAhead, IsCommaSpan, LastEnds, Measures, Parts, Removes, Spot, TakesCommaAhead, joined}
+use Rattle.json5_edit.specs.Spots.{BeginsWithComma, Goes, HasBefore, HasEntry, HasFound, IsAhead, IsCommaSpan, Measures, Parts, Removes, Spot, TakesCommaAhead, joined}
 use Rattle.json5_edit.specs.declared.paths.Step.{Step}
 use Rattle.json5_edit.specs.declared.plain.CommaSpan.{CommaSpan}
 use Rattle.json5_edit.specs.declared.plain.EntryLen.{EntryLen}

@@ -8,23 +8,7 @@ ghost use Rattle.json5_edit.specs.declared.faults.EditError.TheVariants as edit_
 
 use crate::faults::{EditError, Result};
 use json5_layouts::to_json_string;
-use json5_types::nesting::Limit;
-use json5_write::string_writer::StringWriter;
-use json5_write::{Printer, text_of};
 use std::alloc::Global;
-
-/// The key as json5 writes it: without quotes if it is an identifier.
-pub(crate) fn spelled_key(alloc: Global, key: &str) -> Result<String>
-    ensures spelled { IfOk result (λ made. SpellsKey key.now (string_bytes made)) }
-    ensures full { IfErr result (λ e. e ≡ edit_errors.NoMemory) }
-{
-    let mut printer = Printer::within(StringWriter::new(alloc), Limit::full());
-    let put = printer.put_key(key);
-    match text_of(put, printer.into_inner().into_bytes()) {
-        Ok(made) => Ok(made),
-        Err(error) => Err(EditError::of_made(error)),
-    }
-}
 
 /// The key as JSON writes it: between double quotes.
 pub(crate) fn json_key(alloc: Global, key: &str) -> Result<String>
