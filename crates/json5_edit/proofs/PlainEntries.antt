@@ -7,7 +7,7 @@ use Rattle.json5_grammar.specs.Language.Blanks.{Blanks}
 use Rattle.json5_grammar.specs.Language.Characters.{comma_sign}
 use Rattle.json5_grammar.specs.Language.Trees.{Tree}
 use Rattle.json5_layouts.specs.Json.{JsonString}
-use Rattle.json5_lexemes.specs.Plain.{Plain, PlainText, StaysPlain}
+use Rattle.json5_lexemes.specs.Plain.{Plain, KeepsPlain, PlainText, StaysPlain}
 use Rattle.json5_lexemes.specs.Plain as plain
 use Rattle.json5_lexemes.specs.Spans.{AfterEntry}
 use Rattle.json5_lexemes.specs.Spans as spans
@@ -133,3 +133,7 @@ element_plain i limit n bytes new front back value utf8 value_utf8 h front_is ba
     ∙ ap (λ z. p.front ++ (chars value ++ (comma_sign ∷ z))) rest_is in
     subst (Plain comments last.sign) (sym spelled)
     (entry_put_before e.rest s.spans (apart s _) (apart s _) (f.spans s.kind) e.is_blank e.begins (subst (λ z. Plain comments last.sign (p.front ++ z)) rest_is (subst (Plain comments last.sign) p.split was)) (turned s.kind (value_begins val) came))
+
+-- what stays as plain as a collection stays as plain as the document around it
+pub stays_within : (text old value new : List ℕ) → KeepsPlain text old → StaysPlain old value new → StaysPlain text value new
+stays_within text old value new keeps stays comments was came = stays comments (keeps comments was) came

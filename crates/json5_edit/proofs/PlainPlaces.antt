@@ -8,7 +8,7 @@ use Rattle.std.proofs.lemmas.Str.{chars-encodes, scalars-chars}
 use Rattle.json5_grammar.specs.Language.Characters.{comma_sign, NotBegun}
 use Rattle.json5_grammar.specs.Language.Trees.{Tree}
 use Rattle.json5_grammar.specs.Language.Values.{Val}
-use Rattle.json5_lexemes.specs.Plain.{is_closing, Plain, PlainText, StaysPlain}
+use Rattle.json5_lexemes.specs.Plain.{is_closing, Plain, PlainText, KeepsPlain, StaysPlain}
 use Rattle.json5_lexemes.specs.SameLexemes.{is_sign, is_word_part}
 use Rattle.json5_lexemes.specs.Spans.{Spans, Apart, AfterEntry, at_comma, at_bracket, at_end}
 use Rattle.json5_lexemes.specs.Spans as spans
@@ -111,12 +111,15 @@ plain_there bytes new made path p u v leads (t, val, d) k comments was came =
     let whole = made_chars bytes new made q.before q.old q.after u v q.cut.whole (k q.before q.old q.after q.cut) in
     subst (Plain comments last.sign) (sym whole) (place_plain q.passed q.ends q.value val (subst (Plain comments last.sign) q.cut.whole was) came)
 
--- what holds of a value in the place and of the one that is put there, of their being plain, holds of the texts
-pub plain_within : (bytes old value new text made : List ℕ) (path : List Step) (p : Place) → IsUtf8 bytes → IsUtf8 new → new ≡ text → Leads bytes path (Some p) → ((before o after : List ℕ) → IsPart bytes p before o after → old ≡ encode_utf8_all o) → IsValue p.room (chars text) → StaysPlain old value text → ((before o after : List ℕ) → IsPart bytes p before o after → made ≡ encode_utf8_all before ++ (new ++ encode_utf8_all after)) → StaysPlain bytes value made
-plain_within bytes old value new text made path p u v is leads there fits stays k comments was came =
+-- the value in the place is as plain as the text
+pub part_stays : (bytes old : List ℕ) (path : List Step) (p : Place) → IsUtf8 bytes → Leads bytes path (Some p) → ((before o after : List ℕ) → IsPart bytes p before o after → old ≡ encode_utf8_all o) → KeepsPlain bytes old
+part_stays bytes old path p u leads there comments was =
     let q = leads.placed in
     let scalars : all_scalars (q.before ++ (q.old ++ q.after)) ≡ true = ap all_scalars (sym q.cut.whole) ∙ scalars-chars bytes u in
     let old_is : chars old ≡ q.old = ap chars (there q.before q.old q.after q.cut) ∙ chars-encodes q.old (scalars_left q.old q.after (scalars_right q.before (q.old ++ q.after) scalars)) in
-    let old_plain = part_plain q.passed q.ends q.value (subst (Plain comments last.sign) q.cut.whole was) in
-    let new_plain : PlainText comments new = subst (PlainText comments) (sym is) (stays comments (subst (Plain comments last.sign) (sym old_is) old_plain) came) in
-    plain_there bytes new made path p u v leads (subst (λ x. IsValue p.room (chars x)) (sym is) fits) k comments was new_plain
+    subst (Plain comments last.sign) (sym old_is) (part_plain q.passed q.ends q.value (subst (Plain comments last.sign) q.cut.whole was))
+
+-- where the value that is put there is as plain as the text and another one, so is the text that is made
+pub plain_within : (bytes value new text made : List ℕ) (path : List Step) (p : Place) → IsUtf8 bytes → IsUtf8 new → new ≡ text → Leads bytes path (Some p) → IsValue p.room (chars text) → StaysPlain bytes value text → ((before o after : List ℕ) → IsPart bytes p before o after → made ≡ encode_utf8_all before ++ (new ++ encode_utf8_all after)) → StaysPlain bytes value made
+plain_within bytes value new text made path p u v is leads fits stays k comments was came =
+    plain_there bytes new made path p u v leads (subst (λ x. IsValue p.room (chars x)) (sym is) fits) k comments was (subst (PlainText comments) (sym is) (stays comments was came))

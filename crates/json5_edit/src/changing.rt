@@ -9,7 +9,7 @@ ghost use Rattle.json5_edit.specs.Spots.{Adds, HasEnd, HasEntry, HasFound, Remov
 ghost use Rattle.json5_edit.specs.declared.faults.EditError.TheVariants as edit_errors;
 ghost use Rattle.json5_edit.specs.declared.paths.Step.TheVariants as step;
 ghost use Rattle.json5_edit_layout.specs.declared.habits.Names.TheVariants as layout_names;
-ghost use Rattle.json5_lexemes.specs.Plain.{StaysPlain};
+ghost use Rattle.json5_lexemes.specs.Plain.{KeepsPlain, StaysPlain};
 ghost use Rattle.json5_value.specs.declared.brackets.BracketKind.TheVariants as kind;
 ghost use Rattle.json5_grammar.specs.Language.Documents.{max_depth};
 ghost use Rattle.json5_lexemes.specs.Plain.{KeepsPlain};
@@ -337,8 +337,9 @@ fn pushed(
     requires small { room ≤ max_depth }
     requires old { IsValue room (chars old.now) }
     requires value { IsValue (room - 1) (chars value.now) }
+    requires plain { KeepsPlain collection.now.document.now old.now }
     ensures pushed { IfOk result (λ new. Adds (Gains kind.Array [] value.now) room old.now (string_bytes new)) }
-    ensures plain { IfOk result (λ new. StaysPlainQuoted collection.now.names old.now value.now (string_bytes new)) }
+    ensures plain { IfOk result (λ new. StaysPlainQuoted collection.now.names collection.now.document.now value.now (string_bytes new)) }
     ensures refused { IfErr result (RefusesKind kind.Array old.now) }
 {
     match added_by_lines(alloc, collection, old, BracketKind::Array, "", value, room) {
@@ -364,8 +365,9 @@ fn inserted(
     requires small { room ≤ max_depth }
     requires end { HasEnd kind.Object room old.now end }
     requires value { IsValue (room - 1) (chars value.now) }
+    requires plain { KeepsPlain collection.now.document.now old.now }
     ensures inserted { IfOk result (λ new. Adds (Gains kind.Object key.now value.now) room old.now (string_bytes new)) }
-    ensures plain { IfOk result (λ new. StaysPlainQuoted collection.now.names old.now value.now (string_bytes new)) }
+    ensures plain { IfOk result (λ new. StaysPlainQuoted collection.now.names collection.now.document.now value.now (string_bytes new)) }
     ensures full { IfErr result (λ e. e ≡ edit_errors.NoMemory) }
 {
     match added_by_lines(
@@ -395,13 +397,20 @@ fn added_by_lines(
 ) -> Result<String>
     requires { room ≤ max_depth }
     ensures added { IfOk result (λ new. Adds (Gains kind key.now value.now) room old.now (string_bytes new)) }
-    ensures plain { IfOk result (λ new. StaysPlainQuoted collection.now.names old.now value.now (string_bytes new)) }
+    ensures plain { IfOk result (λ new. StaysPlainQuoted collection.now.names collection.now.document.now value.now (string_bytes new)) }
 {
     let added = Added { kind, key, value };
     let growth = laid(growth_for(alloc, collection, added))?;
     let new = grown(alloc, old, &growth)?;
     match check_added(alloc, old, new.as_str(), growth.count, kind, key, value) {
-        Ok(()) => fitting_as_plain(alloc, collection.names, old, value, new, room),
+        Ok(()) => fitting_as_plain(
+            alloc,
+            collection.names,
+            collection.document,
+            value,
+            new,
+            room,
+        ),
         Err(error) => Err(EditError::of_made(error)),
     }
 }
@@ -420,8 +429,9 @@ fn put_in(
     requires small { room ≤ max_depth }
     requires entry { HasEntry (step.Index index) room old.now start }
     requires value { IsValue (room - 1) (chars value.now) }
+    requires plain { KeepsPlain collection.now.document.now old.now }
     ensures put_in { IfOk result (λ new. Adds (GainsAt index value.now) room old.now (string_bytes new)) }
-    ensures plain { IfOk result (λ new. StaysPlain old.now value.now (string_bytes new)) }
+    ensures plain { IfOk result (λ new. StaysPlain collection.now.document.now value.now (string_bytes new)) }
     ensures full { IfErr result (λ e. e ≡ edit_errors.NoMemory) }
 {
     match put_in_by_lines(alloc, collection, old, index, value, room) {
@@ -442,12 +452,12 @@ fn put_in_by_lines(
 ) -> Result<String>
     requires { room ≤ max_depth }
     ensures added { IfOk result (λ new. Adds (GainsAt index value.now) room old.now (string_bytes new)) }
-    ensures plain { IfOk result (λ new. StaysPlain old.now value.now (string_bytes new)) }
+    ensures plain { IfOk result (λ new. StaysPlain collection.now.document.now value.now (string_bytes new)) }
 {
     let growth = laid(growth_before(alloc, collection, index, value))?;
     let new = grown(alloc, old, &growth)?;
     match check_put_in(alloc, old, new.as_str(), index, value) {
-        Ok(()) => fitting_as_plain(alloc, Names::Quoted, old, value, new, room),
+        Ok(()) => fitting_as_plain(alloc, Names::Quoted, collection.document, value, new, room),
         Err(error) => Err(EditError::of_made(error)),
     }
 }
@@ -476,7 +486,8 @@ fn check_entry(alloc: Global, value: &str, place: Place) -> Result<()>
 
 /// The collection in the place.
 fn collection(text: &str, place: Place) -> Collection<'_>
-    ensures { result.names ≡ layout_names.Quoted }
+    ensures names { result.names ≡ layout_names.Quoted }
+    ensures document { result.document.now ≡ text.now }
 {
     Collection {
         document: text,

@@ -1,12 +1,13 @@
-use Rattle.std.proofs.Common.{refl, string_bytes}
+use Rattle.std.proofs.Common.{refl, string_bytes, subst, sym}
 use Rattle.std.proofs.lemmas.Result.{err_from_is_err_and}
+use Rattle.json5_lexemes.specs.Plain.{KeepsPlain, StaysPlain}
 use Rattle.json5_edit.specs.Changes.{GainsAt}
 use Rattle.json5_edit.specs.Pieces.{Grows}
 use Rattle.json5_edit.specs.Refusals.{RefusesPutIn}
 use Rattle.json5_value.specs.declared.brackets.BracketKind.TheVariants as kind
 use Rattle.json5_edit.proofs.Placed.{ok_then}
 use Rattle.json5_edit.proofs.Changed.{has_place, is_small, changed_within}
-use Rattle.json5_edit.proofs.PlainPlaces.{plain_within}
+use Rattle.json5_edit.proofs.PlainPlaces.{part_stays, plain_within}
 use Rattle.json5_edit.proofs.Refused.{lacking, path_put_in, reaches_no, step_put_in, new_put_in, value_fits}
 use Rattle.json5_edit.proofs.changing.insert_element.Goals as goal
 
@@ -27,6 +28,9 @@ entry_start-requires-clause-value c = value_fits c.args.text.now c.part_text-old
 
 pub put_in-requires-clause-small : goal.put_in-requires-clause-small
 put_in-requires-clause-small c = is_small c.in_ok-place.ensures.found
+
+pub put_in-requires-clause-plain : goal.put_in-requires-clause-plain
+put_in-requires-clause-plain c = subst (λ z. KeepsPlain z c.part_text-old.result.now) (sym c.collection-collection.ensures.document) (part_stays c.args.text.now c.part_text-old.result.now c.args.path.now c.in_ok-place.place c.utf8.text c.in_ok-place.ensures.found c.part_text-old.ensures)
 
 pub returns-in_err-place-clause-refused : goal.returns-in_err-place-clause-refused
 returns-in_err-place-clause-refused c =
@@ -55,7 +59,7 @@ pub returns-clause-put_in : goal.returns-clause-put_in
 returns-clause-put_in c = ok_then c.splice.result (λ made k. changed_within Grows (GainsAt c.args.index c.args.value.now) c.args.text.now c.part_text-old.result.now c.as_str.result.now (string_bytes c.in_ok-new.new) (string_bytes made) c.args.path.now c.in_ok-place.place c.utf8.text c.as_str.utf8 c.as_str.ensures.value c.in_ok-place.ensures.found c.part_text-old.ensures c.in_ok-new.ensures.put_in k) c.splice.ensures.spliced
 
 pub returns-clause-plain : goal.returns-clause-plain
-returns-clause-plain c = ok_then c.splice.result (λ made k. plain_within c.args.text.now c.part_text-old.result.now c.args.value.now c.as_str.result.now (string_bytes c.in_ok-new.new) (string_bytes made) c.args.path.now c.in_ok-place.place c.utf8.text c.as_str.utf8 c.as_str.ensures.value c.in_ok-place.ensures.found c.part_text-old.ensures c.in_ok-new.ensures.put_in.2 c.in_ok-new.ensures.plain k) c.splice.ensures.spliced
+returns-clause-plain c = ok_then c.splice.result (λ made k. plain_within c.args.text.now c.args.value.now c.as_str.result.now (string_bytes c.in_ok-new.new) (string_bytes made) c.args.path.now c.in_ok-place.place c.utf8.text c.as_str.utf8 c.as_str.ensures.value c.in_ok-place.ensures.found c.in_ok-new.ensures.put_in.2 (subst (λ z. StaysPlain z c.args.value.now (string_bytes c.in_ok-new.new)) c.collection-collection.ensures.document (c.in_ok-new.ensures.plain)) k) c.splice.ensures.spliced
 
 pub returns-clause-refused : goal.returns-clause-refused
 returns-clause-refused c = lacking (RefusesPutIn c.args.text.now c.args.path.now c.args.index c.args.value.now) c.splice.result tt c.splice.ensures.full

@@ -1,12 +1,13 @@
-use Rattle.std.proofs.Common.{string_bytes}
+use Rattle.std.proofs.Common.{string_bytes, subst, sym}
 use Rattle.std.proofs.lemmas.Result.{err_from_is_err_and}
+use Rattle.json5_lexemes.specs.Plain.{KeepsPlain, StaysPlain}
 use Rattle.json5_edit.specs.Changes.{Gains}
 use Rattle.json5_edit.specs.Pieces.{Grows}
 use Rattle.json5_edit.specs.Refusals.{RefusesInsert}
 use Rattle.json5_value.specs.declared.brackets.BracketKind.TheVariants as kind
 use Rattle.json5_edit.proofs.Placed.{ok_then}
 use Rattle.json5_edit.proofs.Changed.{has_place, is_small, changed_within}
-use Rattle.json5_edit.proofs.PlainPlaces.{plain_within}
+use Rattle.json5_edit.proofs.PlainPlaces.{part_stays, plain_within}
 use Rattle.json5_edit.proofs.Refused.{lacking, path_insert, free_insert, new_insert, value_fits}
 use Rattle.json5_edit.proofs.changing.insert_in.Goals as goal
 
@@ -27,6 +28,9 @@ free_end-requires-clause-value c = value_fits c.args.text.now c.part_text-old.re
 
 pub inserted-requires-clause-small : goal.inserted-requires-clause-small
 inserted-requires-clause-small c = is_small c.in_ok-place.ensures.found
+
+pub inserted-requires-clause-plain : goal.inserted-requires-clause-plain
+inserted-requires-clause-plain c = subst (λ z. KeepsPlain z c.part_text-old.result.now) (sym c.collection-collection.ensures.document) (part_stays c.args.text.now c.part_text-old.result.now c.args.path.now c.in_ok-place.place c.utf8.text c.in_ok-place.ensures.found c.part_text-old.ensures)
 
 pub returns-in_err-place-clause-refused : goal.returns-in_err-place-clause-refused
 returns-in_err-place-clause-refused c =
@@ -52,7 +56,7 @@ pub returns-clause-inserted : goal.returns-clause-inserted
 returns-clause-inserted c = ok_then c.splice.result (λ made k. changed_within Grows (Gains kind.Object c.args.key.now c.args.value.now) c.args.text.now c.part_text-old.result.now c.as_str.result.now (string_bytes c.in_ok-new.new) (string_bytes made) c.args.path.now c.in_ok-place.place c.utf8.text c.as_str.utf8 c.as_str.ensures.value c.in_ok-place.ensures.found c.part_text-old.ensures c.in_ok-new.ensures.inserted k) c.splice.ensures.spliced
 
 pub returns-clause-plain : goal.returns-clause-plain
-returns-clause-plain c = ok_then c.splice.result (λ made k quoted. plain_within c.args.text.now c.part_text-old.result.now c.args.value.now c.as_str.result.now (string_bytes c.in_ok-new.new) (string_bytes made) c.args.path.now c.in_ok-place.place c.utf8.text c.as_str.utf8 c.as_str.ensures.value c.in_ok-place.ensures.found c.part_text-old.ensures c.in_ok-new.ensures.inserted.2 (c.in_ok-new.ensures.plain quoted) k) c.splice.ensures.spliced
+returns-clause-plain c = ok_then c.splice.result (λ made k quoted. plain_within c.args.text.now c.args.value.now c.as_str.result.now (string_bytes c.in_ok-new.new) (string_bytes made) c.args.path.now c.in_ok-place.place c.utf8.text c.as_str.utf8 c.as_str.ensures.value c.in_ok-place.ensures.found c.in_ok-new.ensures.inserted.2 (subst (λ z. StaysPlain z c.args.value.now (string_bytes c.in_ok-new.new)) c.collection-collection.ensures.document (c.in_ok-new.ensures.plain quoted)) k) c.splice.ensures.spliced
 
 pub returns-clause-refused : goal.returns-clause-refused
 returns-clause-refused c = lacking (RefusesInsert c.args.text.now c.args.path.now c.args.key.now c.args.value.now) c.splice.result tt c.splice.ensures.full

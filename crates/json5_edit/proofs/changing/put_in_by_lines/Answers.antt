@@ -10,4 +10,4 @@ pub returns-in-Ok-clause-added : goal.returns-in-Ok-clause-added
 returns-in-Ok-clause-added c = kept string_bytes Grows (GainsAt c.args.index c.args.value.now) c.args.room c.args.old.now (string_bytes c.in_ok-new.new) c.as_str.result.now c.fitting_as_plain.result c.as_str.ensures.value c.in-Ok.ensures c.in_ok-new.ensures.grows c.fitting_as_plain.ensures.same c.fitting_as_plain.ensures.value
 
 pub returns-in-Ok-clause-plain : goal.returns-in-Ok-clause-plain
-returns-in-Ok-clause-plain c = ok_then c.fitting_as_plain.result (λ made k. k refl) (same_then string_bytes (StaysPlainQuoted layout_names.Quoted c.args.old.now c.args.value.now) (string_bytes c.in_ok-new.new) c.fitting_as_plain.result c.fitting_as_plain.ensures.same c.fitting_as_plain.ensures.plain)
+returns-in-Ok-clause-plain c = ok_then c.fitting_as_plain.result (λ made k. k refl) (same_then string_bytes (StaysPlainQuoted layout_names.Quoted c.args.collection.now.document.now c.args.value.now) (string_bytes c.in_ok-new.new) c.fitting_as_plain.result c.fitting_as_plain.ensures.same c.fitting_as_plain.ensures.plain)
