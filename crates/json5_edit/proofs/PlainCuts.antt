@@ -25,7 +25,7 @@ use Rattle.json5_edit.specs.Pieces.{IsName, name}
 use Rattle.json5_edit.specs.Spots.{EndsWithValue, Goes}
 use Rattle.json5_edit.specs.declared.paths.Step.{Step}
 use Rattle.json5_edit.proofs.PiecesJoined.{no_characters}
-use Rattle.json5_edit.proofs.PlainPlaces.{apart, spanned, entry_ends, plain_within}
+use Rattle.json5_edit.proofs.PlainPlaces.{part_stays, apart, spanned, entry_ends, plain_within}
 use Rattle.json5_edit.proofs.Seams.{goes_ends, goes_begins, BeginsEntry, begins_element, begins_member, BeginsClosing}
 
 -- ---- after an entry
@@ -147,4 +147,4 @@ empty_plain k = subst (Plain k last.sign) (sym no_characters) plain.ends
 
 -- a document is as plain as before where the collection in the place is
 pub keeps_within : (bytes old new text made : List ℕ) (path : List Step) (p : Place) → IsUtf8 bytes → IsUtf8 new → new ≡ text → Leads bytes path (Some p) → ((before o after : List ℕ) → IsPart bytes p before o after → old ≡ encode_utf8_all o) → IsValue p.room (chars text) → KeepsPlain old text → ((before o after : List ℕ) → IsPart bytes p before o after → made ≡ encode_utf8_all before ++ (new ++ encode_utf8_all after)) → KeepsPlain bytes made
-keeps_within bytes old new text made path p u v is leads there fits keeps puts k was = plain_within bytes old [] new text made path p u v is leads there fits (λ c a b. keeps c a) puts k was (empty_plain k)
+keeps_within bytes old new text made path p u v is leads there fits keeps puts k was = plain_within bytes [] new text made path p u v is leads fits (λ c a b. keeps c (part_stays bytes old path p u leads there c a)) puts k was (empty_plain k)
