@@ -15,6 +15,9 @@ use std::rt::Files;
 /// What the system answers where a file system has no hard links.
 const NOT_PERMITTED: i32 = 1;
 
+/// How many bytes of a file are compared at once.
+const PIECE: usize = 64 * 1024;
+
 /// The name of the file, that of its copy, and the one that the file has while the copy has its name.
 #[derive(Drop)]
 struct Names {
@@ -325,10 +328,26 @@ fn write_text<F: Write + Seek + OpenFile>(file: &mut F, text: &str) -> io::Resul
 
 /// Whether the file holds this text.
 fn holds<F: Read + Seek>(alloc: Global, file: &mut F, text: &str) -> io::Result<bool> {
-    let mut bytes = Vec::new(alloc);
+    let mut piece = Vec::new(alloc);
+    piece.resize(PIECE, 0)?;
     file.rewind()?;
-    file.read_to_end(&mut bytes)?;
-    Ok(bytes.as_slice() == text.as_bytes())
+    is_left(file, piece.as_mut_slice(), text.as_bytes())
+}
+
+/// Whether these bytes are what is left of the file, of which a piece is read at a time.
+fn is_left<F: Read>(file: &mut F, piece: &mut [u8], bytes: &[u8]) -> io::Result<bool> {
+    let mut left = bytes;
+    for _ in 0..u64::MAX {
+        let count = file.read(piece)?;
+        if count == 0 {
+            break;
+        }
+        let Some(after) = left.strip_prefix(&piece[..count]) else {
+            return Ok(false);
+        };
+        left = after;
+    }
+    Ok(left.is_empty())
 }
 
 /// Whether the file with this name is the one of which this is known.
