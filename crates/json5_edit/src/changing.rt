@@ -12,7 +12,6 @@ ghost use Rattle.json5_edit_layout.specs.declared.habits.Names.TheVariants as la
 ghost use Rattle.json5_lexemes.specs.Plain.{KeepsPlain, StaysPlain};
 ghost use Rattle.json5_value.specs.declared.brackets.BracketKind.TheVariants as kind;
 ghost use Rattle.json5_grammar.specs.Language.Documents.{max_depth};
-ghost use Rattle.json5_lexemes.specs.Plain.{KeepsPlain};
 ghost use Rattle.json5_walk.specs.Walks.{IsDocument};
 ghost use Rattle.std.specs.Str.{chars, encode_utf8_all};
 

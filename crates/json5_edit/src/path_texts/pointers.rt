@@ -1,7 +1,7 @@
 //! Pointers as of RFC 6901.
 
-use crate::faults::{Expected, PathError};
-use crate::parsed::{Written, expected, owned};
+use crate::path_texts::faults::{Expected, PathError};
+use crate::path_texts::parsed::{Written, expected, owned};
 use std::alloc::Global;
 
 /// Reads the steps of a pointer, which begins with a slash.

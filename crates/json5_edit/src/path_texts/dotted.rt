@@ -1,7 +1,7 @@
 //! Names with dots between them, indices and keys between brackets.
 
-use crate::faults::{Expected, PathError};
-use crate::parsed::{Written, expected, owned};
+use crate::path_texts::faults::{Expected, PathError};
+use crate::path_texts::parsed::{Written, expected, owned};
 use std::alloc::Global;
 
 /// Reads a path's steps.

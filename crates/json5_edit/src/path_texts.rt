@@ -1,5 +1,4 @@
 //! Paths as text.
-#![tactic(auto)]
 
 mod dotted;
 mod faults;

@@ -3,10 +3,10 @@
 ghost use Rattle.std.specs.Prelude.{IfErr, []};
 ghost use Rattle.json5_edit.specs.Refusals.{RefusesPath};
 
-use crate::dotted::read_dotted;
-use crate::faults::{Expected, PathError};
-use crate::pointers::read_pointer;
-use json5_edit::{EditError, Step, find};
+use crate::path_texts::dotted::read_dotted;
+use crate::path_texts::faults::{Expected, PathError};
+use crate::path_texts::pointers::read_pointer;
+use crate::{EditError, Step, find};
 use std::alloc::Global;
 
 /// A step as it is written.
@@ -72,7 +72,7 @@ impl Path {
     ///
     /// - `Text` with the fault of reading, if there are digits and the text is no document.
     /// - `NoMemory` where there is no memory for the steps.
-    pub fn steps_in(&self, alloc: Global, text: &str) -> json5_edit::Result<Vec<Step<'_>>>
+    pub fn steps_in(&self, alloc: Global, text: &str) -> crate::Result<Vec<Step<'_>>>
         ensures { IfErr result (RefusesPath text.now []) }
     {
         let mut steps = Vec::new(alloc);
@@ -97,7 +97,7 @@ impl Path {
 }
 
 /// Whether the steps lead to an array.
-fn is_array(alloc: Global, text: &str, steps: &[Step<'_>]) -> json5_edit::Result<bool>
+fn is_array(alloc: Global, text: &str, steps: &[Step<'_>]) -> crate::Result<bool>
     ensures { IfErr result (RefusesPath text.now []) }
 {
     match find(alloc, text, steps) {
