@@ -4,7 +4,8 @@ ghost use Rattle.json5.specs.DeserializeLaw.{IsUnprompted};
 ghost use Rattle.json5.specs.Lending.{enum_state_of};
 ghost use Rattle.json5.specs.Variants.{FinishesVariant};
 ghost use Rattle.json5.specs.Writes.{WritesTree};
-ghost use Rattle.json5_rows.specs.OwnEnums.{f_content, f_a, f_b, f_c, e_content, e_y, e_z, x_tree, w_tree};
+ghost use Rattle.json5_rows.specs.OwnEnums.{f_content, f_a, f_b, f_c};
+ghost use Rattle.json5_rows.specs.OwnEnums.{e_content, e_y, e_z, x_tree, w_tree};
 
 use json5::de::{Fields, MapKey};
 use json5::{
