@@ -12,7 +12,7 @@ use crate::faults::{EditError, Result};
 use crate::pieces::{join_five, respelled};
 use crate::places::Span;
 use crate::spelled::json_key;
-use json5_edit_layout::{Collection, Which, respelling_for};
+use json5_edit_style::{Collection, Which, respelling_for};
 use json5_text::scanner::Scanner;
 use json5_types::error;
 use std::alloc::Global;

@@ -1,7 +1,7 @@
 //! Where a value goes, and how lines are there.
 
 use json5_edit::{Names, Span, Step, find};
-use json5_edit_layout::{
+use json5_edit_style::{
     Collection, entry_indentation, has_last_commas, indentation, line_end, step_of,
 };
 use json5_layouts::Layout;

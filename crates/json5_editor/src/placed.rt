@@ -7,7 +7,7 @@ ghost use Rattle.json5_lexemes.specs.Lexemes.{HaveSameLexemes};
 
 use crate::requests::{Task, Work};
 use json5_edit::{Names, Step, find};
-use json5_edit_layout::{Collection, entry_indentation, indentation, relined};
+use json5_edit_style::{Collection, entry_indentation, indentation, relined};
 use json5_lexemes::same_lexemes;
 use std::alloc::Global;
 
