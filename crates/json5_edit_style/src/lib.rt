@@ -1,10 +1,13 @@
-//! Where a collection's text is cut, and what is put there, so that it changes as a person would change it.
+//! The style in which an edit is made: where a collection's text is cut, what is put there, and which comments go with an
+//! entry, so that the text changes as a person would change it.
 //!
-//! It is plain code over a text, without a promise of what it gives: `json5_edit` reads its answers again.
+//! All but `comments` is plain code over a text, without a promise of what it gives: `json5_edit` reads its answers again.
+//! Change it by the rows of edits, which judge it.
 #![tactic(auto)]
 
 mod adding;
 mod collection;
+pub mod comments;
 mod gaps;
 mod habits;
 mod keys;
