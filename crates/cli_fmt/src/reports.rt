@@ -1,0 +1,75 @@
+//! The lines on standard error.
+
+ghost use Rattle.std.specs.Prelude.{◌≡◌};
+ghost use Rattle.json5_write.specs.Pieces.{AppendsFront};
+ghost use Rattle.cli_fmt.specs.JoinedTexts.{joined_texts};
+ghost use Rattle.cli_fmt.specs.Reports.{fault_line, report_line, status_of, usage_line};
+
+use crate::failure::Failure;
+use crate::write_texts::write_texts;
+use itoa::Buffer;
+use json5_types::error::Error;
+use std::io::Write;
+
+/// Writes why the work on this input ended, as one line, and returns the status that the program ends with. A failed write
+/// changes nothing in that status.
+///
+/// ```text
+/// app.json5: expected comma at line 3 column 9
+/// ```
+pub fn report<E: Write>(name: &str, failure: &Failure, e: &mut E) -> u8
+    ensures status { result ≡ status_of failure.now }
+    ensures line { AppendsFront (E.contents e.old) (E.contents e.new) (report_line name.now failure.now) }
+{
+    match failure {
+        Failure::NotUtf8 => say(e, &[name, ": not UTF-8\n"]),
+        Failure::Text(error) => say_fault(e, name, error),
+        Failure::NoMemory => say(e, &[name, ": out of memory\n"]),
+        Failure::Read => say(e, &[name, ": cannot be read\n"]),
+        Failure::Write => say(e, &["output: cannot be written\n"]),
+    }
+    failure.status()
+}
+
+/// Writes how the program is called, as one line, and returns the status 2, after a failed write too.
+pub fn usage<E: Write>(e: &mut E) -> u8
+    ensures status { result ≡ 2 }
+    ensures line { AppendsFront (E.contents e.old) (E.contents e.new) usage_line }
+{
+    say(e, &["usage: json5_fmt [check FILE... or print FILE...]\n"]);
+    2
+}
+
+/// Writes the strings. A failed write changes nothing else.
+fn say<E: Write>(e: &mut E, texts: &[&str])
+    ensures { AppendsFront (E.contents e.old) (E.contents e.new) (joined_texts texts.now) }
+{
+    let _ = write_texts(e, texts);
+}
+
+/// Writes what the fault prints, without memory.
+fn say_fault<E: Write>(e: &mut E, name: &str, error: &Error)
+    ensures { AppendsFront (E.contents e.old) (E.contents e.new) (fault_line name.now error.now) }
+{
+    let message = error.message();
+    let Some(position) = error.position() else {
+        return say(e, &[name, ": ", message, "\n"]);
+    };
+    let mut line = Buffer::new();
+    let mut column = Buffer::new();
+    let line = line.format(position.line as u128 + 1);
+    let column = column.format(position.column as u128 + 1);
+    say(
+        e,
+        &[
+            name,
+            ": ",
+            message,
+            " at line ",
+            line,
+            " column ",
+            column,
+            "\n",
+        ],
+    )
+}

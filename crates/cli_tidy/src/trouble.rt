@@ -1,0 +1,73 @@
+//! Why the work on a file ends early.
+
+ghost use Rattle.std.specs.Prelude.{◌≡◌, ◌≢◌, true, false};
+ghost use Rattle.cli_fmt.specs.declared.failure.Failure.TheVariants as failures;
+ghost use Rattle.cli_tidy.specs.declared.trouble.Trouble.TheVariants as troubles;
+ghost use Rattle.cli_tidy.specs.Troubles.{trouble_status};
+
+use cli_fmt::Failure;
+use json5_types::error::Error;
+use std::io::{self, ErrorKind};
+
+/// Why the work on a file ended.
+#[derive(Drop)]
+pub enum Trouble {
+    /// Memory ran out, or a stream failed.
+    Failed(Failure),
+    /// What was read is no document: what the report of it prints.
+    Refused(String),
+    /// The same, where memory ran out for its report: why it is refused, and the error of making the report.
+    Unreported(Failure, Error),
+    /// The file wasn't replaced.
+    Unwritten(Unwritten),
+    /// It is a folder, and no file below it has an ending that was asked for.
+    NoFile,
+}
+
+/// Why a file wasn't replaced. It holds what it held before.
+#[derive(Drop)]
+pub enum Unwritten {
+    /// The system refused a step.
+    Refused,
+    /// The file isn't as it was read.
+    Changed,
+    /// It has other names, as hard links.
+    Linked,
+    /// A file with a name that would be needed is there.
+    Taken(String),
+    /// The system refused a step, and then to remove a file, which has this name.
+    Remains(String),
+    /// Memory ran out.
+    NoMemory,
+}
+
+impl From<io::Error> for Unwritten {
+    fn from(e: io::Error) -> Unwritten {
+        match e.kind() {
+            ErrorKind::OutOfMemory => Unwritten::NoMemory,
+            _ => Unwritten::Refused,
+        }
+    }
+}
+
+impl Trouble {
+    /// Returns the status that the program ends with: 1 if the fault is one of the text, else 2.
+    pub fn status(&self) -> u8
+        ensures { result ≡ trouble_status self.now }
+    {
+        match self {
+            Trouble::Failed(failure) => failure.status(),
+            Trouble::Refused(_) => 1,
+            Trouble::Unreported(failure, _) => failure.status(),
+            Trouble::Unwritten(_) | Trouble::NoFile => 2,
+        }
+    }
+
+    /// Whether a write to the output failed, which ends the work.
+    pub(crate) fn is_failed_write(&self) -> bool
+        ensures yes { result ≡ true → self.now ≡ troubles.Failed failures.Write }
+        ensures no { result ≡ false → self.now ≢ troubles.Failed failures.Write }
+    {
+        matches!(self, Trouble::Failed(Failure::Write))
+    }
+}
