@@ -2,11 +2,11 @@
 use Rattle.std.proofs.Common.{◌≡◌, ◌≤◌, ℕ, List, refl, arith}
 use Rattle.std.specs.declared.alloc.Global.{Global}
 use Rattle.std.specs.Prelude.{Option, String}
-use Rattle.cli_fmt.specs.declared.failure.Failure.{Failure}
-use Rattle.cli_fmt.specs.declared.failure.Failure.TheVariants as failure
-use Rattle.cli_fmt.specs.Reports.{status_of}
-use Rattle.cli_tidy.specs.Folders.{names_of}
-use Rattle.cli_tidy.specs.Stores.{Known}
+use Rattle.cli_files.specs.declared.failure.Failure.{Failure}
+use Rattle.cli_files.specs.declared.failure.Failure.TheVariants as failure
+use Rattle.cli_files.specs.Reports.{status_of}
+use Rattle.cli_files.specs.NameLists.{names_of}
+use Rattle.cli_files.specs.Stores.{Known}
 use Rattle.cli_tidy.proofs.Statuses.{text_low}
 use Rattle.json5_edit.specs.declared.faults.EditError.{EditError}
 use Rattle.json5_edit.specs.declared.faults.EditError.TheVariants as error

@@ -3,10 +3,10 @@ use Rattle.std.specs.declared.alloc.Global.{Global}
 use Rattle.std.specs.Prelude.{◌++◌, ◌∷◌, ℕ, List, [], Option, String}
 use lib.Chars.{codes}
 use Rattle.json5_grammar.specs.Language.Characters.{line_feed}
-use Rattle.cli_tidy.specs.Folders.{names_of}
-use Rattle.cli_tidy.specs.Says.{SaysText}
-use Rattle.cli_tidy.specs.Stores.{Known}
-use Rattle.json5_version.specs.declared.TheConstants.{VERSION}
+use Rattle.cli_files.specs.NameLists.{names_of}
+use Rattle.cli_files.specs.Says.{SaysText}
+use Rattle.cli_files.specs.Stores.{Known}
+use Rattle.cli_files.specs.declared.version.TheConstants.{VERSION}
 use Rattle.cli_edit.specs.declared.lines.TheConstants.{HELP}
 use Rattle.cli_edit.specs.declared.requests.Task.{Task}
 use Rattle.cli_edit.specs.declared.requests.Request.TheVariants as requests

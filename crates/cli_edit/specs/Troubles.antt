@@ -1,6 +1,6 @@
 -- The statuses of what goes wrong.
 use Rattle.std.specs.Prelude.{ℕ}
-use Rattle.cli_fmt.specs.Reports.{status_of}
+use Rattle.cli_files.specs.Reports.{status_of}
 use Rattle.json5_edit.specs.declared.faults.EditError.{EditError}
 use Rattle.json5_edit.specs.declared.faults.EditError.TheVariants as error
 use Rattle.cli_edit.specs.declared.trouble.Trouble.{Trouble}

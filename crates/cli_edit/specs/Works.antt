@@ -3,11 +3,11 @@ use Rattle.std.specs.Prelude.{◌≡◌, ◌⊎◌, ℕ, List, [], Option, None,
 use Rattle.std.specs.Io.KnownBytes.{Appends, Keeps}
 use lib.Chars.{codes}
 use Rattle.json5_write.specs.Pieces.{AppendsFront}
-use Rattle.cli_fmt.specs.declared.failure.Failure.{Failure}
-use Rattle.cli_fmt.specs.declared.failure.Failure.TheVariants as failure
-use Rattle.cli_fmt.specs.Reports.{status_of}
-use Rattle.cli_fmt.specs.Runs.{NoText}
-use Rattle.cli_tidy.specs.Stores.{Known}
+use Rattle.cli_files.specs.declared.failure.Failure.{Failure}
+use Rattle.cli_files.specs.declared.failure.Failure.TheVariants as failure
+use Rattle.cli_files.specs.Reports.{status_of}
+use Rattle.cli_files.specs.Inputs.{NoText}
+use Rattle.cli_files.specs.Stores.{Known}
 use Rattle.json5_edit.specs.Refusals.{RefusesPath}
 use Rattle.json5_edit.specs.declared.faults.EditError.{EditError}
 use Rattle.json5_edit.specs.declared.paths.Step.{Step}

@@ -5,8 +5,7 @@ ghost use Rattle.cli_edit.specs.Answers.{Answers};
 use crate::lines::{HELP, usage};
 use crate::requests::Request;
 use crate::works::do_task;
-use cli_tidy::{Store, answer_with};
-use json5_version::VERSION;
+use cli_files::{Store, VERSION, answer_with};
 use std::alloc::Global;
 use std::io::{Read, Write};
 

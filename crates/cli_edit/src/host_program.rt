@@ -2,13 +2,13 @@
 
 ghost use Rattle.std.specs.Prelude.{◌≡◌, ◌≤◌};
 ghost use Rattle.cli_edit.specs.Requests.{AsksNothing};
-ghost use Rattle.cli_tidy.specs.Folders.{names_of};
+ghost use Rattle.cli_files.specs.NameLists.{names_of};
 
 use crate::answers::answer;
 use crate::lines::{no_memory, usage};
+use cli_files::given_words;
 use std::alloc::Global;
-use std::env;
-use std::io::{self, ErrorKind};
+use std::io::ErrorKind;
 use std::process::ExitCode;
 
 /// Runs the whole program: [`words`] of the words after its name, or the usage line where the system doesn't give them
@@ -39,9 +39,4 @@ pub fn words(rt: &HostRuntime, alloc: Global, list: &[String]) -> u8
 {
     let (mut input, mut output, mut errors) = (rt.stdin(), rt.stdout(), rt.stderr());
     answer(rt, alloc, list, &mut input, &mut output, &mut errors)
-}
-
-/// The words after the program's name.
-fn given_words(rt: &HostRuntime) -> io::Result<Vec<String>> {
-    Ok(env::args(rt)?.skip(1).collect(rt.alloc())?)
 }

@@ -9,7 +9,7 @@ use crate::texts::name_of;
 use crate::trouble::Trouble;
 use json5_edit::{EditError, PathError, Step};
 use json5_report::Report;
-use cli_tidy::report_unwritten;
+use cli_files::report_unwritten;
 use json5_types::error::Error;
 use std::alloc::Global;
 use std::io::Write;

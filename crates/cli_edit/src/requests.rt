@@ -2,7 +2,7 @@
 
 ghost use Rattle.std.specs.Prelude.{◌≡◌, ◌∷◌, [], MatchOption, ℕ, List};
 ghost use Rattle.cli_edit.specs.Requests.{Asks, AsksNothing, rest_words, work_word};
-ghost use Rattle.cli_tidy.specs.Folders.{names_of};
+ghost use Rattle.cli_files.specs.NameLists.{names_of};
 
 /// What is done.
 #[derive(Clone, Copy, Drop)]

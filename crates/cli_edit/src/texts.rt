@@ -3,8 +3,7 @@
 ghost use Rattle.std.specs.Prelude.{IfErr, IfOk, string_bytes};
 ghost use Rattle.cli_edit.specs.Works.{Holds, HoldsNone};
 
-use cli_fmt::{Failure, read_text};
-use cli_tidy::Store;
+use cli_files::{Failure, Store, read_text};
 use std::alloc::Global;
 use std::io::Read;
 

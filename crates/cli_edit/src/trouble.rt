@@ -4,8 +4,7 @@ ghost use Rattle.std.specs.Prelude.{◌≡◌};
 ghost use Rattle.cli_edit.specs.Troubles.{trouble_status};
 
 use json5_edit::EditError;
-use cli_fmt::Failure;
-use cli_tidy::Unwritten;
+use cli_files::{Failure, Unwritten};
 use json5_types::error::Error;
 
 /// Why the work on a text ended.

@@ -10,8 +10,7 @@ use crate::requests::{Task, Work};
 use crate::texts::{name_of, text_of};
 use crate::trouble::Trouble;
 use json5_edit::{Path, Step};
-use cli_fmt::report;
-use cli_tidy::{Store, put_texts};
+use cli_files::{Store, put_texts, report};
 use std::alloc::Global;
 use std::io::{Read, Write};
 

@@ -5,14 +5,16 @@ use Rattle.std.specs.Prelude.{String, string_bytes, Some, IfSome, Result, Ok, Er
 use Rattle.std.proofs.lemmas.Int.{clamps}
 use Rattle.std.proofs.lemmas.List.{take_more, take_all}
 use Rattle.json5_write.specs.Pieces.{AppendsFront}
-use Rattle.cli_fmt.specs.declared.failure.Failure.{Failure}
-use Rattle.cli_fmt.specs.declared.failure.Failure.TheVariants as failure
+use Rattle.cli_files.specs.declared.failure.Failure.{Failure}
+use Rattle.cli_files.specs.declared.failure.Failure.TheVariants as failure
 use Rattle.cli_fmt.specs.declared.work.Work.{Work}
 use Rattle.std.specs.Io.KnownBytes.{Keeps}
-use Rattle.cli_fmt.specs.Runs.{HoldsDocument, ReadFailure, RunFailure, WritesFormatted}
+use Rattle.cli_files.specs.Inputs.{ReadFailure}
+use Rattle.cli_fmt.specs.Runs.{HoldsDocument, RunFailure, WritesFormatted}
 use Rattle.cli_fmt.specs.declared.work.Work.TheVariants as work
-use Rattle.cli_fmt.specs.Files.{Opening, WorksOn, opened, GoesThrough, good, bad, WorksThrough, through, stopped}
-use Rattle.cli_fmt.specs.Reports.{report_line, status_of}
+use Rattle.cli_files.specs.Stores.{Opening}
+use Rattle.cli_fmt.specs.Files.{WorksOn, opened, GoesThrough, good, bad, WorksThrough, through, stopped}
+use Rattle.cli_files.specs.Reports.{report_line, status_of}
 use Rattle.cli_fmt.proofs.Statuses.{goes_low}
 
 -- ---- the work on a file that was opened

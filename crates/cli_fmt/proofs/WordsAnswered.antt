@@ -4,7 +4,8 @@ use Rattle.std.specs.declared.alloc.Global.{Global}
 use Rattle.std.specs.Prelude.{String, string_bytes, ◌==◌}
 use Rattle.cli_fmt.specs.declared.work.Work.{Work}
 use Rattle.cli_fmt.specs.ProgramRuns.{AnswersStream, Answers, of_stream, of_files}
-use Rattle.cli_fmt.specs.Files.{Opening, WorksThrough}
+use Rattle.cli_files.specs.Stores.{Opening}
+use Rattle.cli_fmt.specs.Files.{WorksThrough}
 use Rattle.cli_fmt.specs.CommandWords.{work_word, IsRequest}
 
 pub without_words : (opens : List ℕ → Opening) (input output errors written said : Option (List ℕ)) (list : List (String Global)) (n : ℕ) → length list ≡ 0

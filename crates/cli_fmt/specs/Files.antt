@@ -3,12 +3,14 @@ use Rattle.std.specs.declared.alloc.Global.{Global}
 use Rattle.std.specs.Prelude.{◌≡◌, ◌≢◌, ℕ, List, [], ◌∷◌, ◌++◌, max, Option, None, Some, IfSome, Result, Ok, Err, IsErrAnd, String, string_bytes}
 use Rattle.std.specs.Io.KnownBytes.{Keeps}
 use Rattle.json5_write.specs.Pieces.{AppendsFront}
-use Rattle.cli_fmt.specs.declared.failure.Failure.{Failure}
-use Rattle.cli_fmt.specs.declared.failure.Failure.TheVariants as failure
+use Rattle.cli_files.specs.declared.failure.Failure.{Failure}
+use Rattle.cli_files.specs.declared.failure.Failure.TheVariants as failure
 use Rattle.cli_fmt.specs.declared.work.Work.{Work}
 use Rattle.cli_fmt.specs.declared.work.Work.TheVariants as work
-use Rattle.cli_fmt.specs.Reports.{report_line, status_of}
-use Rattle.cli_fmt.specs.Runs.{HoldsDocument, ReadFailure, RunFailure, WritesFormatted}
+use Rattle.cli_files.specs.Reports.{report_line, status_of}
+use Rattle.cli_files.specs.Stores.{Opening}
+use Rattle.cli_files.specs.Inputs.{ReadFailure}
+use Rattle.cli_fmt.specs.Runs.{HoldsDocument, RunFailure, WritesFormatted}
 
 -- the work on a file that held these bytes, if they are known, and what output held before and after it
 abbrev pub WorksOnRead : {A : Type 0} → Work → Option (List ℕ) → Option (List ℕ) → Option (List ℕ) → Result A Failure → Type 0
@@ -16,10 +18,6 @@ WorksOnRead work.Check held old new (Ok x) = IfSome held HoldsDocument × Keeps 
 WorksOnRead work.Check held old new (Err s) = ReadFailure held s × Keeps old new
 WorksOnRead work.Print held old new (Ok x) = IfSome held (WritesFormatted old new)
 WorksOnRead work.Print held old new (Err s) = RunFailure held old new s
-
--- what opening a file gives: None where it is refused, else what it holds, if that is known
-abbrev pub Opening : Type 1
-Opening = Option (Option (List ℕ)) → Type 0
 
 -- the file was opened, and the work was done on what it held; or it could not be opened
 pub data WorksOn {A : Type 0} (opens : Opening) (w : Work) (old new : Option (List ℕ)) (result : Result A Failure) : Type 0 where

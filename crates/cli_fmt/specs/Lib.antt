@@ -1,10 +1,7 @@
 -- Lists the definitions of what the program does.
 pub mod ProgramRuns
 pub mod Formats
-pub mod JoinedTexts
 pub mod Reports
 pub mod Runs
-pub mod Failures
 pub mod CommandWords
 pub mod Files
-pub mod Inputs

@@ -3,11 +3,13 @@ use Rattle.std.specs.declared.alloc.Global.{Global}
 use Rattle.std.specs.Prelude.{◌≡◌, ℕ, List, [], ◌∷◌, Option, IfSome, String, string_bytes}
 use lib.Chars.{codes}
 use Rattle.json5_write.specs.Pieces.{AppendsFront}
-use Rattle.cli_fmt.specs.declared.failure.Failure.{Failure}
+use Rattle.cli_files.specs.declared.failure.Failure.{Failure}
 use Rattle.cli_fmt.specs.declared.work.Work.{Work}
-use Rattle.cli_fmt.specs.Failures.{NamesMemory}
-use Rattle.cli_fmt.specs.Files.{Opening, WorksThrough}
-use Rattle.cli_fmt.specs.Reports.{report_line, status_of, usage_line}
+use Rattle.cli_files.specs.Failures.{NamesMemory}
+use Rattle.cli_files.specs.Stores.{Opening}
+use Rattle.cli_fmt.specs.Files.{WorksThrough}
+use Rattle.cli_files.specs.Reports.{report_line, status_of}
+use Rattle.cli_fmt.specs.Reports.{usage_line}
 use Rattle.cli_fmt.specs.Runs.{RunFailure, WritesFormatted}
 use Rattle.cli_fmt.specs.CommandWords.{work_word, IsRequest}
 

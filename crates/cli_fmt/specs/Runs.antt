@@ -1,12 +1,10 @@
 -- What a run reads and writes.
-use Rattle.std.specs.Prelude.{◌≡◌, ℕ, List, [], ◌∷◌, ◌++◌, Option, IfSome, Result, Ok, Err, ⊤}
+use Rattle.std.specs.Prelude.{◌≡◌, ℕ, List, [], ◌∷◌, ◌++◌, Option, IfSome, Result, Ok, Err}
 use Rattle.std.specs.Str.{chars, encode_utf8_all, IsUtf8}
 use Rattle.std.specs.Io.KnownBytes.{Appends, Keeps}
 use Rattle.json5_grammar.specs.Language.Characters.{line_feed}
 use Rattle.json5_format.specs.TreeMeanings.{datum_of}
-use Rattle.json5_text.specs.Cursor.{IsOutOfMemory}
 use Rattle.json5_grammar.specs.Language.Documents.{Doc, max_depth}
-use Rattle.json5_types.specs.declared.error.Error.{Error}
 use Rattle.json5_write.specs.EscapeFreeMarks.{unmarked}
 use Rattle.json5_write.specs.Out.{whole, written_text}
 use Rattle.json5_write.specs.Pieces.{AppendsFront}
@@ -15,9 +13,10 @@ use Rattle.json5_types.specs.declared.value.Value.{Value}
 use Rattle.json5_types.specs.ValueMeanings.{value_of}
 use Rattle.json5_write.specs.WholeOutputs.{IsText}
 use Rattle.json5_write.specs.WrittenTrees.{Written}
-use Rattle.cli_fmt.specs.Formats.{Formats, RefusesFormat}
-use Rattle.cli_fmt.specs.declared.failure.Failure.{Failure}
-use Rattle.cli_fmt.specs.declared.failure.Failure.TheVariants as failure
+use Rattle.cli_files.specs.Inputs.{ReadFailure}
+use Rattle.cli_fmt.specs.Formats.{Formats}
+use Rattle.cli_files.specs.declared.failure.Failure.{Failure}
+use Rattle.cli_files.specs.declared.failure.Failure.TheVariants as failure
 
 abbrev pub with_line_feed : List ℕ → List ℕ
 with_line_feed text = text ++ line_feed ∷ []
@@ -51,22 +50,6 @@ pub record HoldsValue (input : Option (List ℕ)) (v : Value) : Type 0 where
 -- the bytes are UTF-8 and a document
 abbrev pub HoldsDocument : List ℕ → Type 0
 HoldsDocument bytes = IsUtf8 bytes × ((t : Tree) × Doc max_depth (chars bytes) t)
-
--- the bytes are UTF-8 and refused so, and they are a document only if memory ran out
-abbrev pub RefusesInput : Error → List ℕ → Type 0
-RefusesInput e bytes = IsUtf8 bytes × RefusesFormat bytes e × ((t : Tree) → Doc max_depth (chars bytes) t → IsOutOfMemory e)
-
--- why the input wasn't read as a string
-abbrev pub NoText : Option (List ℕ) → Failure → Type 0
-NoText input failure.NotUtf8 = IfSome input (λ bytes. ¬ (IsUtf8 bytes))
-NoText input failure.NoMemory = ⊤
-NoText input failure.Read = ⊤
-NoText input _ = ⊥
-
--- why no document was read
-abbrev pub ReadFailure : Option (List ℕ) → Failure → Type 0
-ReadFailure input (failure.Text e) = ¬ (IsOutOfMemory e) × IfSome input (RefusesInput e)
-ReadFailure input s = NoText input s
 
 -- why a run ended early; nothing was written unless a write failed
 abbrev pub RunFailure : Option (List ℕ) → Option (List ℕ) → Option (List ℕ) → Failure → Type 0

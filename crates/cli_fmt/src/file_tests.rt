@@ -1,5 +1,6 @@
 //! `check` and `print` over files in memory, and the program's words over files of the system.
-use crate::{Disk, Work, words, work_through};
+use crate::{Work, words, work_through};
+use cli_files::Disk;
 use std::alloc::Global;
 use std::fs;
 use std::io::{self, ErrorKind, Read, Write};

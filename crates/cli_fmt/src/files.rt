@@ -2,9 +2,7 @@
 
 ghost use Rattle.cli_fmt.specs.Files.{WorksOn, WorksThrough};
 
-use crate::disk::Disk;
-use crate::failure::Failure;
-use crate::reports::report;
+use cli_files::{Disk, Failure, report};
 use crate::streams::{check, run};
 use crate::work::Work;
 use std::alloc::Global;

@@ -4,10 +4,10 @@ ghost use Rattle.std.specs.Prelude.{◌≡◌, ◌≤◌};
 ghost use Rattle.cli_fmt.specs.CommandWords.{IsRequest};
 
 use crate::program_runs::answer;
-use crate::reports::usage;
+use crate::usage::usage;
+use cli_files::given_words;
 use std::alloc::Global;
-use std::env;
-use std::io::{self, BufWriter};
+use std::io::BufWriter;
 use std::process::ExitCode;
 
 /// How many bytes are written to standard output at once.
@@ -33,9 +33,4 @@ pub fn words(rt: &HostRuntime, alloc: Global, list: &[String]) -> u8
         Ok(mut output) => answer(rt, alloc, list, &mut input, &mut output, &mut errors),
         Err(_) => answer(rt, alloc, list, &mut input, &mut rt.stdout(), &mut errors),
     }
-}
-
-/// The words after the program's name.
-fn given_words(rt: &HostRuntime) -> io::Result<Vec<String>> {
-    Ok(env::args(rt)?.skip(1).collect(rt.alloc())?)
 }

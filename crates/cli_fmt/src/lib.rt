@@ -5,27 +5,20 @@
 //! refused, 2 for anything else.
 #![tactic(auto)]
 
-mod disk;
-mod failure;
 #[cfg(test)]
 mod file_tests;
 mod files;
 mod host_program;
-mod input;
 mod program_runs;
-mod reports;
 mod streams;
 #[cfg(test)]
 mod tests;
+mod usage;
 mod work;
-pub mod write_texts;
 
-pub use disk::Disk;
-pub use failure::Failure;
 pub use files::work_through;
 pub use host_program::{program, words};
-pub use input::read_whole;
 pub use program_runs::answer;
-pub use reports::{report, usage};
-pub use streams::{check, read_text, run};
+pub use streams::{check, run};
+pub use usage::usage;
 pub use work::Work;

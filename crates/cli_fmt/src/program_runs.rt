@@ -2,9 +2,9 @@
 
 ghost use Rattle.cli_fmt.specs.ProgramRuns.{Answers, AnswersStream};
 
-use crate::disk::Disk;
+use cli_files::{Disk, report};
 use crate::files::work_through;
-use crate::reports::{report, usage};
+use crate::usage::usage;
 use crate::streams::run;
 use crate::work::Work;
 use std::alloc::Global;

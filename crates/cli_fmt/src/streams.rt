@@ -1,12 +1,12 @@
 //! One input, from a reader, and formatted to a writer.
 
-ghost use Rattle.std.specs.Prelude.{◌≡◌, IfOk, IfErr, IfSome, OnOk, string_bytes};
+ghost use Rattle.std.specs.Prelude.{IfOk, IfErr, IfSome, OnOk};
 ghost use Rattle.json5_write.specs.ValueTrees.{value_tree};
-ghost use Rattle.cli_fmt.specs.Runs.{HoldsValue, HoldsDocument, NoText, ReadFailure, RunFailure, WritesFormatted, WritesLine};
-ghost use Rattle.cli_fmt.specs.Failures.{NamesMemory};
+ghost use Rattle.cli_files.specs.Inputs.{ReadFailure};
+ghost use Rattle.cli_fmt.specs.Runs.{HoldsValue, HoldsDocument, RunFailure, WritesFormatted, WritesLine};
+ghost use Rattle.cli_files.specs.Failures.{NamesMemory};
 
-use crate::failure::Failure;
-use crate::input::read_whole;
+use cli_files::{Failure, read_text};
 use json5_format::read_document;
 use json5_types::nesting::Limit;
 use json5_types::value::Value;
@@ -62,26 +62,6 @@ fn read_value<R: Read>(alloc: Global, r: &mut R) -> Result<Value, Failure>
     match read_document(alloc, text.as_str()) {
         Ok(value) => Ok(value),
         Err(e) => Err(Failure::at(e)),
-    }
-}
-
-/// Reads all of `r` as a string.
-///
-/// ```text
-/// let text = read_text(alloc, &mut rt.stdin())?;
-/// ```
-///
-/// # Errors
-///
-/// `NotUtf8`, `NoMemory` and `Read`, as [`run`].
-pub fn read_text<R: Read>(alloc: Global, r: &mut R) -> Result<String, Failure>
-    ensures read { IfOk result (λ text. IfSome (R.remaining r.old) (λ bytes. string_bytes text ≡ bytes)) }
-    ensures stopped { IfErr result (NoText (R.remaining r.old)) }
-{
-    let bytes = read_whole(alloc, r)?;
-    match String::from_utf8(bytes) {
-        Ok(text) => Ok(text),
-        Err(_) => Err(Failure::NotUtf8),
     }
 }
 

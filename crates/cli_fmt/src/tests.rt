@@ -1,5 +1,6 @@
 //! What is written on standard error, and runs over readers and writers that fail.
-use crate::{Failure, report, run, usage};
+use crate::{run, usage};
+use cli_files::{Failure, report};
 use json5_types::error::Error;
 use json5_types::{ErrorCode, Position};
 use std::alloc::Global;

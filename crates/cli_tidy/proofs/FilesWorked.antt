@@ -4,13 +4,13 @@ use Rattle.std.specs.declared.alloc.Global.{Global}
 use Rattle.std.specs.Prelude.{String, string_bytes, Ok, Err}
 use Rattle.std.proofs.lemmas.List.{take_more, take_all}
 use Rattle.json5_write.specs.Pieces.{AppendsFront}
-use Rattle.cli_fmt.specs.declared.failure.Failure.TheVariants as failure
+use Rattle.cli_files.specs.declared.failure.Failure.TheVariants as failure
 use Rattle.cli_tidy.specs.declared.files.Outcome.TheVariants as outcome
 use Rattle.cli_tidy.specs.declared.requests.FileRequest.{FileRequest}
 use Rattle.cli_tidy.specs.declared.trouble.Trouble.{Trouble}
 use Rattle.cli_tidy.specs.declared.trouble.Trouble.TheVariants as trouble
 use Rattle.cli_tidy.specs.Files.{WorksOnFile, GoesThrough, tidy, untidy, bad, WorksThrough, through, stopped}
-use Rattle.cli_tidy.specs.Stores.{Known}
+use Rattle.cli_files.specs.Stores.{Known}
 use Rattle.cli_tidy.specs.Troubles.{trouble_line, trouble_status}
 
 -- the files so far, and this one

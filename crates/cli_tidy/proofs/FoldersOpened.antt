@@ -5,10 +5,11 @@ use Rattle.std.specs.Prelude.{String, string_bytes, string_cmp, Some, None, reve
 use Rattle.std.specs.List.Sorted.{IsPermutation, IsSorted}
 use Rattle.std.proofs.lemmas.List.{map-append, reverse-append, reverse-reverse, append-nil}
 use Rattle.std.proofs.lemmas.List.Sorted.{IsPermutation-map}
-use Rattle.cli_tidy.specs.declared.stores.Entry.TheVariants as entry
-use Rattle.cli_tidy.specs.Folders.{AreBelow, none, file, unsought, unknown, other, passed, folder, unread, read, IsPassedOver, names_of}
+use Rattle.cli_files.specs.declared.stores.Entry.TheVariants as entry
+use Rattle.cli_tidy.specs.Folders.{AreBelow, none, file, unsought, unknown, other, passed, folder, unread, read, IsPassedOver}
+use Rattle.cli_files.specs.NameLists.{names_of}
 use Rattle.cli_tidy.specs.FolderSteps.{Leads, Opens, Gathering, Gathers, left_of}
-use Rattle.cli_tidy.specs.Stores.{Known}
+use Rattle.cli_files.specs.Stores.{Known}
 
 pub on_ok : {T E P Q : Type 0} (r : Result T E) → (P → Q) → OnOk r P → OnOk r Q
 on_ok (Ok x) f k = f k

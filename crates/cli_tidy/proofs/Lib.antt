@@ -1,5 +1,4 @@
 -- Lists the lemmas about the program.
-pub mod LinesJoined
 pub mod RefusalsRead
 pub mod FilesWorked
 pub mod NamesWorked

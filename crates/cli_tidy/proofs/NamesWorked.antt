@@ -5,9 +5,10 @@ use Rattle.std.specs.Prelude.{String, string_bytes}
 use Rattle.std.proofs.lemmas.List.{take_all, nil_from_length}
 use Rattle.cli_tidy.specs.declared.requests.FileRequest.{FileRequest}
 use Rattle.cli_tidy.specs.Files.{WorksThrough}
-use Rattle.cli_tidy.specs.Folders.{StandsFor, names_of}
+use Rattle.cli_tidy.specs.Folders.{StandsFor}
+use Rattle.cli_files.specs.NameLists.{names_of}
 use Rattle.cli_tidy.specs.Names.{Stands, WorksBelow, worked, GoesThroughNames, next, WorksThroughNames, through, stopped}
-use Rattle.cli_tidy.specs.Stores.{Known}
+use Rattle.cli_files.specs.Stores.{Known}
 use Rattle.cli_tidy.proofs.FilesWorked.{one_more}
 
 module _ (known : Known) (request : FileRequest) (output errors : Option (List ℕ)) (names : List (String Global)) (i : ℕ) where

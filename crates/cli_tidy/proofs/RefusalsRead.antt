@@ -8,9 +8,9 @@ use Rattle.json5_types.specs.declared.error.Error.{Error}
 use Rattle.json5_types.specs.Errors.{LacksMemory}
 use Rattle.json5_report.specs.declared.report.Report.{Report}
 use Rattle.json5_report.specs.Reports.{IsReportOf, IsReportOfWrong, report_text}
-use Rattle.cli_fmt.specs.declared.failure.Failure.{Failure}
-use Rattle.cli_fmt.specs.declared.failure.Failure.TheVariants as failure
-use Rattle.cli_fmt.specs.Runs.{ReadFailure, RefusesInput}
+use Rattle.cli_files.specs.declared.failure.Failure.{Failure}
+use Rattle.cli_files.specs.declared.failure.Failure.TheVariants as failure
+use Rattle.cli_files.specs.Inputs.{ReadFailure, RefusesInput}
 use Rattle.cli_tidy.specs.declared.trouble.Trouble.{Trouble}
 use Rattle.cli_tidy.specs.declared.trouble.Trouble.TheVariants as trouble
 use Rattle.cli_tidy.specs.Refusals.{IsTroubleOf, ShowsReport, refused, reported, wrong}

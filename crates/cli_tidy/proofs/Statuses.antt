@@ -2,9 +2,9 @@
 use Rattle.std.proofs.Common.{◌≡◌, ℕ, ◌≤◌, max, Bool, List, Option, refl, arith}
 use Rattle.std.specs.declared.alloc.Global.{Global}
 use Rattle.std.specs.Prelude.{String}
-use Rattle.cli_fmt.specs.declared.failure.Failure.{Failure}
-use Rattle.cli_fmt.specs.declared.failure.Failure.TheVariants as failure
-use Rattle.cli_fmt.specs.Reports.{status_of}
+use Rattle.cli_files.specs.declared.failure.Failure.{Failure}
+use Rattle.cli_files.specs.declared.failure.Failure.TheVariants as failure
+use Rattle.cli_files.specs.Reports.{status_of}
 use Rattle.cli_tidy.specs.declared.options.Options.{Options}
 use Rattle.cli_tidy.specs.declared.requests.FileRequest.{FileRequest}
 use Rattle.cli_tidy.specs.declared.requests.Request.{Request}
@@ -12,11 +12,11 @@ use Rattle.cli_tidy.specs.declared.requests.Request.TheVariants as requests
 use Rattle.cli_tidy.specs.declared.trouble.Trouble.{Trouble}
 use Rattle.cli_tidy.specs.declared.trouble.Trouble.TheVariants as trouble
 use Rattle.cli_tidy.specs.Answers.{AnswersStream, tidies, fails, AnswersRequest, Answers, answers, says_usage, no_memory}
-use Rattle.cli_tidy.specs.Says.{SaysText, says, stops}
+use Rattle.cli_files.specs.Says.{SaysText, says, stops}
 use Rattle.cli_tidy.specs.CommandWords.{AsksNothing}
 use Rattle.cli_tidy.specs.Files as files
 use Rattle.cli_tidy.specs.Names as named
-use Rattle.cli_tidy.specs.Stores.{Known}
+use Rattle.cli_files.specs.Stores.{Known}
 use Rattle.cli_tidy.specs.Troubles.{trouble_status}
 
 -- ---- it is at most 2

@@ -10,7 +10,7 @@ use Rattle.cli_tidy.specs.declared.options.Setting.{Setting}
 use Rattle.cli_tidy.specs.declared.requests.Request.{Request}
 use Rattle.cli_tidy.specs.declared.taking.Words.{Words}
 use Rattle.cli_tidy.specs.CommandWords.{end_word, IsDashed, IsFlag, Part, Starts, apart, Choices, nothing_chosen, with_part, with_names, Choose, none, ended, next, IsFor, AsksNothing}
-use Rattle.cli_tidy.specs.Folders.{names_of}
+use Rattle.cli_files.specs.NameLists.{names_of}
 use Rattle.cli_tidy.specs.WordSteps.{choices_of, IsJoined, IsPair, BeginsPair, Gains, Refuses, IsStart, ChooseAlike, TakesAll, ChooseNothing, Requests, ReadsWords}
 use Rattle.cli_tidy.proofs.WordKinds.{starts_once, starts_some, starts_before_end, pair_only}
 

@@ -4,7 +4,7 @@ use Rattle.std.specs.Prelude.{◌++◌, ◌∷◌, ℕ, List, [], Option, IfSome
 use lib.Chars.{codes}
 use Rattle.json5_grammar.specs.Language.Characters.{line_feed}
 use Rattle.json5_write.specs.Pieces.{AppendsFront}
-use Rattle.json5_version.specs.declared.TheConstants.{VERSION}
+use Rattle.cli_files.specs.declared.version.TheConstants.{VERSION}
 use Rattle.cli_tidy.specs.declared.reports.TheConstants.{HELP}
 use Rattle.cli_tidy.specs.declared.options.Options.{Options}
 use Rattle.cli_tidy.specs.declared.requests.Request.{Request}
@@ -12,8 +12,8 @@ use Rattle.cli_tidy.specs.declared.requests.Request.TheVariants as requests
 use Rattle.cli_tidy.specs.declared.trouble.Trouble.{Trouble}
 use Rattle.cli_tidy.specs.CommandWords.{Asks, AsksNothing, input_name}
 use Rattle.cli_tidy.specs.Names.{WorksThroughNames}
-use Rattle.cli_tidy.specs.Says.{SaysText}
-use Rattle.cli_tidy.specs.Stores.{Known}
+use Rattle.cli_files.specs.Says.{SaysText}
+use Rattle.cli_files.specs.Stores.{Known}
 use Rattle.cli_tidy.specs.Tidies.{TidyTrouble, WritesTidied}
 use Rattle.cli_tidy.specs.Troubles.{memory_line, trouble_line, trouble_status, usage_line}
 

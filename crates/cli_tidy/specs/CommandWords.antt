@@ -19,7 +19,8 @@ use Rattle.cli_tidy.specs.declared.taking.Question.{Question}
 use Rattle.cli_tidy.specs.declared.taking.Question.TheVariants as questions
 use Rattle.cli_tidy.specs.declared.work.Work.{Work}
 use Rattle.cli_tidy.specs.declared.work.Work.TheVariants as work
-use Rattle.cli_tidy.specs.Folders.{names_of, point}
+use Rattle.cli_files.specs.NameLists.{names_of}
+use Rattle.cli_tidy.specs.Folders.{point}
 
 abbrev pub minus : ℕ
 minus = 45

@@ -4,9 +4,9 @@ use Rattle.std.specs.Prelude.{◌≡◌, ◌≢◌, ◌⊎◌, ⊤, ℕ, Bool, t
 use lib.Chars.{codes}
 use Rattle.std.specs.Io.KnownBytes.{Appends, Keeps}
 use Rattle.json5_write.specs.Pieces.{AppendsFront}
-use Rattle.cli_fmt.specs.declared.failure.Failure.{Failure}
-use Rattle.cli_fmt.specs.declared.failure.Failure.TheVariants as failure
-use Rattle.cli_fmt.specs.Files.{Opening}
+use Rattle.cli_files.specs.declared.failure.Failure.{Failure}
+use Rattle.cli_files.specs.declared.failure.Failure.TheVariants as failure
+use Rattle.cli_files.specs.Stores.{Opening}
 use Rattle.cli_tidy.specs.declared.files.Outcome.{Outcome}
 use Rattle.cli_tidy.specs.declared.files.Outcome.TheVariants as outcome
 use Rattle.cli_tidy.specs.declared.requests.FileRequest.{FileRequest}
@@ -16,7 +16,7 @@ use Rattle.cli_tidy.specs.declared.trouble.Trouble.TheVariants as trouble
 use Rattle.cli_tidy.specs.declared.work.Work.{Work}
 use Rattle.cli_tidy.specs.declared.work.Work.TheVariants as work
 use Rattle.cli_tidy.specs.Refusals.{IsTroubleOf}
-use Rattle.cli_tidy.specs.Stores.{Known, Replacing}
+use Rattle.cli_files.specs.Stores.{Known, Replacing}
 use Rattle.cli_tidy.specs.Tidies.{Tidies}
 use Rattle.cli_tidy.specs.Troubles.{trouble_line, trouble_status}
 

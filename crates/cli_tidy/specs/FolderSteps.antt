@@ -1,8 +1,9 @@
 -- How the names that are left to look at, and the files that were found, go on.
 use Rattle.std.specs.declared.alloc.Global.{Global}
 use Rattle.std.specs.Prelude.{◌≡◌, ℕ, List, ◌++◌, reverse, String}
-use Rattle.cli_tidy.specs.Folders.{AreBelow, IsBelow, names_of}
-use Rattle.cli_tidy.specs.Stores.{Known}
+use Rattle.cli_tidy.specs.Folders.{AreBelow, IsBelow}
+use Rattle.cli_files.specs.NameLists.{names_of}
+use Rattle.cli_files.specs.Stores.{Known}
 
 -- the names that are left, the last first
 abbrev pub left_of : List (String Global) → List (List ℕ)

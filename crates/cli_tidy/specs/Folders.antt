@@ -4,8 +4,9 @@ use Rattle.std.specs.Prelude.{◌≡◌, ◌≢◌, ◌⊎◌, ℕ, true, false,
 use Rattle.std.specs.List.{Any}
 use Rattle.std.specs.List.Sorted.{IsPermutation, IsSorted}
 use lib.Chars.{codes}
-use Rattle.cli_tidy.specs.declared.stores.Entry.TheVariants as entry
-use Rattle.cli_tidy.specs.Stores.{Known}
+use Rattle.cli_files.specs.declared.stores.Entry.TheVariants as entry
+use Rattle.cli_files.specs.NameLists.{names_of}
+use Rattle.cli_files.specs.Stores.{Known}
 
 abbrev pub point : ℕ
 point = 46
@@ -27,10 +28,6 @@ EndsWith ending name = (front : List ℕ) × (name ≡ front ++ ending)
 -- folders with this name aren't looked into
 abbrev pub IsPassedOver : List ℕ → Type 0
 IsPassedOver name = EndsWith (codes "/.git") name ⊎ EndsWith (codes "/node_modules") name
-
--- the names of strings
-abbrev pub names_of : List (String Global) → List (List ℕ)
-names_of = map string_bytes
 
 module _ (known : Known) (endings : List (String Global)) where
   mutual

@@ -1,12 +1,10 @@
 -- Lists the definitions of what the program does.
 pub mod Refusals
 pub mod Tidies
-pub mod Says
 pub mod Answers
 pub mod CommandWords
 pub mod WordSteps
 pub mod Troubles
-pub mod Stores
 pub mod Files
 pub mod Names
 pub mod Folders

@@ -2,12 +2,13 @@
 use Rattle.std.specs.declared.alloc.Global.{Global}
 use Rattle.std.specs.Prelude.{◌≡◌, ℕ, Bool, true, false, List, [], ◌∷◌, ◌++◌, max, Option, String, string_bytes}
 use Rattle.json5_write.specs.Pieces.{AppendsFront}
-use Rattle.cli_fmt.specs.declared.failure.Failure.TheVariants as failure
+use Rattle.cli_files.specs.declared.failure.Failure.TheVariants as failure
 use Rattle.cli_tidy.specs.declared.requests.FileRequest.{FileRequest}
 use Rattle.cli_tidy.specs.declared.trouble.Trouble.TheVariants as trouble
 use Rattle.cli_tidy.specs.Files.{WorksThrough}
-use Rattle.cli_tidy.specs.Folders.{StandsFor, names_of}
-use Rattle.cli_tidy.specs.Stores.{Known}
+use Rattle.cli_tidy.specs.Folders.{StandsFor}
+use Rattle.cli_files.specs.NameLists.{names_of}
+use Rattle.cli_files.specs.Stores.{Known}
 use Rattle.cli_tidy.specs.Troubles.{trouble_line}
 
 -- this name of the command line stands for these files

@@ -6,9 +6,8 @@ use Rattle.json5_types.specs.Errors.{LacksMemory}
 use Rattle.json5_text.specs.Cursor.{IsOutOfMemory}
 use Rattle.json5_report.specs.declared.report.Report.{Report}
 use Rattle.json5_report.specs.Reports.{IsReportOf, IsReportOfWrong, report_text}
-use Rattle.cli_fmt.specs.declared.failure.Failure.{Failure}
-use Rattle.cli_fmt.specs.Inputs.{IsReadFault}
-use Rattle.cli_fmt.specs.Runs.{ReadFailure, RefusesInput}
+use Rattle.cli_files.specs.declared.failure.Failure.{Failure}
+use Rattle.cli_files.specs.Inputs.{IsReadFault, ReadFailure, RefusesInput}
 use Rattle.cli_tidy.specs.declared.trouble.Trouble.{Trouble}
 use Rattle.cli_tidy.specs.declared.trouble.Trouble.TheVariants as trouble
 

@@ -6,7 +6,7 @@ use Rattle.std.specs.Io.KnownBytes.{Appends, Keeps}
 use lib.Chars.{codes}
 use Rattle.json5_lexemes.specs.Plain.{KeepsPlain}
 use Rattle.json5_write.specs.Pieces.{AppendsFront}
-use Rattle.cli_fmt.specs.declared.failure.Failure.TheVariants as failure
+use Rattle.cli_files.specs.declared.failure.Failure.TheVariants as failure
 use Rattle.json5_tidy.specs.declared.style.LastCommas.TheVariants as commas
 use Rattle.json5_tidy.specs.declared.style.Style.{Style}
 use Rattle.json5_tidy.specs.Tidied as tidied

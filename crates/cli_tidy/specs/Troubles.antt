@@ -2,19 +2,9 @@
 use Rattle.std.specs.Prelude.{ℕ, List, [], ◌∷◌, ◌++◌, string_bytes}
 use lib.Chars.{codes}
 use Rattle.json5_grammar.specs.Language.Characters.{line_feed}
-use Rattle.cli_fmt.specs.Reports.{named_report, report_line, status_of}
+use Rattle.cli_files.specs.Reports.{named_report, report_line, status_of, unwritten_line}
 use Rattle.cli_tidy.specs.declared.trouble.Trouble.{Trouble}
 use Rattle.cli_tidy.specs.declared.trouble.Trouble.TheVariants as trouble
-use Rattle.cli_tidy.specs.declared.trouble.Unwritten.{Unwritten}
-use Rattle.cli_tidy.specs.declared.trouble.Unwritten.TheVariants as unwritten
-
-abbrev pub unwritten_line : List ℕ → Unwritten → List ℕ
-unwritten_line name unwritten.Refused = named_report name (codes "cannot be written")
-unwritten_line name unwritten.Changed = named_report name (codes "changed meanwhile, and was left as it is")
-unwritten_line name unwritten.Linked = named_report name (codes "cannot be written: it has other hard links")
-unwritten_line name (unwritten.Taken beside) = named_report name (codes "cannot be written: " ++ (string_bytes beside ++ codes " is there"))
-unwritten_line name (unwritten.Remains beside) = named_report name (codes "cannot be written, and " ++ (string_bytes beside ++ codes " remains"))
-unwritten_line name unwritten.NoMemory = named_report name (codes "out of memory")
 
 -- a report names the file itself
 abbrev pub trouble_line : List ℕ → Trouble → List ℕ

@@ -8,7 +8,7 @@ use Rattle.cli_tidy.specs.declared.options.Setting.{Setting}
 use Rattle.cli_tidy.specs.declared.requests.Request.{Request}
 use Rattle.cli_tidy.specs.declared.taking.Words.{Words}
 use Rattle.cli_tidy.specs.CommandWords.{Part, Sets, equals, setting_word, Starts, Choices, with_part, with_names, Choose, IsFor, Asks, AsksNothing}
-use Rattle.cli_tidy.specs.Folders.{names_of}
+use Rattle.cli_files.specs.NameLists.{names_of}
 
 -- what was chosen so far
 abbrev pub choices_of : Words → Choices

@@ -6,10 +6,8 @@ use crate::files::work_through;
 use crate::options::{Fault, Options};
 use crate::reports::{HELP, no_memory, report_trouble, usage};
 use crate::requests::Request;
-use crate::stores::Store;
+use cli_files::{Store, VERSION, answer_with};
 use crate::streams::tidy_stream;
-use crate::texts::answer_with;
-use json5_version::VERSION;
 use std::alloc::Global;
 use std::io::{Read, Write};
 

@@ -5,8 +5,7 @@ ghost use Rattle.cli_tidy.specs.Files.{DiffFailure};
 
 use crate::blocks::{Block, blocks};
 use crate::hunks::{Texts, hunk_len, write_hunk};
-use cli_fmt::Failure;
-use cli_fmt::write_texts::write_texts;
+use cli_files::{Failure, write_texts};
 use std::alloc::Global;
 use std::io::{self, Write};
 

@@ -1,7 +1,7 @@
 //! One file after another.
 
 ghost use Rattle.std.specs.Prelude.{string_bytes};
-ghost use Rattle.cli_fmt.specs.JoinedTexts.{joined_texts};
+ghost use Rattle.cli_files.specs.JoinedTexts.{joined_texts};
 ghost use Rattle.cli_tidy.specs.Files.{PutsDiff, PutsFile, PutsTexts, WorksOnFile, WorksOnTidied, WorksThrough};
 ghost use Rattle.cli_tidy.specs.Names.{WorksBelow, WorksThroughNames};
 
@@ -9,12 +9,10 @@ use crate::diffs::diff;
 use crate::folders::files_of;
 use crate::reports::report_trouble;
 use crate::requests::FileRequest;
-use crate::stores::Store;
-use crate::texts::put_texts;
+use cli_files::{Failure, Store, put_texts};
 use crate::tidied::{Tidied, read_tidied};
 use crate::trouble::Trouble;
 use crate::work::Work;
-use cli_fmt::Failure;
 use std::alloc::Global;
 use std::io::Write;
 

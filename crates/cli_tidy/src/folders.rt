@@ -1,15 +1,13 @@
 //! The files below a folder.
 
 ghost use Rattle.std.specs.Prelude.{◌∷◌, IfOk, OnOk};
-ghost use Rattle.cli_tidy.specs.Folders.{StandsFor, names_of};
+ghost use Rattle.cli_tidy.specs.Folders.{StandsFor};
+ghost use Rattle.cli_files.specs.NameLists.{names_of};
 ghost use Rattle.cli_tidy.specs.FolderSteps.{Gathers, Leads, OpensFolder, left_of};
 
 use crate::endings::{is_passed_over, is_sought};
-use crate::names::push_name;
-use crate::stores::{Entry, Store};
+use cli_files::{Entry, Store, push_name};
 use std::alloc::{AllocError, Global};
-use std::rt::Files;
-use std::{fs, io};
 
 /// The files that the name stands for: those below it if it is a folder, in the order of their names, and else the
 /// name itself. What can't be read below a folder is among them, so that reading it says so.
@@ -88,18 +86,4 @@ fn push_entries<S: Store>(
     names.sort()?;
     names.reverse();
     left.append(&mut names)
-}
-
-/// The names of what is in a folder of the system, each with the folder's in front.
-pub(crate) fn entries_of<F: Files + AllocGlobal + Clone + Drop>(
-    files: &F,
-    alloc: Global,
-    folder: &str,
-) -> io::Result<Vec<String>> {
-    let mut names = Vec::new(alloc);
-    for entry in fs::read_dir(files, folder)? {
-        let entry = entry?;
-        push_name(alloc, &mut names, entry.path().as_str())?;
-    }
-    Ok(names)
 }

@@ -5,9 +5,9 @@ ghost use Rattle.cli_tidy.specs.CommandWords.{AsksNothing};
 
 use crate::answers::answer;
 use crate::reports::{no_memory, usage};
+use cli_files::given_words;
 use std::alloc::Global;
-use std::env;
-use std::io::{self, BufWriter, ErrorKind};
+use std::io::{BufWriter, ErrorKind};
 use std::process::ExitCode;
 
 /// How many bytes are written to standard output at once.
@@ -45,9 +45,4 @@ pub fn words(rt: &HostRuntime, alloc: Global, list: &[String]) -> u8
         Ok(mut output) => answer(rt, alloc, list, &mut input, &mut output, &mut errors),
         Err(_) => answer(rt, alloc, list, &mut input, &mut rt.stdout(), &mut errors),
     }
-}
-
-/// The words after the program's name.
-fn given_words(rt: &HostRuntime) -> io::Result<Vec<String>> {
-    Ok(env::args(rt)?.skip(1).collect(rt.alloc())?)
 }

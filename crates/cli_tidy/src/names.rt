@@ -1,21 +1,10 @@
 //! Lists of names.
 
-ghost use Rattle.std.specs.Prelude.{◌≡◌, [], ◌∷◌, ◌++◌, OnOk};
-ghost use Rattle.cli_tidy.specs.Folders.{names_of};
+ghost use Rattle.std.specs.Prelude.{◌≡◌, ◌++◌, OnOk};
+ghost use Rattle.cli_files.specs.NameLists.{names_of};
 
+use cli_files::push_name;
 use std::alloc::{AllocError, Global};
-
-/// Appends a copy of the name.
-pub(crate) fn push_name(
-    alloc: Global,
-    names: &mut Vec<String>,
-    name: &str,
-) -> Result<(), AllocError>
-    ensures { OnOk result (names_of names.new.items ≡ names_of names.old.items ++ name.now ∷ []) }
-{
-    names.push(String::from_str(alloc, name)?)?;
-    Ok(())
-}
 
 /// Appends copies of the names.
 pub(crate) fn push_names(

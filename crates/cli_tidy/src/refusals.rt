@@ -4,11 +4,11 @@ ghost use Rattle.std.specs.Prelude.{◌≡◌, MatchResult, Some, string_bytes};
 ghost use Rattle.std.specs.Str.{IsUtf8};
 ghost use Rattle.json5_report.specs.Reports.{IsReportOf, IsReportOfWrong, report_text};
 ghost use Rattle.json5_types.specs.Errors.{LacksMemory};
-ghost use Rattle.cli_fmt.specs.Runs.{RefusesInput};
+ghost use Rattle.cli_files.specs.Inputs.{RefusesInput};
 ghost use Rattle.cli_tidy.specs.Refusals.{IsTroubleOf, ShowsReport, reported};
 
 use crate::trouble::Trouble;
-use cli_fmt::Failure;
+use cli_files::Failure;
 use json5_report::Report;
 use json5_types::error::{Error, Result};
 use std::alloc::Global;

@@ -2,12 +2,10 @@
 
 ghost use Rattle.std.specs.Prelude.{◌≡◌};
 ghost use Rattle.json5_write.specs.Pieces.{AppendsFront};
-ghost use Rattle.cli_fmt.specs.JoinedTexts.{joined_texts};
-ghost use Rattle.cli_tidy.specs.Troubles.{memory_line, trouble_line, trouble_status, unwritten_line, usage_line};
+ghost use Rattle.cli_tidy.specs.Troubles.{memory_line, trouble_line, trouble_status, usage_line};
 
-use crate::trouble::{Trouble, Unwritten};
-use cli_fmt::report;
-use cli_fmt::write_texts::write_texts;
+use crate::trouble::Trouble;
+use cli_files::{report, report_unwritten, say};
 use std::io::Write;
 
 /// What `--help` writes.
@@ -82,47 +80,4 @@ pub(crate) fn report_trouble<E: Write>(name: &str, trouble: &Trouble, e: &mut E)
             2
         }
     }
-}
-
-/// Writes why the file wasn't replaced, as one line, and returns the status 2.
-///
-/// ```text
-/// report_unwritten("app.json5", &Unwritten::Changed, &mut rt.stderr())    // 2
-/// ```
-pub fn report_unwritten<E: Write>(name: &str, unwritten: &Unwritten, e: &mut E) -> u8
-    ensures status { result ≡ 2 }
-    ensures line { AppendsFront (E.contents e.old) (E.contents e.new) (unwritten_line name.now unwritten.now) }
-{
-    match unwritten {
-        Unwritten::Refused => say(e, &[name, ": cannot be written\n"]),
-        Unwritten::Changed => say(e, &[name, ": changed meanwhile, and was left as it is\n"]),
-        Unwritten::Linked => say(e, &[name, ": cannot be written: it has other hard links\n"]),
-        Unwritten::NoMemory => say(e, &[name, ": out of memory\n"]),
-        Unwritten::Taken(beside) => say(
-            e,
-            &[
-                name,
-                ": cannot be written: ",
-                beside.as_str(),
-                " is there\n",
-            ],
-        ),
-        Unwritten::Remains(beside) => say(
-            e,
-            &[
-                name,
-                ": cannot be written, and ",
-                beside.as_str(),
-                " remains\n",
-            ],
-        ),
-    }
-    2
-}
-
-/// Writes the strings. A failed write changes nothing else.
-fn say<E: Write>(e: &mut E, texts: &[&str])
-    ensures { AppendsFront (E.contents e.old) (E.contents e.new) (joined_texts texts.now) }
-{
-    let _ = write_texts(e, texts);
 }

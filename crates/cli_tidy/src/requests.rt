@@ -3,7 +3,7 @@
 ghost use Rattle.std.specs.declared.alloc.Global.{Global};
 ghost use Rattle.std.specs.Prelude.{◌≡◌, ◌≢◌, [], ◌∷◌, List, MatchOption, String};
 ghost use Rattle.cli_tidy.specs.CommandWords.{work_word};
-ghost use Rattle.cli_tidy.specs.Folders.{names_of};
+ghost use Rattle.cli_files.specs.NameLists.{names_of};
 ghost use Rattle.cli_tidy.specs.WordSteps.{ReadsWords, Requests, choices_of, unasked};
 
 use crate::names::push_names;

@@ -3,7 +3,7 @@
 ghost use Rattle.std.specs.Prelude.{IfErr, IfSome, OnOk};
 ghost use Rattle.cli_tidy.specs.Tidies.{TidyTrouble, WritesTidied};
 
-use crate::texts::put_texts;
+use cli_files::put_texts;
 use crate::tidied::read_tidied;
 use crate::trouble::Trouble;
 use json5_tidy::Style;

@@ -2,10 +2,10 @@
 
 ghost use Rattle.std.specs.Prelude.{◌≡◌, ◌≤◌, ◌∷◌, IfErr, IfOk, OnOk, length};
 ghost use Rattle.cli_tidy.specs.CommandWords.{Sets, Starts, flag, nothing_chosen, with_part};
-ghost use Rattle.cli_tidy.specs.Folders.{names_of};
+ghost use Rattle.cli_files.specs.NameLists.{names_of};
 ghost use Rattle.cli_tidy.specs.WordSteps.{BeginsPair, ChooseNothing, Gains, IsPair, IsStart, Refuses, TakesAll, choices_of};
 
-use crate::names::push_name;
+use cli_files::push_name;
 use crate::options::{
     Fault, Flag, Options, Setting, ending_of, indent_of, is_dashed, is_end, last_commas_of,
     unless_empty, width_of,

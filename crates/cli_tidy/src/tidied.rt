@@ -7,7 +7,7 @@ ghost use Rattle.cli_tidy.specs.Tidies.{HoldsText, HoldsTidied};
 use crate::endings::style_for;
 use crate::refusals::{refused_text, wrong_bytes};
 use crate::trouble::Trouble;
-use cli_fmt::read_whole;
+use cli_files::read_whole;
 use json5_tidy::{Style, tidy_with};
 use std::alloc::Global;
 use std::io::Read;

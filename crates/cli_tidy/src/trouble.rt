@@ -1,13 +1,12 @@
 //! Why the work on a file ends early.
 
 ghost use Rattle.std.specs.Prelude.{◌≡◌, ◌≢◌, true, false};
-ghost use Rattle.cli_fmt.specs.declared.failure.Failure.TheVariants as failures;
+ghost use Rattle.cli_files.specs.declared.failure.Failure.TheVariants as failures;
 ghost use Rattle.cli_tidy.specs.declared.trouble.Trouble.TheVariants as troubles;
 ghost use Rattle.cli_tidy.specs.Troubles.{trouble_status};
 
-use cli_fmt::Failure;
+use cli_files::{Failure, Unwritten};
 use json5_types::error::Error;
-use std::io::{self, ErrorKind};
 
 /// Why the work on a file ended.
 #[derive(Drop)]
@@ -22,32 +21,6 @@ pub enum Trouble {
     Unwritten(Unwritten),
     /// It is a folder, and no file below it has an ending that was asked for.
     NoFile,
-}
-
-/// Why a file wasn't replaced. It holds what it held before.
-#[derive(Drop)]
-pub enum Unwritten {
-    /// The system refused a step.
-    Refused,
-    /// The file isn't as it was read.
-    Changed,
-    /// It has other names, as hard links.
-    Linked,
-    /// A file with a name that would be needed is there.
-    Taken(String),
-    /// The system refused a step, and then to remove a file, which has this name.
-    Remains(String),
-    /// Memory ran out.
-    NoMemory,
-}
-
-impl From<io::Error> for Unwritten {
-    fn from(e: io::Error) -> Unwritten {
-        match e.kind() {
-            ErrorKind::OutOfMemory => Unwritten::NoMemory,
-            _ => Unwritten::Refused,
-        }
-    }
 }
 
 impl Trouble {

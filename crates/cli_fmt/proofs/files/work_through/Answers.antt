@@ -2,7 +2,7 @@ use Rattle.std.proofs.Common.{◌≡◌, ◌∙◌, true, false, sym, subst}
 use Rattle.json5_write.specs.Pieces.{AppendsFront}
 use Rattle.std.specs.Prelude.{Ok, Err}
 use Rattle.cli_fmt.specs.Files.{none, WorksOn}
-use Rattle.cli_fmt.specs.Reports.{report_line}
+use Rattle.cli_files.specs.Reports.{report_line}
 use Rattle.cli_fmt.proofs.FilesWorked.{more_good, more_bad, stops, ends}
 use Rattle.cli_fmt.proofs.files.work_through.Goals as goal
 use Rattle.cli_fmt.proofs.files.work_through.Goals.{in-Write, in_default-matches}

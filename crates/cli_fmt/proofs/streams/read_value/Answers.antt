@@ -1,6 +1,6 @@
 use Rattle.std.proofs.Common.{refl}
 use Rattle.json5_types.specs.Errors.{kind_of}
-use Rattle.cli_fmt.proofs.Refusals.{refused_input, refused_read}
+use Rattle.cli_files.proofs.Refusals.{refused_input, refused_read}
 use Rattle.cli_fmt.proofs.streams.read_value.Goals as goal
 
 pub returns-clause-stopped : goal.returns-clause-stopped

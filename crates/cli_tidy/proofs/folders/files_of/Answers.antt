@@ -1,5 +1,6 @@
 use Rattle.std.proofs.Common.{sym, subst, ap, ◌∙◌, ◌++◌, ◌∷◌, []}
-use Rattle.cli_tidy.specs.Folders.{itself, below, IsBelow, StandsFor, names_of}
+use Rattle.cli_tidy.specs.Folders.{itself, below, IsBelow, StandsFor}
+use Rattle.cli_files.specs.NameLists.{names_of}
 use Rattle.cli_tidy.proofs.folders.files_of.Goals as goal
 
 pub returns-then-is_folder : goal.returns-then-is_folder

@@ -1,5 +1,5 @@
 use Rattle.std.proofs.Common.{sym, append-nil}
-use Rattle.cli_tidy.specs.Folders.{names_of}
+use Rattle.cli_files.specs.NameLists.{names_of}
 use Rattle.cli_tidy.proofs.NamesPushed.{pushed_more, pushed_all}
 use Rattle.cli_tidy.proofs.names.push_names.Goals as goal
 

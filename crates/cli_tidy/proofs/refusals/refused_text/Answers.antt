@@ -1,7 +1,7 @@
 use Rattle.std.proofs.Common.{Some, refl, sym, subst}
 use Rattle.json5_types.specs.Errors.{kind_of}
-use Rattle.cli_fmt.specs.Runs.{ReadFailure}
-use Rattle.cli_fmt.proofs.Refusals.{refused_read}
+use Rattle.cli_files.specs.Inputs.{ReadFailure}
+use Rattle.cli_files.proofs.Refusals.{refused_read}
 use Rattle.cli_tidy.specs.Refusals.{IsTroubleOf}
 use Rattle.cli_tidy.proofs.RefusalsRead.{text_trouble}
 use Rattle.cli_tidy.proofs.refusals.refused_text.Goals as goal

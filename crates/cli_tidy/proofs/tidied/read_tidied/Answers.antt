@@ -1,5 +1,5 @@
 use Rattle.std.proofs.Common.{sym, ◌∙◌, subst}
-use Rattle.cli_fmt.specs.Runs.{RefusesInput}
+use Rattle.cli_files.specs.Inputs.{RefusesInput}
 use Rattle.cli_tidy.proofs.RefusalsRead.{trouble_read}
 use Rattle.cli_tidy.proofs.tidied.read_tidied.Goals as goal
 

@@ -1,6 +1,6 @@
 use Rattle.std.proofs.Common.{ap}
 use Rattle.std.proofs.lemmas.Result.{err_from_is_err_and}
-use Rattle.cli_tidy.specs.Folders.{names_of}
+use Rattle.cli_files.specs.NameLists.{names_of}
 use Rattle.cli_tidy.specs.WordSteps.{choices_of}
 use Rattle.cli_tidy.proofs.WordsRead.{asks, asks_nothing}
 use Rattle.cli_tidy.proofs.requests.Request.of.Goals as goal

@@ -1,6 +1,6 @@
 use Rattle.std.proofs.Common.{◌∷◌, refl, ap, sym, true≢false}
 use Rattle.cli_tidy.specs.CommandWords.{name, flag, plain, alone, joined}
-use Rattle.cli_tidy.specs.Folders.{names_of}
+use Rattle.cli_files.specs.NameLists.{names_of}
 use Rattle.cli_tidy.specs.WordSteps.{choices_of}
 use Rattle.cli_tidy.proofs.WordsRead.{pair_starts, pair_refused}
 use Rattle.cli_tidy.proofs.taking.Words.take.Goals as goal

@@ -2,7 +2,7 @@ use Rattle.std.proofs.Common.{refl, sym, ap, ◌∙◌, ◌∷◌, subst, true�
 use Rattle.std.proofs.lemmas.List.{nil_from_length}
 use Rattle.std.proofs.lemmas.Result.{err_from_is_err_and}
 use Rattle.cli_tidy.specs.CommandWords.{Starts}
-use Rattle.cli_tidy.specs.Folders.{names_of}
+use Rattle.cli_files.specs.NameLists.{names_of}
 use Rattle.cli_tidy.specs.WordSteps.{choices_of}
 use Rattle.cli_tidy.proofs.WordsRead.{step, ends_there, ends_last, chooses_nothing, front_word}
 use Rattle.cli_tidy.proofs.taking.Words.take_all.Goals as goal

@@ -1,5 +1,5 @@
 use Rattle.std.proofs.Common.{length}
-use Rattle.cli_tidy.specs.Folders.{names_of}
+use Rattle.cli_files.specs.NameLists.{names_of}
 use Rattle.cli_tidy.specs.WordSteps.{ChooseAlike, choices_of}
 use Rattle.cli_tidy.proofs.taking.Words.take_all.Given as goal
 

@@ -1,0 +1,7 @@
+-- Lists of names.
+use Rattle.std.specs.declared.alloc.Global.{Global}
+use Rattle.std.specs.Prelude.{ℕ, List, map, String, string_bytes}
+
+-- the names of strings
+abbrev pub names_of : List (String Global) → List (List ℕ)
+names_of = map string_bytes
