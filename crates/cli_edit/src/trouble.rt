@@ -3,8 +3,8 @@
 ghost use Rattle.std.specs.Prelude.{◌≡◌};
 ghost use Rattle.cli_edit.specs.Troubles.{trouble_status};
 
-use json5_edit::EditError;
 use cli_files::{Failure, Unwritten};
+use json5_edit::EditError;
 use json5_types::error::Error;
 
 /// Why the work on a text ended.

@@ -9,8 +9,8 @@ use crate::lines::{tell, wrong_path};
 use crate::requests::{Task, Work};
 use crate::texts::{name_of, text_of};
 use crate::trouble::Trouble;
-use json5_edit::{Path, Step};
 use cli_files::{Store, put_texts, report};
+use json5_edit::{Path, Step};
 use std::alloc::Global;
 use std::io::{Read, Write};
 

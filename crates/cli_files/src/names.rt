@@ -14,11 +14,7 @@ use std::alloc::{AllocError, Global};
 /// # Errors
 ///
 /// Where a request for memory was refused.
-pub fn push_name(
-    alloc: Global,
-    names: &mut Vec<String>,
-    name: &str,
-) -> Result<(), AllocError>
+pub fn push_name(alloc: Global, names: &mut Vec<String>, name: &str) -> Result<(), AllocError>
     ensures { OnOk result (names_of names.new.items ≡ names_of names.old.items ++ name.now ∷ []) }
 {
     names.push(String::from_str(alloc, name)?)?;

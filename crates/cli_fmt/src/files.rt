@@ -2,9 +2,9 @@
 
 ghost use Rattle.cli_fmt.specs.Files.{WorksOn, WorksThrough};
 
-use cli_files::{Disk, Failure, report};
 use crate::streams::{check, run};
 use crate::work::Work;
+use cli_files::{Disk, Failure, report};
 use std::alloc::Global;
 use std::io::Write;
 

@@ -2,11 +2,11 @@
 
 ghost use Rattle.cli_fmt.specs.ProgramRuns.{Answers, AnswersStream};
 
-use cli_files::{Disk, report};
 use crate::files::work_through;
-use crate::usage::usage;
 use crate::streams::run;
+use crate::usage::usage;
 use crate::work::Work;
+use cli_files::{Disk, report};
 use std::alloc::Global;
 use std::io::{Read, Write};
 

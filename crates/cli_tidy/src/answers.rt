@@ -6,8 +6,8 @@ use crate::files::work_through;
 use crate::options::{Fault, Options};
 use crate::reports::{HELP, no_memory, report_trouble, usage};
 use crate::requests::Request;
-use cli_files::{Store, VERSION, answer_with};
 use crate::streams::tidy_stream;
+use cli_files::{Store, VERSION, answer_with};
 use std::alloc::Global;
 use std::io::{Read, Write};
 

@@ -9,10 +9,10 @@ use crate::diffs::diff;
 use crate::folders::files_of;
 use crate::reports::report_trouble;
 use crate::requests::FileRequest;
-use cli_files::{Failure, Store, put_texts};
 use crate::tidied::{Tidied, read_tidied};
 use crate::trouble::Trouble;
 use crate::work::Work;
+use cli_files::{Failure, Store, put_texts};
 use std::alloc::Global;
 use std::io::Write;
 

@@ -3,9 +3,9 @@
 ghost use Rattle.std.specs.Prelude.{IfErr, IfSome, OnOk};
 ghost use Rattle.cli_tidy.specs.Tidies.{TidyTrouble, WritesTidied};
 
-use cli_files::put_texts;
 use crate::tidied::read_tidied;
 use crate::trouble::Trouble;
+use cli_files::put_texts;
 use json5_tidy::Style;
 use std::alloc::Global;
 use std::io::{Read, Write};

@@ -5,11 +5,11 @@ ghost use Rattle.cli_tidy.specs.CommandWords.{Sets, Starts, flag, nothing_chosen
 ghost use Rattle.cli_files.specs.NameLists.{names_of};
 ghost use Rattle.cli_tidy.specs.WordSteps.{BeginsPair, ChooseNothing, Gains, IsPair, IsStart, Refuses, TakesAll, choices_of};
 
-use cli_files::push_name;
 use crate::options::{
     Fault, Flag, Options, Setting, ending_of, indent_of, is_dashed, is_end, last_commas_of,
     unless_empty, width_of,
 };
+use cli_files::push_name;
 use json5_tidy::LastCommas;
 use std::alloc::Global;
 
