@@ -23,8 +23,8 @@ use Rattle.json5_edit.specs.Places.{HasPlace, IsValue, Leads}
 use Rattle.json5_edit.specs.Refusals.{RefusesPath}
 use Rattle.json5_edit.specs.declared.paths.Step.{Step}
 use Rattle.json5_edit.proofs.Placed.{part_there, scalars_left, scalars_right}
-use Rattle.cli_edit.specs.declared.trouble.Trouble.{Trouble}
-use Rattle.cli_edit.specs.declared.trouble.Trouble.TheVariants as trouble
+use Rattle.cli_edit.specs.declared.trouble.TextTrouble.{TextTrouble}
+use Rattle.cli_edit.specs.declared.trouble.TextTrouble.TheVariants as trouble
 use Rattle.cli_edit.specs.Parts.{IsJsonAt, IsJsonOf, IsNoJson, IsPartAt, HasNoJson, RefusesJsonAt, RefusesJsonOf, json_line}
 
 itself : (n : ℕ) → n ≤ n
@@ -93,24 +93,24 @@ not_memory false j e r n = inr refl
 -- ---- what the calls return
 
 module _ (bytes spelled : List ℕ) (steps : List Step) (p : IsPartAt bytes steps spelled) where
-  pub json_ok : (r : Result (String Global) Trouble) → IfOk r (λ made. IsJsonOf spelled (string_bytes made)) → IfOk r (λ made. IsJsonAt bytes steps (string_bytes made))
+  pub json_ok : (r : Result (String Global) TextTrouble) → IfOk r (λ made. IsJsonOf spelled (string_bytes made)) → IfOk r (λ made. IsJsonAt bytes steps (string_bytes made))
   json_ok (Ok made) k = json_there bytes spelled (string_bytes made) steps p k
   json_ok (Err x) k = tt
 
-  json_trouble : (x : Trouble) → RefusesJsonOf spelled x → RefusesJsonAt bytes steps x
+  json_trouble : (x : TextTrouble) → RefusesJsonOf spelled x → RefusesJsonAt bytes steps x
   json_trouble (trouble.Edit e) k = subst (RefusesPath bytes steps) (sym k) tt
   json_trouble (trouble.NoJson e) (t, d, n) = (spelled, p, no_json_there bytes spelled steps p t d n)
   json_trouble (trouble.Failed f) k = k
   json_trouble (trouble.Unwritten u) k = k
 
-  pub json_err : (r : Result (String Global) Trouble) → IfErr r (RefusesJsonOf spelled) → IfErr r (RefusesJsonAt bytes steps)
+  pub json_err : (r : Result (String Global) TextTrouble) → IfErr r (RefusesJsonOf spelled) → IfErr r (RefusesJsonAt bytes steps)
   json_err (Ok made) k = tt
   json_err (Err x) k = json_trouble x k
 
 -- ---- a value alone
 
 module _ (spelled : List ℕ) (t : Tree) (d : Doc max_depth (chars spelled) t) (x : Datum) (is : x ≡ datum_of t) where
-  pub no_json_of : (e : Error) (r : Trouble) → RefusesText (fits x) (is_json x) e → IsNoJson e r → RefusesJsonOf spelled r
+  pub no_json_of : (e : Error) (r : TextTrouble) → RefusesText (fits x) (is_json x) e → IsNoJson e r → RefusesJsonOf spelled r
   no_json_of e (trouble.Edit m) k n = n
   no_json_of e (trouble.NoJson f) k n = (t, d, subst HasNoJson is (not_memory (fits x) (is_json x) e k n))
   no_json_of e (trouble.Failed f) k n = n

@@ -10,10 +10,10 @@ use Rattle.cli_files.specs.Stores.{Known}
 use Rattle.cli_tidy.proofs.Statuses.{text_low}
 use Rattle.json5_edit.specs.declared.faults.EditError.{EditError}
 use Rattle.json5_edit.specs.declared.faults.EditError.TheVariants as error
-use Rattle.cli_edit.specs.declared.trouble.Trouble.{Trouble}
-use Rattle.cli_edit.specs.declared.trouble.Trouble.TheVariants as trouble
+use Rattle.cli_edit.specs.declared.trouble.TextTrouble.{TextTrouble}
+use Rattle.cli_edit.specs.declared.trouble.TextTrouble.TheVariants as trouble
 use Rattle.cli_edit.specs.declared.requests.Task.{Task}
-use Rattle.cli_edit.specs.declared.requests.Request.TheVariants as requests
+use Rattle.cli_edit.specs.declared.requests.EditRequest.TheVariants as requests
 use Rattle.cli_edit.specs.Answers.{Answers, helps, tells_version, does, says_usage}
 use Rattle.cli_edit.specs.Requests.{AsksNothing}
 use Rattle.cli_edit.specs.Troubles.{edit_status, trouble_status}
@@ -37,7 +37,7 @@ edit_small error.NoKey = omega arith
 edit_small error.NoMemory = omega arith
 edit_small error.Failed = omega arith
 
-trouble_small : (x : Trouble) → trouble_status x ≤ 2
+trouble_small : (x : TextTrouble) → trouble_status x ≤ 2
 trouble_small (trouble.Edit e) = edit_small e
 trouble_small (trouble.NoJson e) = omega arith
 trouble_small (trouble.Failed f) = failure_small f

@@ -9,7 +9,7 @@ use Rattle.cli_files.specs.Stores.{Known}
 use Rattle.cli_files.specs.declared.version.TheConstants.{VERSION}
 use Rattle.cli_edit.specs.declared.lines.TheConstants.{HELP}
 use Rattle.cli_edit.specs.declared.requests.Task.{Task}
-use Rattle.cli_edit.specs.declared.requests.Request.TheVariants as requests
+use Rattle.cli_edit.specs.declared.requests.EditRequest.TheVariants as requests
 use Rattle.cli_edit.specs.Requests.{Asks, AsksNothing}
 use Rattle.cli_edit.specs.Works.{Does}
 

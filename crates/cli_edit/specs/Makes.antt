@@ -10,10 +10,10 @@ use Rattle.json5_edit.specs.declared.faults.EditError.{EditError}
 use Rattle.json5_edit.specs.declared.faults.EditError.TheVariants as error
 use Rattle.json5_edit.specs.declared.paths.Step.{Step}
 use Rattle.json5_edit.specs.declared.paths.Step.TheVariants as step
-use Rattle.cli_edit.specs.declared.requests.Work.{Work}
-use Rattle.cli_edit.specs.declared.requests.Work.TheVariants as work
-use Rattle.cli_edit.specs.declared.trouble.Trouble.{Trouble}
-use Rattle.cli_edit.specs.declared.trouble.Trouble.TheVariants as trouble
+use Rattle.cli_edit.specs.declared.requests.Command.{Command}
+use Rattle.cli_edit.specs.declared.requests.Command.TheVariants as work
+use Rattle.cli_edit.specs.declared.trouble.TextTrouble.{TextTrouble}
+use Rattle.cli_edit.specs.declared.trouble.TextTrouble.TheVariants as trouble
 use Rattle.cli_edit.specs.Parts.{IsJsonAt, IsSpelledAt, RefusesJsonAt}
 
 -- with a member of this key more, or with an element more before that with this index
@@ -33,7 +33,7 @@ abbrev pub RefusesInserting : List ℕ → List Step → List ℕ → EditError 
 RefusesInserting text steps value e = ((steps ≡ []) × (e ≡ error.NoKey)) ⊎ ((outer : List Step) × (s : Step) × (steps ≡ outer ++ (s ∷ [])) × RefusesBy s text outer value e)
 
 -- the work on this text, at these steps, with this value
-abbrev pub Makes : Work → List ℕ → List Step → List ℕ → List ℕ → Type 0
+abbrev pub Makes : Command → List ℕ → List Step → List ℕ → List ℕ → Type 0
 Makes work.Get text steps value made = IsSpelledAt text steps made
 Makes work.Json text steps value made = IsJsonAt text steps made
 Makes work.Set text steps value made = IsSet text steps value made
@@ -43,10 +43,10 @@ Makes work.Push text steps value made = IsPushed text steps value made
 Makes work.Rename text steps value made = IsRekeyed text steps value made
 
 -- the same with this value; or, unless it is a key, with another that has its lexemes
-abbrev pub MakesLaid : Work → List ℕ → List Step → List ℕ → List ℕ → Type 0
+abbrev pub MakesLaid : Command → List ℕ → List Step → List ℕ → List ℕ → Type 0
 MakesLaid w text steps value made = Makes w text steps value made ⊎ ((w ≢ work.Rename) × ((placed : List ℕ) × HaveSameLexemes (chars value) (chars placed) × Makes w text steps placed made))
 
-abbrev pub RefusesEdit : Work → List ℕ → List Step → List ℕ → EditError → Type 0
+abbrev pub RefusesEdit : Command → List ℕ → List Step → List ℕ → EditError → Type 0
 RefusesEdit work.Get text steps value e = RefusesPath text steps e
 RefusesEdit work.Json text steps value e = RefusesPath text steps e
 RefusesEdit work.Set text steps value e = RefusesSet text steps value e
@@ -55,12 +55,12 @@ RefusesEdit work.Remove text steps value e = RefusesRemove text steps e
 RefusesEdit work.Push text steps value e = RefusesPush text steps value e
 RefusesEdit work.Rename text steps value e = RefusesRename text steps value e
 
-abbrev pub RefusesWork : Work → List ℕ → List Step → List ℕ → Trouble → Type 0
+abbrev pub RefusesWork : Command → List ℕ → List Step → List ℕ → TextTrouble → Type 0
 RefusesWork w text steps value (trouble.Edit e) = RefusesEdit w text steps value e
 RefusesWork w text steps value (trouble.NoJson e) = (w ≡ work.Json) × RefusesJsonAt text steps (trouble.NoJson e)
 RefusesWork w text steps value _ = ⊥
 
 -- what an edit returns, as the work's own
-abbrev pub edited : Result (String Global) EditError → Result (String Global) Trouble
+abbrev pub edited : Result (String Global) EditError → Result (String Global) TextTrouble
 edited (Ok made) = Ok made
 edited (Err e) = Err (trouble.Edit e)

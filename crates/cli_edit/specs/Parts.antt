@@ -17,8 +17,8 @@ use Rattle.json5_edit.specs.Parts.{part, positions_of}
 use Rattle.json5_edit.specs.Refusals.{RefusesPath}
 use Rattle.json5_edit.specs.declared.faults.EditError.TheVariants as error
 use Rattle.json5_edit.specs.declared.paths.Step.{Step}
-use Rattle.cli_edit.specs.declared.trouble.Trouble.{Trouble}
-use Rattle.cli_edit.specs.declared.trouble.Trouble.TheVariants as trouble
+use Rattle.cli_edit.specs.declared.trouble.TextTrouble.{TextTrouble}
+use Rattle.cli_edit.specs.declared.trouble.TextTrouble.TheVariants as trouble
 
 -- the text is a document, and the steps lead in it to a value that is spelled so
 pub record IsPartAt (text : List ℕ) (steps : List Step) (spelled : List ℕ) : Type 0 where
@@ -47,7 +47,7 @@ abbrev pub HasNoJson : Datum → Type 0
 HasNoJson x = (is_json x ≡ false) ⊎ (fits x ≡ false)
 
 -- why it isn't written as JSON
-abbrev pub RefusesJsonAt : List ℕ → List Step → Trouble → Type 0
+abbrev pub RefusesJsonAt : List ℕ → List Step → TextTrouble → Type 0
 RefusesJsonAt text steps (trouble.Edit e) = RefusesPath text steps e
 RefusesJsonAt text steps (trouble.NoJson e) = (spelled : List ℕ) × (p : IsPartAt text steps spelled) × HasNoJson (datum_of p.value)
 RefusesJsonAt text steps _ = ⊥
@@ -57,13 +57,13 @@ RefusesJsonAt text steps _ = ⊥
 abbrev pub IsJsonOf : List ℕ → List ℕ → Type 0
 IsJsonOf spelled made = (t : Tree) × Doc max_depth (chars spelled) t × (is_json (datum_of t) ≡ true) × (made ≡ json_line (datum_of t))
 
-abbrev pub RefusesJsonOf : List ℕ → Trouble → Type 0
+abbrev pub RefusesJsonOf : List ℕ → TextTrouble → Type 0
 RefusesJsonOf spelled (trouble.Edit e) = e ≡ error.NoMemory
 RefusesJsonOf spelled (trouble.NoJson e) = (t : Tree) × Doc max_depth (chars spelled) t × HasNoJson (datum_of t)
 RefusesJsonOf spelled _ = ⊥
 
 -- memory ran out, or the value isn't to be had as JSON
-abbrev pub IsNoJson : Error → Trouble → Type 0
+abbrev pub IsNoJson : Error → TextTrouble → Type 0
 IsNoJson e (trouble.Edit x) = x ≡ error.NoMemory
 IsNoJson e (trouble.NoJson f) = LacksMemory e → ⊥
 IsNoJson e _ = ⊥

@@ -12,9 +12,9 @@ use Rattle.json5_edit.specs.Refusals.{RefusesPath}
 use Rattle.json5_edit.specs.declared.faults.EditError.{EditError}
 use Rattle.json5_edit.specs.declared.paths.Step.{Step}
 use Rattle.cli_edit.specs.declared.requests.Task.{Task}
-use Rattle.cli_edit.specs.declared.requests.Work.TheVariants as work
-use Rattle.cli_edit.specs.declared.trouble.Trouble.{Trouble}
-use Rattle.cli_edit.specs.declared.trouble.Trouble.TheVariants as trouble
+use Rattle.cli_edit.specs.declared.requests.Command.TheVariants as work
+use Rattle.cli_edit.specs.declared.trouble.TextTrouble.{TextTrouble}
+use Rattle.cli_edit.specs.declared.trouble.TextTrouble.TheVariants as trouble
 use Rattle.cli_edit.specs.Makes.{MakesLaid, RefusesWork}
 use Rattle.cli_edit.specs.Troubles.{edit_status, trouble_status}
 
@@ -49,7 +49,7 @@ pub data Puts (known : Known) (t : Task) (old new : List ℕ) (output written : 
   replaced : ¬ (GoesOut t) → known.replaces t.file.now old new → Keeps output written → Puts known t old new output written
 
 -- a prefix of it was written out; or nothing, and the file wasn't replaced
-abbrev pub PutsNot : List ℕ → Option (List ℕ) → Option (List ℕ) → Trouble → Type 0
+abbrev pub PutsNot : List ℕ → Option (List ℕ) → Option (List ℕ) → TextTrouble → Type 0
 PutsNot new output written (trouble.Failed f) = (f ≡ failure.Write) × AppendsFront output written new
 PutsNot new output written (trouble.Unwritten u) = Keeps output written
 PutsNot new output written _ = ⊥
@@ -61,7 +61,7 @@ abbrev pub Works : Known → Task → List ℕ → List Step → Option (List �
 Works known t text steps output written = (made : List ℕ) × MakesLaid t.work text steps t.value.now made × Puts known t text made output written
 
 -- it wasn't made, or it wasn't put there
-abbrev pub WorksNot : Task → List ℕ → List Step → Option (List ℕ) → Option (List ℕ) → Trouble → Type 0
+abbrev pub WorksNot : Task → List ℕ → List Step → Option (List ℕ) → Option (List ℕ) → TextTrouble → Type 0
 WorksNot t text steps output written x =
     (RefusesWork t.work text steps t.value.now x × Keeps output written) ⊎ ((made : List ℕ) × MakesLaid t.work text steps t.value.now made × PutsNot made output written x)
 
@@ -69,7 +69,7 @@ WorksNot t text steps output written x =
 pub data DoesAt (known : Known) (t : Task) (text : List ℕ) (output errors written : Option (List ℕ)) : Option (List ℕ) → ℕ → Type 0 where
   -- nothing was said
   worked : (steps : List Step) → Works known t text steps output written → DoesAt known t text output errors written errors 0
-  stopped : {said : Option (List ℕ)} (steps : List Step) (x : Trouble) → WorksNot t text steps output written x → DoesAt known t text output errors written said (trouble_status x)
+  stopped : {said : Option (List ℕ)} (steps : List Step) (x : TextTrouble) → WorksNot t text steps output written x → DoesAt known t text output errors written said (trouble_status x)
   -- the steps of the path aren't known, since the text is no document
   no_steps : {said : Option (List ℕ)} (e : EditError) → RefusesPath text [] e → Keeps output written → DoesAt known t text output errors written said (edit_status e)
 

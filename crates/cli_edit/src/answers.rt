@@ -3,7 +3,7 @@
 ghost use Rattle.cli_edit.specs.Answers.{Answers};
 
 use crate::lines::{HELP, usage};
-use crate::requests::Request;
+use crate::requests::EditRequest;
 use crate::works::do_task;
 use cli_files::{Store, VERSION, answer_with};
 use std::alloc::Global;
@@ -25,10 +25,10 @@ pub fn answer<S: Store, R: Read, W: Write, E: Write>(
 ) -> u8
     ensures { Answers (S.known store.now) list.now (R.remaining r.old) (W.contents w.old) (E.contents e.old) (W.contents w.new) (E.contents e.new) result }
 {
-    match Request::of(list) {
-        Some(Request::Help) => answer_with(&[HELP], w, e),
-        Some(Request::Version) => answer_with(&["json5_edit ", VERSION, "\n"], w, e),
-        Some(Request::Task(task)) => do_task(store, alloc, &task, r, w, e),
+    match EditRequest::of(list) {
+        Some(EditRequest::Help) => answer_with(&[HELP], w, e),
+        Some(EditRequest::Version) => answer_with(&["json5_edit ", VERSION, "\n"], w, e),
+        Some(EditRequest::Task(task)) => do_task(store, alloc, &task, r, w, e),
         None => usage(e),
     }
 }

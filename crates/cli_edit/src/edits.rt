@@ -5,8 +5,8 @@ ghost use Rattle.cli_edit.specs.Makes.{Inserts, Makes, MakesLaid, RefusesInserti
 
 use crate::parts::{json_at, spelled_at};
 use crate::placed::placed;
-use crate::requests::{Task, Work};
-use crate::trouble::Trouble;
+use crate::requests::{Task, Command};
+use crate::trouble::TextTrouble;
 use json5_edit::{
     EditError, Names, Result, Step, find, insert_element, insert_in, push, remove, rename, set,
 };
@@ -19,7 +19,7 @@ pub(crate) fn made(
     task: &Task<'_>,
     text: &str,
     steps: &[Step<'_>],
-) -> std::result::Result<String, Trouble>
+) -> std::result::Result<String, TextTrouble>
     ensures made { IfOk result (λ new. MakesLaid task.now.work text.now steps.now task.now.value.now (string_bytes new)) }
     ensures refused { IfErr result (RefusesWork task.now.work text.now steps.now task.now.value.now) }
 {
@@ -56,28 +56,28 @@ fn made_with(
     text: &str,
     steps: &[Step<'_>],
     value: &str,
-) -> std::result::Result<String, Trouble>
+) -> std::result::Result<String, TextTrouble>
     ensures made { IfOk result (λ new. Makes task.now.work text.now steps.now value.now (string_bytes new)) }
     ensures refused { IfErr result (RefusesWork task.now.work text.now steps.now value.now) }
 {
     match task.work {
-        Work::Get => edited(spelled_at(alloc, text, steps)),
-        Work::Json => json_at(alloc, text, steps),
-        Work::Set => edited(set(alloc, text, steps, value)),
-        Work::Insert => edited(inserted(alloc, text, steps, value, names_in(task.file))),
-        Work::Remove => edited(remove(alloc, text, steps)),
-        Work::Push => edited(push(alloc, text, steps, value)),
-        Work::Rename => edited(rename(alloc, text, steps, value)),
+        Command::Get => edited(spelled_at(alloc, text, steps)),
+        Command::Json => json_at(alloc, text, steps),
+        Command::Set => edited(set(alloc, text, steps, value)),
+        Command::Insert => edited(inserted(alloc, text, steps, value, names_in(task.file))),
+        Command::Remove => edited(remove(alloc, text, steps)),
+        Command::Push => edited(push(alloc, text, steps, value)),
+        Command::Rename => edited(rename(alloc, text, steps, value)),
     }
 }
 
 /// What an edit returned, as the work's own.
-fn edited(made: Result<String>) -> std::result::Result<String, Trouble>
+fn edited(made: Result<String>) -> std::result::Result<String, TextTrouble>
     ensures { result ≡ edited made }
 {
     match made {
         Ok(new) => Ok(new),
-        Err(error) => Err(Trouble::Edit(error)),
+        Err(error) => Err(TextTrouble::Edit(error)),
     }
 }
 

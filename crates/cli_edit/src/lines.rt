@@ -6,7 +6,7 @@ ghost use Rattle.cli_edit.specs.Troubles.{trouble_status};
 use crate::edits::steps_that_lead;
 use crate::requests::Task;
 use crate::texts::name_of;
-use crate::trouble::Trouble;
+use crate::trouble::TextTrouble;
 use cli_files::report_unwritten;
 use json5_edit::{EditError, PathError, Step};
 use json5_report::Report;
@@ -74,26 +74,26 @@ pub(crate) fn tell<E: Write>(
     task: &Task<'_>,
     text: &str,
     steps: &[Step<'_>],
-    trouble: &Trouble,
+    trouble: &TextTrouble,
     e: &mut E,
 ) -> u8
     ensures { result ≡ trouble_status trouble.now }
 {
     let name = name_of(task.file);
     match trouble {
-        Trouble::Edit(EditError::Text(error)) => show(alloc, name, text, error, e),
-        Trouble::Edit(EditError::Value(error)) => show(alloc, "VALUE", task.value, error, e),
-        Trouble::Edit(EditError::Nowhere) => nowhere(alloc, name, text, steps, e),
-        Trouble::Edit(error) => {
+        TextTrouble::Edit(EditError::Text(error)) => show(alloc, name, text, error, e),
+        TextTrouble::Edit(EditError::Value(error)) => show(alloc, "VALUE", task.value, error, e),
+        TextTrouble::Edit(EditError::Nowhere) => nowhere(alloc, name, text, steps, e),
+        TextTrouble::Edit(error) => {
             let _ = writeln!(e, "{name}: {error}");
         }
-        Trouble::NoJson(error) => {
+        TextTrouble::NoJson(error) => {
             let _ = writeln!(e, "{name}: {error}");
         }
-        Trouble::Failed(_) => {
+        TextTrouble::Failed(_) => {
             let _ = writeln!(e, "output: cannot be written");
         }
-        Trouble::Unwritten(why) => {
+        TextTrouble::Unwritten(why) => {
             let _ = report_unwritten(task.file, why, e);
         }
     }

@@ -9,7 +9,7 @@ ghost use Rattle.json5_grammar.specs.Language.Characters.{line_feed};
 ghost use Rattle.json5_grammar.specs.Language.Documents.{max_depth};
 ghost use Rattle.std.specs.Str.{chars};
 
-use crate::trouble::Trouble;
+use crate::trouble::TextTrouble;
 use json5_edit::{EditError, Step, find_place};
 use json5_format::read_document;
 use json5_layouts::to_json;
@@ -34,13 +34,13 @@ pub(crate) fn spelled_at(
 }
 
 /// The value that the steps lead to, as JSON, and a line end.
-pub(crate) fn json_at(alloc: Global, text: &str, steps: &[Step<'_>]) -> Result<String, Trouble>
+pub(crate) fn json_at(alloc: Global, text: &str, steps: &[Step<'_>]) -> Result<String, TextTrouble>
     ensures json { IfOk result (λ made. IsJsonAt text.now steps.now (string_bytes made)) }
     ensures refused { IfErr result (RefusesJsonAt text.now steps.now) }
 {
     match part_at(alloc, text, steps) {
         Ok(part) => json_of(alloc, part),
-        Err(error) => Err(Trouble::Edit(error)),
+        Err(error) => Err(TextTrouble::Edit(error)),
     }
 }
 
@@ -60,13 +60,13 @@ fn part_at<'t>(alloc: Global, text: &'t str, steps: &[Step<'_>]) -> json5_edit::
 }
 
 /// A value's text as JSON, and a line end.
-fn json_of(alloc: Global, part: &str) -> Result<String, Trouble>
+fn json_of(alloc: Global, part: &str) -> Result<String, TextTrouble>
     requires { IsValue max_depth (chars part.now) }
     ensures json { IfOk result (λ made. IsJsonOf part.now (string_bytes made)) }
     ensures refused { IfErr result (RefusesJsonOf part.now) }
 {
     let Ok(value) = read_document(alloc, part) else {
-        return Err(Trouble::Edit(EditError::NoMemory));
+        return Err(TextTrouble::Edit(EditError::NoMemory));
     };
     let json = match to_json(alloc, &value) {
         Ok(json) => json,
@@ -74,7 +74,7 @@ fn json_of(alloc: Global, part: &str) -> Result<String, Trouble>
     };
     match with_line_end(json) {
         Ok(made) => Ok(made),
-        Err(error) => Err(Trouble::Edit(error)),
+        Err(error) => Err(TextTrouble::Edit(error)),
     }
 }
 
@@ -91,11 +91,11 @@ fn with_line_end(text: String) -> json5_edit::Result<String>
 }
 
 /// Why a value isn't written as JSON.
-fn no_json(error: Error) -> Trouble
+fn no_json(error: Error) -> TextTrouble
     ensures { IsNoJson error result }
 {
     match error.code() {
-        Some(ErrorCode::OutOfMemory) => Trouble::Edit(EditError::NoMemory),
-        _ => Trouble::NoJson(error),
+        Some(ErrorCode::OutOfMemory) => TextTrouble::Edit(EditError::NoMemory),
+        _ => TextTrouble::NoJson(error),
     }
 }

@@ -2,10 +2,10 @@
 
 ghost use Rattle.std.specs.Prelude.{◌≡◌, ◌≢◌, IfSome, OnSome, string_bytes};
 ghost use Rattle.std.specs.Str.{chars};
-ghost use Rattle.cli_edit.specs.declared.requests.Work.TheVariants as work;
+ghost use Rattle.cli_edit.specs.declared.requests.Command.TheVariants as work;
 ghost use Rattle.json5_lexemes.specs.Lexemes.{HaveSameLexemes};
 
-use crate::requests::{Task, Work};
+use crate::requests::{Task, Command};
 use json5_edit::{Names, Step, find};
 use json5_edit_style::{Collection, entry_indentation, indentation, relined};
 use json5_lexemes::same_lexemes;
@@ -22,7 +22,7 @@ pub(crate) fn placed(
     ensures value { OnSome result (task.now.work ≢ work.Rename) }
     ensures same { IfSome result (λ placed. HaveSameLexemes (chars task.now.value.now) (chars (string_bytes placed))) }
 {
-    if let Work::Rename = task.work {
+    if let Command::Rename = task.work {
         return None;
     }
     if !task.value.contains('\n') {
@@ -39,12 +39,12 @@ pub(crate) fn placed(
 /// What is made of it, which isn't trusted.
 fn laid_out(alloc: Global, task: &Task<'_>, text: &str, steps: &[Step<'_>]) -> Option<String> {
     let indent = match (task.work, steps.split_last()) {
-        (Work::Set, _) => indentation_at(alloc, text, steps),
-        (Work::Push, _) => indentation_in(alloc, text, steps, usize::MAX),
-        (Work::Insert, Some((Step::Key(_), outer))) => {
+        (Command::Set, _) => indentation_at(alloc, text, steps),
+        (Command::Push, _) => indentation_in(alloc, text, steps, usize::MAX),
+        (Command::Insert, Some((Step::Key(_), outer))) => {
             indentation_in(alloc, text, outer, usize::MAX)
         }
-        (Work::Insert, Some((Step::Index(index), outer))) => {
+        (Command::Insert, Some((Step::Index(index), outer))) => {
             indentation_in(alloc, text, outer, *index)
         }
         _ => None,

@@ -9,7 +9,7 @@ use json5_types::error::Error;
 
 /// Why the work on a text ended.
 #[derive(Drop)]
-pub enum Trouble {
+pub enum TextTrouble {
     /// The edit isn't made, or the path doesn't lead to a value.
     Edit(EditError),
     /// JSON doesn't have the value.
@@ -20,16 +20,16 @@ pub enum Trouble {
     Unwritten(Unwritten),
 }
 
-impl Trouble {
+impl TextTrouble {
     /// Returns the status that the program ends with: 1 if the text, the path or the value is at fault, else 2.
     pub fn status(&self) -> u8
         ensures { result ≡ trouble_status self.now }
     {
         match self {
-            Trouble::Edit(EditError::NoMemory) => 2,
-            Trouble::Edit(_) | Trouble::NoJson(_) => 1,
-            Trouble::Failed(failure) => failure.status(),
-            Trouble::Unwritten(_) => 2,
+            TextTrouble::Edit(EditError::NoMemory) => 2,
+            TextTrouble::Edit(_) | TextTrouble::NoJson(_) => 1,
+            TextTrouble::Failed(failure) => failure.status(),
+            TextTrouble::Unwritten(_) => 2,
         }
     }
 }

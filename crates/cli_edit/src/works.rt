@@ -6,9 +6,9 @@ ghost use Rattle.cli_edit.specs.Works.{Does, DoesAt, GoesOut, Puts, PutsNot, Wor
 
 use crate::edits::made;
 use crate::lines::{tell, wrong_path};
-use crate::requests::{Task, Work};
+use crate::requests::{Task, Command};
 use crate::texts::{name_of, text_of};
-use crate::trouble::Trouble;
+use crate::trouble::TextTrouble;
 use cli_files::{Store, put_texts, report};
 use json5_edit::{Path, Step};
 use std::alloc::Global;
@@ -49,7 +49,7 @@ fn do_at<S: Store, W: Write, E: Write>(
 {
     let steps = match path.steps_in(alloc, text) {
         Ok(steps) => steps,
-        Err(error) => return tell(alloc, task, text, &[], &Trouble::Edit(error), e),
+        Err(error) => return tell(alloc, task, text, &[], &TextTrouble::Edit(error), e),
     };
     match work_on(store, alloc, task, text, steps.as_slice(), w) {
         Ok(()) => 0,
@@ -65,7 +65,7 @@ fn work_on<S: Store, W: Write>(
     text: &str,
     steps: &[Step<'_>],
     w: &mut W,
-) -> Result<(), Trouble>
+) -> Result<(), TextTrouble>
     ensures worked { OnOk result (Works (S.known store.now) task.now text.now steps.now (W.contents w.old) (W.contents w.new)) }
     ensures stopped { IfErr result (WorksNot task.now text.now steps.now (W.contents w.old) (W.contents w.new)) }
 {
@@ -81,14 +81,14 @@ fn put<S: Store, W: Write>(
     old: &str,
     new: &str,
     w: &mut W,
-) -> Result<(), Trouble>
+) -> Result<(), TextTrouble>
     ensures put { OnOk result (Puts (S.known store.now) task.now old.now new.now (W.contents w.old) (W.contents w.new)) }
     ensures stopped { IfErr result (PutsNot new.now (W.contents w.old) (W.contents w.new)) }
 {
     if goes_out(task) {
         return match put_texts(w, &[new]) {
             Ok(()) => Ok(()),
-            Err(failure) => Err(Trouble::Failed(failure)),
+            Err(failure) => Err(TextTrouble::Failed(failure)),
         };
     }
     if old == new {
@@ -96,7 +96,7 @@ fn put<S: Store, W: Write>(
     }
     match store.replace(alloc, task.file, old, new) {
         Ok(()) => Ok(()),
-        Err(why) => Err(Trouble::Unwritten(why)),
+        Err(why) => Err(TextTrouble::Unwritten(why)),
     }
 }
 
@@ -105,8 +105,8 @@ fn goes_out(task: &Task<'_>) -> bool
     ensures { Decides result (GoesOut task.now) }
 {
     match task.work {
-        Work::Get => true,
-        Work::Json => true,
+        Command::Get => true,
+        Command::Json => true,
         _ => task.file == "-",
     }
 }

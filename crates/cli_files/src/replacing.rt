@@ -20,7 +20,7 @@ const PIECE: usize = 64 * 1024;
 
 /// The name of the file, that of its copy, and the one that the file has while the copy has its name.
 #[derive(Drop)]
-struct Names {
+struct FileNames {
     path: String,
     beside: String,
     aside: String,
@@ -54,7 +54,7 @@ pub(crate) fn replace_file<F: Files>(
 where
     F::File: AsFd,
 {
-    let names = Names::of(files, alloc, name)?;
+    let names = FileNames::of(files, alloc, name)?;
     let file = open_file(files, names.path.as_str())?;
     let copy = match create_copy(files, names.beside.as_str()) {
         Ok(copy) => copy,
@@ -69,14 +69,14 @@ where
     }
 }
 
-impl Names {
-    fn of<F: Files>(files: &F, alloc: Global, name: &str) -> Result<Names, Unwritten> {
+impl FileNames {
+    fn of<F: Files>(files: &F, alloc: Global, name: &str) -> Result<FileNames, Unwritten> {
         let path = files.canonicalize(alloc, name)?.into_string();
         match (
             format!(in alloc; "{}.json5_tidy", path.as_str()),
             format!(in alloc; "{}.json5_tidy_aside", path.as_str()),
         ) {
-            (Ok(beside), Ok(aside)) => Ok(Names {
+            (Ok(beside), Ok(aside)) => Ok(FileNames {
                 path,
                 beside,
                 aside,
@@ -109,7 +109,7 @@ fn create_copy<F: Files>(files: &F, beside: &str) -> io::Result<F::File> {
 fn replace_by<F: Files>(
     files: &F,
     alloc: Global,
-    names: &Names,
+    names: &FileNames,
     file: F::File,
     copy: F::File,
     before: &str,
@@ -130,7 +130,7 @@ where
 fn by_copy<F: Files>(
     files: &F,
     alloc: Global,
-    names: &Names,
+    names: &FileNames,
     file: F::File,
     copy: F::File,
     before: &str,
@@ -167,7 +167,7 @@ fn has_no_links(e: &io::Error) -> bool {
 fn by_new<F: Files>(
     files: &F,
     alloc: Global,
-    names: &Names,
+    names: &FileNames,
     file: F::File,
     new: F::File,
     before: &str,
@@ -202,7 +202,7 @@ fn fill_new<F: Write + Seek + OpenFile + AsFd>(
 fn swap<F: Files>(
     files: &F,
     alloc: Global,
-    names: &Names,
+    names: &FileNames,
     file: &mut F::File,
     copy: &mut F::File,
     before: &str,
@@ -227,7 +227,7 @@ where
 fn take_name<F: Files>(
     files: &F,
     alloc: Global,
-    names: &Names,
+    names: &FileNames,
     file: &mut F::File,
     new: &F::File,
     before: &str,
@@ -245,7 +245,7 @@ fn take_name<F: Files>(
 /// Writes the new text into the file, once it is on the disk that the copy has its name.
 fn write_aside<F: Files>(
     files: &F,
-    names: &Names,
+    names: &FileNames,
     file: &mut F::File,
     after: &str,
 ) -> io::Result<()> {
@@ -257,7 +257,7 @@ fn write_aside<F: Files>(
 fn restore<F: Files>(
     files: &F,
     alloc: Global,
-    names: &Names,
+    names: &FileNames,
     known: &Metadata,
     file: &mut F::File,
     copy: &mut F::File,
@@ -273,7 +273,7 @@ fn restore<F: Files>(
 fn take_back<F: Files>(
     files: &F,
     alloc: Global,
-    names: &Names,
+    names: &FileNames,
     known: &Metadata,
     copy: &mut F::File,
     before: &str,
@@ -289,7 +289,7 @@ fn take_back<F: Files>(
 }
 
 /// Why the file holds what it held, once the names that were made are removed, or couldn't be.
-fn cleared<F: Files>(files: &F, names: Names, stop: Stop) -> Unwritten {
+fn cleared<F: Files>(files: &F, names: FileNames, stop: Stop) -> Unwritten {
     match stop {
         Stop::Copied(why) => removed(files, names.beside, why),
         Stop::Taken => removed(files, names.beside, Unwritten::Taken(names.aside)),
@@ -357,7 +357,7 @@ fn is_at<F: Files>(files: &F, known: &Metadata, path: &str) -> io::Result<bool> 
 }
 
 /// Whether the file has the other name. Where a system doesn't count names, a file may have another number by each.
-fn is_aside<F: Files>(files: &F, known: &Metadata, names: &Names) -> io::Result<bool> {
+fn is_aside<F: Files>(files: &F, known: &Metadata, names: &FileNames) -> io::Result<bool> {
     Ok(known.nlink() < 2 || is_at(files, known, names.aside.as_str())?)
 }
 

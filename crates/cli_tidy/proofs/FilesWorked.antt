@@ -7,8 +7,8 @@ use Rattle.json5_write.specs.Pieces.{AppendsFront}
 use Rattle.cli_files.specs.declared.failure.Failure.TheVariants as failure
 use Rattle.cli_tidy.specs.declared.files.Outcome.TheVariants as outcome
 use Rattle.cli_tidy.specs.declared.requests.FileRequest.{FileRequest}
-use Rattle.cli_tidy.specs.declared.trouble.Trouble.{Trouble}
-use Rattle.cli_tidy.specs.declared.trouble.Trouble.TheVariants as trouble
+use Rattle.cli_tidy.specs.declared.trouble.FileTrouble.{FileTrouble}
+use Rattle.cli_tidy.specs.declared.trouble.FileTrouble.TheVariants as trouble
 use Rattle.cli_tidy.specs.Files.{WorksOnFile, GoesThrough, tidy, untidy, bad, WorksThrough, through, stopped}
 use Rattle.cli_files.specs.Stores.{Known}
 use Rattle.cli_tidy.specs.Troubles.{trouble_line, trouble_status}
@@ -29,11 +29,11 @@ module _ (known : Known) (request : FileRequest) (output errors before after sai
   pub more_untidy : WorksOnFile known request (string_bytes name) before after (Ok outcome.Untidy) → GoesThrough known request output errors (take (i + 1) names) after said (max status 1)
   more_untidy k = subst (λ l. GoesThrough known request output errors l after said (max status 1)) (sym (one_more names i name h is)) (untidy name g k)
 
-  pub more_bad : (more : Option (List ℕ)) (e : Trouble) → WorksOnFile known request (string_bytes name) before after (Err e) → e ≢ trouble.Failed failure.Write → AppendsFront said more (trouble_line (string_bytes name) e)
+  pub more_bad : (more : Option (List ℕ)) (e : FileTrouble) → WorksOnFile known request (string_bytes name) before after (Err e) → e ≢ trouble.Failed failure.Write → AppendsFront said more (trouble_line (string_bytes name) e)
       → GoesThrough known request output errors (take (i + 1) names) after more (max status (trouble_status e))
   more_bad more e k other a = subst (λ l. GoesThrough known request output errors l after more (max status (trouble_status e))) (sym (one_more names i name h is)) (bad name e g k other a)
 
-  pub stops : (more : Option (List ℕ)) (e : Trouble) → WorksOnFile known request (string_bytes name) before after (Err e) → e ≡ trouble.Failed failure.Write → AppendsFront said more (trouble_line (string_bytes name) e)
+  pub stops : (more : Option (List ℕ)) (e : FileTrouble) → WorksOnFile known request (string_bytes name) before after (Err e) → e ≡ trouble.Failed failure.Write → AppendsFront said more (trouble_line (string_bytes name) e)
       → WorksThrough known request output errors names after more (max status (trouble_status e)) false
   stops more e k write a =
       subst (λ n. WorksThrough known request output errors names after more n false) (ap (λ x. max status (trouble_status x)) (sym write))

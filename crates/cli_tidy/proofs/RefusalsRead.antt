@@ -11,8 +11,8 @@ use Rattle.json5_report.specs.Reports.{IsReportOf, IsReportOfWrong, report_text}
 use Rattle.cli_files.specs.declared.failure.Failure.{Failure}
 use Rattle.cli_files.specs.declared.failure.Failure.TheVariants as failure
 use Rattle.cli_files.specs.Inputs.{ReadFailure, RefusesInput}
-use Rattle.cli_tidy.specs.declared.trouble.Trouble.{Trouble}
-use Rattle.cli_tidy.specs.declared.trouble.Trouble.TheVariants as trouble
+use Rattle.cli_tidy.specs.declared.trouble.FileTrouble.{FileTrouble}
+use Rattle.cli_tidy.specs.declared.trouble.FileTrouble.TheVariants as trouble
 use Rattle.cli_tidy.specs.Refusals.{IsTroubleOf, ShowsReport, refused, reported, wrong}
 
 -- what such a report prints shows it
@@ -40,13 +40,13 @@ unknown_cause text failure.NoMemory k = tt
 unknown_cause text failure.Read k = tt
 unknown_cause text failure.Write k = k
 
-unknown_trouble : (name text : List ℕ) (e : Trouble) → IsTroubleOf name (Some text) e → IsTroubleOf name None e
+unknown_trouble : (name text : List ℕ) (e : FileTrouble) → IsTroubleOf name (Some text) e → IsTroubleOf name None e
 unknown_trouble name text (trouble.Failed s) k = k
 unknown_trouble name text (trouble.Refused shown) k = tt
 unknown_trouble name text (trouble.Unreported s memory) k = (unknown_cause text s k.0, k.1)
 unknown_trouble name text (trouble.Unwritten u) k = k
 unknown_trouble name text trouble.NoFile k = k
 
-pub trouble_read : (name : List ℕ) (input : Option (List ℕ)) (text : List ℕ) (e : Trouble) → IfSome input (λ bytes. text ≡ bytes) → IsTroubleOf name (Some text) e → IsTroubleOf name input e
+pub trouble_read : (name : List ℕ) (input : Option (List ℕ)) (text : List ℕ) (e : FileTrouble) → IfSome input (λ bytes. text ≡ bytes) → IsTroubleOf name (Some text) e → IsTroubleOf name input e
 trouble_read name None text e is k = unknown_trouble name text e k
 trouble_read name (Some bytes) text e is k = subst (λ b. IsTroubleOf name (Some b) e) is k

@@ -7,10 +7,10 @@ use Rattle.cli_files.specs.declared.failure.Failure.TheVariants as failure
 use Rattle.cli_files.specs.Reports.{status_of}
 use Rattle.cli_tidy.specs.declared.options.Options.{Options}
 use Rattle.cli_tidy.specs.declared.requests.FileRequest.{FileRequest}
-use Rattle.cli_tidy.specs.declared.requests.Request.{Request}
-use Rattle.cli_tidy.specs.declared.requests.Request.TheVariants as requests
-use Rattle.cli_tidy.specs.declared.trouble.Trouble.{Trouble}
-use Rattle.cli_tidy.specs.declared.trouble.Trouble.TheVariants as trouble
+use Rattle.cli_tidy.specs.declared.requests.TidyRequest.{TidyRequest}
+use Rattle.cli_tidy.specs.declared.requests.TidyRequest.TheVariants as requests
+use Rattle.cli_tidy.specs.declared.trouble.FileTrouble.{FileTrouble}
+use Rattle.cli_tidy.specs.declared.trouble.FileTrouble.TheVariants as trouble
 use Rattle.cli_tidy.specs.Answers.{AnswersStream, tidies, fails, AnswersRequest, Answers, answers, says_usage, no_memory}
 use Rattle.cli_files.specs.Says.{SaysText, says, stops}
 use Rattle.cli_tidy.specs.CommandWords.{AsksNothing}
@@ -28,7 +28,7 @@ failure_low failure.NoMemory = omega arith
 failure_low failure.Read = omega arith
 failure_low failure.Write = omega arith
 
-trouble_low : (e : Trouble) → trouble_status e ≤ 2
+trouble_low : (e : FileTrouble) → trouble_status e ≤ 2
 trouble_low (trouble.Failed s) = failure_low s
 trouble_low (trouble.Refused shown) = omega arith
 trouble_low (trouble.Unreported s memory) = failure_low s
@@ -69,7 +69,7 @@ pub text_low : {text : List ℕ} {output written errors said : Option (List ℕ)
 text_low (says a) = omega arith
 text_low (stops a b) = omega arith
 
-request_low : (known : Known) (request : Request) (input output errors written said : Option (List ℕ)) (n : ℕ) → AnswersRequest known request input output errors written said n → n ≤ 2
+request_low : (known : Known) (request : TidyRequest) (input output errors written said : Option (List ℕ)) (n : ℕ) → AnswersRequest known request input output errors written said n → n ≤ 2
 request_low known requests.Help input output errors written said n k = text_low k
 request_low known requests.Version input output errors written said n k = text_low k
 request_low known (requests.Stream options) input output errors written said n k = stream_low k

@@ -7,7 +7,7 @@ use Rattle.cli_tidy.specs.declared.options.Fault.{Fault}
 use Rattle.cli_tidy.specs.declared.options.Fault.TheVariants as faults
 use Rattle.cli_tidy.specs.declared.options.Flag.{Flag}
 use Rattle.cli_tidy.specs.declared.options.Setting.{Setting}
-use Rattle.cli_tidy.specs.declared.requests.Request.{Request}
+use Rattle.cli_tidy.specs.declared.requests.TidyRequest.{TidyRequest}
 use Rattle.cli_tidy.specs.declared.taking.Words.{Words}
 use Rattle.cli_tidy.specs.CommandWords.{end_word, IsDashed, IsFlag, Part, Starts, apart, Choices, nothing_chosen, with_part, with_names, Choose, none, ended, next, IsFor, AsksNothing}
 use Rattle.cli_files.specs.NameLists.{names_of}
@@ -63,7 +63,7 @@ chooses_nothing c d words left rest word alike is other refused e k = no_choice 
 -- ---- what is asked for
 
 pub asks : (list : List (String Global)) (old new : Words) (rest : List (List ℕ)) (c : Choices) → choices_of old ≡ nothing_chosen → TakesAll (names_of list) old new rest → c ≡ with_names rest (choices_of new)
-    → (r : Result Request Fault) → Requests c r → ReadsWords list r
+    → (r : Result TidyRequest Fault) → Requests c r → ReadsWords list r
 asks list old new rest c start taken is (Ok request) k = (c, subst (λ x. Choose x (names_of list) c) start ((taken c).1 is), k)
 asks list old new rest c start taken is (Err fault) k = λ unknown request (e, chosen, fits).
     let same : e ≡ c = (taken e).0 (subst (λ x. Choose x (names_of list) e) (sym start) chosen) ∙ sym is in

@@ -13,12 +13,12 @@ use Rattle.cli_tidy.specs.declared.options.Flag.TheVariants as flags
 use Rattle.cli_tidy.specs.declared.options.Options.{Options}
 use Rattle.cli_tidy.specs.declared.options.Setting.{Setting}
 use Rattle.cli_tidy.specs.declared.options.Setting.TheVariants as settings
-use Rattle.cli_tidy.specs.declared.requests.Request.{Request}
-use Rattle.cli_tidy.specs.declared.requests.Request.TheVariants as requests
+use Rattle.cli_tidy.specs.declared.requests.TidyRequest.{TidyRequest}
+use Rattle.cli_tidy.specs.declared.requests.TidyRequest.TheVariants as requests
 use Rattle.cli_tidy.specs.declared.taking.Question.{Question}
 use Rattle.cli_tidy.specs.declared.taking.Question.TheVariants as questions
-use Rattle.cli_tidy.specs.declared.work.Work.{Work}
-use Rattle.cli_tidy.specs.declared.work.Work.TheVariants as work
+use Rattle.cli_tidy.specs.declared.work.FileWork.{FileWork}
+use Rattle.cli_tidy.specs.declared.work.FileWork.TheVariants as work
 use Rattle.cli_files.specs.NameLists.{names_of}
 use Rattle.cli_tidy.specs.Folders.{point}
 
@@ -28,7 +28,7 @@ minus = 45
 abbrev pub equals : ℕ
 equals = 61
 
-abbrev pub work_word : Work → List ℕ
+abbrev pub work_word : FileWork → List ℕ
 work_word work.Check = codes "check"
 work_word work.Diff = codes "diff"
 work_word work.Print = codes "print"
@@ -152,16 +152,16 @@ abbrev pub input_name : Options → List ℕ
 input_name o = option_map_or string_bytes o.stdin_name (codes "stdin")
 
 -- a question counts alone; else there are a work and at least one name, or neither
-abbrev pub IsFor : Choices → Request → Type 0
+abbrev pub IsFor : Choices → TidyRequest → Type 0
 IsFor c requests.Help = c.question ≡ Some questions.Help
 IsFor c requests.Version = c.question ≡ Some questions.Version
 IsFor c (requests.Stream options) = (c.question ≡ None) × (c.others ≡ []) × HasOptions c options
 IsFor c (requests.Files f) = (c.question ≡ None) × (c.others ≡ work_word f.work ∷ names_of f.names.items) × (f.names.items ≢ []) × HasOptions c f.options
 
 -- what the words ask for
-abbrev pub Asks : (list : List (String Global)) → Request → Type 0
+abbrev pub Asks : (list : List (String Global)) → TidyRequest → Type 0
 Asks list request = (c : Choices) × Choose nothing_chosen (names_of list) c × IsFor c request
 
 -- they ask for nothing
 abbrev pub AsksNothing : (list : List (String Global)) → Type 0
-AsksNothing list = (request : Request) → ¬ (Asks list request)
+AsksNothing list = (request : TidyRequest) → ¬ (Asks list request)

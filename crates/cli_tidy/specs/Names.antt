@@ -4,7 +4,7 @@ use Rattle.std.specs.Prelude.{◌≡◌, ℕ, Bool, true, false, List, [], ◌�
 use Rattle.json5_write.specs.Pieces.{AppendsFront}
 use Rattle.cli_files.specs.declared.failure.Failure.TheVariants as failure
 use Rattle.cli_tidy.specs.declared.requests.FileRequest.{FileRequest}
-use Rattle.cli_tidy.specs.declared.trouble.Trouble.TheVariants as trouble
+use Rattle.cli_tidy.specs.declared.trouble.FileTrouble.TheVariants as trouble
 use Rattle.cli_tidy.specs.Files.{WorksThrough}
 use Rattle.cli_tidy.specs.Folders.{StandsFor}
 use Rattle.cli_files.specs.NameLists.{names_of}

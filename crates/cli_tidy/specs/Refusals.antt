@@ -8,8 +8,8 @@ use Rattle.json5_report.specs.declared.report.Report.{Report}
 use Rattle.json5_report.specs.Reports.{IsReportOf, IsReportOfWrong, report_text}
 use Rattle.cli_files.specs.declared.failure.Failure.{Failure}
 use Rattle.cli_files.specs.Inputs.{IsReadFault, ReadFailure, RefusesInput}
-use Rattle.cli_tidy.specs.declared.trouble.Trouble.{Trouble}
-use Rattle.cli_tidy.specs.declared.trouble.Trouble.TheVariants as trouble
+use Rattle.cli_tidy.specs.declared.trouble.FileTrouble.{FileTrouble}
+use Rattle.cli_tidy.specs.declared.trouble.FileTrouble.TheVariants as trouble
 
 -- the text is that of one of these reports
 abbrev pub ShowsReport : (Report → Type 0) → List ℕ → Type 0
@@ -21,13 +21,13 @@ pub data ShowsFault (name bytes shown : List ℕ) : Type 0 where
   refused : (e : Error) → ¬ (IsOutOfMemory e) → RefusesInput e bytes → ShowsReport (IsReportOf name bytes e) shown → ShowsFault name bytes shown
 
 -- why what was read under this name isn't tidied; what is no document has its report, unless memory ran out for that
-abbrev pub IsTroubleOf : (name : List ℕ) (input : Option (List ℕ)) → Trouble → Type 0
+abbrev pub IsTroubleOf : (name : List ℕ) (input : Option (List ℕ)) → FileTrouble → Type 0
 IsTroubleOf name input (trouble.Refused shown) = IfSome input (λ bytes. ShowsFault name bytes (string_bytes shown))
 IsTroubleOf name input (trouble.Unreported s memory) = ReadFailure input s × LacksMemory memory
 IsTroubleOf name input (trouble.Failed s) = IsReadFault s
 IsTroubleOf name input e = ⊥
 
 -- the trouble of a cause, of which this is shown if there is memory for it
-abbrev pub reported : Failure → Result (String Global) Error → Trouble
+abbrev pub reported : Failure → Result (String Global) Error → FileTrouble
 reported s (Ok shown) = trouble.Refused shown
 reported s (Err memory) = trouble.Unreported s memory

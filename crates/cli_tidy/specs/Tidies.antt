@@ -11,8 +11,8 @@ use Rattle.json5_tidy.specs.declared.style.LastCommas.TheVariants as commas
 use Rattle.json5_tidy.specs.declared.style.Style.{Style}
 use Rattle.json5_tidy.specs.Tidied as tidied
 use Rattle.cli_tidy.specs.declared.tidied.Tidied.{Tidied}
-use Rattle.cli_tidy.specs.declared.trouble.Trouble.{Trouble}
-use Rattle.cli_tidy.specs.declared.trouble.Trouble.TheVariants as trouble
+use Rattle.cli_tidy.specs.declared.trouble.FileTrouble.{FileTrouble}
+use Rattle.cli_tidy.specs.declared.trouble.FileTrouble.TheVariants as trouble
 use Rattle.cli_tidy.specs.Folders.{HasEnding}
 use Rattle.cli_tidy.specs.Refusals.{IsTroubleOf}
 
@@ -42,6 +42,6 @@ abbrev pub BeginsTidied : Style → (name : List ℕ) → Option (List ℕ) → 
 BeginsTidied style name old new bytes = (after : List ℕ) × Tidies style name bytes after × AppendsFront old new after
 
 -- why tidying a stream with this name ended early; nothing was written unless a write failed
-abbrev pub TidyTrouble : Style → (name : List ℕ) (input old new : Option (List ℕ)) → Trouble → Type 0
+abbrev pub TidyTrouble : Style → (name : List ℕ) (input old new : Option (List ℕ)) → FileTrouble → Type 0
 TidyTrouble style name input old new (trouble.Failed failure.Write) = IfSome input (BeginsTidied style name old new)
 TidyTrouble style name input old new e = IsTroubleOf name input e × Keeps old new

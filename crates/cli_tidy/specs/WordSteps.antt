@@ -5,7 +5,7 @@ use Rattle.cli_tidy.specs.declared.options.Fault.{Fault}
 use Rattle.cli_tidy.specs.declared.options.Fault.TheVariants as faults
 use Rattle.cli_tidy.specs.declared.options.Options.{Options}
 use Rattle.cli_tidy.specs.declared.options.Setting.{Setting}
-use Rattle.cli_tidy.specs.declared.requests.Request.{Request}
+use Rattle.cli_tidy.specs.declared.requests.TidyRequest.{TidyRequest}
 use Rattle.cli_tidy.specs.declared.taking.Words.{Words}
 use Rattle.cli_tidy.specs.CommandWords.{Part, Sets, equals, setting_word, Starts, Choices, with_part, with_names, Choose, IsFor, Asks, AsksNothing}
 use Rattle.cli_files.specs.NameLists.{names_of}
@@ -54,11 +54,11 @@ abbrev pub ChooseNothing : Choices → (words : List (List ℕ)) → Fault → T
 ChooseNothing c words fault = fault ≡ faults.Unknown → (e : Choices) → ¬ (Choose c words e)
 
 -- this request is for what was chosen; or none is
-abbrev pub Requests : Choices → Result Request Fault → Type 0
+abbrev pub Requests : Choices → Result TidyRequest Fault → Type 0
 Requests c (Ok request) = IsFor c request
-Requests c (Err fault) = (fault ≡ faults.Unknown) × ((request : Request) → ¬ (IsFor c request))
+Requests c (Err fault) = (fault ≡ faults.Unknown) × ((request : TidyRequest) → ¬ (IsFor c request))
 
 -- the words ask for this request; or for none, or memory ran out
-abbrev pub ReadsWords : (list : List (String Global)) → Result Request Fault → Type 0
+abbrev pub ReadsWords : (list : List (String Global)) → Result TidyRequest Fault → Type 0
 ReadsWords list (Ok request) = Asks list request
 ReadsWords list (Err fault) = fault ≡ faults.Unknown → AsksNothing list

@@ -5,7 +5,7 @@ ghost use Rattle.cli_tidy.specs.Answers.{Answers, AnswersRequest, AnswersStream}
 use crate::files::work_through;
 use crate::options::{Fault, Options};
 use crate::reports::{HELP, no_memory, report_trouble, usage};
-use crate::requests::Request;
+use crate::requests::TidyRequest;
 use crate::streams::tidy_stream;
 use cli_files::{Store, VERSION, answer_with};
 use std::alloc::Global;
@@ -28,7 +28,7 @@ pub fn answer<S: Store, R: Read, W: Write, E: Write>(
 ) -> u8
     ensures { Answers (S.known store.now) list.now (R.remaining r.old) (W.contents w.old) (E.contents e.old) (W.contents w.new) (E.contents e.new) result }
 {
-    match Request::of(alloc, list) {
+    match TidyRequest::of(alloc, list) {
         Ok(request) => answer_request(store, alloc, &request, r, w, e),
         Err(Fault::Unknown) => usage(e),
         Err(Fault::NoMemory) => no_memory(e),
@@ -38,7 +38,7 @@ pub fn answer<S: Store, R: Read, W: Write, E: Write>(
 fn answer_request<S: Store, R: Read, W: Write, E: Write>(
     store: &S,
     alloc: Global,
-    request: &Request,
+    request: &TidyRequest,
     r: &mut R,
     w: &mut W,
     e: &mut E,
@@ -47,10 +47,10 @@ fn answer_request<S: Store, R: Read, W: Write, E: Write>(
         (W.contents w.new) (E.contents e.new) result }
 {
     match request {
-        Request::Help => answer_with(&[HELP], w, e),
-        Request::Version => answer_with(&["json5_tidy ", VERSION, "\n"], w, e),
-        Request::Stream(options) => answer_stream(alloc, options, r, w, e),
-        Request::Files(files) => work_through(store, alloc, files, w, e),
+        TidyRequest::Help => answer_with(&[HELP], w, e),
+        TidyRequest::Version => answer_with(&["json5_tidy ", VERSION, "\n"], w, e),
+        TidyRequest::Stream(options) => answer_stream(alloc, options, r, w, e),
+        TidyRequest::Files(files) => work_through(store, alloc, files, w, e),
     }
 }
 

@@ -10,8 +10,8 @@ use crate::folders::files_of;
 use crate::reports::report_trouble;
 use crate::requests::FileRequest;
 use crate::tidied::{Tidied, read_tidied};
-use crate::trouble::Trouble;
-use crate::work::Work;
+use crate::trouble::FileTrouble;
+use crate::work::FileWork;
 use cli_files::{Failure, Store, put_texts};
 use std::alloc::Global;
 use std::io::Write;
@@ -66,12 +66,12 @@ fn work_below<S: Store, W: Write, E: Write>(
 {
     let Ok(names) = files_of(store, alloc, request.options.endings.as_slice(), name) else {
         return (
-            report_trouble(name, &Trouble::Failed(Failure::NoMemory), e),
+            report_trouble(name, &FileTrouble::Failed(Failure::NoMemory), e),
             true,
         );
     };
     if names.is_empty() {
-        return (report_trouble(name, &Trouble::NoFile, e), true);
+        return (report_trouble(name, &FileTrouble::NoFile, e), true);
     }
     work_on_each(store, alloc, request, names.as_slice(), w, e)
 }
@@ -113,11 +113,11 @@ fn work_on<S: Store, W: Write>(
     request: &FileRequest,
     name: &str,
     w: &mut W,
-) -> Result<Outcome, Trouble>
+) -> Result<Outcome, FileTrouble>
     ensures { WorksOnFile (S.known store.now) request.now name.now (W.contents w.old) (W.contents w.new) result }
 {
     let Ok(mut file) = store.open(name) else {
-        return Err(Trouble::Failed(Failure::Read));
+        return Err(FileTrouble::Failed(Failure::Read));
     };
     match read_tidied(alloc, name, request.options.style, &mut file) {
         Ok(tidied) => work_on_texts(store, alloc, request.work, name, &tidied, w),
@@ -129,29 +129,29 @@ fn work_on<S: Store, W: Write>(
 fn work_on_texts<S: Store, W: Write>(
     store: &S,
     alloc: Global,
-    work: Work,
+    work: FileWork,
     name: &str,
     tidied: &Tidied,
     w: &mut W,
-) -> Result<Outcome, Trouble>
+) -> Result<Outcome, FileTrouble>
     ensures { WorksOnTidied (S.known store.now) work name.now tidied.now (W.contents w.old) (W.contents w.new) result }
 {
     match work {
-        Work::Print => put(w, &[tidied.after.as_str()], Outcome::Tidy),
+        FileWork::Print => put(w, &[tidied.after.as_str()], Outcome::Tidy),
         _ if tidied.is_tidy() => Ok(Outcome::Tidy),
-        Work::Check => put(w, &[name, "\n"], Outcome::Untidy),
-        Work::Diff => put_diff(alloc, name, tidied, w),
-        Work::Write => put_file(store, alloc, name, tidied),
+        FileWork::Check => put(w, &[name, "\n"], Outcome::Untidy),
+        FileWork::Diff => put_diff(alloc, name, tidied, w),
+        FileWork::Write => put_file(store, alloc, name, tidied),
     }
 }
 
 /// Writes the texts.
-fn put<W: Write>(w: &mut W, texts: &[&str], outcome: Outcome) -> Result<Outcome, Trouble>
+fn put<W: Write>(w: &mut W, texts: &[&str], outcome: Outcome) -> Result<Outcome, FileTrouble>
     ensures { PutsTexts outcome (joined_texts texts.now) (W.contents w.old) (W.contents w.new) result }
 {
     match put_texts(w, texts) {
         Ok(()) => Ok(outcome),
-        Err(failure) => Err(Trouble::Failed(failure)),
+        Err(failure) => Err(FileTrouble::Failed(failure)),
     }
 }
 
@@ -161,7 +161,7 @@ fn put_diff<W: Write>(
     name: &str,
     tidied: &Tidied,
     w: &mut W,
-) -> Result<Outcome, Trouble>
+) -> Result<Outcome, FileTrouble>
     ensures { PutsDiff (W.contents w.old) (W.contents w.new) result }
 {
     match diff(
@@ -172,7 +172,7 @@ fn put_diff<W: Write>(
         w,
     ) {
         Ok(()) => Ok(Outcome::Untidy),
-        Err(failure) => Err(Trouble::Failed(failure)),
+        Err(failure) => Err(FileTrouble::Failed(failure)),
     }
 }
 
@@ -182,11 +182,11 @@ fn put_file<S: Store>(
     alloc: Global,
     name: &str,
     tidied: &Tidied,
-) -> Result<Outcome, Trouble>
+) -> Result<Outcome, FileTrouble>
     ensures { PutsFile ((S.known store.now).replaces name.now (string_bytes tidied.now.before) (string_bytes tidied.now.after)) result }
 {
     match store.replace(alloc, name, tidied.before.as_str(), tidied.after.as_str()) {
         Ok(()) => Ok(Outcome::Tidy),
-        Err(unwritten) => Err(Trouble::Unwritten(unwritten)),
+        Err(unwritten) => Err(FileTrouble::Unwritten(unwritten)),
     }
 }

@@ -7,14 +7,14 @@ ghost use Rattle.json5_types.specs.Errors.{LacksMemory};
 ghost use Rattle.cli_files.specs.Inputs.{RefusesInput};
 ghost use Rattle.cli_tidy.specs.Refusals.{IsTroubleOf, ShowsReport, reported};
 
-use crate::trouble::Trouble;
+use crate::trouble::FileTrouble;
 use cli_files::Failure;
 use json5_report::Report;
 use json5_types::error::{Error, Result};
 use std::alloc::Global;
 
 /// The trouble with bytes that are no text.
-pub(crate) fn wrong_bytes(alloc: Global, name: &str, bytes: &[u8]) -> Trouble
+pub(crate) fn wrong_bytes(alloc: Global, name: &str, bytes: &[u8]) -> FileTrouble
     requires { ¬ (IsUtf8 bytes.now) }
     ensures { IsTroubleOf name.now (Some bytes.now) result }
 {
@@ -22,7 +22,7 @@ pub(crate) fn wrong_bytes(alloc: Global, name: &str, bytes: &[u8]) -> Trouble
 }
 
 /// The trouble with a text that is refused so: it is no document, or memory ran out.
-pub(crate) fn refused_text(alloc: Global, name: &str, text: &str, error: Error) -> Trouble
+pub(crate) fn refused_text(alloc: Global, name: &str, text: &str, error: Error) -> FileTrouble
     requires { RefusesInput error text.now }
     ensures { IsTroubleOf name.now (Some text.now) result }
 {
@@ -31,17 +31,17 @@ pub(crate) fn refused_text(alloc: Global, name: &str, text: &str, error: Error) 
             let shown = text_shown(alloc, name, text, &error);
             reported(Failure::Text(error), shown)
         }
-        _ => Trouble::Failed(Failure::NoMemory),
+        _ => FileTrouble::Failed(Failure::NoMemory),
     }
 }
 
 /// The trouble of which this is shown, or which only this cause is told of where there is no memory.
-fn reported(failure: Failure, shown: Result<String>) -> Trouble
+fn reported(failure: Failure, shown: Result<String>) -> FileTrouble
     ensures { result ≡ reported failure shown }
 {
     match shown {
-        Ok(shown) => Trouble::Refused(shown),
-        Err(memory) => Trouble::Unreported(failure, memory),
+        Ok(shown) => FileTrouble::Refused(shown),
+        Err(memory) => FileTrouble::Unreported(failure, memory),
     }
 }
 

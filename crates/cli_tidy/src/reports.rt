@@ -4,7 +4,7 @@ ghost use Rattle.std.specs.Prelude.{◌≡◌};
 ghost use Rattle.json5_write.specs.Pieces.{AppendsFront};
 ghost use Rattle.cli_tidy.specs.Troubles.{memory_line, trouble_line, trouble_status, usage_line};
 
-use crate::trouble::Trouble;
+use crate::trouble::FileTrouble;
 use cli_files::{report, report_unwritten, say};
 use std::io::Write;
 
@@ -63,19 +63,19 @@ pub(crate) fn no_memory<E: Write>(e: &mut E) -> u8
 }
 
 /// Writes why the work on this file ended, as a report or as one line, and returns the status that the program ends with.
-pub(crate) fn report_trouble<E: Write>(name: &str, trouble: &Trouble, e: &mut E) -> u8
+pub(crate) fn report_trouble<E: Write>(name: &str, trouble: &FileTrouble, e: &mut E) -> u8
     ensures status { result ≡ trouble_status trouble.now }
     ensures line { AppendsFront (E.contents e.old) (E.contents e.new) (trouble_line name.now trouble.now) }
 {
     match trouble {
-        Trouble::Failed(failure) => report(name, failure, e),
-        Trouble::Refused(shown) => {
+        FileTrouble::Failed(failure) => report(name, failure, e),
+        FileTrouble::Refused(shown) => {
             say(e, &[shown.as_str(), "\n"]);
             1
         }
-        Trouble::Unreported(failure, _) => report(name, failure, e),
-        Trouble::Unwritten(unwritten) => report_unwritten(name, unwritten, e),
-        Trouble::NoFile => {
+        FileTrouble::Unreported(failure, _) => report(name, failure, e),
+        FileTrouble::Unwritten(unwritten) => report_unwritten(name, unwritten, e),
+        FileTrouble::NoFile => {
             say(e, &[name, ": no file to tidy is in it\n"]);
             2
         }

@@ -9,12 +9,12 @@ ghost use Rattle.cli_tidy.specs.WordSteps.{ReadsWords, Requests, choices_of, una
 use crate::names::push_names;
 use crate::options::{Fault, Options};
 use crate::taking::{Question, Words};
-use crate::work::Work;
+use crate::work::FileWork;
 use std::alloc::Global;
 
 /// What is asked for.
 #[derive(Drop)]
-pub enum Request {
+pub enum TidyRequest {
     Help,
     Version,
     /// To tidy standard input.
@@ -26,15 +26,15 @@ pub enum Request {
 /// A work on files.
 #[derive(Drop)]
 pub struct FileRequest {
-    pub work: Work,
+    pub work: FileWork,
     pub options: Options,
     /// Of files and folders, as they were given.
     pub names: Vec<String>,
 }
 
-impl Request {
+impl TidyRequest {
     /// The request of these words.
-    pub(crate) fn of(alloc: Global, list: &[String]) -> Result<Request, Fault>
+    pub(crate) fn of(alloc: Global, list: &[String]) -> Result<TidyRequest, Fault>
         ensures { ReadsWords list.now result }
     {
         let mut words = Words::none(alloc);
@@ -45,7 +45,7 @@ impl Request {
 }
 
 /// The request, now that all words were taken.
-fn request_of(words: Words) -> Result<Request, Fault>
+fn request_of(words: Words) -> Result<TidyRequest, Fault>
     ensures { Requests (choices_of words) result }
 {
     let Words {
@@ -54,21 +54,21 @@ fn request_of(words: Words) -> Result<Request, Fault>
         others,
     } = words;
     match question {
-        Some(Question::Help) => Ok(Request::Help),
-        Some(Question::Version) => Ok(Request::Version),
+        Some(Question::Help) => Ok(TidyRequest::Help),
+        Some(Question::Version) => Ok(TidyRequest::Version),
         None => unasked_request(options, others),
     }
 }
 
 /// The request of words that ask no question; these are no options.
-fn unasked_request(options: Options, others: Vec<String>) -> Result<Request, Fault>
+fn unasked_request(options: Options, others: Vec<String>) -> Result<TidyRequest, Fault>
     ensures { Requests (unasked options others.items) result }
 {
     if others.is_empty() {
-        return Ok(Request::Stream(options));
+        return Ok(TidyRequest::Stream(options));
     }
     match work_and_names(others) {
-        Some((work, names)) => Ok(Request::Files(FileRequest {
+        Some((work, names)) => Ok(TidyRequest::Files(FileRequest {
             work,
             options,
             names,
@@ -78,8 +78,8 @@ fn unasked_request(options: Options, others: Vec<String>) -> Result<Request, Fau
 }
 
 /// The work that the first of the words names, and those that follow it, if there is one.
-fn work_and_names(words: Vec<String>) -> Option<(Work, Vec<String>)>
-    ensures { MatchOption result ((work : Work) (names : List (String Global)) → names ≢ [] → names_of words.items ≢ work_word work ∷ names_of names)
+fn work_and_names(words: Vec<String>) -> Option<(FileWork, Vec<String>)>
+    ensures { MatchOption result ((work : FileWork) (names : List (String Global)) → names ≢ [] → names_of words.items ≢ work_word work ∷ names_of names)
         (λ x. (names_of words.items ≡ work_word x.0 ∷ names_of x.1.items) × (x.1.items ≢ [])) }
 {
     if words.len() < 2 {
@@ -87,7 +87,7 @@ fn work_and_names(words: Vec<String>) -> Option<(Work, Vec<String>)>
     }
     let mut names = words;
     let word = names.remove(0);
-    match Work::named(word.as_str()) {
+    match FileWork::named(word.as_str()) {
         Some(work) => Some((work, names)),
         None => None,
     }

@@ -4,7 +4,7 @@ ghost use Rattle.std.specs.Prelude.{IfErr, IfSome, OnOk};
 ghost use Rattle.cli_tidy.specs.Tidies.{TidyTrouble, WritesTidied};
 
 use crate::tidied::read_tidied;
-use crate::trouble::Trouble;
+use crate::trouble::FileTrouble;
 use cli_files::put_texts;
 use json5_tidy::Style;
 use std::alloc::Global;
@@ -28,13 +28,13 @@ pub fn tidy_stream<R: Read, W: Write>(
     style: Style,
     r: &mut R,
     w: &mut W,
-) -> Result<(), Trouble>
+) -> Result<(), FileTrouble>
     ensures written { OnOk result (IfSome (R.remaining r.old) (WritesTidied style name.now (W.contents w.old) (W.contents w.new))) }
     ensures stopped { IfErr result (TidyTrouble style name.now (R.remaining r.old) (W.contents w.old) (W.contents w.new)) }
 {
     let tidied = read_tidied(alloc, name, style, r)?;
     match put_texts(w, &[tidied.after.as_str()]) {
         Ok(()) => Ok(()),
-        Err(failure) => Err(Trouble::Failed(failure)),
+        Err(failure) => Err(FileTrouble::Failed(failure)),
     }
 }

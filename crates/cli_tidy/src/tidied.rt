@@ -6,7 +6,7 @@ ghost use Rattle.cli_tidy.specs.Tidies.{HoldsText, HoldsTidied};
 
 use crate::endings::style_for;
 use crate::refusals::{refused_text, wrong_bytes};
-use crate::trouble::Trouble;
+use crate::trouble::FileTrouble;
 use cli_files::read_whole;
 use json5_tidy::{Style, tidy_with};
 use std::alloc::Global;
@@ -40,7 +40,7 @@ pub(crate) fn read_tidied<R: Read>(
     name: &str,
     style: Style,
     r: &mut R,
-) -> Result<Tidied, Trouble>
+) -> Result<Tidied, FileTrouble>
     ensures read { IfOk result (HoldsTidied style name.now (R.remaining r.old)) }
     ensures stopped { IfErr result (IsTroubleOf name.now (R.remaining r.old)) }
 {
@@ -52,13 +52,13 @@ pub(crate) fn read_tidied<R: Read>(
 }
 
 /// Reads all of `r` as a string.
-fn read_text<R: Read>(alloc: Global, name: &str, r: &mut R) -> Result<String, Trouble>
+fn read_text<R: Read>(alloc: Global, name: &str, r: &mut R) -> Result<String, FileTrouble>
     ensures read { IfOk result (HoldsText (R.remaining r.old)) }
     ensures stopped { IfErr result (IsTroubleOf name.now (R.remaining r.old)) }
 {
     let bytes = match read_whole(alloc, r) {
         Ok(bytes) => bytes,
-        Err(failure) => return Err(Trouble::Failed(failure)),
+        Err(failure) => return Err(FileTrouble::Failed(failure)),
     };
     match String::from_utf8(bytes) {
         Ok(text) => Ok(text),

@@ -2,7 +2,7 @@
 
 ghost use Rattle.std.specs.Prelude.{◌≡◌, ◌≢◌, true, false};
 ghost use Rattle.cli_files.specs.declared.failure.Failure.TheVariants as failures;
-ghost use Rattle.cli_tidy.specs.declared.trouble.Trouble.TheVariants as troubles;
+ghost use Rattle.cli_tidy.specs.declared.trouble.FileTrouble.TheVariants as troubles;
 ghost use Rattle.cli_tidy.specs.Troubles.{trouble_status};
 
 use cli_files::{Failure, Unwritten};
@@ -10,7 +10,7 @@ use json5_types::error::Error;
 
 /// Why the work on a file ended.
 #[derive(Drop)]
-pub enum Trouble {
+pub enum FileTrouble {
     /// Memory ran out, or a stream failed.
     Failed(Failure),
     /// What was read is no document: what the report of it prints.
@@ -23,16 +23,16 @@ pub enum Trouble {
     NoFile,
 }
 
-impl Trouble {
+impl FileTrouble {
     /// Returns the status that the program ends with: 1 if the fault is one of the text, else 2.
     pub fn status(&self) -> u8
         ensures { result ≡ trouble_status self.now }
     {
         match self {
-            Trouble::Failed(failure) => failure.status(),
-            Trouble::Refused(_) => 1,
-            Trouble::Unreported(failure, _) => failure.status(),
-            Trouble::Unwritten(_) | Trouble::NoFile => 2,
+            FileTrouble::Failed(failure) => failure.status(),
+            FileTrouble::Refused(_) => 1,
+            FileTrouble::Unreported(failure, _) => failure.status(),
+            FileTrouble::Unwritten(_) | FileTrouble::NoFile => 2,
         }
     }
 
@@ -41,6 +41,6 @@ impl Trouble {
         ensures yes { result ≡ true → self.now ≡ troubles.Failed failures.Write }
         ensures no { result ≡ false → self.now ≢ troubles.Failed failures.Write }
     {
-        matches!(self, Trouble::Failed(Failure::Write))
+        matches!(self, FileTrouble::Failed(Failure::Write))
     }
 }

@@ -5,7 +5,7 @@ ghost use Rattle.cli_tidy.specs.CommandWords.{work_word};
 
 /// What is done with each file.
 #[derive(Clone, Copy, Debug, Drop)]
-pub enum Work {
+pub enum FileWork {
     /// Names it if it isn't tidy.
     Check,
     /// Writes what would change.
@@ -16,20 +16,20 @@ pub enum Work {
     Write,
 }
 
-impl Work {
+impl FileWork {
     /// Returns the work with this name, if there is one.
     ///
     /// ```text
-    /// Work::named("check")    // Some(Work::Check)
+    /// FileWork::named("check")    // Some(FileWork::Check)
     /// ```
-    pub fn named(word: &str) -> Option<Work>
-        ensures { MatchOption result ((work : Work) → word.now ≢ work_word work) (λ work. word.now ≡ work_word work) }
+    pub fn named(word: &str) -> Option<FileWork>
+        ensures { MatchOption result ((work : FileWork) → word.now ≢ work_word work) (λ work. word.now ≡ work_word work) }
     {
         match word {
-            "check" => Some(Work::Check),
-            "diff" => Some(Work::Diff),
-            "print" => Some(Work::Print),
-            "write" => Some(Work::Write),
+            "check" => Some(FileWork::Check),
+            "diff" => Some(FileWork::Diff),
+            "print" => Some(FileWork::Print),
+            "write" => Some(FileWork::Write),
             _ => None,
         }
     }

@@ -1,4 +1,4 @@
-use Rattle.cli_edit.specs.declared.requests.Work.TheVariants as work
+use Rattle.cli_edit.specs.declared.requests.Command.TheVariants as work
 use Rattle.cli_edit.proofs.EditsMade.{made_by}
 use Rattle.cli_edit.proofs.edits.made_with.Goals as goal
 

@@ -3,7 +3,7 @@ use Rattle.std.proofs.lemmas.Result.{err_from_is_err_and}
 use Rattle.cli_files.specs.NameLists.{names_of}
 use Rattle.cli_tidy.specs.WordSteps.{choices_of}
 use Rattle.cli_tidy.proofs.WordsRead.{asks, asks_nothing}
-use Rattle.cli_tidy.proofs.requests.Request.of.Goals as goal
+use Rattle.cli_tidy.proofs.requests.TidyRequest.of.Goals as goal
 
 pub returns-in_err-names : goal.returns-in_err-names
 returns-in_err-names c =
