@@ -13,7 +13,7 @@ mod stores;
 mod texts;
 mod unwritten;
 mod version;
-mod write_texts;
+mod writing;
 
 pub use disk::Disk;
 pub use failure::Failure;
@@ -25,4 +25,4 @@ pub use stores::{Entry, Store};
 pub use texts::{answer_with, put_texts};
 pub use unwritten::Unwritten;
 pub use version::VERSION;
-pub use write_texts::write_texts;
+pub use writing::write_texts;

@@ -7,7 +7,7 @@ ghost use Rattle.cli_files.specs.Reports.{fault_line, report_line, status_of, un
 
 use crate::failure::Failure;
 use crate::unwritten::Unwritten;
-use crate::write_texts::write_texts;
+use crate::writing::write_texts;
 use itoa::Buffer;
 use json5_types::error::Error;
 use std::io::Write;

@@ -9,7 +9,7 @@ ghost use Rattle.cli_files.specs.Says.{SaysText};
 
 use crate::failure::Failure;
 use crate::reports::report;
-use crate::write_texts::write_texts;
+use crate::writing::write_texts;
 use std::io::{self, Write};
 
 /// Writes the texts to `w`, one after the other, or to `e` that they can't be written. Returns the status that a

@@ -3,8 +3,8 @@
 ghost use Rattle.std.specs.Prelude.{◌≡◌, ◌≤◌};
 ghost use Rattle.cli_fmt.specs.CommandWords.{IsRequest};
 
+use crate::lines::usage;
 use crate::program_runs::answer;
-use crate::usage::usage;
 use cli_files::given_words;
 use std::alloc::Global;
 use std::io::BufWriter;

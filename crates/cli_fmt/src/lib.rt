@@ -9,16 +9,16 @@
 mod file_tests;
 mod files;
 mod host_program;
+mod lines;
 mod program_runs;
 mod streams;
 #[cfg(test)]
 mod tests;
-mod usage;
 mod work;
 
 pub use files::work_through;
 pub use host_program::{program, words};
+pub use lines::usage;
 pub use program_runs::answer;
 pub use streams::{check, run};
-pub use usage::usage;
 pub use work::Work;

@@ -3,8 +3,8 @@
 ghost use Rattle.cli_fmt.specs.ProgramRuns.{Answers, AnswersStream};
 
 use crate::files::work_through;
+use crate::lines::usage;
 use crate::streams::run;
-use crate::usage::usage;
 use crate::work::Work;
 use cli_files::{Disk, report};
 use std::alloc::Global;

@@ -2,7 +2,7 @@ use Rattle.std.proofs.Common.{◌≡◌, ◌∙◌, ◌+◌, ◌++◌, take, dro
 use Rattle.std.specs.Io.KnownBytes.{Appends}
 use Rattle.cli_files.specs.JoinedTexts.{joined_texts}
 use Rattle.cli_files.proofs.PiecesJoined.{joined_more, joined_split, pushed_all, pushed_part}
-use Rattle.cli_files.proofs.write_texts.write_texts.Goals as goal
+use Rattle.cli_files.proofs.writing.write_texts.Goals as goal
 
 pub returns-then-is_err : goal.returns-then-is_err
 returns-then-is_err g c =
