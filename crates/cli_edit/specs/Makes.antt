@@ -1,4 +1,5 @@
 -- What is made of a text.
+-- A promise rests on this.
 use Rattle.std.specs.declared.alloc.Global.{Global}
 use Rattle.std.specs.Prelude.{◌≡◌, ◌≢◌, ◌⊎◌, ℕ, List, [], ◌∷◌, ◌++◌, Result, Ok, Err, String}
 use Rattle.std.specs.Str.{chars}

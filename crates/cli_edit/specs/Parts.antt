@@ -1,4 +1,5 @@
 -- The value that a path leads to, as it is spelled and as JSON.
+-- A promise rests on this.
 use Rattle.std.specs.Prelude.{◌≡◌, ◌⊎◌, ℕ, true, false, List, [], ◌∷◌, ◌++◌, Some}
 use Rattle.std.specs.Str.{chars, encode_utf8_all}
 use Rattle.json5_grammar.specs.Language.Characters.{line_feed}

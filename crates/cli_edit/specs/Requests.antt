@@ -1,4 +1,5 @@
 -- The words after the program's name, and what they ask for.
+-- A promise rests on this.
 use Rattle.std.specs.Prelude.{◌≡◌, ◌⊎◌, ℕ, List, [], ◌∷◌}
 use lib.Chars.{codes}
 use Rattle.cli_edit.specs.declared.requests.EditRequest.{EditRequest}

@@ -1,4 +1,5 @@
 -- The statuses of what goes wrong.
+-- A promise rests on this.
 use Rattle.std.specs.Prelude.{ℕ}
 use Rattle.cli_files.specs.Reports.{status_of}
 use Rattle.json5_edit.specs.declared.faults.EditError.{EditError}

@@ -1,4 +1,5 @@
 -- How a fault of the input ends the program.
+-- A promise rests on this.
 use Rattle.std.specs.Prelude.{⊤}
 use Rattle.json5_grammar.specs.declared.error_code.ErrorCode.TheVariants as codes
 use Rattle.json5_types.specs.declared.error.Error.{Error}

@@ -1,4 +1,5 @@
 -- What a read gives, and why an input isn't read to its end.
+-- A promise rests on this.
 use Rattle.std.specs.Prelude.{⊤, ◌≡◌, ◌++◌, ℕ, List, Option, IfSome}
 use Rattle.std.specs.Str.{IsUtf8, chars}
 use Rattle.std.specs.Io.KnownBytes.{Consumes}

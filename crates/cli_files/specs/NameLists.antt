@@ -1,4 +1,5 @@
 -- Lists of names.
+-- A promise rests on this.
 use Rattle.std.specs.declared.alloc.Global.{Global}
 use Rattle.std.specs.Prelude.{ℕ, List, map, String, string_bytes}
 

@@ -1,4 +1,5 @@
 -- The lines on standard error, and the statuses.
+-- A promise rests on this.
 use Rattle.std.specs.Prelude.{ℕ, List, [], ◌∷◌, ◌++◌, string_bytes}
 use lib.Chars.{codes}
 use Rattle.json5_grammar.specs.Language.Characters.{line_feed}

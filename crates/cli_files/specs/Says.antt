@@ -1,4 +1,5 @@
 -- What a program says of itself.
+-- A promise rests on this.
 use Rattle.std.specs.Prelude.{ℕ, List, Option}
 use Rattle.std.specs.Io.KnownBytes.{Appends}
 use lib.Chars.{codes}

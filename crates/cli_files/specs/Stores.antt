@@ -1,4 +1,5 @@
 -- What is known of the files and folders of a store.
+-- A promise rests on this.
 use Rattle.std.specs.Prelude.{⊤, ℕ, Bool, List, Option}
 use Rattle.cli_files.specs.declared.stores.Entry.{Entry}
 

@@ -1,4 +1,5 @@
 -- The words after the program's name.
+-- A promise rests on this.
 use Rattle.std.specs.declared.alloc.Global.{Global}
 use Rattle.std.specs.Prelude.{◌≡◌, ℕ, List, [], ◌∷◌, ⊤, String, string_bytes}
 use lib.Chars.{codes}

@@ -1,4 +1,5 @@
 -- What the program does with its words and its streams.
+-- A promise rests on this.
 use Rattle.std.specs.declared.alloc.Global.{Global}
 use Rattle.std.specs.Prelude.{◌≡◌, ℕ, List, [], ◌∷◌, Option, IfSome, String, string_bytes}
 use lib.Chars.{codes}

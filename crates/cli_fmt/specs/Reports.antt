@@ -1,4 +1,5 @@
 -- How the program is called.
+-- A promise rests on this.
 use Rattle.std.specs.Prelude.{ℕ, List, [], ◌∷◌, ◌++◌}
 use lib.Chars.{codes}
 use Rattle.json5_grammar.specs.Language.Characters.{line_feed}

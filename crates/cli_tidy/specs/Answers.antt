@@ -1,4 +1,5 @@
 -- What the program answers.
+-- A promise rests on this.
 use Rattle.std.specs.declared.alloc.Global.{Global}
 use Rattle.std.specs.Prelude.{◌++◌, ◌∷◌, ℕ, List, [], Option, IfSome, String}
 use lib.Chars.{codes}

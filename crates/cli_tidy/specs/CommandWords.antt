@@ -1,4 +1,5 @@
 -- The words after the program's name, and what they ask for.
+-- A promise rests on this.
 use Rattle.std.specs.declared.alloc.Global.{Global}
 use Rattle.std.specs.Prelude.{◌≡◌, ◌≢◌, ◌⊎◌, ◌≤◌, ℕ, List, [], ◌∷◌, ◌++◌, Option, Some, None, option_map, String, string_bytes}
 use Rattle.std.specs.Option.{option_map_or}

@@ -1,4 +1,5 @@
 -- Work on one file after another.
+-- A promise rests on this.
 use Rattle.std.specs.declared.alloc.Global.{Global}
 use Rattle.std.specs.Prelude.{◌≡◌, ◌≢◌, ◌⊎◌, ⊤, ℕ, Bool, true, false, List, [], ◌∷◌, ◌++◌, max, Option, None, Some, IfSome, Result, Ok, Err, String, string_bytes}
 use lib.Chars.{codes}

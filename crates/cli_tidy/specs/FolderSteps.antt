@@ -1,4 +1,5 @@
 -- How the names that are left to look at, and the files that were found, go on.
+-- Private.
 use Rattle.std.specs.declared.alloc.Global.{Global}
 use Rattle.std.specs.Prelude.{◌≡◌, ℕ, List, ◌++◌, reverse, String}
 use Rattle.cli_tidy.specs.Folders.{AreBelow, IsBelow}

@@ -1,4 +1,5 @@
 -- The files that a name stands for.
+-- A promise rests on this.
 use Rattle.std.specs.declared.alloc.Global.{Global}
 use Rattle.std.specs.Prelude.{◌≡◌, ◌≢◌, ◌⊎◌, ℕ, true, false, List, [], ◌∷◌, ◌++◌, map, None, Some, String, string_bytes, string_cmp}
 use Rattle.std.specs.List.{Any}

@@ -1,4 +1,5 @@
 -- Work on one name of the command line after another, each of a file or a folder.
+-- A promise rests on this.
 use Rattle.std.specs.declared.alloc.Global.{Global}
 use Rattle.std.specs.Prelude.{◌≡◌, ℕ, Bool, true, false, List, [], ◌∷◌, ◌++◌, max, Option, String, string_bytes}
 use Rattle.json5_write.specs.Pieces.{AppendsFront}

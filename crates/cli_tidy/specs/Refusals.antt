@@ -1,4 +1,5 @@
 -- What is shown of what was read and isn't tidied.
+-- A promise rests on this.
 use Rattle.std.specs.declared.alloc.Global.{Global}
 use Rattle.std.specs.Prelude.{◌≡◌, ℕ, List, Option, IfSome, Result, Ok, Err, String, string_bytes}
 use Rattle.json5_types.specs.declared.error.Error.{Error}

@@ -1,4 +1,5 @@
 -- What the program reads, and what it writes of it.
+-- A promise rests on this.
 use Rattle.std.specs.declared.alloc.Global.{Global}
 use Rattle.std.specs.Prelude.{◌≡◌, ◌⊎◌, ℕ, List, Option, IfSome, String, string_bytes}
 use Rattle.std.specs.Str.{chars, IsUtf8}

@@ -1,4 +1,5 @@
 -- The lines and the statuses of what goes wrong with a file.
+-- A promise rests on this.
 use Rattle.std.specs.Prelude.{ℕ, List, [], ◌∷◌, ◌++◌, string_bytes}
 use lib.Chars.{codes}
 use Rattle.json5_grammar.specs.Language.Characters.{line_feed}

@@ -1,4 +1,5 @@
 -- How the words of the command line are taken, one after the other.
+-- Private.
 use Rattle.std.specs.declared.alloc.Global.{Global}
 use Rattle.std.specs.Prelude.{◌≡◌, ◌↔◌, ℕ, List, ◌∷◌, ◌++◌, None, option_map, Result, Ok, Err, String, string_bytes}
 use Rattle.cli_tidy.specs.declared.options.Fault.{Fault}

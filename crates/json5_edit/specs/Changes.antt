@@ -1,4 +1,5 @@
 -- A text with a collection changed.
+-- A promise rests on this.
 use denote.Ref.{Bor}
 use Rattle.std.specs.Prelude.{◌≡◌, ℕ, List, [], ◌∷◌, ◌++◌, Some}
 use Rattle.std.specs.Str.{chars}

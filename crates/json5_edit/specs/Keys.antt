@@ -1,4 +1,5 @@
 -- Where a key stands in the text of an object.
+-- Private.
 use denote.Ref.{Bor}
 use Rattle.std.specs.Prelude.{◌≡◌, ℕ, Bool, false, List, [], ◌++◌}
 use Rattle.std.specs.Str.{chars, IsUtf8}

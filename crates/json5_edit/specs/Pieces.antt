@@ -1,4 +1,5 @@
 -- Two texts that differ by a part, and perhaps by a comma before it.
+-- A promise rests on this.
 use Rattle.std.specs.Prelude.{◌≡◌, ◌⊎◌, ℕ, Bool, List, [], ◌∷◌, ◌++◌}
 use Rattle.std.specs.Str.{chars, encode_utf8_all}
 use Rattle.json5_edit_style.specs.Comments.{IsLead, IsTrail}

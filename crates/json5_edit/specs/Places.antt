@@ -1,4 +1,5 @@
 -- Where a path leads in a text.
+-- A promise rests on this.
 use Rattle.std.specs.Prelude.{◌≡◌, ◌⊎◌, ◌||◌, ◌==◌, ℕ, ◌≤◌, ◌-◌, Bool, true, false, List, ◌++◌, length, Option, Some, None, MatchOption, option_map}
 use Rattle.std.specs.Str.{chars}
 use Rattle.json5_grammar.specs.Language.Blanks.{LastBlanks}

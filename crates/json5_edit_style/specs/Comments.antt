@@ -1,4 +1,5 @@
 -- Which comments belong to an entry: those right before it, and those after it on its line.
+-- A promise rests on this.
 use Rattle.std.specs.Prelude.{◌≡◌, ◌⊎◌, ℕ, Bool, true, false, ◌||◌, ◌==◌, List, [], ◌∷◌, ◌++◌}
 use Rattle.json5_grammar.specs.Language.Blanks.{Inside}
 use Rattle.json5_grammar.specs.Language.Characters.{is_blank, is_terminator, slash_sign, star_sign, carriage_return, line_feed, right_bracket, right_brace, NotBegun, Each}

@@ -1,4 +1,5 @@
 -- How blanks and comments are passed over. Private clauses and proofs alone cite it.
+-- Private.
 use Rattle.std.specs.Prelude.{◌≡◌, ◌≢◌, ◌==◌, ℕ, Bool, true, false, List, [], ◌∷◌, ◌++◌, Option, IsTrue, MatchOption, ⊤}
 use Rattle.json5_grammar.specs.Language.Blanks.{Inside}
 use Rattle.json5_grammar.specs.Language.Characters.{is_blank, slash_sign, star_sign, NotBegun, Each}

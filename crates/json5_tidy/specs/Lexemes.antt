@@ -1,4 +1,5 @@
 -- Where a lexeme is.
+-- Private.
 use Rattle.std.specs.Prelude.{◌≡◌, ◌+◌, ◌≤◌, ◌<◌, ℕ, Bool, true, false, List, length}
 use Rattle.json5_tidy.specs.declared.layout.lexemes.Kind.{Kind}
 use Rattle.json5_tidy.specs.declared.layout.lexemes.Kind.TheVariants as kind
