@@ -27,7 +27,7 @@ use Rattle.json5_walk.proofs.Calls.{bytes_joined}
 use Rattle.json5_edit.specs.Keys.{BeginsWithMember, KeySpan, TakesKeyAhead}
 use Rattle.json5_edit.specs.Pieces.{SpellsKey}
 use Rattle.json5_edit.specs.Spots.{first_member}
-use Rattle.json5_edit.specs.declared.places.Span.{Span}
+use Rattle.json5_edit.specs.declared.places.ValueSpan.{ValueSpan}
 use Rattle.json5_edit.proofs.Measured.{goes_after_gap, key_first}
 use Rattle.json5_edit.proofs.Placed.{bytes_cut, encoded, scalars_left, scalars_right, seam}
 
@@ -80,7 +80,7 @@ key_spans text s now last n m k u b start (w, took, gap, solid) taken key from t
     }
 
 -- the texts before and after it
-module _ (text : List ℕ) (span : Span) (utf8 : IsUtf8 text) (at : KeySpan text span) where
+module _ (text : List ℕ) (span : ValueSpan) (utf8 : IsUtf8 text) (at : KeySpan text span) where
   scalars : all_scalars (at.blank ++ (at.gone ++ at.back)) ≡ true
   scalars = ap all_scalars (sym at.split) ∙ scalars-chars text utf8
 

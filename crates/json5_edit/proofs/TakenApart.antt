@@ -3,7 +3,7 @@ use Rattle.std.proofs.Common.{◌≡◌, ℕ, ◌-◌, List, [], ◌++◌, lengt
 use Rattle.std.specs.Str.{chars, IsUtf8, all_scalars, encode_utf8_all}
 use Rattle.std.proofs.lemmas.Str.{chars-encodes, scalars-chars}
 use Rattle.std.proofs.Math.Seq.{drop-append_seam, take-append_seam}
-use Rattle.json5_belongings.specs.Comments.{IsLead, IsTrail, CommentLines}
+use Rattle.json5_edit_style.specs.Comments.{IsLead, IsTrail, CommentLines}
 use Rattle.json5_grammar.specs.Language.Blanks.{Solid}
 use Rattle.json5_grammar.specs.Language.Characters.{no_char}
 use Rattle.json5_text.specs.Outcome.{bytes_in}

@@ -1,12 +1,13 @@
 -- A text with a collection changed.
+-- A promise rests on this.
 use denote.Ref.{Bor}
 use Rattle.std.specs.Prelude.{◌≡◌, ℕ, List, [], ◌∷◌, ◌++◌, Some}
 use Rattle.std.specs.Str.{chars}
 use Rattle.json5_grammar.specs.Language.Documents.{Doc, max_depth}
 use Rattle.json5_grammar.specs.Language.Trees.{Tree}
 use Rattle.json5_grammar.specs.Language.Values.{Val}
-use Rattle.json5_edit_layout.specs.declared.habits.Names.{Names}
-use Rattle.json5_edit_layout.specs.declared.habits.Names.TheVariants as names
+use Rattle.json5_edit_style.specs.declared.habits.Names.{Names}
+use Rattle.json5_edit_style.specs.declared.habits.Names.TheVariants as names
 use Rattle.json5_lexemes.specs.Plain.{StaysPlain}
 use Rattle.json5_value.specs.declared.brackets.BracketKind.{BracketKind as Kind}
 use Rattle.json5_value.specs.declared.brackets.BracketKind.TheVariants as kind

@@ -1,4 +1,5 @@
 -- Where a key stands in the text of an object.
+-- Private.
 use denote.Ref.{Bor}
 use Rattle.std.specs.Prelude.{◌≡◌, ℕ, Bool, false, List, [], ◌++◌}
 use Rattle.std.specs.Str.{chars, IsUtf8}
@@ -13,7 +14,7 @@ use Rattle.json5_edit.specs.Comparing.{IsRenamed}
 use Rattle.json5_edit.specs.Pieces.{Respells}
 use Rattle.json5_edit.specs.Places.{IsValue}
 use Rattle.json5_edit.specs.Spots.{HasEntry}
-use Rattle.json5_edit.specs.declared.places.Span.{Span}
+use Rattle.json5_edit.specs.declared.places.ValueSpan.{ValueSpan}
 use Rattle.json5_edit.specs.declared.paths.Step.TheVariants as step
 
 -- the text is an object that fits in the room, and its last member with the key begins at the offset
@@ -36,7 +37,7 @@ pub record TakesKeyAhead (text blank back : List ℕ) : Type 0 where
   pub key : Key (chars gone) (chars back) meaning escape_free
 
 -- the span is that of a key in the text, after blanks
-pub record KeySpan (text : List ℕ) (span : Span) : Type 0 where
+pub record KeySpan (text : List ℕ) (span : ValueSpan) : Type 0 where
   pub blank : List ℕ
   pub gone : List ℕ
   pub back : List ℕ

@@ -1,7 +1,8 @@
 -- Two texts that differ by a part, and perhaps by a comma before it.
+-- A promise rests on this.
 use Rattle.std.specs.Prelude.{◌≡◌, ◌⊎◌, ℕ, Bool, List, [], ◌∷◌, ◌++◌}
 use Rattle.std.specs.Str.{chars, encode_utf8_all}
-use Rattle.json5_belongings.specs.Comments.{IsLead, IsTrail}
+use Rattle.json5_edit_style.specs.Comments.{IsLead, IsTrail}
 use Rattle.json5_grammar.specs.Language.Blanks.{Blanks}
 use Rattle.json5_grammar.specs.Language.Characters.{comma_sign, colon_sign}
 use Rattle.json5_grammar.specs.Language.Trees.{Tree}

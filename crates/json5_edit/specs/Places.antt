@@ -1,4 +1,5 @@
 -- Where a path leads in a text.
+-- A promise rests on this.
 use Rattle.std.specs.Prelude.{◌≡◌, ◌⊎◌, ◌||◌, ◌==◌, ℕ, ◌≤◌, ◌-◌, Bool, true, false, List, ◌++◌, length, Option, Some, None, MatchOption, option_map}
 use Rattle.std.specs.Str.{chars}
 use Rattle.json5_grammar.specs.Language.Blanks.{LastBlanks}
@@ -12,7 +13,7 @@ use Rattle.json5_text.specs.Outcome.{bytes_in}
 use Rattle.json5_walk.specs.Seams.{WholeTokens}
 use Rattle.json5_walk.specs.declared.place.Place.{Place}
 use Rattle.json5_edit.specs.Parts.{part, put, positions_of}
-use Rattle.json5_edit.specs.declared.places.Span.{Span}
+use Rattle.json5_edit.specs.declared.places.ValueSpan.{ValueSpan}
 use Rattle.json5_edit.specs.declared.paths.Step.{Step}
 
 -- these characters are a value, without blanks or comments around it, in which so many brackets may be open at once
@@ -68,9 +69,9 @@ pub record Leads (text : List ℕ) (path : List Step) (place : Option Place) : T
 abbrev pub LeadsNowhere : List ℕ → List Step → Type 0
 LeadsNowhere text path = (t : Tree) × Doc max_depth (chars text) t × (positions_of path t ≡ None)
 
-abbrev pub span_of : Place → Span
+abbrev pub span_of : Place → ValueSpan
 span_of p = record { start = p.start; end = p.end }
 
 -- the span is that place's
-abbrev pub LeadsTo : List ℕ → List Step → Option Span → Type 0
+abbrev pub LeadsTo : List ℕ → List Step → Option ValueSpan → Type 0
 LeadsTo text path span = (place : Option Place) × Leads text path place × (span ≡ option_map span_of place)

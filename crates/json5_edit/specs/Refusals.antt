@@ -1,4 +1,5 @@
 -- Why an edit isn't made. `NoMemory` says nothing, and `Failed` is never answered.
+-- A promise rests on this.
 use Rattle.std.specs.Prelude.{◌≡◌, ◌≢◌, ◌⊎◌, ℕ, ◌+◌, ◌-◌, List, [], ◌∷◌, ◌++◌, length, Some, ⊤}
 use Rattle.std.specs.Str.{chars}
 use Rattle.json5_grammar.specs.Faults.Refusals.{BlamesText}

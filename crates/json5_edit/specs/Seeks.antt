@@ -1,4 +1,5 @@
 -- How the part of a value is found that a path leads to.
+-- Private.
 use denote.Ref.{Bor}
 use Rattle.std.specs.Prelude.{◌≡◌, ℕ, Bool, true, false, nat_eq, List, [], ◌∷◌, Option, None, option_map, ⊤}
 use Rattle.std.specs.Cmp.Lexicographic.{pointwise}

@@ -1,4 +1,5 @@
 -- A text with one value replaced.
+-- A promise rests on this.
 use Rattle.std.specs.Prelude.{◌≡◌, ℕ, List, ◌++◌, Some}
 use Rattle.std.specs.Str.{chars, IsUtf8, encode_utf8_all}
 use Rattle.json5_grammar.specs.Language.Documents.{Doc, max_depth}

@@ -1,4 +1,5 @@
 -- Where an entry stands in the text of a collection, and where one more may stand.
+-- Private.
 use Rattle.std.specs.Prelude.{◌≡◌, ◌⊎◌, ℕ, ◌+◌, ◌≤◌, Bool, true, false, nat_eq, List, [], ◌∷◌, ◌++◌, length, Option, Some, MatchOption}
 use Rattle.std.specs.Str.{chars, IsUtf8, encode_utf8_all}
 use Rattle.json5_grammar.specs.Language.Blanks.{Blanks, Gap, Solid}

@@ -9,7 +9,7 @@ ghost use Rattle.json5_edit.specs.Places.{IsValue};
 
 use crate::changing::fitting;
 use crate::faults::{EditError, Result};
-use json5_edit_layout::Names;
+use json5_edit_style::Names;
 use json5_lexemes::{is_plain, is_plain_with};
 use std::alloc::Global;
 

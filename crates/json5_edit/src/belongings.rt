@@ -10,7 +10,7 @@ ghost use Rattle.json5_grammar.specs.Language.Documents.{max_depth};
 use crate::faults::{EditError, Result};
 use crate::pieces::split;
 use crate::plain::entry_len;
-use json5_belongings::comments::{is_lead, is_trail};
+use json5_edit_style::comments::{is_lead, is_trail};
 use json5_text::scanner::Scanner;
 use json5_value::brackets::BracketKind;
 use std::alloc::Global;

@@ -8,11 +8,10 @@ ghost use Rattle.json5_edit.specs.Refusals.{RefusesRemove, RefusesPush, RefusesP
 ghost use Rattle.json5_edit.specs.Spots.{Adds, HasEnd, HasEntry, HasFound, Removes};
 ghost use Rattle.json5_edit.specs.declared.faults.EditError.TheVariants as edit_errors;
 ghost use Rattle.json5_edit.specs.declared.paths.Step.TheVariants as step;
-ghost use Rattle.json5_edit_layout.specs.declared.habits.Names.TheVariants as layout_names;
+ghost use Rattle.json5_edit_style.specs.declared.habits.Names.TheVariants as layout_names;
 ghost use Rattle.json5_lexemes.specs.Plain.{KeepsPlain, StaysPlain};
 ghost use Rattle.json5_value.specs.declared.brackets.BracketKind.TheVariants as kind;
 ghost use Rattle.json5_grammar.specs.Language.Documents.{max_depth};
-ghost use Rattle.json5_lexemes.specs.Plain.{KeepsPlain};
 ghost use Rattle.json5_walk.specs.Walks.{IsDocument};
 ghost use Rattle.std.specs.Str.{chars, encode_utf8_all};
 
@@ -29,7 +28,7 @@ use crate::plain::{
 use crate::renaming::renamed;
 use crate::setting::{check_value, place_of, put_made, splice};
 use crate::survey::Found;
-use json5_edit_layout::{Added, Collection, Names, Which, cut_for, growth_before, growth_for};
+use json5_edit_style::{Added, Collection, Names, Which, cut_for, growth_before, growth_for};
 use json5_lexemes::keeps_plain;
 use json5_text::scanner::Scanner;
 use json5_value::brackets::BracketKind;

@@ -11,7 +11,7 @@ ghost use Rattle.json5_lexemes.specs.Lexemes.{HaveSameLexemes};
 use crate::belongings::check_gone;
 use crate::faults::{EditError, Result};
 use crate::setting::join;
-use json5_edit_layout::{Cut, Growth, Respelling};
+use json5_edit_style::{Cut, Growth, Respelling};
 use json5_lexemes::same_lexemes;
 use json5_text::scanner::Scanner;
 use json5_value::brackets::BracketKind;

@@ -10,9 +10,9 @@ use crate::changing::{kept_plain, laid};
 use crate::comparing::check_renamed;
 use crate::faults::{EditError, Result};
 use crate::pieces::{join_five, respelled};
-use crate::places::Span;
+use crate::places::ValueSpan;
 use crate::spelled::json_key;
-use json5_edit_layout::{Collection, Which, respelling_for};
+use json5_edit_style::{Collection, Which, respelling_for};
 use json5_text::scanner::Scanner;
 use json5_types::error;
 use std::alloc::Global;
@@ -97,7 +97,7 @@ fn key_ahead(alloc: Global, text: &str) -> Result<(&str, &str)>
 }
 
 /// From where to where the key in front of the text goes, after blanks.
-fn key_span(alloc: Global, text: &str) -> error::Result<Span>
+fn key_span(alloc: Global, text: &str) -> error::Result<ValueSpan>
     ensures taken { IfOk result (KeySpan text.now) }
     ensures refused { IfErr result (λ e. BeginsWithMember text.now → LacksMemory e) }
 {
@@ -106,5 +106,5 @@ fn key_span(alloc: Global, text: &str) -> error::Result<Span>
     let start = scanner.offset();
     scanner.key()?;
     let end = scanner.offset();
-    Ok(Span { start, end })
+    Ok(ValueSpan { start, end })
 }

@@ -2,8 +2,7 @@
 //! which was made of `stdin` by hand; `diff` shows the lines that a person would change.
 #![tactic(auto)]
 
-use json5_edit::{EditError, Result, insert, push, remove, rename, set};
-use json5_edit_path::{Path, PathError};
+use json5_edit::{EditError, Path, PathError, Result, insert, push, remove, rename, set};
 use std::alloc::Global;
 use std::io::{self, Read};
 use std::process::ExitCode;

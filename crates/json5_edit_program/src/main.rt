@@ -1,8 +1,8 @@
-//! Changes one value of a JSON5 file and keeps the rest. What it does is in json5_editor.
+//! Changes one value of a JSON5 file and keeps the rest. What it does is in cli_edit.
 #![tactic(auto)]
 
 use std::process::ExitCode;
 
 fn main(rt: HostRuntime) -> ExitCode {
-    json5_editor::program(&rt)
+    cli_edit::program(&rt)
 }

@@ -1,4 +1,5 @@
 -- Why an edit with a value isn't made.
+-- A promise rests on this.
 use Rattle.std.specs.Prelude.{◌≡◌, ◌⊎◌, ℕ, ◌+◌, ◌<◌, List, [], length, None, Some, ⊤}
 use Rattle.std.specs.Str.{chars}
 use Rattle.json5_grammar.specs.declared.error_code.ErrorCode.TheVariants as codes

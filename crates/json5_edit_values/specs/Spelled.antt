@@ -1,4 +1,5 @@
 -- The tree of a value's text. JSON has escapes that JSON5 doesn't need, as that of a tab: then a string isn't escape-free.
+-- A promise rests on this.
 use Rattle.std.specs.Prelude.{◌≡◌, ℕ, List}
 use Rattle.std.specs.Str.{chars}
 use Rattle.json5_grammar.specs.Language.Trees.{Tree}

@@ -1,4 +1,5 @@
 -- What an edit with a value makes. Each word has the tree of the value, and what is made reads back as that.
+-- A promise rests on this.
 use Rattle.std.specs.Prelude.{◌≡◌, ℕ, List, []}
 use Rattle.json5_grammar.specs.Language.Trees.{Tree}
 use Rattle.json5_value.specs.declared.brackets.BracketKind.TheVariants as kind

@@ -1,7 +1,7 @@
 //! Where a value goes, and how lines are there.
 
-use json5_edit::{Names, Span, Step, find};
-use json5_edit_layout::{
+use json5_edit::{Names, ValueSpan, Step, find};
+use json5_edit_style::{
     Collection, entry_indentation, has_last_commas, indentation, line_end, step_of,
 };
 use json5_layouts::Layout;
@@ -108,7 +108,7 @@ fn spaces(alloc: Global, count: u8) -> Result<String, AllocError> {
 }
 
 /// Whether the part has more than one line.
-fn has_lines(text: &str, span: Span) -> bool {
+fn has_lines(text: &str, span: ValueSpan) -> bool {
     let part = text.get(span.start..span.end).unwrap_or("");
     part.contains('\n') || part.contains('\r')
 }
@@ -126,7 +126,7 @@ fn column_of(text: &str, at: usize) -> usize {
 fn indentation_in(
     alloc: Global,
     text: &str,
-    span: Span,
+    span: ValueSpan,
     index: usize,
 ) -> Result<String, AllocError> {
     let collection = Collection {

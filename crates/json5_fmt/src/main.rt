@@ -1,8 +1,8 @@
-//! Formats JSON5, or checks it. What it does is in json5_formatter.
+//! Formats JSON5, or checks it. What it does is in cli_fmt.
 #![tactic(auto)]
 
 use std::process::ExitCode;
 
 fn main(rt: HostRuntime) -> ExitCode {
-    json5_formatter::program(&rt)
+    cli_fmt::program(&rt)
 }

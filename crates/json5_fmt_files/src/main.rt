@@ -4,5 +4,5 @@
 use std::process::ExitCode;
 
 fn main(rt: HostRuntime) -> ExitCode {
-    json5_formatter::program(&rt)
+    cli_fmt::program(&rt)
 }

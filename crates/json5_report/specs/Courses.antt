@@ -1,4 +1,5 @@
 -- What the steps of a course promise.
+-- Private.
 use Rattle.std.specs.Prelude.{◌≡◌, ◌≤◌, ◌<◌, ◌==◌, ℕ, Bool, true, false, List, [], ◌∷◌, Some, None, ⊤}
 use Rattle.json5_grammar.specs.Language.Characters.{NotBegun}
 use Rattle.json5_text.specs.Cursor.{Cursor, offset_of}

@@ -1,4 +1,5 @@
 -- What is printed of the line at fault.
+-- A promise rests on this.
 use Rattle.std.specs.Prelude.{◌++◌, ℕ, List, codes, string_bytes}
 use Rattle.json5_report.specs.declared.excerpt.Excerpt.{Excerpt}
 use Rattle.json5_report.specs.Painted.{painted_text}

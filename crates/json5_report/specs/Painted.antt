@@ -1,4 +1,5 @@
 -- Texts in colours, by the codes of terminals (ECMA-48, 'select graphic rendition').
+-- A promise rests on this.
 use Rattle.std.specs.Prelude.{◌++◌, ◌∷◌, ℕ, List, codes, decimal}
 
 unfoldable pub painted_text : ℕ → List ℕ → List ℕ

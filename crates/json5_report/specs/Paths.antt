@@ -1,4 +1,5 @@
 -- The path of a place in a text: the brackets that the tokens before it leave open, each with an index or a key.
+-- A promise rests on this.
 use Rattle.std.specs.Prelude.{◌≡◌, ◌≤◌, ◌<◌, ◌-◌, ◌+◌, ℕ, Bool, true, false, List, [], ◌∷◌, ◌++◌, length, Option, Some, None, if◌then◌else◌, codes, decimal}
 use Rattle.std.specs.Str.{chars, encode_utf8_all}
 use Rattle.json5_grammar.specs.Language.Characters.{comma_sign, colon_sign, left_bracket, right_bracket, left_brace, right_brace}

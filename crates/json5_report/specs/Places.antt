@@ -1,4 +1,5 @@
 -- Where a fault is in a text.
+-- A promise rests on this.
 use Rattle.std.specs.Prelude.{◌≡◌, ◌≤◌, ◌+◌, ◌++◌, ℕ, List, take, length, Option, Some, None, codes, decimal}
 use Rattle.std.specs.Str.{chars}
 use Rattle.json5_grammar.specs.declared.position.Position.{Position}

@@ -1,4 +1,5 @@
 -- What a report says of a fault.
+-- A promise rests on this.
 use Rattle.std.specs.Prelude.{◌≡◌, ◌≢◌, ◌++◌, ℕ, List, [], ◌∷◌, take, All, Option, Some, None, codes, string_bytes}
 use Rattle.std.specs.Str.{chars, IsUtf8, IsValidUpTo}
 use Rattle.std.specs.Str.Lossy.{utf8_lossy}

@@ -1,4 +1,6 @@
 //! What a report says is to be done: one row for each hint.
+//!
+//! Plain code, of which no promise is made but that it is safe and ends: change it by the rows of reports, which judge it.
 
 use std::fmt;
 

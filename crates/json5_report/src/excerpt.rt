@@ -1,4 +1,6 @@
 //! The line of a text that a report shows, cut to a width, with a part of it underlined.
+//!
+//! Plain code, of which no promise is made but that it is safe and ends: change it by the rows of reports, which judge it.
 
 ghost use Rattle.std.specs.Prelude.{Some};
 

@@ -1,4 +1,6 @@
 //! A fault of a text, with what is known of its place.
+//!
+//! Plain code, of which no promise is made but that it is safe and ends: change it by the rows of reports, which judge it.
 
 use crate::advice::Advice;
 use crate::found::Found;

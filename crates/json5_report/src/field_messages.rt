@@ -1,4 +1,6 @@
 //! What is said of the faulty fields of one object.
+//!
+//! Plain code, of which no promise is made but that it is safe and ends: change it by the rows of reports, which judge it.
 
 use crate::lexemes::Lexeme;
 use crate::members::member_keys;

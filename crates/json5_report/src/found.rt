@@ -1,4 +1,6 @@
 //! What was found at a place of a text.
+//!
+//! Plain code, of which no promise is made but that it is safe and ends: change it by the rows of reports, which judge it.
 
 use crate::path::name_len;
 use json5_text::char::is_json5_identifier_start;

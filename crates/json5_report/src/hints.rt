@@ -1,4 +1,6 @@
 //! Which part of a text a report underlines, and what it says of it.
+//!
+//! Plain code, of which no promise is made but that it is safe and ends: change it by the rows of reports, which judge it.
 
 use crate::advice::Advice;
 use crate::custom::custom_remark;

@@ -1,4 +1,6 @@
 //! The lexemes of a text that may be faulty: its tokens and its comments, one after another.
+//!
+//! Plain code, of which no promise is made but that it is safe and ends: change it by the rows of reports, which judge it.
 
 use json5_text::char::{is_json5_line_terminator, is_json5_whitespace};
 

@@ -1,4 +1,6 @@
 //! Members of the object that begins at an offset, by their keys.
+//!
+//! Plain code, of which no promise is made but that it is safe and ends: change it by the rows of reports, which judge it.
 
 use crate::lexemes::{Kind, Lexeme, lexeme_at};
 use crate::path::is_named;

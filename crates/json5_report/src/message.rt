@@ -1,4 +1,6 @@
 //! What a report says of a fault, in a person's words.
+//!
+//! Plain code, of which no promise is made but that it is safe and ends: change it by the rows of reports, which judge it.
 
 use crate::found::Found;
 use json5_types::ErrorCode;

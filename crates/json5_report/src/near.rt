@@ -1,4 +1,6 @@
 //! The names in a message, and the nearest of those that are known.
+//!
+//! Plain code, of which no promise is made but that it is safe and ends: change it by the rows of reports, which judge it.
 
 use std::alloc::{AllocError, Global};
 use strsim::osa_distance;

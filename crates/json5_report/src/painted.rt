@@ -1,4 +1,6 @@
 //! Texts in colours, for a terminal.
+//!
+//! Plain code, of which no promise is made but that it is safe and ends: change it by the rows of reports, which judge it.
 
 ghost use Rattle.std.specs.Prelude.{Some, string_bytes};
 

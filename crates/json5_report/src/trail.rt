@@ -1,4 +1,6 @@
 //! What is open at an offset of a text: one walk over the lexemes before it.
+//!
+//! Plain code, of which no promise is made but that it is safe and ends: change it by the rows of reports, which judge it.
 
 use crate::lexemes::{Kind, Lexeme, lexeme_at};
 use std::alloc::{AllocError, Global};

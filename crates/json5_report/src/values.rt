@@ -1,4 +1,6 @@
 //! What a report says where a value is expected.
+//!
+//! Plain code, of which no promise is made but that it is safe and ends: change it by the rows of reports, which judge it.
 
 use crate::advice::Advice;
 use crate::fault::Fault;

@@ -1,4 +1,6 @@
 //! How many columns of a terminal characters take.
+//!
+//! Plain code, of which no promise is made but that it is safe and ends: change it by the rows of reports, which judge it.
 
 use unicode_width::UnicodeWidthChar;
 

@@ -1,4 +1,5 @@
 -- How much of JSON a text keeps to.
+-- Private.
 use Rattle.std.specs.Prelude.{⊤, ℕ, Bool, false, List}
 use Rattle.json5_lexemes.specs.Plain.{PlainText}
 use Rattle.json5_tidy.specs.declared.plainness.Plainness.{Plainness}

@@ -1,4 +1,5 @@
 -- The usual style.
+-- A promise rests on this.
 use Rattle.json5_tidy.specs.declared.style.LastCommas.TheVariants as commas
 use Rattle.json5_tidy.specs.declared.style.Style.{Style}
 

@@ -1,4 +1,5 @@
 -- What tidying keeps.
+-- A promise rests on this.
 use Rattle.std.specs.declared.alloc.Global.{Global}
 use Rattle.std.specs.Prelude.{◌≡◌, ◌≢◌, ◌⊎◌, ℕ, List, Result, IfErr, IfOk, String, string_bytes}
 use Rattle.std.specs.Str.{chars}

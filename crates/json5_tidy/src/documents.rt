@@ -6,10 +6,10 @@ ghost use Rattle.json5_text.specs.Cursor.{IsOutOfMemory};
 ghost use Rattle.json5_tidy.specs.Styles.{usual_style};
 ghost use Rattle.json5_tidy.specs.Tidied.{IsAlike, IsLaidOut, KeepsJson, TidiesText};
 
+use crate::layout::{Spacing, laid_out};
 use crate::plainness::{Plainness, has_last_commas};
 use crate::style::Style;
 use json5_format::check_document;
-use json5_layout::laid_out;
 use json5_lexemes::same_lexemes;
 use json5_types::ErrorCode;
 use json5_types::error::{Error, Result};
@@ -65,8 +65,8 @@ fn laid_out_document(alloc: Global, style: Style, text: &str) -> Result<String>
     ensures memory { IfErr result IsOutOfMemory }
 {
     let plainness = Plainness::in_style(style, text);
-    let layout = layout_in(style, has_last_commas(style, plainness, text));
-    let Ok(bytes) = laid_out(alloc, layout, text.as_bytes()) else {
+    let spacing = spacing_in(style, has_last_commas(style, plainness, text));
+    let Ok(bytes) = laid_out(alloc, spacing, text.as_bytes()) else {
         return Err(Error::new(ErrorCode::OutOfMemory));
     };
     let Ok(tidy) = String::from_utf8(bytes) else {
@@ -78,9 +78,9 @@ fn laid_out_document(alloc: Global, style: Style, text: &str) -> Result<String>
     copied(alloc, text)
 }
 
-/// The layout in the style, with last commas or without.
-fn layout_in(style: Style, last_comma: bool) -> json5_layout::Style {
-    json5_layout::Style {
+/// The style, with last commas or without.
+fn spacing_in(style: Style, last_comma: bool) -> Spacing {
+    Spacing {
         indent: style.indent,
         width: style.width,
         last_comma,

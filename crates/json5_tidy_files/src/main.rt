@@ -5,5 +5,5 @@
 use std::process::ExitCode;
 
 fn main(rt: HostRuntime) -> ExitCode {
-    json5_tidier::program(&rt)
+    cli_tidy::program(&rt)
 }

@@ -1,8 +1,8 @@
-//! Tidies JSON5, and keeps its comments. What it does is in json5_tidier.
+//! Tidies JSON5, and keeps its comments. What it does is in cli_tidy.
 #![tactic(auto)]
 
 use std::process::ExitCode;
 
 fn main(rt: HostRuntime) -> ExitCode {
-    json5_tidier::program(&rt)
+    cli_tidy::program(&rt)
 }

@@ -2,7 +2,7 @@ use Rattle.std.proofs.Common.{refl, string_bytes}
 use Rattle.json5_edit.specs.Changes.{GainsAt, StaysPlainQuoted}
 use Rattle.json5_edit.specs.Pieces.{Grows}
 use Rattle.json5_edit.proofs.StepsSurveyed.{kept, same_then}
-use Rattle.json5_edit_layout.specs.declared.habits.Names.TheVariants as layout_names
+use Rattle.json5_edit_style.specs.declared.habits.Names.TheVariants as layout_names
 use Rattle.json5_edit.proofs.Placed.{ok_then}
 use Rattle.json5_edit.proofs.changing.put_in_by_lines.Goals as goal
 

@@ -1,0 +1,15 @@
+use Rattle.cli_edit.specs.declared.requests.Command.TheVariants as work
+use Rattle.cli_edit.proofs.EditsMade.{made_by}
+use Rattle.cli_edit.proofs.edits.made_with.Goals as goal
+
+pub returns-in-Remove-clause-made : goal.returns-in-Remove-clause-made
+returns-in-Remove-clause-made c =
+    made_by work.Remove c.args.task.now.work c.args.text.now c.args.steps.now c.args.value.now c.remove.result c.edited-in-Remove.result c.in-Remove.is c.edited-in-Remove.ensures c.remove.ensures.removed
+
+pub returns-in-Push-clause-made : goal.returns-in-Push-clause-made
+returns-in-Push-clause-made c =
+    made_by work.Push c.args.task.now.work c.args.text.now c.args.steps.now c.args.value.now c.push.result c.edited-in-Push.result c.in-Push.is c.edited-in-Push.ensures c.push.ensures.pushed
+
+pub returns-in-Rename-clause-made : goal.returns-in-Rename-clause-made
+returns-in-Rename-clause-made c =
+    made_by work.Rename c.args.task.now.work c.args.text.now c.args.steps.now c.args.value.now c.rename.result c.edited-in-Rename.result c.in-Rename.is c.edited-in-Rename.ensures c.rename.ensures.rekeyed

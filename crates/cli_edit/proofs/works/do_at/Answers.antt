@@ -1,0 +1,12 @@
+use Rattle.std.proofs.Common.{rules}
+use Rattle.cli_edit.specs.Works.{no_steps, stopped, worked}
+use Rattle.cli_edit.proofs.works.do_at.Goals as goal
+
+pub returns-in-Err : goal.returns-in-Err
+returns-in-Err g c = rw c.tell.ensures (no_steps c.in-Err.error c.in-Err.ensures (search rules))
+
+pub returns-in-Ok-work_on : goal.returns-in-Ok-work_on
+returns-in-Ok-work_on g c = worked c.as_slice.result.now c.in-Ok-work_on.ensures.worked
+
+pub returns : goal.returns
+returns g c = rw c.tell-in-Err-work_on.ensures (stopped c.as_slice.result.now c.in-Err-work_on.trouble c.in-Err-work_on.ensures.stopped)

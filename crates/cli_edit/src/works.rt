@@ -1,0 +1,112 @@
+//! A task, from reading the text to writing what was made.
+
+ghost use Rattle.std.specs.Bool.{Decides};
+ghost use Rattle.std.specs.Prelude.{IfErr, OnOk};
+ghost use Rattle.cli_edit.specs.Works.{Does, DoesAt, GoesOut, Puts, PutsNot, Works, WorksNot};
+
+use crate::edits::made;
+use crate::lines::{tell, wrong_path};
+use crate::requests::{Task, Command};
+use crate::texts::{name_of, text_of};
+use crate::trouble::TextTrouble;
+use cli_files::{Store, put_texts, report};
+use json5_edit::{Path, Step};
+use std::alloc::Global;
+use std::io::{Read, Write};
+
+/// Does what is asked for, and returns the status that the program ends with.
+pub(crate) fn do_task<S: Store, R: Read, W: Write, E: Write>(
+    store: &S,
+    alloc: Global,
+    task: &Task<'_>,
+    r: &mut R,
+    w: &mut W,
+    e: &mut E,
+) -> u8
+    ensures { Does (S.known store.now) task.now (R.remaining r.old) (W.contents w.old) (E.contents e.old) (W.contents w.new) (E.contents e.new) result }
+{
+    let path = match Path::parse(alloc, task.path) {
+        Ok(path) => path,
+        Err(error) => return wrong_path(task.path, &error, e),
+    };
+    match text_of(store, alloc, task.file, r) {
+        Ok(text) => do_at(store, alloc, task, &path, text.as_str(), w, e),
+        Err(failure) => report(name_of(task.file), &failure, e),
+    }
+}
+
+/// The same with the text that was read.
+fn do_at<S: Store, W: Write, E: Write>(
+    store: &S,
+    alloc: Global,
+    task: &Task<'_>,
+    path: &Path,
+    text: &str,
+    w: &mut W,
+    e: &mut E,
+) -> u8
+    ensures { DoesAt (S.known store.now) task.now text.now (W.contents w.old) (E.contents e.old) (W.contents w.new) (E.contents e.new) result }
+{
+    let steps = match path.steps_in(alloc, text) {
+        Ok(steps) => steps,
+        Err(error) => return tell(alloc, task, text, &[], &TextTrouble::Edit(error), e),
+    };
+    match work_on(store, alloc, task, text, steps.as_slice(), w) {
+        Ok(()) => 0,
+        Err(trouble) => tell(alloc, task, text, steps.as_slice(), &trouble, e),
+    }
+}
+
+/// The same with the steps of the path.
+fn work_on<S: Store, W: Write>(
+    store: &S,
+    alloc: Global,
+    task: &Task<'_>,
+    text: &str,
+    steps: &[Step<'_>],
+    w: &mut W,
+) -> Result<(), TextTrouble>
+    ensures worked { OnOk result (Works (S.known store.now) task.now text.now steps.now (W.contents w.old) (W.contents w.new)) }
+    ensures stopped { IfErr result (WorksNot task.now text.now steps.now (W.contents w.old) (W.contents w.new)) }
+{
+    let new = made(alloc, task, text, steps)?;
+    put(store, alloc, task, text, new.as_str(), w)
+}
+
+/// Writes what was made out, or puts it in the place of the file's text.
+fn put<S: Store, W: Write>(
+    store: &S,
+    alloc: Global,
+    task: &Task<'_>,
+    old: &str,
+    new: &str,
+    w: &mut W,
+) -> Result<(), TextTrouble>
+    ensures put { OnOk result (Puts (S.known store.now) task.now old.now new.now (W.contents w.old) (W.contents w.new)) }
+    ensures stopped { IfErr result (PutsNot new.now (W.contents w.old) (W.contents w.new)) }
+{
+    if goes_out(task) {
+        return match put_texts(w, &[new]) {
+            Ok(()) => Ok(()),
+            Err(failure) => Err(TextTrouble::Failed(failure)),
+        };
+    }
+    if old == new {
+        return Ok(());
+    }
+    match store.replace(alloc, task.file, old, new) {
+        Ok(()) => Ok(()),
+        Err(why) => Err(TextTrouble::Unwritten(why)),
+    }
+}
+
+/// Whether what is made goes to output.
+fn goes_out(task: &Task<'_>) -> bool
+    ensures { Decides result (GoesOut task.now) }
+{
+    match task.work {
+        Command::Get => true,
+        Command::Json => true,
+        _ => task.file == "-",
+    }
+}

@@ -1,0 +1,4 @@
+-- Lists the lemmas of what the programs share.
+pub mod LinesJoined
+pub mod PiecesJoined
+pub mod Refusals

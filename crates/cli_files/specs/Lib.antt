@@ -1,0 +1,8 @@
+-- Lists the definitions of what the programs share.
+pub mod Failures
+pub mod Inputs
+pub mod JoinedTexts
+pub mod NameLists
+pub mod Reports
+pub mod Says
+pub mod Stores

@@ -1,0 +1,40 @@
+-- The lines on standard error, and the statuses.
+-- A promise rests on this.
+use Rattle.std.specs.Prelude.{ℕ, List, [], ◌∷◌, ◌++◌, string_bytes}
+use lib.Chars.{codes}
+use Rattle.json5_grammar.specs.Language.Characters.{line_feed}
+use Rattle.json5_types.specs.declared.error.Error.{Error}
+use Rattle.json5_types.specs.Errors.{error_text}
+use Rattle.cli_files.specs.declared.failure.Failure.{Failure}
+use Rattle.cli_files.specs.declared.failure.Failure.TheVariants as failure
+use Rattle.cli_files.specs.declared.unwritten.Unwritten.{Unwritten}
+use Rattle.cli_files.specs.declared.unwritten.Unwritten.TheVariants as unwritten
+
+-- the input's name, what is said of it, and one LF
+abbrev pub named_report : List ℕ → List ℕ → List ℕ
+named_report name words = name ++ (codes ": " ++ (words ++ line_feed ∷ []))
+
+abbrev pub fault_line : List ℕ → Error → List ℕ
+fault_line name e = named_report name (error_text e)
+
+abbrev pub report_line : List ℕ → Failure → List ℕ
+report_line name failure.NotUtf8 = named_report name (codes "not UTF-8")
+report_line name (failure.Text e) = fault_line name e
+report_line name failure.NoMemory = named_report name (codes "out of memory")
+report_line name failure.Read = named_report name (codes "cannot be read")
+report_line name failure.Write = named_report (codes "output") (codes "cannot be written")
+
+abbrev pub status_of : Failure → ℕ
+status_of failure.NotUtf8 = 1
+status_of (failure.Text e) = 1
+status_of failure.NoMemory = 2
+status_of failure.Read = 2
+status_of failure.Write = 2
+
+abbrev pub unwritten_line : List ℕ → Unwritten → List ℕ
+unwritten_line name unwritten.Refused = named_report name (codes "cannot be written")
+unwritten_line name unwritten.Changed = named_report name (codes "changed meanwhile, and was left as it is")
+unwritten_line name unwritten.Linked = named_report name (codes "cannot be written: it has other hard links")
+unwritten_line name (unwritten.Taken beside) = named_report name (codes "cannot be written: " ++ (string_bytes beside ++ codes " is there"))
+unwritten_line name (unwritten.Remains beside) = named_report name (codes "cannot be written, and " ++ (string_bytes beside ++ codes " remains"))
+unwritten_line name unwritten.NoMemory = named_report name (codes "out of memory")

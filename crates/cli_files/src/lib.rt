@@ -1,0 +1,28 @@
+//! What the programs share: files that are opened, found and replaced by their names, why work on one ends, and the lines
+//! that say so.
+#![tactic(auto)]
+
+mod disk;
+mod failure;
+mod host_words;
+mod input;
+mod names;
+mod replacing;
+mod reports;
+mod stores;
+mod texts;
+mod unwritten;
+mod version;
+mod writing;
+
+pub use disk::Disk;
+pub use failure::Failure;
+pub use host_words::given_words;
+pub use input::{read_text, read_whole};
+pub use names::push_name;
+pub use reports::{report, report_unwritten, say};
+pub use stores::{Entry, Store};
+pub use texts::{answer_with, put_texts};
+pub use unwritten::Unwritten;
+pub use version::VERSION;
+pub use writing::write_texts;

@@ -1,0 +1,107 @@
+//! The lines on standard error.
+
+ghost use Rattle.std.specs.Prelude.{◌≡◌};
+ghost use Rattle.json5_write.specs.Pieces.{AppendsFront};
+ghost use Rattle.cli_files.specs.JoinedTexts.{joined_texts};
+ghost use Rattle.cli_files.specs.Reports.{fault_line, report_line, status_of, unwritten_line};
+
+use crate::failure::Failure;
+use crate::unwritten::Unwritten;
+use crate::writing::write_texts;
+use itoa::Buffer;
+use json5_types::error::Error;
+use std::io::Write;
+
+/// Writes why the work on this input ended, as one line, and returns the status that the program ends with. A failed write
+/// changes nothing in that status.
+///
+/// ```text
+/// app.json5: expected comma at line 3 column 9
+/// ```
+pub fn report<E: Write>(name: &str, failure: &Failure, e: &mut E) -> u8
+    ensures status { result ≡ status_of failure.now }
+    ensures line { AppendsFront (E.contents e.old) (E.contents e.new) (report_line name.now failure.now) }
+{
+    match failure {
+        Failure::NotUtf8 => say(e, &[name, ": not UTF-8\n"]),
+        Failure::Text(error) => say_fault(e, name, error),
+        Failure::NoMemory => say(e, &[name, ": out of memory\n"]),
+        Failure::Read => say(e, &[name, ": cannot be read\n"]),
+        Failure::Write => say(e, &["output: cannot be written\n"]),
+    }
+    failure.status()
+}
+
+/// Writes why the file wasn't replaced, as one line, and returns the status 2.
+///
+/// ```text
+/// report_unwritten("app.json5", &Unwritten::Changed, &mut rt.stderr())    // 2
+/// ```
+pub fn report_unwritten<E: Write>(name: &str, unwritten: &Unwritten, e: &mut E) -> u8
+    ensures status { result ≡ 2 }
+    ensures line { AppendsFront (E.contents e.old) (E.contents e.new) (unwritten_line name.now unwritten.now) }
+{
+    match unwritten {
+        Unwritten::Refused => say(e, &[name, ": cannot be written\n"]),
+        Unwritten::Changed => say(e, &[name, ": changed meanwhile, and was left as it is\n"]),
+        Unwritten::Linked => say(e, &[name, ": cannot be written: it has other hard links\n"]),
+        Unwritten::NoMemory => say(e, &[name, ": out of memory\n"]),
+        Unwritten::Taken(beside) => say(
+            e,
+            &[
+                name,
+                ": cannot be written: ",
+                beside.as_str(),
+                " is there\n",
+            ],
+        ),
+        Unwritten::Remains(beside) => say(
+            e,
+            &[
+                name,
+                ": cannot be written, and ",
+                beside.as_str(),
+                " remains\n",
+            ],
+        ),
+    }
+    2
+}
+
+/// Writes the strings, one after the other. A failed write changes nothing else.
+///
+/// ```text
+/// say(&mut rt.stderr(), &["json5_fmt: ", "out of memory\n"])
+/// ```
+pub fn say<E: Write>(e: &mut E, texts: &[&str])
+    ensures { AppendsFront (E.contents e.old) (E.contents e.new) (joined_texts texts.now) }
+{
+    let _ = write_texts(e, texts);
+}
+
+/// Writes what the fault prints, without memory.
+fn say_fault<E: Write>(e: &mut E, name: &str, error: &Error)
+    ensures { AppendsFront (E.contents e.old) (E.contents e.new) (fault_line name.now error.now) }
+{
+    let message = error.message();
+    let Some(position) = error.position() else {
+        return say(e, &[name, ": ", message, "\n"]);
+    };
+    let mut line = Buffer::new();
+    let mut column = Buffer::new();
+    let line = line.format(position.line as u128 + 1);
+    let column = column.format(position.column as u128 + 1);
+    say(
+        e,
+        &[
+            name,
+            ": ",
+            message,
+            " at line ",
+            line,
+            " column ",
+            column,
+            "\n",
+        ],
+    )
+}

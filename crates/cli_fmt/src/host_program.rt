@@ -1,0 +1,36 @@
+//! The program over the system that it runs on.
+
+ghost use Rattle.std.specs.Prelude.{◌≡◌, ◌≤◌};
+ghost use Rattle.cli_fmt.specs.CommandWords.{IsRequest};
+
+use crate::lines::usage;
+use crate::program_runs::answer;
+use cli_files::given_words;
+use std::alloc::Global;
+use std::io::BufWriter;
+use std::process::ExitCode;
+
+/// How many bytes are written to standard output at once.
+const PIECE: usize = 64 * 1024;
+
+/// Runs the whole program: `words` of the words after its name, or the usage line where the system doesn't give them as text.
+pub fn program(rt: &HostRuntime) -> ExitCode {
+    let status = match given_words(rt) {
+        Ok(list) => words(rt, rt.alloc(), list.as_slice()),
+        Err(_) => usage(&mut rt.stderr()),
+    };
+    ExitCode::from(status)
+}
+
+/// Does what the words ask for, on the files that they name or, where there are none, on standard input. Returns the status
+/// that the program ends with. Where there is no memory for a buffer it writes without one.
+pub fn words(rt: &HostRuntime, alloc: Global, list: &[String]) -> u8
+    ensures status { result ≤ 2 }
+    ensures usage { ¬ (IsRequest list.now) → result ≡ 2 }
+{
+    let (mut input, mut errors) = (rt.stdin(), rt.stderr());
+    match BufWriter::with_capacity(alloc, PIECE, rt.stdout()) {
+        Ok(mut output) => answer(rt, alloc, list, &mut input, &mut output, &mut errors),
+        Err(_) => answer(rt, alloc, list, &mut input, &mut rt.stdout(), &mut errors),
+    }
+}

@@ -1,0 +1,52 @@
+-- What is shown of what was read and refused.
+use Rattle.std.proofs.Common.{◌≡◌, ℕ, List, Option, Some, None, subst}
+use Rattle.std.specs.declared.alloc.Global.{Global}
+use Rattle.std.specs.Prelude.{IfSome, MatchResult, Ok, Err, Result, String, string_bytes}
+use Rattle.std.specs.Str.{IsUtf8}
+use Rattle.json5_text.specs.Cursor.{IsOutOfMemory}
+use Rattle.json5_types.specs.declared.error.Error.{Error}
+use Rattle.json5_types.specs.Errors.{LacksMemory}
+use Rattle.json5_report.specs.declared.report.Report.{Report}
+use Rattle.json5_report.specs.Reports.{IsReportOf, IsReportOfWrong, report_text}
+use Rattle.cli_files.specs.declared.failure.Failure.{Failure}
+use Rattle.cli_files.specs.declared.failure.Failure.TheVariants as failure
+use Rattle.cli_files.specs.Inputs.{ReadFailure, RefusesInput}
+use Rattle.cli_tidy.specs.declared.trouble.FileTrouble.{FileTrouble}
+use Rattle.cli_tidy.specs.declared.trouble.FileTrouble.TheVariants as trouble
+use Rattle.cli_tidy.specs.Refusals.{IsTroubleOf, ShowsReport, refused, reported, wrong}
+
+-- what such a report prints shows it
+pub printed_report : (Those : Report → Type 0) (report : Report) (r : Result (String Global) Error) → Those report → MatchResult r (λ s. string_bytes s ≡ report_text report) LacksMemory
+    → MatchResult r (λ s. ShowsReport Those (string_bytes s)) LacksMemory
+printed_report Those report (Ok s) those e = (report, those, e)
+printed_report Those report (Err memory) those k = k
+
+module _ (name bytes : List ℕ) where
+  pub wrong_trouble : (shown : Result (String Global) Error) → ¬ (IsUtf8 bytes) → MatchResult shown (λ s. ShowsReport (IsReportOfWrong name bytes) (string_bytes s)) LacksMemory
+      → IsTroubleOf name (Some bytes) (reported failure.NotUtf8 shown)
+  wrong_trouble (Ok s) none k = wrong k
+  wrong_trouble (Err memory) none k = (none, k)
+
+  pub text_trouble : (e : Error) (shown : Result (String Global) Error) → ¬ (IsOutOfMemory e) → RefusesInput e bytes → MatchResult shown (λ s. ShowsReport (IsReportOf name bytes e) (string_bytes s)) LacksMemory
+      → IsTroubleOf name (Some bytes) (reported (failure.Text e) shown)
+  text_trouble e (Ok s) other refuses k = refused e other refuses k
+  text_trouble e (Err memory) other refuses k = ((other, refuses), k)
+
+-- of an unknown text no more is said of the cause
+unknown_cause : (text : List ℕ) (s : Failure) → ReadFailure (Some text) s → ReadFailure None s
+unknown_cause text failure.NotUtf8 k = tt
+unknown_cause text (failure.Text e) k = (k.0, tt)
+unknown_cause text failure.NoMemory k = tt
+unknown_cause text failure.Read k = tt
+unknown_cause text failure.Write k = k
+
+unknown_trouble : (name text : List ℕ) (e : FileTrouble) → IsTroubleOf name (Some text) e → IsTroubleOf name None e
+unknown_trouble name text (trouble.Failed s) k = k
+unknown_trouble name text (trouble.Refused shown) k = tt
+unknown_trouble name text (trouble.Unreported s memory) k = (unknown_cause text s k.0, k.1)
+unknown_trouble name text (trouble.Unwritten u) k = k
+unknown_trouble name text trouble.NoFile k = k
+
+pub trouble_read : (name : List ℕ) (input : Option (List ℕ)) (text : List ℕ) (e : FileTrouble) → IfSome input (λ bytes. text ≡ bytes) → IsTroubleOf name (Some text) e → IsTroubleOf name input e
+trouble_read name None text e is k = unknown_trouble name text e k
+trouble_read name (Some bytes) text e is k = subst (λ b. IsTroubleOf name (Some b) e) is k

@@ -1,0 +1,34 @@
+-- What is shown of what was read and isn't tidied.
+-- A promise rests on this.
+use Rattle.std.specs.declared.alloc.Global.{Global}
+use Rattle.std.specs.Prelude.{◌≡◌, ℕ, List, Option, IfSome, Result, Ok, Err, String, string_bytes}
+use Rattle.json5_types.specs.declared.error.Error.{Error}
+use Rattle.json5_types.specs.Errors.{LacksMemory}
+use Rattle.json5_text.specs.Cursor.{IsOutOfMemory}
+use Rattle.json5_report.specs.declared.report.Report.{Report}
+use Rattle.json5_report.specs.Reports.{IsReportOf, IsReportOfWrong, report_text}
+use Rattle.cli_files.specs.declared.failure.Failure.{Failure}
+use Rattle.cli_files.specs.Inputs.{IsReadFault, ReadFailure, RefusesInput}
+use Rattle.cli_tidy.specs.declared.trouble.FileTrouble.{FileTrouble}
+use Rattle.cli_tidy.specs.declared.trouble.FileTrouble.TheVariants as trouble
+
+-- the text is that of one of these reports
+abbrev pub ShowsReport : (Report → Type 0) → List ℕ → Type 0
+ShowsReport Those shown = (report : Report) × Those report × (shown ≡ report_text report)
+
+-- why bytes with this name are no document is shown: a report of the first that is in no character, or of the text's fault
+pub data ShowsFault (name bytes shown : List ℕ) : Type 0 where
+  wrong : ShowsReport (IsReportOfWrong name bytes) shown → ShowsFault name bytes shown
+  refused : (e : Error) → ¬ (IsOutOfMemory e) → RefusesInput e bytes → ShowsReport (IsReportOf name bytes e) shown → ShowsFault name bytes shown
+
+-- why what was read under this name isn't tidied; what is no document has its report, unless memory ran out for that
+abbrev pub IsTroubleOf : (name : List ℕ) (input : Option (List ℕ)) → FileTrouble → Type 0
+IsTroubleOf name input (trouble.Refused shown) = IfSome input (λ bytes. ShowsFault name bytes (string_bytes shown))
+IsTroubleOf name input (trouble.Unreported s memory) = ReadFailure input s × LacksMemory memory
+IsTroubleOf name input (trouble.Failed s) = IsReadFault s
+IsTroubleOf name input e = ⊥
+
+-- the trouble of a cause, of which this is shown if there is memory for it
+abbrev pub reported : Failure → Result (String Global) Error → FileTrouble
+reported s (Ok shown) = trouble.Refused shown
+reported s (Err memory) = trouble.Unreported s memory

@@ -1,0 +1,203 @@
+//! The options of the command line.
+
+ghost use Rattle.std.specs.Bool.{Decides};
+ghost use Rattle.std.specs.Prelude.{◌≡◌, ◌≢◌, [], ℕ, List, MatchOption, None};
+ghost use Rattle.json5_tidy.specs.Styles.{usual_style};
+ghost use Rattle.json5_tidy.specs.declared.style.LastCommas.{LastCommas};
+ghost use Rattle.cli_tidy.specs.CommandWords.{IsCount, IsDashed, IsEnding, IsFlag, IsIndent, commas_word, end_word, input_name, setting_word};
+ghost use Rattle.cli_tidy.specs.WordSteps.{IsJoined};
+
+use json5_tidy::{LastCommas, Style};
+use std::alloc::{AllocError, Global};
+
+/// What the options ask for.
+#[derive(Drop)]
+pub struct Options {
+    pub style: Style,
+    /// The endings, without their points, of the files that are looked for below a folder, beside `json5`.
+    pub endings: Vec<String>,
+    /// The name of standard input, if one was given: for the style, and in reports.
+    pub stdin_name: Option<String>,
+}
+
+/// An option without a value.
+#[derive(Clone, Copy, Drop)]
+pub(crate) enum Flag {
+    Help,
+    Version,
+    NoLastComma,
+}
+
+/// An option with a value.
+#[derive(Clone, Copy, Drop)]
+pub(crate) enum Setting {
+    Indent,
+    Width,
+    LastCommas,
+    Ext,
+    StdinName,
+}
+
+/// What is wrong with the words.
+#[derive(Clone, Copy, Drop)]
+pub(crate) enum Fault {
+    /// They ask for nothing.
+    Unknown,
+    NoMemory,
+}
+
+impl From<AllocError> for Fault {
+    ghost use Rattle.cli_tidy.specs.declared.options.Fault.{Fault};
+
+    ghost from_gives = { λ _ fault. fault ≡ Fault.NoMemory };
+
+    fn from(_e: AllocError) -> Fault {
+        Fault::NoMemory
+    }
+}
+
+impl Options {
+    /// The usual style, files that end in `.json5`, and standard input without a name.
+    pub(crate) fn usual(alloc: Global) -> Options
+        ensures style { result.style ≡ usual_style }
+        ensures endings { result.endings.items ≡ [] }
+        ensures stdin_name { result.stdin_name ≡ None }
+    {
+        Options {
+            style: Style::usual(),
+            endings: Vec::new(alloc),
+            stdin_name: None,
+        }
+    }
+
+    /// The name of standard input: `stdin`, if no other was given.
+    pub(crate) fn name_of_input(&self) -> &str
+        ensures { result.now ≡ input_name self.now }
+    {
+        match &self.stdin_name {
+            Some(name) => name.as_str(),
+            None => "stdin",
+        }
+    }
+}
+
+impl Flag {
+    /// The flag that the word is, if it is one.
+    pub(crate) fn named(word: &str) -> Option<Flag>
+        ensures { MatchOption result ((flag : Flag) → ¬ (IsFlag word.now flag)) (IsFlag word.now) }
+    {
+        match word {
+            "--help" => Some(Flag::Help),
+            "-h" => Some(Flag::Help),
+            "--version" => Some(Flag::Version),
+            "--no-last-comma" => Some(Flag::NoLastComma),
+            _ => None,
+        }
+    }
+}
+
+impl Setting {
+    /// The option with this name, if there is one.
+    pub(crate) fn named(word: &str) -> Option<Setting>
+        ensures { MatchOption result ((setting : Setting) → word.now ≢ setting_word setting) (λ setting. word.now ≡ setting_word setting) }
+    {
+        match word {
+            "--indent" => Some(Setting::Indent),
+            "--width" => Some(Setting::Width),
+            "--last-commas" => Some(Setting::LastCommas),
+            "--ext" => Some(Setting::Ext),
+            "--stdin-name" => Some(Setting::StdinName),
+            _ => None,
+        }
+    }
+
+    /// The option with its value, if the word has both, as in `--indent=4`.
+    pub(crate) fn joined(word: &str) -> Option<(Setting, &str)>
+        ensures { MatchOption result ((setting : Setting) (value : List ℕ) → ¬ (IsJoined word.now setting value)) (λ x. IsJoined word.now x.0 x.1.now) }
+    {
+        let (name, value) = word.split_once('=')?;
+        match Setting::named(name) {
+            Some(setting) => Some((setting, value)),
+            None => None,
+        }
+    }
+}
+
+/// Whether no word behind this one is an option.
+pub(crate) fn is_end(word: &str) -> bool
+    ensures { Decides result (word.now ≡ end_word) }
+{
+    word == "--"
+}
+
+/// Whether the word begins with a minus, and more follows.
+pub(crate) fn is_dashed(word: &str) -> bool
+    ensures { Decides result (IsDashed word.now) }
+{
+    match word.as_bytes().split_first() {
+        Some((first, rest)) => *first == b'-' && !rest.is_empty(),
+        None => false,
+    }
+}
+
+/// The count of spaces, from 1 to 16, or 0 for `tab`.
+pub(crate) fn indent_of(value: &str) -> Option<usize>
+    ensures { MatchOption result ((n : ℕ) → ¬ (IsIndent value.now n)) (IsIndent value.now) }
+{
+    if value == "tab" {
+        return Some(0);
+    }
+    count_of(value, 16)
+}
+
+/// The count of characters, from 1 to 9999.
+pub(crate) fn width_of(value: &str) -> Option<usize>
+    ensures { MatchOption result ((n : ℕ) → ¬ (IsCount 9999 value.now n)) (IsCount 9999 value.now) }
+{
+    count_of(value, 9999)
+}
+
+/// Where last commas come.
+pub(crate) fn last_commas_of(value: &str) -> Option<LastCommas>
+    ensures { MatchOption result ((c : LastCommas) → value.now ≢ commas_word c) (λ c. value.now ≡ commas_word c) }
+{
+    match value {
+        "auto" => Some(LastCommas::Auto),
+        "always" => Some(LastCommas::Always),
+        "never" => Some(LastCommas::Never),
+        _ => None,
+    }
+}
+
+/// The number, from 1 to `most`.
+fn count_of(value: &str, most: usize) -> Option<usize>
+    ensures { MatchOption result ((n : ℕ) → ¬ (IsCount most value.now n)) (IsCount most value.now) }
+{
+    let Ok(count) = value.parse::<usize>() else {
+        return None;
+    };
+    if count == 0 || count > most {
+        return None;
+    }
+    Some(count)
+}
+
+/// The ending, without a point in front.
+pub(crate) fn ending_of(value: &str) -> Option<&str>
+    ensures { MatchOption result ((e : List ℕ) → ¬ (IsEnding value.now e)) (λ e. IsEnding value.now e.now) }
+{
+    match value.strip_prefix('.') {
+        Some(ending) => unless_empty(ending),
+        None => unless_empty(value),
+    }
+}
+
+/// The text, unless it is empty.
+pub(crate) fn unless_empty(text: &str) -> Option<&str>
+    ensures { MatchOption result (text.now ≡ []) (λ same. (same.now ≡ text.now) × (text.now ≢ [])) }
+{
+    if text.is_empty() {
+        return None;
+    }
+    Some(text)
+}

@@ -1,0 +1,72 @@
+//! What is shown of bytes that are no document.
+
+ghost use Rattle.std.specs.Prelude.{◌≡◌, MatchResult, Some, string_bytes};
+ghost use Rattle.std.specs.Str.{IsUtf8};
+ghost use Rattle.json5_report.specs.Reports.{IsReportOf, IsReportOfWrong, report_text};
+ghost use Rattle.json5_types.specs.Errors.{LacksMemory};
+ghost use Rattle.cli_files.specs.Inputs.{RefusesInput};
+ghost use Rattle.cli_tidy.specs.Refusals.{IsTroubleOf, ShowsReport, reported};
+
+use crate::trouble::FileTrouble;
+use cli_files::Failure;
+use json5_report::Report;
+use json5_types::error::{Error, Result};
+use std::alloc::Global;
+
+/// The trouble with bytes that are no text.
+pub(crate) fn wrong_bytes(alloc: Global, name: &str, bytes: &[u8]) -> FileTrouble
+    requires { ¬ (IsUtf8 bytes.now) }
+    ensures { IsTroubleOf name.now (Some bytes.now) result }
+{
+    reported(Failure::NotUtf8, bytes_shown(alloc, name, bytes))
+}
+
+/// The trouble with a text that is refused so: it is no document, or memory ran out.
+pub(crate) fn refused_text(alloc: Global, name: &str, text: &str, error: Error) -> FileTrouble
+    requires { RefusesInput error text.now }
+    ensures { IsTroubleOf name.now (Some text.now) result }
+{
+    match Failure::at(error) {
+        Failure::Text(error) => {
+            let shown = text_shown(alloc, name, text, &error);
+            reported(Failure::Text(error), shown)
+        }
+        _ => FileTrouble::Failed(Failure::NoMemory),
+    }
+}
+
+/// The trouble of which this is shown, or which only this cause is told of where there is no memory.
+fn reported(failure: Failure, shown: Result<String>) -> FileTrouble
+    ensures { result ≡ reported failure shown }
+{
+    match shown {
+        Ok(shown) => FileTrouble::Refused(shown),
+        Err(memory) => FileTrouble::Unreported(failure, memory),
+    }
+}
+
+/// The report of bytes that are no text.
+fn bytes_shown(alloc: Global, name: &str, bytes: &[u8]) -> Result<String>
+    requires { ¬ (IsUtf8 bytes.now) }
+    ensures { MatchResult result (λ shown. ShowsReport (IsReportOfWrong name.now bytes.now) (string_bytes shown)) LacksMemory }
+{
+    match Report::of_bytes(alloc, name, bytes)? {
+        Some(report) => printed(alloc, &report),
+        None => unreachable!(),
+    }
+}
+
+/// The report of an error of reading this text.
+fn text_shown(alloc: Global, name: &str, text: &str, error: &Error) -> Result<String>
+    ensures { MatchResult result (λ shown. ShowsReport (IsReportOf name.now text.now error.now) (string_bytes shown)) LacksMemory }
+{
+    let report = Report::new(alloc, name, text, error)?;
+    printed(alloc, &report)
+}
+
+/// What the report prints.
+fn printed(alloc: Global, report: &Report) -> Result<String>
+    ensures { MatchResult result (λ shown. string_bytes shown ≡ report_text report.now) LacksMemory }
+{
+    Ok(format!(in alloc; "{report}")?)
+}

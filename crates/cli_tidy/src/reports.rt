@@ -1,0 +1,83 @@
+//! The lines on standard error.
+
+ghost use Rattle.std.specs.Prelude.{◌≡◌};
+ghost use Rattle.json5_write.specs.Pieces.{AppendsFront};
+ghost use Rattle.cli_tidy.specs.Troubles.{memory_line, trouble_line, trouble_status, usage_line};
+
+use crate::trouble::FileTrouble;
+use cli_files::{report, report_unwritten, say};
+use std::io::Write;
+
+/// What `--help` writes.
+pub(crate) const HELP: &str =
+    "usage: json5_tidy [OPTION...] [check FILE... or diff FILE... or print FILE... or write FILE...]
+Lays JSON5 out anew, and keeps each comment and each token as it is spelled.
+
+  json5_tidy                tidies standard input to standard output
+  json5_tidy check FILE...  names each file that isn't tidy
+  json5_tidy diff FILE...   writes what would change, as a unified diff
+  json5_tidy print FILE...  writes each file tidied to standard output
+  json5_tidy write FILE...  tidies each file in place
+
+A folder stands for the files below it that end in .json5, in the order of their names.
+Folders named .git or node_modules are passed over, and links too.
+
+  --indent N          N spaces a level, 1 to 16; tab: a tab (2)
+  --width N           characters that a line may have, 1 to 9999 (80)
+  --last-commas WHEN  a comma after the last of a collection over several lines:
+                      always; never; or auto: in .json5 files, never in .json
+                      and .jsonc files, in others if the text isn't JSON (auto)
+  --no-last-comma     the same as --last-commas never
+  --ext ENDING        in folders look for files with this ending too
+  --stdin-name FILE   the name of standard input: for last commas and in reports
+  --                  what follows is no option
+  --help              writes this
+  --version           writes the version
+
+The status is 0 if all is well; 1 if a text is no JSON5, or, at check and diff,
+a file isn't tidy; 2 if a file can't be read or written, memory runs out, or the
+words are wrong.
+";
+
+/// Writes how the program is called, as one line, and returns the status 2.
+pub(crate) fn usage<E: Write>(e: &mut E) -> u8
+    ensures status { result ≡ 2 }
+    ensures line { AppendsFront (E.contents e.old) (E.contents e.new) usage_line }
+{
+    say(
+        e,
+        &[
+            "usage: json5_tidy [OPTION...] [check FILE... or diff FILE... or print FILE... or write FILE...]\n",
+        ],
+    );
+    2
+}
+
+/// Writes that memory ran out before any work began, and returns the status 2.
+pub(crate) fn no_memory<E: Write>(e: &mut E) -> u8
+    ensures status { result ≡ 2 }
+    ensures line { AppendsFront (E.contents e.old) (E.contents e.new) memory_line }
+{
+    say(e, &["json5_tidy: out of memory\n"]);
+    2
+}
+
+/// Writes why the work on this file ended, as a report or as one line, and returns the status that the program ends with.
+pub(crate) fn report_trouble<E: Write>(name: &str, trouble: &FileTrouble, e: &mut E) -> u8
+    ensures status { result ≡ trouble_status trouble.now }
+    ensures line { AppendsFront (E.contents e.old) (E.contents e.new) (trouble_line name.now trouble.now) }
+{
+    match trouble {
+        FileTrouble::Failed(failure) => report(name, failure, e),
+        FileTrouble::Refused(shown) => {
+            say(e, &[shown.as_str(), "\n"]);
+            1
+        }
+        FileTrouble::Unreported(failure, _) => report(name, failure, e),
+        FileTrouble::Unwritten(unwritten) => report_unwritten(name, unwritten, e),
+        FileTrouble::NoFile => {
+            say(e, &[name, ": no file to tidy is in it\n"]);
+            2
+        }
+    }
+}

@@ -1,0 +1,46 @@
+//! Why the work on a file ends early.
+
+ghost use Rattle.std.specs.Prelude.{◌≡◌, ◌≢◌, true, false};
+ghost use Rattle.cli_files.specs.declared.failure.Failure.TheVariants as failures;
+ghost use Rattle.cli_tidy.specs.declared.trouble.FileTrouble.TheVariants as troubles;
+ghost use Rattle.cli_tidy.specs.Troubles.{trouble_status};
+
+use cli_files::{Failure, Unwritten};
+use json5_types::error::Error;
+
+/// Why the work on a file ended.
+#[derive(Drop)]
+pub enum FileTrouble {
+    /// Memory ran out, or a stream failed.
+    Failed(Failure),
+    /// What was read is no document: what the report of it prints.
+    Refused(String),
+    /// The same, where memory ran out for its report: why it is refused, and the error of making the report.
+    Unreported(Failure, Error),
+    /// The file wasn't replaced.
+    Unwritten(Unwritten),
+    /// It is a folder, and no file below it has an ending that was asked for.
+    NoFile,
+}
+
+impl FileTrouble {
+    /// Returns the status that the program ends with: 1 if the fault is one of the text, else 2.
+    pub fn status(&self) -> u8
+        ensures { result ≡ trouble_status self.now }
+    {
+        match self {
+            FileTrouble::Failed(failure) => failure.status(),
+            FileTrouble::Refused(_) => 1,
+            FileTrouble::Unreported(failure, _) => failure.status(),
+            FileTrouble::Unwritten(_) | FileTrouble::NoFile => 2,
+        }
+    }
+
+    /// Whether a write to the output failed, which ends the work.
+    pub(crate) fn is_failed_write(&self) -> bool
+        ensures yes { result ≡ true → self.now ≡ troubles.Failed failures.Write }
+        ensures no { result ≡ false → self.now ≢ troubles.Failed failures.Write }
+    {
+        matches!(self, FileTrouble::Failed(Failure::Write))
+    }
+}

@@ -1,2 +1,0 @@
--- Lists the lemmas about comments.
-pub mod CommentsPassed

@@ -1,7 +1,0 @@
-use Rattle.std.proofs.Common.{sym, ◌∙◌, subst}
-use Rattle.json5_belongings.specs.Comments.{CommentLines}
-use Rattle.json5_belongings.proofs.CommentsPassed.{nothing_left}
-use Rattle.json5_belongings.proofs.comments.comment_lines.Goals as goal
-
-pub returns : goal.returns
-returns c = c.loop-c.invariant c.loop-c.one (λ h. h) (subst (CommentLines c.loop-c.one c.loop-c.has) (sym (nothing_left c.loop-c.scanner.unread (sym c.peek.ensures ∙ c.in_default.is))) CommentLines.entry)

@@ -1,9 +1,0 @@
-use Rattle.std.proofs.Common.{length}
-use Rattle.json5_belongings.proofs.CommentsPassed.{LinesOn}
-use Rattle.json5_belongings.proofs.comments.comment_lines.Given as goal
-
-abbrev pub invariant-loop-c : goal.invariant-loop-c
-invariant-loop-c l = LinesOn l.has l.one l.scanner.unread l.fn.scanner.unread
-
-abbrev pub decreases-loop-c : goal.decreases-loop-c
-decreases-loop-c l = length l.scanner.unread

@@ -1,4 +1,0 @@
-//! Which comments belong to an entry.
-#![tactic(auto)]
-
-pub mod comments;

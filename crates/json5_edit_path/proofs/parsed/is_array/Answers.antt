@@ -1,5 +1,0 @@
-use Rattle.std.proofs.Common.{[]}
-use Rattle.json5_edit_path.proofs.parsed.is_array.Goals as goal
-
-pub returns-in-Err : goal.returns-in-Err
-returns-in-Err c = c.of_text.ensures c.args.text.now [] c.in-Err.ensures.refused

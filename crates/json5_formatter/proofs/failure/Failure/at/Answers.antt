@@ -1,5 +1,0 @@
-use Rattle.std.proofs.Common.{rules}
-use Rattle.json5_formatter.proofs.failure.Failure.at.Goals as goal
-
-pub returns-in-Some-OutOfMemory : goal.returns-in-Some-OutOfMemory
-returns-in-Some-OutOfMemory c = search rules

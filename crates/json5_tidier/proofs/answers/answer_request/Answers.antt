@@ -1,4 +1,0 @@
-use Rattle.json5_tidier.proofs.answers.answer_request.Goals as goal
-
-pub returns-in-Version : goal.returns-in-Version
-returns-in-Version g c = rw c.in-Version.is c.answer_with-in-Version.ensures

@@ -1,9 +1,0 @@
-use Rattle.std.proofs.Common.{subst}
-use Rattle.json5_report.specs.Reports.{IsReportOfBytes, IsReportOfWrong}
-use Rattle.json5_tidier.proofs.RefusalsRead.{printed_report}
-use Rattle.json5_tidier.proofs.refusals.bytes_shown.Goals as goal
-
-pub returns : goal.returns
-returns c =
-    printed_report (IsReportOfWrong c.args.name.now c.args.bytes.now) c.in-Some.report c.printed.result
-    (subst (IsReportOfBytes c.args.name.now c.args.bytes.now) c.in-Some.is c.in_ok-report.ensures) c.printed.ensures

@@ -1,6 +1,0 @@
-use Rattle.std.proofs.Common.{refl}
-use Rattle.json5_tidier.specs.CommandWords.{last_commas}
-use Rattle.json5_tidier.proofs.taking.Words.set_last_commas.Goals as goal
-
-pub returns-clause-set : goal.returns-clause-set
-returns-clause-set c = (last_commas c.in-Some.last_commas, (c.in-Some.last_commas, c.in-Some.ensures, refl), refl)

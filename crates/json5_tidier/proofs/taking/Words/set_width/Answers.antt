@@ -1,6 +1,0 @@
-use Rattle.std.proofs.Common.{refl}
-use Rattle.json5_tidier.specs.CommandWords.{width}
-use Rattle.json5_tidier.proofs.taking.Words.set_width.Goals as goal
-
-pub returns-clause-set : goal.returns-clause-set
-returns-clause-set c = (width c.in-Some.width, (c.in-Some.width, c.in-Some.ensures, refl), refl)

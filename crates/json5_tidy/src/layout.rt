@@ -1,0 +1,15 @@
+//! Lays the lexemes of a JSON5 document out anew: its tokens and its comments.
+//!
+//! It is plain code over bytes, without a promise of what it gives: `tidy_with` reads its answers again. Change it by the
+//! rows of tidying, which judge it.
+
+mod blanks;
+mod columns;
+mod entries;
+mod lexemes;
+mod lines;
+mod printer;
+mod spacing;
+
+pub use printer::laid_out;
+pub use spacing::Spacing;

@@ -1,0 +1,101 @@
+//! Blanks and line ends, as bytes.
+
+ghost use Rattle.std.specs.Prelude.{◌≤◌, ◌<◌, length};
+ghost use Rattle.json5_tidy.specs.Lexemes.{FitsAt};
+
+/// How many bytes the blank character at this index has; 0 if there is none.
+#[inline(always)]
+pub(crate) fn blank_len(bytes: &[u8], at: usize) -> usize
+    requires { at ≤ length bytes.now }
+    ensures { FitsAt bytes.now at result }
+{
+    if at >= bytes.len() {
+        return 0;
+    }
+    let byte = bytes[at];
+    if byte < 128 {
+        return usize::from(byte == b' ' || byte >= 9 && byte <= 13);
+    }
+    wide_blank_len(bytes, at)
+}
+
+/// The byte at this index; 0 past the end.
+#[inline(always)]
+pub(crate) fn byte_at(bytes: &[u8], at: usize) -> u8 {
+    if at < bytes.len() { bytes[at] } else { 0 }
+}
+
+/// The same of a character past ASCII: U+00A0, U+1680, U+2000 to U+200A, U+2028, U+2029, U+202F, U+205F, U+3000 and
+/// U+FEFF.
+fn wide_blank_len(bytes: &[u8], at: usize) -> usize
+    requires { at ≤ length bytes.now }
+    ensures { FitsAt bytes.now at result }
+{
+    if at + 1 >= bytes.len() {
+        return 0;
+    }
+    let (first, second) = (bytes[at], bytes[at + 1]);
+    if first == 0xC2 {
+        return if second == 0xA0 { 2 } else { 0 };
+    }
+    if at + 2 >= bytes.len() {
+        return 0;
+    }
+    if is_wide_blank(first, second, bytes[at + 2]) {
+        3
+    } else {
+        0
+    }
+}
+
+fn is_wide_blank(first: u8, second: u8, third: u8) -> bool {
+    match (first, second) {
+        (0xE1, 0x9A) => third == 0x80,
+        (0xE2, 0x80) => third <= 0x8A || third == 0xA8 || third == 0xA9 || third == 0xAF,
+        (0xE2, 0x81) => third == 0x9F,
+        (0xE3, 0x80) => third == 0x80,
+        (0xEF, 0xBB) => third == 0xBF,
+        _ => false,
+    }
+}
+
+/// How many bytes the line end at this index has; 0 if there is none. CR LF is one line end.
+pub(crate) fn line_end_len(bytes: &[u8], at: usize) -> usize
+    requires { at ≤ length bytes.now }
+    ensures { FitsAt bytes.now at result }
+{
+    if at >= bytes.len() {
+        return 0;
+    }
+    match bytes[at] {
+        b'\n' => 1,
+        b'\r' => cr_len(bytes, at),
+        0xE2 => wide_end_len(bytes, at),
+        _ => 0,
+    }
+}
+
+fn cr_len(bytes: &[u8], at: usize) -> usize
+    requires { at < length bytes.now }
+    ensures { FitsAt bytes.now at result }
+{
+    if at + 1 < bytes.len() && bytes[at + 1] == b'\n' {
+        2
+    } else {
+        1
+    }
+}
+
+fn wide_end_len(bytes: &[u8], at: usize) -> usize
+    requires { at ≤ length bytes.now }
+    ensures { FitsAt bytes.now at result }
+{
+    if at + 2 < bytes.len()
+        && bytes[at + 1] == 0x80
+        && (bytes[at + 2] == 0xA8 || bytes[at + 2] == 0xA9)
+    {
+        3
+    } else {
+        0
+    }
+}
