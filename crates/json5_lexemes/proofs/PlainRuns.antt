@@ -1,15 +1,19 @@
--- Characters of ASCII in front of a text that pass a test.
-use Rattle.std.proofs.Common.{◌≡◌, ℕ, Bool, List, ◌++◌, drop, ap, sym, ◌∙◌, subst, arith}
+-- Characters of ASCII in front of a text that pass a test, and the lanes that are tested for them.
+use Rattle.std.proofs.Common.{◌≡◌, ℕ, Bool, true, false, not, ◌||◌, nat_lt, cond, eqb, List, ◌++◌, drop, refl, ap, sym, ◌∙◌, subst, arith}
+use Rattle.std.specs.Prelude.{◌==◌}
 use Rattle.std.specs.List.{prefix_len}
 use Rattle.std.specs.Str.{chars, IsUtf8, IsCharBoundary}
 use Rattle.std.proofs.lemmas.Bool.Decides.{nat_tests}
-use Rattle.json5_grammar.specs.Language.Characters.{NotBegun}
+use lib.Bits.{bit_and, bit_or}
+use lib.Lanes.{top}
+use Rattle.json5_grammar.specs.Language.Characters.{NotBegun, is_digit}
 use Rattle.json5_grammar.specs.Model.ReadNumbers.{front_of, rest_of}
 use Rattle.json5_grammar.proofs.CharacterTests.{front_each, rest_stops}
 use Rattle.json5_layouts.specs.Json.{is_json_blank}
+use Rattle.json5_layouts.proofs.JsonRuns.{below}
 use Rattle.json5_text.specs.Scan.{SkipsAll}
 use Rattle.json5_types.proofs.AsciiRuns.{PassesAscii, counted, chars_split, rest_cut, rest_chars, front_boundary}
-use Rattle.json5_lexemes.specs.PlainSteps.{is_json_part}
+use Rattle.json5_lexemes.specs.PlainSteps.{ends_blanks, ends_digits, is_json_part}
 
 pub blank_is_ascii : PassesAscii is_json_blank
 blank_is_ascii c h = grind (arith, nat_tests)
@@ -29,3 +33,52 @@ ascii_skips p s r n a u e d =
       each = front_each p s;
       stops = subst (NotBegun p) (sym (c ∙ rest_chars p s a u)) (rest_stops p (chars s));
     }
+
+-- ---- runs that are seen 16 bytes at a time
+
+twice : (b : Bool) → b ≡ not (not b)
+twice true = refl
+twice false = refl
+
+pub blank_or_not : (x : ℕ) → is_json_blank x ≡ not (ends_blanks x)
+blank_or_not x = twice (is_json_blank x)
+
+pub digit_or_not : (x : ℕ) → is_digit x ≡ not (ends_digits x)
+digit_or_not x = twice (is_digit x)
+
+-- the lane of a byte that is another
+abbrev pub miss : ℕ → ℕ → ℕ
+miss a b = cond (not (eqb a b)) 255 0
+
+none_of_four : (a b c d : Bool) → top 7 (bit_and (bit_and (bit_and (cond (not a) 255 0) (cond (not b) 255 0)) (cond (not c) 255 0)) (cond (not d) 255 0)) ≡ not (a || (b || (c || d)))
+none_of_four true true true true = refl
+none_of_four true true true false = refl
+none_of_four true true false true = refl
+none_of_four true true false false = refl
+none_of_four true false true true = refl
+none_of_four true false true false = refl
+none_of_four true false false true = refl
+none_of_four true false false false = refl
+none_of_four false true true true = refl
+none_of_four false true true false = refl
+none_of_four false true false true = refl
+none_of_four false true false false = refl
+none_of_four false false true true = refl
+none_of_four false false true false = refl
+none_of_four false false false true = refl
+none_of_four false false false false = refl
+
+pub solid_lane : (x : ℕ) → top 7 (bit_and (bit_and (bit_and (miss x 32) (miss x 9)) (miss x 10)) (miss x 13)) ≡ ends_blanks x
+solid_lane x = none_of_four (x == 32) (x == 9) (x == 10) (x == 13)
+
+lane_of_two : (a b : Bool) → top 7 (bit_or (cond a 255 0) (cond b 255 0)) ≡ (a || b)
+lane_of_two true true = refl
+lane_of_two true false = refl
+lane_of_two false true = refl
+lane_of_two false false = refl
+
+outside : (x : ℕ) → (nat_lt x 48 || nat_lt 57 x) ≡ ends_digits x
+outside x = grind (arith, nat_tests)
+
+pub digit_lane : (x : ℕ) → top 7 (bit_or (below x 48) (below 57 x)) ≡ ends_digits x
+digit_lane x = lane_of_two (nat_lt x 48) (nat_lt 57 x) ∙ outside x

@@ -8,8 +8,8 @@ ghost use Rattle.json5_layouts.specs.Json.{Exponent, JsonNumber};
 ghost use Rattle.json5_text.specs.Scan.{SkipsAll};
 ghost use Rattle.json5_lexemes.specs.PlainSteps.{AfterDigits, Digits, GoesOn, GoesOnIf, IsEmpty, IsLiteral, PassesDigits, SignedDigits, Unsigned, is_exponent_letter, is_exponent_sign, is_json_part};
 
+use crate::byte_runs::digits_len;
 use crate::rest::front;
-use json5_types::digit_runs::is_digit;
 
 /// How many bytes in front are characters of which JSON's numbers and literals are made.
 pub(crate) fn json_part_len(bytes: &[u8]) -> usize
@@ -161,16 +161,4 @@ fn skip_digits(text: &str) -> &str
     ensures { SkipsAll is_digit text.now result.now }
 {
     text.split_at(digits_len(text.as_bytes())).1
-}
-
-/// How many digits are in front.
-#[inline(always)]
-fn digits_len(bytes: &[u8]) -> usize
-    ensures { result ≡ prefix_len is_digit bytes.now }
-{
-    let mut len = 0;
-    while len < bytes.len() && is_digit(bytes[len]) {
-        len += 1;
-    }
-    len
 }

@@ -1,6 +1,7 @@
 //! The lexemes of JSON5 texts: whether two have the same, but for commas, and whether they are those of JSON.
 #![tactic(auto)]
 
+mod byte_runs;
 mod json_words;
 pub mod laws;
 mod plain;

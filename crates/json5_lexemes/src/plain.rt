@@ -1,23 +1,22 @@
 //! Whether a text is JSON but for comments, by its lexemes.
 
 ghost use Rattle.std.specs.Prelude.{◌≡◌, ◌≢◌, ◌↔◌, ◌∷◌, IsTrue, true, false, MatchOption};
-ghost use Rattle.std.specs.List.{prefix_len};
 ghost use Rattle.std.specs.Str.{chars};
 ghost use Rattle.json5_grammar.specs.Language.Characters.{NotBegun, is_hex_digit};
 ghost use Rattle.json5_layouts.specs.Json.{is_escape_letter, is_json_blank};
-ghost use Rattle.json5_text.specs.ByteRuns.{is_in_line, is_line_part as is_surely_in_line, is_no_star};
+ghost use Rattle.json5_text.specs.ByteRuns.{is_line_part as is_surely_in_line, is_no_star};
 ghost use Rattle.json5_text.specs.Scan.{SkipsAll, StartsWith};
 ghost use Rattle.json5_lexemes.specs.Plain.{is_closing, is_opening, IsPlain, KeepsPlain, Plain};
 ghost use Rattle.json5_lexemes.specs.PlainSteps.{begins_literal, is_slash, IsLiteral, Leaves, LeavesWith, PassesComment, PassesLexeme, PassesSign, TakesBlock, TakesCode, TakesComment, TakesEscape, TakesHex, TakesLine, TakesString, TakesWord, Then};
 ghost use Rattle.json5_lexemes.specs.SameLexemes.{is_word_part};
 ghost use Rattle.json5_lexemes.specs.declared.plain.Last.TheVariants as last_tokens;
 
+use crate::byte_runs::{blanks_len, line_len, star_offset};
 use crate::json_words::{is_literal, json_part_len, skip_number};
 use crate::rest::front;
 use crate::same::is_word_part;
 use json5_layouts::json_runs::skip_unescaped;
 use json5_text::char::is_json5_line_terminator;
-use memchr::{memchr, memchr3};
 
 /// What the last token was.
 #[derive(Clone, Copy, Drop)]
@@ -192,26 +191,7 @@ fn pass_word(text: &str) -> Option<(Last, &str)>
 fn skip_json_blanks(text: &str) -> &str
     ensures { SkipsAll is_json_blank text.now result.now }
 {
-    text.split_at(json_blanks_len(text.as_bytes())).1
-}
-
-/// How many blanks of JSON are in front.
-#[inline(always)]
-fn json_blanks_len(bytes: &[u8]) -> usize
-    ensures { result ≡ prefix_len is_json_blank bytes.now }
-{
-    let mut len = 0;
-    while len < bytes.len() && is_json_blank(bytes[len]) {
-        len += 1;
-    }
-    len
-}
-
-#[inline(always)]
-fn is_json_blank(byte: u8) -> bool
-    ensures { result ≡ is_json_blank byte }
-{
-    byte <= b' ' && (byte == b' ' || byte == b'\n' || byte == b'\r' || byte == b'\t')
+    text.split_at(blanks_len(text.as_bytes())).1
 }
 
 /// After the first quote of a string: what follows its last one; None if it is no string of JSON.
@@ -333,6 +313,7 @@ fn skip_literal(text: &str) -> Option<&str>
 }
 
 /// Whether a part of a number, a literal or a name of JSON5 is in front.
+#[inline(always)]
 fn begins_word(text: &str) -> bool
     ensures { (result ≡ false) ↔ NotBegun is_word_part (chars text.now) }
 {
@@ -378,13 +359,6 @@ fn skip_line_part(text: &str) -> &str
     text.split_at(line_len(text.as_bytes())).1
 }
 
-/// How many bytes come before the first that may begin a line terminator.
-fn line_len(bytes: &[u8]) -> usize
-    ensures { result ≡ prefix_len is_in_line bytes.now }
-{
-    memchr3(b'\n', b'\r', 0xE2, bytes).unwrap_or(bytes.len())
-}
-
 /// After `/*`: what follows the first `*/`.
 fn skip_block(text: &str) -> Option<&str>
     ensures { Leaves TakesBlock text.now result }
@@ -417,11 +391,4 @@ fn skip_to_star(text: &str) -> &str
     ensures { SkipsAll is_no_star text.now result.now }
 {
     text.split_at(star_offset(text.as_bytes())).1
-}
-
-/// How many bytes come before the first star.
-fn star_offset(bytes: &[u8]) -> usize
-    ensures { result ≡ prefix_len is_no_star bytes.now }
-{
-    memchr(b'*', bytes).unwrap_or(bytes.len())
 }

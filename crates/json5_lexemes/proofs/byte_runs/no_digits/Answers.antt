@@ -1,0 +1,13 @@
+use Rattle.std.proofs.Common.{arith}
+use Rattle.std.proofs.lemmas.Simd.{zip2_splat, zip2_splat_left}
+use Rattle.json5_layouts.proofs.JsonRuns.{below}
+use Rattle.json5_text.proofs.ByteSearch.{either, masked}
+use Rattle.json5_lexemes.specs.PlainSteps.{ends_digits}
+use Rattle.json5_lexemes.proofs.PlainRuns.{digit_lane}
+use Rattle.json5_lexemes.proofs.byte_runs.no_digits.Goals as goal
+
+pub returns : goal.returns
+returns c =
+    let v = c.args.bytes in
+    let long = c.fits-bytes.0 in
+    masked _ ends_digits v _ (omega arith) (either _ _ v (zip2_splat below v 16 48 long) (zip2_splat_left below 57 16 v long)) digit_lane
