@@ -1,4 +1,4 @@
-//! Tests of the library that need code of their own. All others are the rows of json5_rows.
+//! Tests of the library that need code of their own. All others are the rows of crates/rows.
 #![tactic(auto)]
 
 #[cfg(test)]
