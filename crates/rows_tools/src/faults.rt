@@ -1,5 +1,6 @@
 //! The fault of a row.
 
+use crate::rows::count_of;
 use json5_format::read_document;
 use json5_types::error::Error;
 use json5_types::value::Value;
@@ -38,7 +39,7 @@ pub fn error_of(alloc: Global, row: &Value, text: &str) -> Result<Option<Error>,
 
 /// The fault at the position of the row, which counts from 1, if it has one.
 fn placed(error: Error, row: &Value) -> Error {
-    match (count_in(row, "line"), count_in(row, "column")) {
+    match (count_of(row, "line"), count_of(row, "column")) {
         (Some(line), Some(column)) => error.at(Position {
             line: line.saturating_sub(1),
             column: column.saturating_sub(1),
@@ -55,12 +56,4 @@ fn code_of(words: &str) -> Option<ErrorCode> {
         }
     }
     None
-}
-
-/// The count in a field, if it has one.
-pub fn count_in(row: &Value, field: &str) -> Option<usize> {
-    match row.get(field) {
-        Some(Value::Whole(whole)) => usize::try_from(whole.as_u128()?).ok(),
-        _ => None,
-    }
 }

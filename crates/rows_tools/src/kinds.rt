@@ -1,7 +1,8 @@
 //! What is printed of a row: the report of its fault, those of the fields of an object, or that of a file's bytes.
 
 use crate::example::read_ports;
-use crate::faults::{count_in, error_of};
+use crate::faults::error_of;
+use crate::rows::count_of;
 use json5_report::Report;
 use json5_types::error::Error;
 use json5_types::value::Value;
@@ -28,7 +29,7 @@ pub fn shown_of(alloc: Global, row: &Value, text: &str) -> Result<String, Error>
 
 /// The report of the fault, with a word after it if it isn't at the offset or the column that the row names.
 fn report_shown(alloc: Global, row: &Value, text: &str, error: &Error) -> Result<String, Error> {
-    let width = count_in(row, "width").unwrap_or(100);
+    let width = count_of(row, "width").unwrap_or(100);
     let report = Report::within(alloc, width, NAME, text, error)?;
     if !is_placed(&report, row) {
         return Ok(format!(in alloc; "{report}\nat another place")?);
@@ -41,8 +42,8 @@ fn report_shown(alloc: Global, row: &Value, text: &str, error: &Error) -> Result
 
 /// Whether the report has the offset and the column of the row, where that names them.
 fn is_placed(report: &Report, row: &Value) -> bool {
-    count_in(row, "offset").unwrap_or(report.offset) == report.offset
-        && count_in(row, "utf16").unwrap_or(report.utf16_column) == report.utf16_column
+    count_of(row, "offset").unwrap_or(report.offset) == report.offset
+        && count_of(row, "utf16").unwrap_or(report.utf16_column) == report.utf16_column
 }
 
 /// The reports of the object's fields, one after another.
