@@ -2,7 +2,7 @@
 
 use crate::answers::Answer;
 use json5::from_str;
-use json5_own_type::Labels;
+use test_own_types::Labels;
 use std::alloc::Global;
 
 /// The strings that are read, each in quotes.

@@ -4,7 +4,7 @@ use crate::answers::Answer;
 use crate::else_types::Defaults;
 use crate::types::{Long, Only, Prefixes};
 use json5::{Deserialize, Serialize};
-use json5_own_type::{Labels, Reminder, Size};
+use test_own_types::{Labels, Reminder, Size};
 use std::alloc::Global;
 
 /// What is written of the value that is read as the type with this name, its lines joined by blanks.
