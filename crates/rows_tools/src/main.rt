@@ -1,0 +1,69 @@
+//! Answers rows of edits, of tidying and of reports. Standard input has the rows of the three in one document, and what
+//! is said of each is whether what came is what the row says.
+#![tactic(auto)]
+
+mod edits;
+mod example;
+mod faults;
+mod kinds;
+mod outcomes;
+mod plain_readers;
+mod reports;
+mod rows;
+mod tidies;
+
+use json5_format::read_document;
+use json5_types::value::Value;
+use outcomes::Outcome;
+use rows::text_of;
+use std::alloc::Global;
+use std::io::{self, Read};
+use std::process::ExitCode;
+
+fn main(rt: HostRuntime) -> ExitCode {
+    match answer(&rt) {
+        Ok(()) => ExitCode::SUCCESS,
+        Err(_) => ExitCode::from(2),
+    }
+}
+
+/// Reads the document, and works on the rows of each tool.
+fn answer(rt: &HostRuntime) -> io::Result<()> {
+    let text = io::read_to_string(rt.alloc(), rt.stdin())?;
+    match read_document(rt.alloc(), text.as_str()) {
+        Ok(document) => each_tool(rt, &document),
+        Err(error) => println!(rt; "the rows: {error}"),
+    }
+}
+
+fn each_tool(rt: &HostRuntime, document: &Value) -> io::Result<()> {
+    each_row(rt, document, "edit")?;
+    each_row(rt, document, "tidy")?;
+    each_row(rt, document, "report")
+}
+
+fn each_row(rt: &HostRuntime, document: &Value, tool: &str) -> io::Result<()> {
+    let Some(Value::Array(rows)) = document.get(tool) else {
+        return println!(rt; "no rows of {tool}");
+    };
+    for row in rows {
+        let name = text_of(row, "name");
+        match outcome_of(rt.alloc(), document, tool, row) {
+            Outcome::Wanted => println!(rt; "{name}: right")?,
+            Outcome::WantedJson => println!(rt; "{name}: right, and the same JSON")?,
+            Outcome::NoJson => println!(rt; "{name}: no JSON")?,
+            Outcome::OtherJson => println!(rt; "{name}: WRONG: other JSON, or none")?,
+            Outcome::Other(other) => println!(rt; "{name}: WRONG: {other:?}")?,
+            Outcome::NoMemory => println!(rt; "{name}: out of memory")?,
+        }
+    }
+    Ok(())
+}
+
+fn outcome_of(alloc: Global, document: &Value, tool: &str, row: &Value) -> Outcome {
+    match tool {
+        "edit" => edits::outcome_of(alloc, row),
+        "tidy" => tidies::outcome_of(alloc, row),
+        _ => reports::outcome_of(alloc, text_of(document, "base"), row),
+    }
+}
