@@ -2,8 +2,8 @@
 
 use crate::answers::Answer;
 use json5::from_str;
-use test_own_types::Labels;
 use std::alloc::Global;
+use test_own_types::Labels;
 
 /// The strings that are read, each in quotes.
 pub fn answer(alloc: Global, text: &str) -> Answer {

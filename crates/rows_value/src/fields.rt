@@ -4,8 +4,8 @@ use crate::answers::Answer;
 use crate::else_types::Defaults;
 use crate::types::{Long, Only, Prefixes};
 use json5::{Deserialize, Serialize};
-use test_own_types::{Labels, Reminder, Size};
 use std::alloc::Global;
+use test_own_types::{Labels, Reminder, Size};
 
 /// What is written of the value that is read as the type with this name, its lines joined by blanks.
 pub fn answer(alloc: Global, name: &str, text: &str) -> Answer {

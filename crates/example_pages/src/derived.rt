@@ -11,7 +11,7 @@ struct Server {
     label: Option<String>,
 }
 
-fn main(rt: HostRuntime) -> json5_serde::Result<()> {
+pub fn main(rt: HostRuntime) -> json5_serde::Result<()> {
     let alloc = rt.alloc();
     let mut server: Server = json5_serde::from_str(alloc, "{host: 'localhost', port: 0x1F90}")?;
     server.port = 8443;

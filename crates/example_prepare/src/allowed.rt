@@ -1,20 +1,19 @@
 //! Says of each file that it is given whether all its keys are allowed, or where the first one is that isn't.
-#![tactic(auto)]
 
 use anyhow::{Result, bail};
 use json5::{Value, from_str};
 use std::alloc::Global;
-use std::{env, fs};
+use std::fs;
 
 /// The keys that are allowed. An array's first element stands for each.
 const SHAPE: &str = "{server: {host: '', port: 0}, routes: [{path: '', methods: []}], log: ''}";
 
-fn main(rt: HostRuntime) -> Result<()> {
+/// Checks the keys of each file.
+pub fn run(rt: HostRuntime, files: &[&str]) -> Result<()> {
     let alloc = rt.alloc();
     let shape: Value = from_str(alloc, SHAPE)?;
-    let files: Vec<String> = env::args(&rt)?.skip(1).collect(alloc)?;
-    for file in &files {
-        let text = fs::read_to_string(&rt, file.as_str())?;
+    for file in files {
+        let text = fs::read_to_string(&rt, *file)?;
         let value: Value = from_str(alloc, &text)?;
         match check(alloc, &value, &shape, "") {
             Ok(()) => println!(rt; "{file}: allowed")?,

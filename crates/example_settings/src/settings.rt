@@ -2,8 +2,8 @@
 
 ghost use Rattle.std.specs.Prelude.{[], ◌∷◌};
 ghost use Rattle.json5.specs.Structs.{codes, one_named, struct_only};
-ghost use Rattle.json5_settings.specs.declared.settings.Log.TheVariants.{Error, Info, Debug};
-ghost use Rattle.json5_settings.specs.declared.settings.Method.TheVariants.{Get, Post};
+ghost use Rattle.example_settings.specs.declared.settings.Log.TheVariants.{Error, Info, Debug};
+ghost use Rattle.example_settings.specs.declared.settings.Method.TheVariants.{Get, Post};
 
 use json5::fields::StructFields;
 use json5::{

@@ -5,7 +5,7 @@ use anyhow::{Context, Result};
 use json5::Value;
 use std::fs;
 
-fn main(rt: HostRuntime) -> Result<()> {
+pub fn main(rt: HostRuntime) -> Result<()> {
     let text = fs::read_to_string(&rt, "app.json5").context("app.json5")?;
     let settings: Value = json5::from_str(rt.alloc(), &text)?;
     match settings.get("server").and_then(|server| server.get("port")) {

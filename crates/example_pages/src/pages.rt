@@ -1,18 +1,13 @@
-//! Runs the examples of README.md and of the pages in docs/.
-#![tactic(auto)]
+//! The examples of README.md and of the pages that are no programs of their own.
 
-mod log;
-mod server;
-mod values;
-mod written;
-
+use crate::log::Log;
+use crate::server::Server;
+use crate::values::prepared;
 use json5::{Limit, Result, Value};
-use log::Log;
-use server::Server;
 use std::alloc::Global;
-use values::prepared;
 
-fn main(rt: HostRuntime) -> Result<()> {
+/// Prints what the examples give.
+pub fn main(rt: HostRuntime) -> Result<()> {
     let alloc = rt.alloc();
     for text in [
         "{ host: 'localhost' }",

@@ -12,8 +12,8 @@ pub enum Log {
 impl<I: Input> Deserialize<I> for Log {
     ghost use Rattle.std.specs.Prelude.{[], ◌∷◌};
     ghost use Rattle.json5.specs.Structs.{codes, one_named};
-    ghost use Rattle.json5_pages.specs.declared.log.Log.{Log};
-    ghost use Rattle.json5_pages.specs.declared.log.Log.TheVariants.{Error, Info};
+    ghost use Rattle.example_pages.specs.declared.log.Log.{Log};
+    ghost use Rattle.example_pages.specs.declared.log.Log.TheVariants.{Error, Info};
 
     ghost Content = { Log };
 

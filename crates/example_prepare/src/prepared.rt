@@ -1,5 +1,4 @@
 //! Reads settings over their defaults, changes one value, refuses keys that aren't allowed, and prints the rest as JSON.
-#![tactic(auto)]
 
 use anyhow::{Context, Result, ensure};
 use json5::{Value, from_str, to_json};
@@ -11,7 +10,8 @@ const DEFAULTS: &str = "{server: {host: 'localhost', port: 80}, tags: []}";
 /// The keys that settings may have, by their paths.
 const ALLOWED: [&str; 4] = ["server", "server.host", "server.port", "tags"];
 
-fn main(rt: HostRuntime) -> Result<()> {
+/// Prepares the settings in `app.json5`.
+pub fn run(rt: HostRuntime) -> Result<()> {
     let alloc = rt.alloc();
     let text = fs::read_to_string(&rt, "app.json5").context("app.json5")?;
     let mut settings: Value = from_str(alloc, DEFAULTS)?;

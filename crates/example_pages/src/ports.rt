@@ -1,7 +1,7 @@
 //! Reads ports by their names, and prints each as it is written.
 #![tactic(auto)]
 
-fn main(rt: HostRuntime) -> json5::Result<()> {
+pub fn main(rt: HostRuntime) -> json5::Result<()> {
     let alloc = rt.alloc();
     let text = "[['http', 80], ['https', 0x1BB], /* last */]";
     let ports: Vec<(&str, u16)> = json5::from_str(alloc, text)?;
