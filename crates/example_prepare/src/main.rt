@@ -9,7 +9,7 @@ mod prepared;
 
 use anyhow::Result;
 
-const MERGED: [&str; 3] = ["defaults.json5", "site.json5", "local.json5"];
+const LAYERS: [&str; 3] = ["defaults.json5", "site.json5", "local.json5"];
 
 const CHECKED: [&str; 5] = [
     "shop.json5",
@@ -22,6 +22,6 @@ const CHECKED: [&str; 5] = [
 fn main(rt: HostRuntime) -> Result<()> {
     prepared::run(rt)?;
     json::run(rt)?;
-    merged::run(rt, &MERGED)?;
+    merged::run(rt, &LAYERS)?;
     allowed::run(rt, &CHECKED)
 }
