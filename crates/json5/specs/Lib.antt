@@ -61,7 +61,7 @@ pub use Rattle.json5_fields.specs.Spares
 pub use Rattle.json5_fields.specs.Named
 pub use Rattle.json5_fields.specs.WrittenFields
 pub use Rattle.json5_fields.specs.VariantContents
-pub use Rattle.json5_lists.specs.Distinct
+pub use Rattle.json5_fields.specs.Distinct
 -- Writing. Seven modules of json5_ser name the definitions of json5_write again, whose own names a goal shows.
 pub use Rattle.json5_ser.specs.WrittenTrees
 pub use Rattle.json5_ser.specs.ValueTrees

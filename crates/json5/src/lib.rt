@@ -39,7 +39,7 @@ pub use json5_layouts::{
     Layout, is_json, to_json, to_json_compact, to_json_in, to_json_writer, to_json_writer_in,
     to_string_in, to_vec_in, to_writer_in,
 };
-pub use json5_lists::{Distinct, read_distinct};
+pub use json5_fields::{Distinct, read_distinct};
 pub use json5_literal::{ToValue, json5};
 pub use json5_numbers::DecimalExt;
 pub use json5_positions::InText;

@@ -20,6 +20,7 @@ mod tuples;
 mod variants;
 mod written_objects;
 mod written_tuples;
+mod distinct_texts;
 
 pub use defaults::WithDefaultText;
 pub use entries::{Field, Given, WrittenFields};
@@ -31,3 +32,4 @@ pub use objects::read_struct;
 pub use only::read_struct_only;
 pub use variants::{EnumVariants, Holding, NoContent, OneOf};
 pub use written_objects::write_struct;
+pub use distinct_texts::{Distinct, read_distinct};

@@ -1,6 +1,6 @@
 use Rattle.json5_de.proofs.Refinement.{reads_content}
-use Rattle.json5_lists.specs.Distinct.{all_texts, distinct_texts}
-use Rattle.json5_lists.proofs.distinct_texts.read_distinct.Goals as goal
+use Rattle.json5_fields.specs.Distinct.{all_texts, distinct_texts}
+use Rattle.json5_fields.proofs.distinct_texts.read_distinct.Goals as goal
 
 pub returns : goal.returns
 returns g c = record {

@@ -4,7 +4,7 @@ ghost use Rattle.std.specs.Prelude.{◌≡◌, true, map, string_bytes, MatchOpt
 ghost use Rattle.json5_types.specs.Errors.{LacksMemory};
 ghost use Rattle.json5_de.specs.State.{SameText};
 ghost use Rattle.json5_de.specs.DeserializeLaw.{Gives, Completes, Unprompted, IsUnprompted};
-ghost use Rattle.json5_lists.specs.Distinct.{is_one_of, texts, all_texts, may_follow, all_fit, distinct_texts, IsFirstUnfit, IsOwnAt, DistinctFault, ReadsDistinct};
+ghost use Rattle.json5_fields.specs.Distinct.{is_one_of, texts, all_texts, may_follow, all_fit, distinct_texts, IsFirstUnfit, IsOwnAt, DistinctFault, ReadsDistinct};
 
 use json5_de::{Deserialize, Deserializer, Spanned};
 use json5_text::input::Input;

@@ -1,9 +1,9 @@
 use Rattle.std.proofs.Common.{arith}
 use Rattle.std.proofs.lemmas.List.{length-map}
 use Rattle.json5_de.proofs.Refinement.{accepted_completes, refused_completes}
-use Rattle.json5_lists.specs.Distinct.{text_at, texts, texts_of, if_distinct, at_element, not_read}
-use Rattle.json5_lists.proofs.TextsThatDiffer.{unfit_none, few_none, all_taken, few_refused, made_sound, made_complete, made_refused, made_unprompted}
-use Rattle.json5_lists.proofs.distinct_texts.read_texts.Goals as goal
+use Rattle.json5_fields.specs.Distinct.{text_at, texts, texts_of, if_distinct, at_element, not_read}
+use Rattle.json5_fields.proofs.TextsThatDiffer.{unfit_none, few_none, all_taken, few_refused, made_sound, made_complete, made_refused, made_unprompted}
+use Rattle.json5_fields.proofs.distinct_texts.read_texts.Goals as goal
 
 pub returns-in-Err-clause-complete : goal.returns-in-Err-clause-complete
 returns-in-Err-clause-complete g c = accepted_completes (if_distinct c.args.rule.least c.args.rule.most c.args.rule.longest) c.in-Err.ensures.reads.complete

@@ -3,7 +3,7 @@ use Rattle.std.proofs.Common.{◌≡◌, ℕ, Bool, true, false, List, [], ◌�
 use Rattle.std.proofs.lemmas.Slice.Eq.{bytes_eq-Decides}
 use Rattle.std.specs.Prelude.{if◌then◌else◌}
 use Rattle.std.specs.Str.{bytes_eq}
-use Rattle.json5_lists.specs.Distinct.{is_one_of, no_two_equal}
+use Rattle.json5_fields.specs.Distinct.{is_one_of, no_two_equal}
 
 pub one_of_either : (ns ms : List (List ℕ)) (u : List ℕ) → is_one_of (ns ++ ms) u ≡ (if is_one_of ns u then true else is_one_of ms u)
 one_of_either [] ms u = refl

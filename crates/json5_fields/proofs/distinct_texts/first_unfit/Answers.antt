@@ -1,8 +1,8 @@
 use Rattle.std.proofs.Common.{sym, ap, refl, ◌∙◌, ◌-◌, length, take, arith}
 use Rattle.std.proofs.lemmas.List.{length-take-le}
-use Rattle.json5_lists.specs.Distinct.{texts, may_follow}
-use Rattle.json5_lists.proofs.TextsThatDiffer.{judged_none, judged_all, judged_unfit, judged_more}
-use Rattle.json5_lists.proofs.distinct_texts.first_unfit.Goals as goal
+use Rattle.json5_fields.specs.Distinct.{texts, may_follow}
+use Rattle.json5_fields.proofs.TextsThatDiffer.{judged_none, judged_all, judged_unfit, judged_more}
+use Rattle.json5_fields.proofs.distinct_texts.first_unfit.Goals as goal
 
 pub loop-item-init : goal.loop-item-init
 loop-item-init c = judged_none c.args.rule.most c.args.rule.longest c.args.list.now

@@ -15,8 +15,8 @@ use Rattle.json5_de.specs.DeserializeLaw.{Gives, Completes, Unprompted}
 use Rattle.json5_de.specs.Refinement.{if_more}
 use Rattle.json5_de.specs.Spans.{SpansValue}
 use Rattle.json5_de.proofs.Refinement.{refused_at}
-use Rattle.json5_lists.proofs.TextsApart.{one_of_neither, apart}
-use Rattle.json5_lists.specs.Distinct.{is_one_of, no_two_equal, all_within, all_fit, if_distinct, texts_of, distinct_texts, may_follow, Placed, text_at, texts, all_texts, IsFirstUnfit, IsOwnAt, TookTexts, DistinctFault, too_few, no_memory}
+use Rattle.json5_fields.proofs.TextsApart.{one_of_neither, apart}
+use Rattle.json5_fields.specs.Distinct.{is_one_of, no_two_equal, all_within, all_fit, if_distinct, texts_of, distinct_texts, may_follow, Placed, text_at, texts, all_texts, IsFirstUnfit, IsOwnAt, TookTexts, DistinctFault, too_few, no_memory}
 
 -- ---- the tests of a condition
 

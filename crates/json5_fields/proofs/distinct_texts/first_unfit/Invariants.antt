@@ -1,6 +1,6 @@
 use Rattle.std.proofs.Common.{length}
-use Rattle.json5_lists.proofs.TextsThatDiffer.{Judged}
-use Rattle.json5_lists.proofs.distinct_texts.first_unfit.Given as goal
+use Rattle.json5_fields.proofs.TextsThatDiffer.{Judged}
+use Rattle.json5_fields.proofs.distinct_texts.first_unfit.Given as goal
 
 abbrev pub invariant-loop-item : goal.invariant-loop-item
 invariant-loop-item l = Judged l.fn.rule.most l.fn.rule.longest l.fn.list l.rest
