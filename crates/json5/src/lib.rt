@@ -31,7 +31,7 @@ pub use json5_fields::{
     Field, Given, Holding, NoContent, OneOf, Optional, Required, WithDefault, WithDefaultText,
     one_of_names, read_enum, read_struct, read_struct_only, write_struct,
 };
-pub use json5_floats::AsF64;
+pub use json5_numbers::AsF64;
 pub use json5_format::{format, format_within};
 pub use json5_grammar::error_code::ErrorCode;
 pub use json5_grammar::position::Position;

@@ -13,7 +13,7 @@ use Rattle.json5_grammar.proofs.NumberFaultsRefused.{no_fault, one_number}
 use Rattle.json5_grammar.proofs.ValueHeads.{number_head}
 use Rattle.json5_grammar.proofs.DecimalsWritten.{length-front}
 use Rattle.json5_types.specs.declared.error.Error.{Error}
-use Rattle.json5_floats.proofs.SpelledNumbers.{each_digit}
+use Rattle.json5_numbers.proofs.SpelledNumbers.{each_digit}
 use Rattle.json5_types.specs.Errors.{LacksMemory, kind_of, known_code}
 use Rattle.json5_numbers.specs.NumberTexts.{is_memory}
 use Rattle.json5_text.specs.Cursor.{Cursor, Refused}

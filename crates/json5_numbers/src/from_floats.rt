@@ -5,7 +5,7 @@ ghost use Rattle.std.specs.Float.{binary64, float_is_finite};
 ghost use Rattle.std.specs.Str.Parse.{AllDigits, digits_value};
 ghost use Rattle.fast_float.specs.Text.{nearest};
 ghost use Rattle.json5_types.specs.Errors.{LacksMemory};
-ghost use Rattle.json5_floats.specs.Floats.{nearest_to, last_place};
+ghost use Rattle.json5_numbers.specs.Floats.{nearest_to, last_place};
 
 use fast_float::Numeral;
 use json5_types::decimal::{Decimal, DecimalRef};

@@ -4,7 +4,7 @@ ghost use Rattle.std.specs.Prelude.{◌≡◌, ◌^◌, ◌<◌};
 ghost use Rattle.std.specs.Float.{binary64};
 ghost use Rattle.std.specs.Float.Ieee.{round};
 ghost use Rattle.json5_types.specs.NumberWholes.{is_below_zero, distance};
-ghost use Rattle.json5_floats.specs.Floats.{nearest_to_whole};
+ghost use Rattle.json5_numbers.specs.Floats.{nearest_to_whole};
 
 use fast_float::Numeral;
 use itoa::Buffer;

@@ -15,7 +15,7 @@ use Rattle.fast_float.proofs.Writing.{scan-text_of}
 use Rattle.json5_grammar.specs.Language.Characters.{is_digit, Each, no_char, char}
 use Rattle.std.proofs.lemmas.Int.{ints}
 use Rattle.json5_grammar.specs.Written.NumberText.{Normal}
-use Rattle.json5_floats.specs.Floats.{nearest_to}
+use Rattle.json5_numbers.specs.Floats.{nearest_to}
 use Rattle.json5_grammar.specs.Language.Numbers.{Decimal, infinite, nan, finite}
 use Rattle.json5_types.specs.NumberDecimals.{has_minus, is_infinity, is_not_a_number, digits_in, exponent_in}
 

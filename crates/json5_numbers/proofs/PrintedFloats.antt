@@ -30,7 +30,7 @@ use Rattle.json5_grammar.specs.Language.Numbers.{Decimal, finite, without_front_
 use Rattle.json5_grammar.proofs.DecimalsWritten.{length-front}
 use Rattle.json5_types.specs.Exponents.{IsSmallExponent}
 use Rattle.json5_types.specs.NumberDecimals.{IsFiniteIfInRange}
-use Rattle.json5_floats.specs.Floats.{nearest_to, last_place}
+use Rattle.json5_numbers.specs.Floats.{nearest_to, last_place}
 
 -- ---- digits without the zeros around them
 

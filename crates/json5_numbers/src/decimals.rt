@@ -8,7 +8,7 @@ ghost use Rattle.std.specs.Str.Parse.{digits_value};
 ghost use Rattle.json5_grammar.specs.Language.Characters.{is_digit, Each, letter_e};
 ghost use Rattle.json5_types.specs.Errors.{LacksMemory};
 ghost use Rattle.json5_types.specs.NumberDecimals.{digits_in, exponent_in};
-ghost use Rattle.json5_floats.specs.Floats.{nearest_to};
+ghost use Rattle.json5_numbers.specs.Floats.{nearest_to};
 
 use fast_float::{FastFloat, Numeral};
 use json5_types::decimal::Decimal;

@@ -2,9 +2,9 @@ use Rattle.std.proofs.Common.{◌≡◌, ap, sym, subst, ◌∙◌, ◌++◌}
 use Rattle.json5_grammar.specs.Language.Characters.{is_digit, Each}
 use Rattle.json5_types.specs.Exponents.{IsSmallExponent}
 use Rattle.json5_types.specs.NumberDecimals.{IsFiniteIfInRange}
-use Rattle.json5_floats.proofs.SpelledNumbers.{each_digit}
-use Rattle.json5_floats.proofs.PrintedFloats.{small_place, held_small, found_is}
-use Rattle.json5_floats.proofs.from_floats.exact.Goals as goal
+use Rattle.json5_numbers.proofs.SpelledNumbers.{each_digit}
+use Rattle.json5_numbers.proofs.PrintedFloats.{small_place, held_small, found_is}
+use Rattle.json5_numbers.proofs.from_floats.exact.Goals as goal
 
 pub new-requires-clause-before_digits : goal.new-requires-clause-before_digits
 new-requires-clause-before_digits c = subst (Each is_digit) (sym c.as_text.ensures) (each_digit c.whole.result.now c.whole.ensures.digits)

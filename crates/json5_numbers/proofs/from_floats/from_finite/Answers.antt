@@ -2,9 +2,9 @@ use Rattle.std.proofs.Common.{◌≤◌, ◌+◌, cond, drop, length, pos, ap, �
 use Rattle.std.proofs.lemmas.List.{length-drop}
 use Rattle.std.specs.Float.{binary64}
 use Rattle.json5_grammar.specs.Language.Numbers.{finite}
-use Rattle.json5_floats.specs.Floats.{nearest_to}
-use Rattle.json5_floats.proofs.PrintedFloats.{is_minus, printed_nearest, far_is_zero}
-use Rattle.json5_floats.proofs.from_floats.from_finite.Goals as goal
+use Rattle.json5_numbers.specs.Floats.{nearest_to}
+use Rattle.json5_numbers.proofs.PrintedFloats.{is_minus, printed_nearest, far_is_zero}
+use Rattle.json5_numbers.proofs.from_floats.from_finite.Goals as goal
 
 pub returns-in_ok-to_decimal-in-Some : goal.returns-in_ok-to_decimal-in-Some
 returns-in_ok-to_decimal-in-Some c =

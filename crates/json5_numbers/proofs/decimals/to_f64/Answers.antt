@@ -1,8 +1,8 @@
 use Rattle.std.proofs.Common.{refl, sym, ◌∙◌}
 use Rattle.std.specs.Float.{binary64}
 use Rattle.json5_types.specs.NumberDecimals.{digits_in, exponent_in}
-use Rattle.json5_floats.proofs.SpelledNumbers.{nearest_read}
-use Rattle.json5_floats.proofs.decimals.to_f64.Goals as goal
+use Rattle.json5_numbers.proofs.SpelledNumbers.{nearest_read}
+use Rattle.json5_numbers.proofs.decimals.to_f64.Goals as goal
 
 pub returns-in_ok-text-in-None : goal.returns-in_ok-text-in-None
 returns-in_ok-text-in-None c =

@@ -1,6 +1,6 @@
 use Rattle.std.proofs.Common.{refl, ◌∙◌}
 use lib.Ieee.{of_bits, neg}
-use Rattle.json5_floats.proofs.decimals.infinity.Goals as goal
+use Rattle.json5_numbers.proofs.decimals.infinity.Goals as goal
 
 pub returns-then-negative : goal.returns-then-negative
 unfolding of_bits neg

@@ -3,7 +3,7 @@
 ghost use Rattle.std.specs.Prelude.{◌≡◌, MatchResult, option_map};
 ghost use Rattle.std.specs.Float.{binary64};
 ghost use Rattle.json5_types.specs.Errors.{LacksMemory};
-ghost use Rattle.json5_floats.specs.Floats.{nearest_to_number};
+ghost use Rattle.json5_numbers.specs.Floats.{nearest_to_number};
 
 use crate::decimals::to_f64;
 use crate::wholes::nearest_float;
