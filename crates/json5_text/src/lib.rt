@@ -19,3 +19,6 @@ pub mod strings;
 mod strings_and_names;
 pub mod text_token;
 mod words;
+pub mod positions;
+
+pub use positions::InText;

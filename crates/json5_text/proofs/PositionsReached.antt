@@ -11,7 +11,7 @@ use Rattle.json5_grammar.specs.declared.position.Position.{Position}
 use Rattle.json5_grammar.specs.Faults.Positions.{position_after}
 use Rattle.json5_grammar.specs.Model.PositionSteps.{position_step, position_from}
 use Rattle.json5_grammar.proofs.PositionsCounted.{counted, step_bounded}
-use Rattle.json5_positions.specs.Places.{HasPosition, IsOffsetIn}
+use Rattle.json5_text.specs.Places.{HasPosition, IsOffsetIn}
 
 abbrev pub text_start : Position
 text_start = record { line = 0; column = 0 }

@@ -1,5 +1,5 @@
-use Rattle.json5_positions.proofs.UnitsCounted.{column_found}
-use Rattle.json5_positions.proofs.PositionInText.utf16_column.Goals as goal
+use Rattle.json5_text.proofs.UnitsCounted.{column_found}
+use Rattle.json5_text.proofs.positions.PositionInText.utf16_column.Goals as goal
 
 pub returns : goal.returns
 returns c =

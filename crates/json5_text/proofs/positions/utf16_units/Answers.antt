@@ -1,7 +1,7 @@
 use Rattle.std.proofs.Common.{sym, ◌∙◌}
 use Rattle.std.specs.Str.Iter.{chars_rest}
-use Rattle.json5_positions.proofs.UnitsCounted.{units_restart, units_grow, width_is, units_end}
-use Rattle.json5_positions.proofs.utf16_units.Goals as goal
+use Rattle.json5_text.proofs.UnitsCounted.{units_restart, units_grow, width_is, units_end}
+use Rattle.json5_text.proofs.positions.utf16_units.Goals as goal
 
 pub loop-c-preserved-then-is_json5_line_terminator : goal.loop-c-preserved-then-is_json5_line_terminator
 loop-c-preserved-then-is_json5_line_terminator c =

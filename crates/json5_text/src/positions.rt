@@ -3,14 +3,13 @@
 //! ```text
 //! let offset = error.position()?.offset_in(text)?;    // so that `&text[offset..]` begins with the fault
 //! ```
-#![tactic(auto)]
 
 ghost use Rattle.std.specs.Prelude.{◌≡◌, ◌↔◌, ◌+◌, ◌<◌, false, IsTrue};
 ghost use Rattle.std.specs.Str.{chars};
 ghost use Rattle.json5_grammar.specs.Model.PositionSteps.{position_step};
-ghost use Rattle.json5_positions.specs.Places.{FindsOffset, FindsColumn, utf16_units};
+ghost use Rattle.json5_text.specs.Places.{FindsOffset, FindsColumn, utf16_units};
 
-use json5_text::char::is_json5_line_terminator;
+use crate::char::is_json5_line_terminator;
 use json5_types::Position;
 
 /// Where a position is in a text.

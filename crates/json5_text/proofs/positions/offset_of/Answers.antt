@@ -3,8 +3,8 @@ use Rattle.std.specs.Prelude.{IsTrue}
 use Rattle.std.specs.Char.{encode_utf8, len_utf8}
 use Rattle.std.specs.Str.Iter.{chars_rest}
 use Rattle.json5_grammar.specs.Model.PositionSteps.{position_step}
-use Rattle.json5_positions.proofs.PositionsReached.{Walk, text_start, walk_start, walk_step, walk_found, walk_missed}
-use Rattle.json5_positions.proofs.offset_of.Goals as goal
+use Rattle.json5_text.proofs.PositionsReached.{Walk, text_start, walk_start, walk_step, walk_found, walk_missed}
+use Rattle.json5_text.proofs.positions.offset_of.Goals as goal
 
 pub loop-c-init : goal.loop-c-init
 loop-c-init c =

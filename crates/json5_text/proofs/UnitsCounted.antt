@@ -8,7 +8,7 @@ use Rattle.std.proofs.lemmas.Str.{IsUtf8-past_char, IsUtf8-take, chars-append, c
 use Rattle.std.proofs.StrCases.{chars_of_empty}
 use Rattle.json5_grammar.specs.Language.Characters.{is_terminator}
 use Rattle.json5_grammar.specs.declared.position.Position.{Position}
-use Rattle.json5_positions.specs.Places.{IsOffsetIn, FindsColumn, utf16_width, utf16_units}
+use Rattle.json5_text.specs.Places.{IsOffsetIn, FindsColumn, utf16_width, utf16_units}
 
 -- what was counted, what is left, and that there is room for it
 abbrev pub Units : List ℕ → List ℕ → ℕ → Type 0
