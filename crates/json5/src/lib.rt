@@ -35,7 +35,7 @@ pub use json5_numbers::AsF64;
 pub use json5_format::{format, format_within};
 pub use json5_grammar::error_code::ErrorCode;
 pub use json5_grammar::position::Position;
-pub use json5_layouts::{
+pub use json5_styles::{
     Layout, is_json, to_json, to_json_compact, to_json_in, to_json_writer, to_json_writer_in,
     to_string_in, to_vec_in, to_writer_in,
 };

@@ -6,7 +6,7 @@ use Rattle.std.proofs.lemmas.Str.{chars-encodes, chars-append}
 use Rattle.json5_grammar.specs.Language.Blanks.{Blanks}
 use Rattle.json5_grammar.specs.Language.Characters.{comma_sign}
 use Rattle.json5_grammar.specs.Language.Trees.{Tree}
-use Rattle.json5_layouts.specs.Json.{JsonString}
+use Rattle.json5_styles.specs.Json.{JsonString}
 use Rattle.json5_lexemes.specs.Plain.{Plain, KeepsPlain, PlainText, StaysPlain}
 use Rattle.json5_lexemes.specs.Plain as plain
 use Rattle.json5_lexemes.specs.Spans.{AfterEntry}

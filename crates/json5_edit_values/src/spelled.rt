@@ -13,7 +13,7 @@ use crate::json::spelled_like;
 use crate::laid_out::laid_out;
 use crate::seats::Goes;
 use json5_edit::{EditError, Result, Step};
-use json5_layouts::Layout;
+use json5_styles::Layout;
 use json5_ser::{Serialize, to_string};
 use json5_types::ErrorCode;
 use json5_types::error::Error;
