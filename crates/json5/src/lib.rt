@@ -48,7 +48,7 @@ pub use json5_ser::{
     Serialize, SerializeCollection, SerializeKey, Serializer, to_string, to_string_within,
     to_writer, to_writer_within,
 };
-pub use json5_shown::{ShownValue, shown};
+pub use json5_styles::{ShownValue, shown};
 pub use json5_text::char;
 pub use json5_text::input::{Borrows, Input};
 pub use json5_types::byte_buf::ByteBuf;

@@ -3,11 +3,9 @@
 //! ```text
 //! println!(rt; "{}", shown(&settings))?;
 //! ```
-#![tactic(auto)]
 
 ghost use Rattle.std.specs.Prelude.{◌≡◌};
 
-mod sink;
 
 use crate::sink::Sink;
 use json5_types::nesting::Limit;
