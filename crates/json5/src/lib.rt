@@ -43,7 +43,7 @@ pub use json5_fields::{Distinct, read_distinct};
 pub use json5_literal::{ToValue, json5};
 pub use json5_numbers::DecimalExt;
 pub use json5_text::InText;
-pub use json5_readers::{from_reader, read_text, text_of_bytes};
+pub use json5_io::{from_reader, read_text, text_of_bytes};
 pub use json5_ser::{
     Serialize, SerializeCollection, SerializeKey, Serializer, to_string, to_string_within,
     to_writer, to_writer_within,

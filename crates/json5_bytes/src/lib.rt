@@ -10,12 +10,12 @@ ghost use Rattle.std.specs.Str.{chars};
 ghost use Rattle.json5_grammar.specs.Language.Documents.{Doc, max_depth};
 ghost use Rattle.json5_grammar.specs.Language.Trees.{Tree};
 ghost use Rattle.json5_de.specs.WholeInputs.{ReadsWholeText, BlamesRest};
-ghost use Rattle.json5_readers.specs.Bytes.{RefusesBytes};
+ghost use Rattle.json5_io.specs.Bytes.{RefusesBytes};
 
 mod vectors;
 
 use json5_de::Deserialize;
-use json5_readers::text_of_bytes;
+use json5_io::text_of_bytes;
 use json5_types::error::Result;
 use std::alloc::Global;
 pub use vectors::to_vec;

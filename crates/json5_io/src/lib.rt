@@ -9,7 +9,7 @@ ghost use Rattle.std.specs.Prelude.{◌≡◌, Some, MatchResult, take, codes};
 ghost use Rattle.std.specs.Str.{chars, IsValidUpTo};
 ghost use Rattle.json5_grammar.specs.Faults.Positions.{position_after};
 ghost use Rattle.json5_types.specs.Errors.{custom, SaysAt, LacksMemory};
-ghost use Rattle.json5_readers.specs.Bytes.{ReadsText};
+ghost use Rattle.json5_io.specs.Bytes.{ReadsText};
 
 mod readers;
 

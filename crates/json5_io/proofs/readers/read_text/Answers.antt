@@ -1,5 +1,5 @@
-use Rattle.json5_readers.proofs.Refusals.{bytes_fault, all_read, handed}
-use Rattle.json5_readers.proofs.readers.read_text.Goals as goal
+use Rattle.json5_io.proofs.Refusals.{bytes_fault, all_read, handed}
+use Rattle.json5_io.proofs.readers.read_text.Goals as goal
 
 pub returns-in_err-text_of_bytes-clause-refused : goal.returns-in_err-text_of_bytes-clause-refused
 returns-in_err-text_of_bytes-clause-refused g c =

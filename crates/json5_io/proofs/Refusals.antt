@@ -3,8 +3,8 @@ use Rattle.std.proofs.Common.{◌≡◌, ◌⊎◌, inl, inr, ℕ, List, [], ◌
 use Rattle.std.specs.Prelude.{IfSome, IfErr, IsErrAnd}
 use Rattle.json5_types.specs.declared.error.Error.{Error}
 use Rattle.json5_types.specs.declared.value.Value.{Value}
-use Rattle.json5_readers.specs.Bytes.{ReadsText}
-use Rattle.json5_readers.specs.Readers.{AreAll, RefusesReader, by_bytes, by_memory, ReadsReader, refused}
+use Rattle.json5_io.specs.Bytes.{ReadsText}
+use Rattle.json5_io.specs.Readers.{AreAll, RefusesReader, by_bytes, by_memory, ReadsReader, refused}
 
 pub bytes_fault : (known : Option (List ℕ)) (bytes : List ℕ) (e : Error) → AreAll known bytes → ReadsText bytes (Err e) → RefusesReader known e
 bytes_fault known bytes e all (no_text, inl f) = by_bytes bytes all no_text f

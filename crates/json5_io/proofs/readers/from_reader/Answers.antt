@@ -1,7 +1,7 @@
 use Rattle.std.proofs.Common.{sym, subst}
-use Rattle.json5_readers.specs.Readers.{AreAll, document}
-use Rattle.json5_readers.proofs.Refusals.{handed_on}
-use Rattle.json5_readers.proofs.readers.from_reader.Goals as goal
+use Rattle.json5_io.specs.Readers.{AreAll, document}
+use Rattle.json5_io.proofs.Refusals.{handed_on}
+use Rattle.json5_io.proofs.readers.from_reader.Goals as goal
 
 pub returns-in_err-text : goal.returns-in_err-text
 returns-in_err-text g c = handed_on (g.R.Read.remaining c.args.reader.now) _ _ c.from_residual.ensures.1 c.in_err-text.ensures.refused

@@ -2,7 +2,7 @@
 
 ghost use Rattle.std.specs.Prelude.{None, IfOk, IfErr, MatchResult, codes};
 ghost use Rattle.json5_types.specs.Errors.{custom, SaysAt, LacksMemory};
-ghost use Rattle.json5_readers.specs.Readers.{HoldsAll, IsReadFault, ReadsReader, RefusesReader};
+ghost use Rattle.json5_io.specs.Readers.{HoldsAll, IsReadFault, ReadsReader, RefusesReader};
 
 use crate::text_of_bytes;
 use json5_format::read_document;
