@@ -20,7 +20,7 @@
 mod laws;
 pub mod ser;
 
-pub use json5_bytes::{from_slice, to_vec};
+pub use json5_io::{from_slice, to_vec};
 pub use json5_de as de;
 pub use json5_de::{
     Deserialize, DeserializeKey, Deserializer, EnumAccess, IgnoredAny, MapAccess, SeqAccess,

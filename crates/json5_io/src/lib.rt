@@ -12,10 +12,14 @@ ghost use Rattle.json5_types.specs.Errors.{custom, SaysAt, LacksMemory};
 ghost use Rattle.json5_io.specs.Bytes.{ReadsText};
 
 mod readers;
+mod vectors;
+pub mod slices;
 
 use json5_types::Position;
 use json5_types::error::{Error, Result};
 pub use readers::{from_reader, read_text};
+pub use vectors::to_vec;
+pub use slices::{from_slice};
 use std::alloc::Global;
 use std::str;
 

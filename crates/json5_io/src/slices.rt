@@ -3,7 +3,6 @@
 //! ```text
 //! let port: u16 = json5::from_slice(alloc, bytes)?;
 //! ```
-#![tactic(auto)]
 
 ghost use Rattle.std.specs.Prelude.{◌≡◌, true, IsUtf8, IsErrAnd, IsOk, IfErr, Some};
 ghost use Rattle.std.specs.Str.{chars};
@@ -12,13 +11,11 @@ ghost use Rattle.json5_grammar.specs.Language.Trees.{Tree};
 ghost use Rattle.json5_de.specs.WholeInputs.{ReadsWholeText, BlamesRest};
 ghost use Rattle.json5_io.specs.Bytes.{RefusesBytes};
 
-mod vectors;
 
 use json5_de::Deserialize;
-use json5_io::text_of_bytes;
+use crate::text_of_bytes;
 use json5_types::error::Result;
 use std::alloc::Global;
-pub use vectors::to_vec;
 
 /// Reads the bytes of a whole text as a `T`, as [`from_str`](json5_de::from_str) does its text. A byte order mark is a blank.
 ///
