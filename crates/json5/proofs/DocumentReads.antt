@@ -26,7 +26,7 @@ use Rattle.json5_de.proofs.BracketSteps.{failed_of}
 use Rattle.json5_de.proofs.TreeFaults.{as_reading}
 use Rattle.json5_value.proofs.FoundEntries.{placed_after}
 use Rattle.json5_de.proofs.ReadSteps.{input_of}
-use Rattle.json5_format.specs.DocumentReads.{FaultyDocument, unread_text, IsRefusedWithin, ReadsText}
+use Rattle.json5_value.specs.DocumentReads.{FaultyDocument, unread_text, IsRefusedWithin, ReadsText}
 use Rattle.json5_grammar.proofs.DocumentsRead.{to_end, blanks_refused, value_refused, comment_refused, character_refused, rest_refused}
 
 -- what reading refuses the input with

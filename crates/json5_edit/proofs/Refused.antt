@@ -23,7 +23,7 @@ use Rattle.json5_value.specs.declared.brackets.BracketKind.{BracketKind as Kind}
 use Rattle.json5_value.specs.declared.brackets.BracketKind.TheVariants as kind
 use Rattle.json5_value.specs.Brackets.{brackets_of}
 use Rattle.json5_value.specs.ModelSteps.{RefusesRead, Gave, value_at}
-use Rattle.json5_format.specs.DocumentReads.{FaultyDocument, unread_text, IsRefusedWithin}
+use Rattle.json5_value.specs.DocumentReads.{FaultyDocument, unread_text, IsRefusedWithin}
 use Rattle.json5_walk.specs.declared.place.Place.{Place}
 use Rattle.json5_walk.specs.Walks.{IsDocument}
 use Rattle.json5_walk.proofs.Rests.{append_nil}

@@ -9,7 +9,7 @@ ghost use Rattle.json5_grammar.specs.Language.Values.{Val};
 
 use crate::laid_out::is_value;
 use json5_edit::{EditError, Result};
-use json5_format::read_document;
+use json5_value::read_document;
 use json5_styles::to_json;
 use json5_lexemes::is_plain;
 use json5_types::ErrorCode;

@@ -23,3 +23,5 @@ pub mod TakenElements
 pub mod TakenMembers
 pub mod BuildTurns
 pub mod BuildValues
+pub mod DocumentChecks
+pub mod DocumentReads

@@ -13,3 +13,5 @@ pub mod TreeMeanings
 pub mod OwnedReads
 pub mod BuildSteps
 pub mod TakenEntries
+pub mod DocumentChecks
+pub mod DocumentReads

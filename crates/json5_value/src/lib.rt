@@ -4,6 +4,7 @@
 #![tactic(auto)]
 
 pub mod brackets;
+mod documents;
 mod entries;
 pub mod faults;
 mod growth;
@@ -14,3 +15,5 @@ mod scalars;
 pub mod skip;
 pub mod steps;
 mod unfinished;
+
+pub use documents::{check_document, read_document, read_document_within};

@@ -28,7 +28,7 @@ use Rattle.json5_value.specs.ModelSteps.{IsInside, HasPositionAt, RefusesRead, G
 use Rattle.json5_value.proofs.BuildScalars.{datum_got}
 use Rattle.json5_value.proofs.NoFailedCode.{Lacks, in_blanks_other, memory_other}
 use Rattle.json5_value.proofs.ModelSteps.{blames_refused, blames_made, blames_as, ready_after, none_next, some_next}
-use Rattle.json5_format.specs.DocumentReads.{FaultyDocument, unread_text, IsRefusedWithin, ReadsText}
+use Rattle.json5_value.specs.DocumentReads.{FaultyDocument, unread_text, IsRefusedWithin, ReadsText}
 
 -- ---- the answer, from what reading on lists gives
 

@@ -15,9 +15,9 @@ use Rattle.json5_text.specs.TokenFaults.{FaultyBlanks}
 use Rattle.json5_value.specs.OwnedReads.{as_datum, datum_at}
 use Rattle.json5_value.specs.ModelSteps.{RefusesRead, Gave, value_at}
 use Rattle.json5_value.proofs.ModelSteps.{blames_as}
-use Rattle.json5_format.specs.DocumentReads.{unread_text, ReadsText}
-use Rattle.json5_format.specs.DocumentChecks.{ChecksText}
-use Rattle.json5_format.proofs.DocumentReads.{SkippedGap, front_refused, value_refused, refused_whole, rest_blamed, whole_document, character_blamed}
+use Rattle.json5_value.specs.DocumentReads.{unread_text, ReadsText}
+use Rattle.json5_value.specs.DocumentChecks.{ChecksText}
+use Rattle.json5_value.proofs.DocumentReads.{SkippedGap, front_refused, value_refused, refused_whole, rest_blamed, whole_document, character_blamed}
 
 -- what reading refuses a check refuses
 as_check : (limit : ℕ) (x : List ℕ) (e : Error) → ReadsText limit x (Err e) → ChecksText limit x (Err e)

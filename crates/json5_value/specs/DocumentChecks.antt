@@ -4,7 +4,7 @@ use Rattle.json5_grammar.specs.Language.Documents.{Doc}
 use Rattle.json5_grammar.specs.Language.Trees.{Tree}
 use Rattle.json5_types.specs.declared.error.Error.{Error}
 use Rattle.json5_text.specs.Cursor.{IsOutOfMemory}
-use Rattle.json5_format.specs.DocumentReads.{IsRefusedWithin}
+use Rattle.json5_value.specs.DocumentReads.{IsRefusedWithin}
 
 -- Ok exactly when x is a document within the limit, unless memory runs out
 pub record ChecksText (limit : ℕ) (x : List ℕ) (result : Result (Unit {0}) Error) : Type 0 where

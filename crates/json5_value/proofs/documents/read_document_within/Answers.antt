@@ -6,8 +6,8 @@ use Rattle.json5_text.specs.TokenFaults.{FaultyBlanks}
 use Rattle.json5_types.specs.ValueMeanings.{value_of}
 use Rattle.json5_value.specs.OwnedReads.{BlamesOrMemory, datum_at}
 use Rattle.json5_value.specs.ModelSteps.{Gave}
-use Rattle.json5_format.proofs.DocumentReads.{SkippedGap, front_refused, value_refused, rest_refused, all_read, character_refused}
-use Rattle.json5_format.proofs.read_document_within.Goals as goal
+use Rattle.json5_value.proofs.DocumentReads.{SkippedGap, front_refused, value_refused, rest_refused, all_read, character_refused}
+use Rattle.json5_value.proofs.documents.read_document_within.Goals as goal
 
 pub returns-in_err-skip_blank : goal.returns-in_err-skip_blank
 returns-in_err-skip_blank c =

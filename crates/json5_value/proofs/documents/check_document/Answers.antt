@@ -4,9 +4,9 @@ use Rattle.std.proofs.lemmas.Result.{err_from_is_err_and}
 use Rattle.json5_grammar.specs.Language.Documents.{max_depth}
 use Rattle.json5_text.specs.Cursor.{Refused}
 use Rattle.json5_text.specs.TokenFaults.{FaultyBlanks}
-use Rattle.json5_format.proofs.DocumentReads.{SkippedGap}
-use Rattle.json5_format.proofs.DocumentChecks.{front_unchecked, value_unchecked, rest_unchecked, all_checked, character_unchecked}
-use Rattle.json5_format.proofs.checks.check_document.Goals as goal
+use Rattle.json5_value.proofs.DocumentReads.{SkippedGap}
+use Rattle.json5_value.proofs.DocumentChecks.{front_unchecked, value_unchecked, rest_unchecked, all_checked, character_unchecked}
+use Rattle.json5_value.proofs.documents.check_document.Goals as goal
 
 pub returns-in_err-skip_blank : goal.returns-in_err-skip_blank
 returns-in_err-skip_blank c =
