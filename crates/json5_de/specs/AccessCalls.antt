@@ -1,4 +1,5 @@
 -- The steps of an access, and how its calls refuse.
+-- A promise rests on this.
 use Rattle.std.specs.Prelude.{◌≡◌, ℕ, ◌-◌, Bool, true, false, List, ◌∷◌, Option, is_some, ◌==◌, ◌||◌, Result, IfOk, IfErr, OnOk, OnErr, IsErrAnd}
 use Rattle.json5_grammar.specs.Language.Trees.{Tree}
 use Rattle.json5_grammar.specs.declared.error_code.ErrorCode.{ErrorCode}

@@ -1,4 +1,5 @@
 -- What contracts see of an access to an array.
+-- A promise rests on this.
 use Rattle.std.specs.Prelude.{◌≡◌, ◌≢◌, ◌⊎◌, ℕ, ◌+◌, ◌-◌, ◌<◌, ◌≤◌, Bool, true, false, List, [], ◌∷◌, ◌++◌, length, Option, Some, None, Result, Ok, Err, IfOk, IfErr, OnOk, IsOk, IsOkAnd, IsErrAnd, MatchResult, ◌==◌, ◌||◌, ◌&&◌}
 use Rattle.std.specs.Str.{encode_utf8_all}
 use Rattle.json5_grammar.specs.Language.Characters.{comma_sign}

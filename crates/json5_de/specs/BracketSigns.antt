@@ -1,4 +1,5 @@
 -- What the brackets of a kind are not.
+-- Private.
 use Rattle.std.specs.Prelude.{◌≡◌, ◌≢◌, true, false, ◌==◌}
 use Rattle.json5_grammar.specs.declared.error_code.ErrorCode.TheVariants as codes
 use Rattle.json5_grammar.specs.Language.Characters.{comma_sign}

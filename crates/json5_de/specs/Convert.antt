@@ -1,4 +1,5 @@
 -- What each type takes of a tree: at most one content.
+-- A promise rests on this.
 use Rattle.std.specs.Prelude.{◌≤◌, ◌≤ℤ◌, ◌-ℤ◌, neg_ℤ, ℕ, Bool, true, false, if◌then◌else◌, nat_lt, List, [], ◌∷◌, map, ℤ, pos, negsuc, nat_abs, Option, Some, None}
 use Rattle.std.specs.Fmt as numerals
 use Rattle.std.specs.Borrow.{Bor}

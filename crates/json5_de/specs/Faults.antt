@@ -1,4 +1,5 @@
 -- What is refused where a value is expected.
+-- A promise rests on this.
 use Rattle.std.specs.Prelude.{◌≡◌, ℕ, Bool, true, false, if◌then◌else◌, ◌==◌, ◌⊎◌, List, [], ◌∷◌, ◌++◌, Option, Some, None, Result, IsErrAnd}
 use Rattle.json5_grammar.specs.Language.Characters.{letter_f}
 use Rattle.json5_grammar.specs.declared.error_code.ErrorCode.{ErrorCode}

@@ -1,4 +1,5 @@
 -- The key of a member, while a struct is read.
+-- A promise rests on this.
 use Rattle.std.specs.Prelude.{ℕ, Bool, false, List, Option, Some, None, Result, IfSome, String, string_bytes, slice_range}
 use Rattle.std.specs.Str.{chars}
 use Rattle.json5_types.specs.declared.error.Error.{Error}

@@ -1,4 +1,5 @@
 -- Strings and keys that were found, and what their text converts to.
+-- Private.
 use Rattle.std.specs.Prelude.{◌≡◌, ℕ, Bool, true, ◌⊎◌, List, ◌++◌, length, Option, Some, None, Result, IfOk, IfErr, OnOk, OnErr}
 use Rattle.std.specs.Str.{all_scalars, encode_utf8_all}
 use Rattle.json5_grammar.specs.declared.error_code.ErrorCode.{ErrorCode}

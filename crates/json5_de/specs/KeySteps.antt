@@ -1,4 +1,5 @@
 -- The steps of a read of a key.
+-- Private.
 use Rattle.std.specs.Prelude.{◌≡◌, ℕ, Bool, true, false, List, Some}
 use Rattle.json5_grammar.specs.declared.error_code.ErrorCode.TheVariants as codes
 use Rattle.json5_grammar.specs.declared.position.Position.{Position}

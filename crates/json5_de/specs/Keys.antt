@@ -1,4 +1,5 @@
 -- Keys, and the law of a type that is read from one.
+-- A promise rests on this.
 -- JSON5 section 3 (a key is a string or an identifier).
 use Rattle.std.specs.Prelude.{◌≡◌, ℕ, Bool, true, false, List, Option, Some, Result, IfOk, IfErr, IsOk}
 use Rattle.json5_grammar.specs.Model.Collections.{ReadsKey}

@@ -1,4 +1,5 @@
 -- An access and the reader that is lent to it.
+-- A promise rests on this.
 use Rattle.std.specs.Prelude.{◌≡◌, ◌<◌, ℕ, Bool, true, false, List, length, Option, None, is_some, Result, IfOk, IfSome}
 use Rattle.json5_value.specs.Brackets.{square, curly}
 use Rattle.std.specs.Borrow.{Fml, RattleType, MutBor, RestsIfErr}

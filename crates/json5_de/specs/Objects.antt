@@ -1,4 +1,5 @@
 -- What contracts see of an access to an object.
+-- A promise rests on this.
 use Rattle.std.specs.Prelude.{◌≡◌, ◌⊎◌, ℕ, ◌+◌, ◌≤◌, Bool, true, false, List, Option, Some, None, is_some, Result, Ok, Err, IfOk, OnOk, OnErr, IsOk, IsOkAnd, MatchResult}
 use Rattle.json5_grammar.specs.Language.Characters.{colon_sign}
 use Rattle.json5_grammar.specs.Language.Trees.{Tree, Members, object, member, no_member, depth, member_depths}

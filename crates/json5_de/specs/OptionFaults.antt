@@ -1,4 +1,5 @@
 -- What is refused where an option is expected.
+-- A promise rests on this.
 use Rattle.std.specs.Prelude.{◌≡◌, ◌⊎◌, ◌==◌, ℕ, Bool, true, false, List, [], ◌∷◌, ◌++◌, Option, Some, None}
 use Rattle.json5_grammar.specs.Language.Characters.{letter_n}
 use Rattle.json5_grammar.specs.declared.error_code.ErrorCode.{ErrorCode}

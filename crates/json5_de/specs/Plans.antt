@@ -1,4 +1,5 @@
 -- A struct by its fields, one plan: what it takes of an object, and what each member changes of what was read of it.
+-- A promise rests on this.
 use Rattle.std.proofs.Common.{◌≡◌, ℕ, Bool, true, false, List, [], ◌∷◌, refl, sym, ap, ◌∙◌, Option, Some, None}
 use Rattle.std.specs.Prelude.{if◌then◌else◌, ◌&&◌, ◌<◌, length, Result, Ok, Err, OnOk, IsOk}
 use Rattle.std.specs.Str.{bytes_eq, encode_utf8_all}

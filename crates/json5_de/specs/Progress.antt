@@ -1,4 +1,5 @@
 -- Where an access is in its array or object, and how a call of it refuses or ends it.
+-- A promise rests on this.
 use Rattle.std.specs.Prelude.{◌≡◌, ℕ, true, false, Option, None, Some, Result}
 use Rattle.std.specs.Borrow.{GName, MutBor}
 use Rattle.json5_types.specs.declared.error.Error.{Error}

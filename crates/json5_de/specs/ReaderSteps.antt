@@ -1,4 +1,5 @@
 -- The steps of a typed read.
+-- A promise rests on this.
 use Rattle.std.specs.Prelude.{◌≡◌, ◌≤◌, ◌==◌, ℕ, ℤ, Bool, true, false, List, [], ◌∷◌, ◌++◌, length, Option, Some, None, ◌⊎◌, String, string_bytes}
 use Rattle.std.specs.Str.{all_scalars, chars, encode_utf8_all}
 use Rattle.hex.specs.declared.error.FromHexError.{FromHexError}

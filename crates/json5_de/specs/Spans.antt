@@ -1,4 +1,5 @@
 -- The offsets of a value that was read.
+-- A promise rests on this.
 use Rattle.std.specs.Prelude.{◌≡◌, ◌⊎◌, ℕ, ◌++◌, true, false, List, length}
 use Rattle.std.specs.Str.{encode_utf8_all}
 use Rattle.json5_types.specs.declared.error.Error.{Error}

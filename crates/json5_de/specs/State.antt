@@ -1,4 +1,5 @@
 -- What contracts see of a reader.
+-- A promise rests on this.
 use Rattle.std.specs.Prelude.{◌≡◌, ℕ, ◌-◌, List, Bool, true, false, Option, Result, slice_get, OnOk, OnErr, IsErrAnd}
 use Rattle.json5_grammar.specs.Language.Documents.{max_depth}
 use Rattle.json5_types.specs.declared.error.Error.{Error}

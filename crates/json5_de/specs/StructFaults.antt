@@ -1,4 +1,5 @@
 -- Why a struct is refused.
+-- A promise rests on this.
 use Rattle.std.specs.Prelude.{◌≡◌, ◌⊎◌, ℕ, Bool, true, false, List, ◌∷◌, ◌++◌, length, Option, Some, None, is_some, Result, IfErr}
 use Rattle.std.specs.Str.{encode_utf8_all}
 use Rattle.json5_grammar.specs.Language.Characters.{left_brace, right_brace}

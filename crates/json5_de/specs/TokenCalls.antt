@@ -1,4 +1,5 @@
 -- What the reader's calls for one token mean: it is taken, or refused with one of its faults, and then the reader has failed.
+-- Private.
 use Rattle.std.specs.Prelude.{◌≡◌, ℕ, Bool, true, false, List, ◌++◌, String, Result, IfOk, IfErr, OnOk, OnErr, IsOk}
 use Rattle.json5_grammar.specs.declared.error_code.ErrorCode.{ErrorCode}
 use Rattle.json5_grammar.specs.Language.Characters.{NotBegun}

@@ -1,4 +1,5 @@
 -- The kinds of values that one token makes, and the law of a method that reads one.
+-- A promise rests on this.
 use Rattle.std.specs.Prelude.{Bool, true, false, ℕ, ◌==◌, ◌||◌, List, ℤ, Option, Some, None, Result}
 use Rattle.std.specs.String.{string_bytes}
 use Rattle.std.specs.Borrow.{Bor}

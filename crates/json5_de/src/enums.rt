@@ -36,8 +36,8 @@ use json5_value::brackets::BracketKind;
 /// match access.variant() {
 ///     0 => access.unit_variant()?,                                   // 'off', {off: null}
 ///     1 => hour = access.newtype_variant::<u8>()?,                   // {daily: 7}
-///     2 => hours = read_hours(access.tuple_variant(2)?)?,            // {weekly: [1, 7]}
-///     _ => day = read_day(access.struct_variant(&["day", "hour"])?)?,    // {once: {day: 'today', hour: 7}}
+///     2 => hours = access.tuple_variant(2)?,                         // {weekly: [1, 7]}
+///     _ => once = access.struct_variant(&["day", "hour"])?,          // {once: {day: 'today', hour: 7}}
 /// }
 /// ```
 ///
@@ -305,8 +305,8 @@ impl<'a, I: Input> EnumAccess<'a, I> {
     ///
     /// ```text
     /// match access.variant() {
-    ///     0 => read_off(access),       // the first of the names
-    ///     _ => read_daily(access),
+    ///     0 => access.unit_variant()?,                    // the first of the names
+    ///     _ => hour = access.newtype_variant::<u8>()?,
     /// }
     /// ```
     pub fn variant(&self) -> usize
@@ -319,8 +319,7 @@ impl<'a, I: Input> EnumAccess<'a, I> {
     /// which one comma may be. Takes no memory.
     ///
     /// ```text
-    /// 'off'            // read so
-    /// {off: null}      // and so
+    /// access.unit_variant()?    // 'off', {off: null}
     /// ```
     ///
     /// # Errors
@@ -339,7 +338,7 @@ impl<'a, I: Input> EnumAccess<'a, I> {
     /// Reads a variant that holds a `T`: the value and `}`, before which one comma may be.
     ///
     /// ```text
-    /// {daily: 7}
+    /// access.newtype_variant::<u8>()?    // {daily: 7}
     /// ```
     ///
     /// # Errors

@@ -1,4 +1,5 @@
 -- What reading by a description means.
+-- A promise rests on this.
 use Rattle.std.specs.Prelude.{◌≡◌, ℕ, false, List, ◌∷◌, None, Result}
 use Rattle.json5_grammar.specs.Language.Characters.{right_brace}
 use Rattle.json5_grammar.specs.Model.Collections.{object_of}

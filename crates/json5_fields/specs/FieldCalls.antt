@@ -1,4 +1,5 @@
 -- What the calls for a description of fields mean.
+-- A promise rests on this.
 use Rattle.std.specs.Prelude.{◌≡◌, ◌⊎◌, ℕ, Bool, true, false, List, Option, Some, None, is_some, Result, Ok, Err, OnOk}
 use Rattle.json5_grammar.specs.Language.Trees.{Tree}
 use Rattle.json5_types.specs.declared.error.Error.{Error}

@@ -1,4 +1,4 @@
-//! Bytes and readers whose text is JSON5.
+//! Types read of bytes and of readers, and written as bytes.
 //!
 //! ```text
 //! let settings = json5::from_reader(alloc, &mut rt.stdin())?;
@@ -12,16 +12,16 @@ ghost use Rattle.json5_types.specs.Errors.{custom, SaysAt, LacksMemory};
 ghost use Rattle.json5_io.specs.Bytes.{ReadsText};
 
 mod readers;
-mod vectors;
 pub mod slices;
+mod vectors;
 
 use json5_types::Position;
 use json5_types::error::{Error, Result};
 pub use readers::{from_reader, read_text};
-pub use vectors::to_vec;
-pub use slices::{from_slice};
+pub use slices::from_slice;
 use std::alloc::Global;
 use std::str;
+pub use vectors::to_vec;
 
 /// Returns the text that the bytes are in UTF-8.
 ///

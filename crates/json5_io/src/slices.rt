@@ -11,9 +11,8 @@ ghost use Rattle.json5_grammar.specs.Language.Trees.{Tree};
 ghost use Rattle.json5_de.specs.WholeInputs.{ReadsWholeText, BlamesRest};
 ghost use Rattle.json5_io.specs.Bytes.{RefusesBytes};
 
-
-use json5_de::Deserialize;
 use crate::text_of_bytes;
+use json5_de::Deserialize;
 use json5_types::error::Result;
 use std::alloc::Global;
 

@@ -1,4 +1,5 @@
 -- Texts whose lexemes are those of JSON (RFC 8259), and comments.
+-- A promise rests on this.
 use Rattle.std.specs.Prelude.{◌≡◌, ◌≢◌, ◌||◌, ◌==◌, ℕ, Bool, true, false, List, [], ◌∷◌, ◌++◌}
 use Rattle.std.specs.Str.{chars}
 use Rattle.json5_grammar.specs.Language.Blanks.{Inside}

@@ -1,4 +1,5 @@
 -- Steps over a text that is asked for JSON's lexemes. Private clauses and proofs alone cite it.
+-- Private.
 use denote.Ref.{Bor}
 use Rattle.std.specs.Prelude.{◌≡◌, ◌<◌, ◌⊎◌, ◌↔◌, ◌||◌, ◌==◌, ◌≢◌, ℕ, Bool, true, not, List, [], ◌∷◌, ◌++◌, length, Option, MatchOption}
 use Rattle.std.specs.Str.{chars}

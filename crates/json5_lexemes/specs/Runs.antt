@@ -1,4 +1,5 @@
 -- Letters and digits in front of two texts, which are the same in both, and spaces in front of one.
+-- Private.
 use Rattle.std.specs.Prelude.{◌≡◌, ◌≤◌, ℕ, Bool, ◌||◌, ◌==◌, List, ◌++◌, length, take}
 use Rattle.json5_grammar.specs.Language.Characters.{is_in, Each}
 use Rattle.json5_text.specs.Cursor.{Cursor}

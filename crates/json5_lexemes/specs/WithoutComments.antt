@@ -1,4 +1,5 @@
 -- Texts that are JSON but for comments: without these they are in the grammar of RFC 8259.
+-- A promise rests on this.
 use Rattle.std.specs.Prelude.{◌≡◌, ℕ, Bool, true, List, [], ◌∷◌, ◌++◌}
 use Rattle.json5_grammar.specs.Language.Blanks.{Inside}
 use Rattle.json5_grammar.specs.Language.Characters.{is_blank, slash_sign, star_sign, comma_sign, NotBegun, Each}

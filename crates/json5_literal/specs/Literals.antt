@@ -1,4 +1,5 @@
 -- What a literal adds to an object.
+-- A promise rests on this.
 use Rattle.std.specs.Prelude.{ℕ, List}
 use Rattle.json5_types.specs.ValueMeanings.{Datum, Fields, no_field, field}
 

@@ -1,4 +1,5 @@
 -- The float nearest to a number.
+-- A promise rests on this.
 use Rattle.std.specs.Prelude.{length, ℤ, pos, ◌-ℤ◌}
 use Rattle.std.specs.Str.Parse.{digits_value}
 use Rattle.std.specs.Float.Ieee.{Float, Format, inf, nan as not_a_number, round}

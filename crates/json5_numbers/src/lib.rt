@@ -1,12 +1,14 @@
-//! Decimals compared, and read of a text.
+//! Decimals compared, and read of a text; the floats nearest to numbers of any count of digits, and the decimals of floats.
+//!
+//! A `Decimal` keeps each digit that was read; a float keeps about 16.
 #![tactic(auto)]
 
 pub mod decimal_ext;
-mod order;
-mod texts;
 pub mod decimals;
 pub mod from_floats;
 pub mod nearest;
+mod order;
+mod texts;
 pub mod wholes;
 
 pub use decimal_ext::DecimalExt;

@@ -6,8 +6,8 @@ ghost use Rattle.json5_types.specs.Errors.{LacksMemory, kind_of, known_code};
 ghost use Rattle.json5_types.specs.NumberMeanings.{number_of};
 ghost use Rattle.json5_numbers.specs.NumberTexts.{decimal_of_whole, decimal_of, is_memory, IsTextOfNumber};
 
-use itoa::Buffer;
 use crate::wholes::sign_and_size;
+use itoa::Buffer;
 use json5_text::scanner::Scanner;
 use json5_types::ErrorCode;
 use json5_types::decimal::Decimal;

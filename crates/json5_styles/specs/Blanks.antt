@@ -1,4 +1,5 @@
 -- What indents a line. Private clauses alone cite it.
+-- Private.
 use Rattle.std.specs.Prelude.{ℕ}
 use Rattle.json5_grammar.specs.Language.Characters.{space, tab}
 use Rattle.json5_styles.specs.declared.lines.Blank.{Blank}

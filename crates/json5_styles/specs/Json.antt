@@ -1,4 +1,5 @@
 -- The grammar of JSON (RFC 8259). A text is the codes of its characters.
+-- A promise rests on this.
 use Rattle.std.specs.Prelude.{◌≡◌, ℕ, Bool, true, not, ◌&&◌, ◌||◌, ◌==◌, nat_le, List, [], ◌∷◌, ◌++◌}
 use Rattle.json5_grammar.specs.Language.Characters.{tab, line_feed, carriage_return, space, double_quote, backslash, plus_sign, minus_sign, comma_sign, point_sign, slash_sign, colon_sign, left_bracket, right_bracket, left_brace, right_brace, letter_b, letter_e, capital_e, letter_f, letter_n, letter_r, letter_t, letter_u, is_digit, is_hex_digit, Each}
 use Rattle.json5_grammar.specs.Language.Numbers.{Integer}

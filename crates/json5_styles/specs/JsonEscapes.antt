@@ -1,4 +1,5 @@
 -- How a text is split at a character that is escaped in JSON. Private clauses and proofs alone cite it.
+-- A promise rests on this.
 use Rattle.std.specs.Prelude.{◌≡◌, ◌<◌, ℕ, List, ◌++◌, Bool, true, false, nat_lt, ◌||◌, ◌==◌, length}
 use Rattle.std.specs.Char.{encode_utf8, IsScalar}
 use Rattle.std.specs.Str.{chars, encode_utf8_all, all_scalars, IsUtf8}

@@ -1,4 +1,5 @@
 -- How a string is written as JSON: between double quotes, with the escapes that it has to have (RFC 8259 section 7).
+-- A promise rests on this.
 use Rattle.std.specs.Prelude.{ℕ, ◌/◌, ◌%◌, ◌==◌, nat_lt, if◌then◌else◌, List, [], ◌∷◌, ◌++◌, Bool, true, false, ◌&&◌}
 use Rattle.std.specs.Char.{digit_char}
 use lib.Chars.{codes}

@@ -1,4 +1,5 @@
 -- What it means that the text of a value reads back.
+-- A promise rests on this.
 use Rattle.std.specs.Prelude.{◌≡◌, ℕ, List, ⊤}
 use Rattle.json5_grammar.specs.Language.Documents.{Doc}
 use Rattle.json5_grammar.specs.Language.Trees.{Tree}

@@ -1,4 +1,5 @@
 -- What a call does that writes a value. Private clauses alone cite it.
+-- Private.
 use Rattle.std.specs.Prelude.{ℕ, Result, ⊤, OnOk}
 use Rattle.json5_types.specs.ValueMeanings.{Datum}
 use Rattle.json5_write.specs.Out.{piece}

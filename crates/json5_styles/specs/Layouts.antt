@@ -1,4 +1,5 @@
 -- Layouts: how lines begin. A style is a layout with a spelling of strings and keys, that of JSON5 or that of JSON.
+-- A promise rests on this.
 use Rattle.std.specs.Prelude.{ℕ, ◌*◌, Bool, true, false, List, [], ◌∷◌, ◌++◌, replicate}
 use Rattle.json5_grammar.specs.Language.Characters.{line_feed, space, tab, colon_sign}
 use Rattle.json5_grammar.specs.Written.Quoting.{quoted_text, key_text}

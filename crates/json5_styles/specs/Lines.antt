@@ -1,4 +1,5 @@
 -- How lines begin. Private clauses alone cite it.
+-- Private.
 use Rattle.std.specs.Prelude.{◌≡◌, ℕ, Bool, if◌then◌else◌, List, ◌++◌, replicate}
 use Rattle.std.specs.Str.{chars}
 use Rattle.json5_styles.specs.Blanks.{blank_of}

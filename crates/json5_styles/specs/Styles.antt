@@ -1,4 +1,5 @@
 -- The text of a value in a style. Between its tokens two styles differ in blanks alone, and in a comma after the last element or member.
+-- A promise rests on this.
 use Rattle.std.specs.Prelude.{ℕ, ◌+◌, Bool, true, false, if◌then◌else◌, List, [], ◌∷◌, ◌++◌}
 use Rattle.json5_grammar.specs.Language.Characters.{comma_sign, colon_sign, left_bracket, right_bracket, left_brace, right_brace}
 use Rattle.json5_grammar.specs.Language.Values.{null_text}

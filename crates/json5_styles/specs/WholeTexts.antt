@@ -1,4 +1,5 @@
 -- What a call returns that writes a whole value in a layout.
+-- A promise rests on this.
 use Rattle.std.specs.Prelude.{◌≡◌, ◌⊎◌, ℕ, Bool, true, false, if◌then◌else◌, List, Option, None, Result, Ok, Err, ⊤, String, string_bytes}
 use Rattle.std.specs.Io.KnownBytes.{Appends, Keeps}
 use Rattle.std.specs.Str.{all_scalars, encode_utf8_all}

@@ -1,4 +1,5 @@
 -- What can be written: brackets within a room, and numbers that the spelling has. Private clauses and proofs alone cite it.
+-- Private.
 use Rattle.std.specs.Prelude.{◌≡◌, ℕ, suc, Bool, true, false, ◌&&◌, nat_le, Option, None, Some}
 use Rattle.json5_types.specs.ValueLookups.{datum_depth}
 use Rattle.json5_grammar.specs.Language.Numbers.{whole, decimal}

@@ -11,17 +11,17 @@ pub mod json_values;
 pub mod laws;
 pub mod layout;
 mod lines;
+pub mod shown_values;
+mod sink;
 mod strings;
 mod value;
 mod whole_texts;
 mod writers;
-mod sink;
-pub mod shown_values;
 
 pub use json_values::is_json;
 pub use layout::{Layout, Spelling};
+pub use shown_values::{ShownValue, shown};
 pub use whole_texts::{
     to_json, to_json_compact, to_json_in, to_json_string, to_string_in, to_vec_in,
 };
 pub use writers::{to_json_writer, to_json_writer_in, to_writer_in};
-pub use shown_values::{ShownValue, shown};

@@ -6,7 +6,6 @@
 
 ghost use Rattle.std.specs.Prelude.{◌≡◌};
 
-
 use crate::sink::Sink;
 use json5_types::nesting::Limit;
 use json5_types::value::Value;

@@ -1,4 +1,5 @@
 -- Runs of bytes that a search passes over. Private clauses and proofs alone cite it.
+-- A promise rests on this.
 use Rattle.std.specs.Prelude.{◌≡◌, ◌<◌, ◌≤◌, ◌+◌, ◌^◌, ℕ, Bool, true, not, ◌&&◌, ◌||◌, ◌==◌, nat_lt, List, drop, length, slice_index}
 use Rattle.std.specs.List.{prefix_len}
 use Rattle.std.specs.Prelude.{◌++◌}

@@ -1,4 +1,5 @@
 -- What contracts see of a scanner: the whole input and its unread part, each as the list of its characters.
+-- A promise rests on this.
 use Rattle.std.specs.Prelude.{◌≡◌, ◌-◌, ℕ, List, ◌++◌, length, Option, Some, None}
 use Rattle.std.specs.Str.{chars, encode_utf8_all}
 use Rattle.json5_grammar.specs.declared.error_code.ErrorCode.{ErrorCode}

@@ -1,4 +1,5 @@
 -- What is written for a character between two delimiters.
+-- A promise rests on this.
 use Rattle.std.specs.Prelude.{ℕ, if◌then◌else◌, List}
 use Rattle.json5_grammar.specs.Language.Characters.{backslash}
 use Rattle.json5_grammar.specs.Language.Strings.{is_quote}

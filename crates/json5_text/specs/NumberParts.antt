@@ -1,4 +1,5 @@
 -- A number in front of the input as code holds it. Private clauses and proofs alone cite it.
+-- Private.
 use Rattle.std.specs.Prelude.{◌≡◌, ◌==◌, ℕ, min, Bool, true, false, cond, List, [], ◌∷◌, ℤ, pos, Option, Some, None, IfSome}
 use Rattle.std.specs.Option.{option_map}
 use Rattle.std.specs.Str.{IsUtf8, chars}

@@ -1,4 +1,5 @@
 -- Where a position is in a text.
+-- A promise rests on this.
 use Rattle.std.specs.Prelude.{◌≡◌, ◌+◌, ◌++◌, ℕ, nat_lt, if◌then◌else◌, List, [], ◌∷◌, take, Option, Some, None}
 use Rattle.std.specs.Str.{chars, IsCharBoundary}
 use Rattle.json5_grammar.specs.Language.Characters.{is_terminator}

@@ -1,4 +1,5 @@
 -- What a function below the scanner refused with, beside what reading on lists gives.
+-- Private.
 use Rattle.std.specs.Prelude.{◌≡◌, true, Some, None, ⊤}
 use Rattle.json5_grammar.specs.Language.Numbers.{Number}
 use Rattle.json5_grammar.specs.Model.Reading.{Read, got, bad}

@@ -1,4 +1,5 @@
 -- Cuts, fronts and skipped runs of the input, for private contracts of the scanner.
+-- A promise rests on this.
 use Rattle.std.specs.Prelude.{◌≡◌, ◌<◌, ◌≤◌, ℕ, Bool, List, [], ◌∷◌, ◌++◌, length, Option, Some, None, ◌⊎◌, ⊤}
 use denote.Ref.{Bor}
 use Rattle.std.specs.Str.{IsUtf8, IsCharBoundary, chars}

@@ -1,4 +1,5 @@
 -- What private clauses say of comments.
+-- Private.
 use Rattle.std.specs.Prelude.{◌≡◌, ◌≤◌, List, ℕ, length, Some}
 use Rattle.std.specs.Str.{chars}
 use Rattle.json5_grammar.specs.declared.error_code.ErrorCode.TheVariants.{EofParsingComment}

@@ -1,4 +1,5 @@
 -- What private clauses say of hexadecimal digits.
+-- Private.
 use Rattle.std.specs.Prelude.{◌≡◌, ◌<◌, ◌^◌, ℕ, List, Some}
 use Rattle.std.specs.Str.{IsUtf8, chars}
 use Rattle.json5_grammar.specs.declared.error_code.ErrorCode.TheVariants.{OverflowParsingNumber}

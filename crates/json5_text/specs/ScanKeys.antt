@@ -1,4 +1,5 @@
 -- How a key is read where the input may have ended.
+-- Private.
 use Rattle.std.specs.Prelude.{Bool, ℕ, List, [], ◌∷◌}
 use Rattle.json5_grammar.specs.Model.Reading.{Read}
 use Rattle.json5_grammar.specs.Model.ReadTexts.{identifier, key}

@@ -1,4 +1,5 @@
 -- What private clauses say of the tokens of strings and keys.
+-- Private.
 use Rattle.std.specs.Prelude.{◌≡◌, ℕ, ◌+◌, Bool, List, ◌++◌, length, Result, Ok, Err}
 use denote.Ref.{Bor}
 use Rattle.json5_grammar.specs.Model.Reading.{Read}

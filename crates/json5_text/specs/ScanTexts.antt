@@ -1,4 +1,5 @@
 -- What private clauses say of strings and names.
+-- Private.
 use Rattle.std.specs.Prelude.{◌≡◌, ◌≤◌, ℕ, zero, suc, Bool, true, false, cond, not, ◌&&◌, ◌==◌, List, [], ◌∷◌, ◌++◌, length, Some, Result, Ok, Err, ⊤}
 use denote.Ref.{Bor}
 use Rattle.std.specs.Str.{IsUtf8, chars, encode_utf8_all}

@@ -1,4 +1,5 @@
 -- What the short ways of escapes promise. Private clauses and proofs alone cite it.
+-- Private.
 use Rattle.std.specs.Prelude.{◌≡◌, ℕ, Bool, not, ◌&&◌, ◌==◌, nat_lt, List, [], ◌∷◌}
 use Rattle.std.specs.Str.{IsUtf8, chars}
 use Rattle.json5_grammar.specs.Language.Characters.{backslash, is_digit}

@@ -1,4 +1,5 @@
 -- What the short way past numbers finds: a sign, a mantissa and an exponent, which together surely mean a number.
+-- A promise rests on this.
 use Rattle.std.specs.Prelude.{◌≡◌, ℕ, ◌≤◌, Bool, true, false, List, ◌∷◌, ◌++◌, length, ℤ, pos, neg_ℤ, ◌≤ℤ◌, Option}
 use Rattle.std.specs.Str.{IsUtf8, chars}
 use Rattle.json5_grammar.specs.Language.Characters.{is_digit, Each}

@@ -1,4 +1,5 @@
 -- What the short ways of strings and keys promise: one is taken with the ASCII blanks before it, or nothing is. All but one take
+-- A promise rests on this.
 -- those without an escape alone.
 use Rattle.std.specs.Prelude.{◌≡◌, ℕ, Bool, true, List, ◌∷◌, ◌++◌, Option, MatchOption, String, string_bytes}
 use Rattle.std.specs.Str.{encode_utf8_all}

@@ -1,4 +1,5 @@
 -- What the short ways promise: a token is taken with the ASCII blanks before it, or nothing is.
+-- A promise rests on this.
 use denote.Ref.{Bor}
 use Rattle.std.specs.Prelude.{◌≡◌, ℕ, ◌^◌, Bool, true, false, ◌==◌, List, ◌∷◌, ◌++◌, length, drop, ℤ, pos, neg_ℤ, ◌≤ℤ◌, Option, MatchOption}
 use Rattle.std.specs.Str.{IsUtf8, IsCharBoundary, chars}

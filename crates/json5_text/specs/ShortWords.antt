@@ -1,4 +1,5 @@
 -- What the short way past words promises: the word is taken, or nothing is.
+-- A promise rests on this.
 use Rattle.std.specs.Prelude.{◌≡◌, ℕ, Bool, true, false, List, ◌++◌}
 use Rattle.std.specs.Str.{IsUtf8, chars}
 use Rattle.json5_text.specs.Cursor.{Cursor, Took}

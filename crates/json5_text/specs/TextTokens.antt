@@ -1,4 +1,5 @@
 -- What contracts see of the token of a string or a key.
+-- A promise rests on this.
 use Rattle.std.specs.Prelude.{◌≡◌, ℕ, ◌+◌, Bool, true, false, List, ◌++◌, length, string_bytes}
 use Rattle.std.specs.Str.{encode_utf8_all}
 use Rattle.json5_types.specs.declared.cow_str.CowStr.{CowStr}

@@ -1,4 +1,5 @@
 -- What is refused where a token is expected: the token's own faults, and what begins no such token.
+-- A promise rests on this.
 use Rattle.std.specs.Prelude.{◌≡◌, ◌≢◌, ℕ, true, false, ◌||◌, ◌==◌, List, [], ◌∷◌, ◌++◌, Option, Some, None}
 use Rattle.json5_grammar.specs.declared.error_code.ErrorCode.{ErrorCode}
 use Rattle.json5_grammar.specs.declared.error_code.ErrorCode.TheVariants.{EofParsingIdentifier, EofParsingNumber, EofParsingString, ExpectedIdentifier, ExpectedNumber, ExpectedString}

@@ -1,4 +1,5 @@
 -- What functions below the scanner return: what reading on lists gives, or a refusal with its fault. Private clauses and proofs cite it.
+-- Private.
 use Rattle.std.specs.Prelude.{◌≡◌, ℕ, Bool, true, false, List, ◌++◌, ℤ, Option, Result, Ok, Err, String, string_bytes}
 use denote.Ref.{Bor}
 use Rattle.std.specs.Str.{IsUtf8, chars, encode_utf8_all}

@@ -1,4 +1,5 @@
 -- The two kinds of brackets.
+-- A promise rests on this.
 use Rattle.json5_grammar.specs.declared.error_code.ErrorCode.TheVariants as codes
 use Rattle.json5_grammar.specs.Faults.Fronts.{of_array, of_object}
 use Rattle.json5_grammar.specs.Faults.Fronts as fronts

@@ -1,4 +1,5 @@
 -- What the whole value comes to, given the unfinished arrays and objects and the rest of the input.
+-- Private.
 use Rattle.std.specs.Prelude.{◌≡◌, ◌⊎◌, ℕ, ◌-◌, ◌<◌, ◌≤◌, Bool, true, false, List, [], ◌∷◌, length, Some, Result, IfOk, IfErr, String, string_bytes, slice_get}
 use Rattle.std.specs.declared.alloc.Global.{Global}
 use Rattle.std.specs.Str.{chars}

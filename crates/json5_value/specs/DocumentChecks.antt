@@ -1,4 +1,5 @@
 -- How a whole input is checked, and why it is refused.
+-- A promise rests on this.
 use Rattle.std.specs.Prelude.{ℕ, List, Result, IfOk, IfErr}
 use Rattle.json5_grammar.specs.Language.Documents.{Doc}
 use Rattle.json5_grammar.specs.Language.Trees.{Tree}

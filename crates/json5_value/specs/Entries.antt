@@ -1,4 +1,5 @@
 -- Where the entries of brackets begin: the elements of an array and the members of an object.
+-- Private.
 use Rattle.std.specs.Prelude.{ℕ, Bool, true, false, cond, List, [], ◌∷◌, ◌==◌}
 use Rattle.json5_grammar.specs.Faults.Fronts.{BracketKind, closing}
 use Rattle.json5_grammar.specs.Model.Reading.{Read, got, and_then}

@@ -1,4 +1,5 @@
 -- Where the next entry of brackets begins, or the colon of a member, after blanks.
+-- A promise rests on this.
 use Rattle.std.specs.Prelude.{Bool, not, Result, IfOk, IfErr, OnErr}
 use Rattle.json5_grammar.specs.Language.Characters.{colon_sign}
 use Rattle.json5_grammar.specs.Model.Collections.{IsSign}

@@ -1,4 +1,5 @@
 -- What a value begins with, and the literals.
+-- A promise rests on this.
 use Rattle.std.specs.Prelude.{ℕ, ◌==◌, ◌||◌, cond, List}
 use Rattle.json5_grammar.specs.declared.error_code.ErrorCode.{ErrorCode}
 use Rattle.json5_grammar.specs.declared.error_code.ErrorCode.TheVariants as codes

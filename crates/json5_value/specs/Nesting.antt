@@ -1,4 +1,5 @@
 -- The brackets that are open around a value, and what they make of what is read within them.
+-- Private.
 use Rattle.std.specs.Prelude.{◌≡◌, ℕ, ◌-◌, ◌<◌, ◌≤◌, List, [], ◌∷◌, length}
 use Rattle.json5_grammar.specs.Model.Reading.{Read, and_then, placed}
 use Rattle.json5_text.specs.Cursor.{Cursor}

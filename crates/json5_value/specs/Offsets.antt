@@ -1,4 +1,5 @@
 -- Offsets in the input, and faults that get a position.
+-- A promise rests on this.
 use Rattle.std.specs.Prelude.{◌≡◌, ℕ, List, ◌++◌, length}
 use Rattle.std.specs.Str.{encode_utf8_all}
 use Rattle.json5_grammar.specs.declared.position.Position.{Position}

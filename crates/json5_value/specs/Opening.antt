@@ -1,4 +1,5 @@
 -- How a value begins: with the first character of a scalar, or with an opening bracket.
+-- A promise rests on this.
 use Rattle.std.specs.Prelude.{◌≡◌, ℕ, ◌<◌, false, ◌∷◌, Option, Some, None, Result, IfOk, IfErr, OnErr, ◌==◌, ◌||◌, slice_get}
 use Rattle.json5_grammar.specs.Faults.Fronts.{of_array, of_object, opening}
 use Rattle.json5_types.specs.declared.error.Error.{Error}

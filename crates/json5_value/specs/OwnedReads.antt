@@ -1,4 +1,5 @@
 -- Steps that keep what they read: a key, a value that is no collection.
+-- A promise rests on this.
 use Rattle.std.specs.Prelude.{◌≡◌, ◌⊎◌, ℕ, Bool, true, false, cond, List, Option, None, Result, MatchOption, MatchResult, IfOk, IfErr, OnErr, String, string_bytes}
 use Rattle.std.specs.declared.alloc.Global.{Global}
 use Rattle.std.specs.Str.{chars, encode_utf8_all}

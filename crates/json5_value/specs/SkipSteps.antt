@@ -1,4 +1,5 @@
 -- How a value is passed over, and what the open brackets make of what is to come.
+-- A promise rests on this.
 use Rattle.std.specs.Prelude.{◌≡◌, ℕ, ◌-◌, ◌<◌, Bool, true, false, cond, List, [], length, Option, Some, None, Result, IfOk, IfErr, OnOk, OnErr}
 use Rattle.json5_grammar.specs.Model.Reading.{Read, got}
 use Rattle.json5_grammar.specs.Model.ReadSteps.{next_value, rest_of_bracket}

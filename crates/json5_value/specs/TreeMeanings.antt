@@ -1,4 +1,5 @@
 -- What a tree means, without the marks.
+-- A promise rests on this.
 use Rattle.json5_grammar.specs.Language.Trees.{Tree, Trees, Members, null, boolean, number, text, array, object, no_more, more, no_member, member}
 use Rattle.json5_types.specs.ValueMeanings.{Datum, Items, Fields, no_item, item, no_field, field}
 use Rattle.json5_types.specs.ValueMeanings as datum

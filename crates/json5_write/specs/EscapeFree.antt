@@ -1,4 +1,5 @@
 -- Characters that are written as they are between any quotes, and are no quotes themselves. Private clauses and proofs alone cite it.
+-- A promise rests on this.
 use Rattle.std.specs.Prelude.{ℕ, Bool, List, not, ◌&&◌, ◌||◌, ◌==◌}
 use Rattle.std.specs.Str.{IsUtf8}
 use Rattle.json5_text.specs.Scan.{SkipsAll}
