@@ -5,7 +5,7 @@ ghost use Rattle.cli_edit.specs.Makes.{Inserts, Makes, MakesLaid, RefusesInserti
 
 use crate::parts::{json_at, spelled_at};
 use crate::placed::placed;
-use crate::requests::{Task, Command};
+use crate::requests::{Command, Task};
 use crate::trouble::TextTrouble;
 use json5_edit::{
     EditError, Names, Result, Step, find, insert_element, insert_in, push, remove, rename, set,

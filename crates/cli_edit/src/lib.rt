@@ -19,5 +19,5 @@ mod works;
 
 pub use answers::answer;
 pub use host_program::{program, words};
-pub use requests::{EditRequest, Task, Command};
+pub use requests::{Command, EditRequest, Task};
 pub use trouble::TextTrouble;

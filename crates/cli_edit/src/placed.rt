@@ -5,7 +5,7 @@ ghost use Rattle.std.specs.Str.{chars};
 ghost use Rattle.cli_edit.specs.declared.requests.Command.TheVariants as work;
 ghost use Rattle.json5_lexemes.specs.Lexemes.{HaveSameLexemes};
 
-use crate::requests::{Task, Command};
+use crate::requests::{Command, Task};
 use json5_edit::{Names, Step, find};
 use json5_edit_style::{Collection, entry_indentation, indentation, relined};
 use json5_lexemes::same_lexemes;

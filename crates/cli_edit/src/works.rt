@@ -6,7 +6,7 @@ ghost use Rattle.cli_edit.specs.Works.{Does, DoesAt, GoesOut, Puts, PutsNot, Wor
 
 use crate::edits::made;
 use crate::lines::{tell, wrong_path};
-use crate::requests::{Task, Command};
+use crate::requests::{Command, Task};
 use crate::texts::{name_of, text_of};
 use crate::trouble::TextTrouble;
 use cli_files::{Store, put_texts, report};

@@ -1,6 +1,6 @@
 //! Where a value goes, and how lines are there.
 
-use json5_edit::{Names, ValueSpan, Step, find};
+use json5_edit::{Names, Step, ValueSpan, find};
 use json5_edit_style::{
     Collection, entry_indentation, has_last_commas, indentation, line_end, step_of,
 };
