@@ -21,4 +21,4 @@ mod strings_and_names;
 pub mod text_token;
 mod words;
 
-pub use positions::InText;
+pub use positions::{InText, utf16_units};

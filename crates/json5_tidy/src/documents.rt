@@ -9,10 +9,10 @@ ghost use Rattle.json5_tidy.specs.Tidied.{IsAlike, IsLaidOut, KeepsJson, TidiesT
 use crate::layout::{Spacing, laid_out};
 use crate::plainness::{Plainness, has_last_commas};
 use crate::style::Style;
-use json5_value::check_document;
 use json5_lexemes::same_lexemes;
 use json5_types::ErrorCode;
 use json5_types::error::{Error, Result};
+use json5_value::check_document;
 use std::alloc::Global;
 
 /// Tidies a document in the usual style. It is [`tidy_with`] in [`Style::usual`].
