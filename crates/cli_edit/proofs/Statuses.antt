@@ -2,12 +2,9 @@
 use Rattle.std.proofs.Common.{◌≡◌, ◌≤◌, ℕ, List, refl, arith}
 use Rattle.std.specs.declared.alloc.Global.{Global}
 use Rattle.std.specs.Prelude.{Option, String}
-use Rattle.cli_files.specs.declared.failure.Failure.{Failure}
-use Rattle.cli_files.specs.declared.failure.Failure.TheVariants as failure
-use Rattle.cli_files.specs.Reports.{status_of}
 use Rattle.cli_files.specs.NameLists.{names_of}
 use Rattle.cli_files.specs.Stores.{Known}
-use Rattle.cli_tidy.proofs.Statuses.{text_low}
+use Rattle.cli_files.proofs.Statuses.{failure_low, text_low}
 use Rattle.json5_edit.specs.declared.faults.EditError.{EditError}
 use Rattle.json5_edit.specs.declared.faults.EditError.TheVariants as error
 use Rattle.cli_edit.specs.declared.trouble.TextTrouble.{TextTrouble}
@@ -18,13 +15,6 @@ use Rattle.cli_edit.specs.Answers.{Answers, helps, tells_version, does, says_usa
 use Rattle.cli_edit.specs.Requests.{AsksNothing}
 use Rattle.cli_edit.specs.Troubles.{edit_status, trouble_status}
 use Rattle.cli_edit.specs.Works.{Does, DoesAt, reads, reads_none, no_path, worked, stopped, no_steps}
-
-failure_small : (f : Failure) → status_of f ≤ 2
-failure_small failure.NotUtf8 = omega arith
-failure_small (failure.Text e) = omega arith
-failure_small failure.NoMemory = omega arith
-failure_small failure.Read = omega arith
-failure_small failure.Write = omega arith
 
 edit_small : (e : EditError) → edit_status e ≤ 2
 edit_small (error.Text e) = omega arith
@@ -40,7 +30,7 @@ edit_small error.Failed = omega arith
 trouble_small : (x : TextTrouble) → trouble_status x ≤ 2
 trouble_small (trouble.Edit e) = edit_small e
 trouble_small (trouble.NoJson e) = omega arith
-trouble_small (trouble.Failed f) = failure_small f
+trouble_small (trouble.Failed f) = failure_low f
 trouble_small (trouble.Unwritten u) = omega arith
 
 at_small : {known : Known} {t : Task} {text : List ℕ} {output errors written said : Option (List ℕ)} {status : ℕ} → DoesAt known t text output errors written said status → status ≤ 2
@@ -50,7 +40,7 @@ at_small (no_steps e r k) = edit_small e
 
 does_small : {known : Known} {t : Task} {input output errors written said : Option (List ℕ)} {status : ℕ} → Does known t input output errors written said status → status ≤ 2
 does_small (reads text h d) = at_small d
-does_small (reads_none f h k) = failure_small f
+does_small (reads_none f h k) = failure_low f
 does_small (no_path k) = omega arith
 
 pub small : {known : Known} {words : List (String Global)} {input output errors written said : Option (List ℕ)} {status : ℕ} → Answers known words input output errors written said status → status ≤ 2

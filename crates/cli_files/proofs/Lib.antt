@@ -2,3 +2,4 @@
 pub mod LinesJoined
 pub mod PiecesJoined
 pub mod Refusals
+pub mod Statuses

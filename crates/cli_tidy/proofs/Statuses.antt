@@ -2,9 +2,6 @@
 use Rattle.std.proofs.Common.{◌≡◌, ℕ, ◌≤◌, max, Bool, List, Option, refl, arith}
 use Rattle.std.specs.declared.alloc.Global.{Global}
 use Rattle.std.specs.Prelude.{String}
-use Rattle.cli_files.specs.declared.failure.Failure.{Failure}
-use Rattle.cli_files.specs.declared.failure.Failure.TheVariants as failure
-use Rattle.cli_files.specs.Reports.{status_of}
 use Rattle.cli_tidy.specs.declared.options.Options.{Options}
 use Rattle.cli_tidy.specs.declared.requests.FileRequest.{FileRequest}
 use Rattle.cli_tidy.specs.declared.requests.TidyRequest.{TidyRequest}
@@ -12,21 +9,14 @@ use Rattle.cli_tidy.specs.declared.requests.TidyRequest.TheVariants as requests
 use Rattle.cli_tidy.specs.declared.trouble.FileTrouble.{FileTrouble}
 use Rattle.cli_tidy.specs.declared.trouble.FileTrouble.TheVariants as trouble
 use Rattle.cli_tidy.specs.Answers.{AnswersStream, tidies, fails, AnswersRequest, Answers, answers, says_usage, no_memory}
-use Rattle.cli_files.specs.Says.{SaysText, says, stops}
 use Rattle.cli_tidy.specs.CommandWords.{AsksNothing}
 use Rattle.cli_tidy.specs.Files as files
 use Rattle.cli_tidy.specs.Names as named
 use Rattle.cli_files.specs.Stores.{Known}
+use Rattle.cli_files.proofs.Statuses.{failure_low, text_low}
 use Rattle.cli_tidy.specs.Troubles.{trouble_status}
 
 -- ---- it is at most 2
-
-failure_low : (s : Failure) → status_of s ≤ 2
-failure_low failure.NotUtf8 = omega arith
-failure_low (failure.Text e) = omega arith
-failure_low failure.NoMemory = omega arith
-failure_low failure.Read = omega arith
-failure_low failure.Write = omega arith
 
 trouble_low : (e : FileTrouble) → trouble_status e ≤ 2
 trouble_low (trouble.Failed s) = failure_low s
@@ -64,10 +54,6 @@ names_low (named.stopped names rest split g) = each_low g
 stream_low : {options : Options} {input output errors written said : Option (List ℕ)} {n : ℕ} → AnswersStream options input output written errors said n → n ≤ 2
 stream_low (tidies k) = omega arith
 stream_low (fails e k a) = trouble_low e
-
-pub text_low : {text : List ℕ} {output written errors said : Option (List ℕ)} {n : ℕ} → SaysText text output written errors said n → n ≤ 2
-text_low (says a) = omega arith
-text_low (stops a b) = omega arith
 
 request_low : (known : Known) (request : TidyRequest) (input output errors written said : Option (List ℕ)) (n : ℕ) → AnswersRequest known request input output errors written said n → n ≤ 2
 request_low known requests.Help input output errors written said n k = text_low k
