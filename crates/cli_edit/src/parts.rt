@@ -11,10 +11,10 @@ ghost use Rattle.std.specs.Str.{chars};
 
 use crate::trouble::TextTrouble;
 use json5_edit::{EditError, Step, find_place};
+use json5_read::read_document;
 use json5_styles::to_json;
 use json5_types::ErrorCode;
 use json5_types::error::Error;
-use json5_value::read_document;
 use std::alloc::Global;
 
 /// The value that the steps lead to, as it is spelled, and a line end.

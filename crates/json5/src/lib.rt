@@ -35,7 +35,7 @@ pub use json5_format::{format, format_within};
 pub use json5_grammar::error_code::ErrorCode;
 pub use json5_grammar::position::Position;
 pub use json5_io::{from_reader, from_slice, read_text, text_of_bytes, to_vec};
-pub use json5_literal::{ToValue, json5};
+pub use json5_macro::{ToValue, json5};
 pub use json5_numbers::{AsF64, DecimalExt};
 pub use json5_ser::{
     Serialize, SerializeCollection, SerializeKey, Serializer, to_string, to_string_within,
@@ -45,8 +45,8 @@ pub use json5_styles::{
     Layout, ShownValue, is_json, shown, to_json, to_json_compact, to_json_in, to_json_writer,
     to_json_writer_in, to_string_in, to_vec_in, to_writer_in,
 };
-pub use json5_text::input::{Borrows, Input};
-pub use json5_text::{InText, char};
+pub use json5_tokens::input::{Borrows, Input};
+pub use json5_tokens::{InText, char};
 pub use json5_types::byte_buf::ByteBuf;
 pub use json5_types::cow_str::CowStr;
 pub use json5_types::decimal::Decimal;

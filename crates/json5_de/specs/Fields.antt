@@ -6,7 +6,7 @@ use Rattle.json5_grammar.specs.Language.Trees.{Tree, Trees, Members, no_more, mo
 use Rattle.json5_grammar.specs.Model.Collections.{joint}
 use Rattle.json5_types.specs.declared.error.Error.{Error}
 use Rattle.json5_types.specs.Errors.{custom, kind_of}
-use Rattle.json5_text.specs.Cursor.{IsOutOfMemory}
+use Rattle.json5_tokens.specs.Cursor.{IsOutOfMemory}
 use Rattle.json5_de.specs.State.{State, FailsIfErr}
 use Rattle.json5_de.specs.ConvertLists.{if_some}
 use Rattle.json5_de.specs.DeserializeLaw.{Unprompted}

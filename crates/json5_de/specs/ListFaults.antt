@@ -6,10 +6,10 @@ use Rattle.json5_grammar.specs.declared.error_code.ErrorCode.TheVariants as code
 use Rattle.json5_grammar.specs.Language.Characters.{left_bracket}
 use Rattle.json5_grammar.specs.Language.Trees.{Tree, Trees, no_more, more}
 use Rattle.json5_types.specs.declared.error.Error.{Error}
-use Rattle.json5_text.specs.Cursor.{Says, IsOutOfMemory}
+use Rattle.json5_tokens.specs.Cursor.{Says, IsOutOfMemory}
 use Rattle.json5_types.specs.Errors.{LacksMemory}
 use Rattle.json5_de.specs.State.{State}
-use Rattle.json5_value.specs.Brackets.{square}
+use Rattle.json5_read.specs.Brackets.{square}
 use Rattle.json5_de.specs.Faults.{RefusedBy, IsPositionless}
 use Rattle.json5_de.specs.Arrays.{AccessState, Opened, AtClose, NotOpened, NotClosed, ElementsRead, LeavesFewer, IsAtBracket}
 use Rattle.json5_de.specs.AccessCalls.{RefusedAtBracket}

@@ -3,8 +3,8 @@
 use Rattle.std.specs.Prelude.{◌≡◌, ℕ, true, false, Option, None, Some, Result}
 use Rattle.std.specs.Borrow.{GName, MutBor}
 use Rattle.json5_types.specs.declared.error.Error.{Error}
-use Rattle.json5_value.specs.Offsets.{PositionedAt, StartsAfter}
-use Rattle.json5_value.specs.declared.brackets.BracketPair.{BracketPair}
+use Rattle.json5_read.specs.Offsets.{PositionedAt, StartsAfter}
+use Rattle.json5_read.specs.declared.brackets.BracketPair.{BracketPair}
 use Rattle.json5_de.specs.State.{State}
 use Rattle.json5_de.specs.Arrays.{AccessState}
 use Rattle.json5_de.specs.Enums.{ClosesContent, ClosesLast}

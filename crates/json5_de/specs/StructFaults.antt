@@ -6,7 +6,7 @@ use Rattle.json5_grammar.specs.Language.Characters.{left_brace, right_brace}
 use Rattle.json5_grammar.specs.Language.Trees.{Tree, Members, no_member}
 use Rattle.json5_types.specs.declared.error.Error.{Error}
 use Rattle.json5_de.specs.State.{State, SameText}
-use Rattle.json5_value.specs.Brackets.{curly}
+use Rattle.json5_read.specs.Brackets.{curly}
 use Rattle.json5_de.specs.Faults.{RefusedBy}
 use Rattle.json5_de.specs.Arrays.{Opened, NotOpened, AnswersFailedAtBracket}
 use Rattle.json5_de.specs.AnyTree.{RefusesTree}

@@ -8,14 +8,14 @@ use Rattle.json5_grammar.specs.Language.Numbers.{Number, Num, lengthens}
 use Rattle.json5_grammar.specs.Language.Strings.{Str}
 use Rattle.json5_types.specs.declared.cow_str.CowStr.{CowStr}
 use Rattle.json5_types.specs.declared.error.Error.{Error}
-use Rattle.json5_text.specs.declared.text_token.TextToken.{TextToken}
+use Rattle.json5_tokens.specs.declared.text_token.TextToken.{TextToken}
 use Rattle.json5_types.specs.declared.number.Number as token
-use Rattle.json5_text.specs.Cursor.{Refused}
+use Rattle.json5_tokens.specs.Cursor.{Refused}
 use Rattle.json5_types.specs.Errors.{LacksMemory}
 use Rattle.json5_types.specs.NumberMeanings.{keeps_digits}
-use Rattle.json5_text.specs.TokenFaults.{FaultyBlanks, FaultyWord, FaultyNumber, FaultyString, FaultyKey}
+use Rattle.json5_tokens.specs.TokenFaults.{FaultyBlanks, FaultyWord, FaultyNumber, FaultyString, FaultyKey}
 use Rattle.json5_de.specs.State.{State, GivesUp, cursor_of}
-use Rattle.json5_value.specs.EntryFaults.{FaultRelation}
+use Rattle.json5_read.specs.EntryFaults.{FaultRelation}
 use Rattle.json5_de.specs.DeserializeLaw.{StaysFailed, Unprompted}
 use Rattle.json5_de.specs.ReaderSteps.{PassedGap, TookText, TookNumber, TookOwned, TookCharacters, TookCow, RefusesToken}
 use Rattle.json5_de.specs.FoundTexts.{TookToken, IsString}

@@ -5,7 +5,7 @@ ghost use Rattle.std.specs.Borrow.{sem};
 ghost use Rattle.std.specs.List.{position};
 ghost use Rattle.std.specs.Str.{bytes_eq};
 ghost use Rattle.json5_de.specs.Convert.{names_bytes, index_of};
-ghost use Rattle.json5_value.specs.Brackets.{brackets_of};
+ghost use Rattle.json5_read.specs.Brackets.{brackets_of};
 ghost use Rattle.json5_de.specs.TokenKinds.{RefusedAs, null_kind, every_tree, ReadsAs, variant_kind};
 ghost use Rattle.json5_de.specs.Enums.{NamesVariant, ReadsVariant, ReadsInBrace, ClosesContent, TakesContentOpening, OpensTuple, OpensStruct, content_of, unit_content, content_free, FirstCharIs, ReadsOnlyKey, ReadsKeyed, is_left_brace};
 ghost use Rattle.json5_grammar.specs.Language.Characters.{NotBegun};
@@ -20,11 +20,11 @@ use crate::map::MapAccess;
 use crate::mismatch::Mismatch;
 use crate::seq::SeqAccess;
 use crate::stage::Progress;
-use json5_text::input::Input;
-use json5_text::strings::is_quote;
+use json5_read::brackets::BracketKind;
+use json5_tokens::input::Input;
+use json5_tokens::strings::is_quote;
 use json5_types::ErrorCode;
 use json5_types::error::{Error, Result};
-use json5_value::brackets::BracketKind;
 
 /// The variant of an enum: its name was read, and one of four calls reads its content. The caller chooses the call by
 /// `variant`; each of them takes the access.

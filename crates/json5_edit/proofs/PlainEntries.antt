@@ -16,8 +16,8 @@ use Rattle.json5_lexemes.specs.LastTokens as last
 use Rattle.json5_lexemes.proofs.DocumentLexemes.{sign_no_part}
 use Rattle.json5_lexemes.proofs.PlainSeams.{seam, put_before, free_turn, BeginsFree, key_begins, value_begins, after_stops, after_turn, entry_put_after, entry_put_before}
 use Rattle.json5_lexemes.proofs.TokensSpanned.{joined, value_alone, key_alone, SpansAlone}
-use Rattle.json5_value.specs.declared.brackets.BracketKind.{BracketKind as Kind}
-use Rattle.json5_value.specs.declared.brackets.BracketKind.TheVariants as kind
+use Rattle.json5_read.specs.declared.brackets.BracketKind.{BracketKind as Kind}
+use Rattle.json5_read.specs.declared.brackets.BracketKind.TheVariants as kind
 use Rattle.json5_edit.specs.Entries.{entries}
 use Rattle.json5_edit.specs.Places.{IsValue}
 use Rattle.json5_edit.specs.Pieces.{SpellsKey}

@@ -9,7 +9,7 @@ use Rattle.std.proofs.Math.Seq.{take-append_seam}
 use Rattle.std.proofs.lemmas.Slice.Eq.{bytes_eq-Decides}
 use Rattle.json5_types.specs.declared.error.Error.{Error}
 use Rattle.json5_types.specs.Errors.{LacksMemory}
-use Rattle.json5_value.proofs.NoFailedCode.{memory_other}
+use Rattle.json5_read.proofs.NoFailedCode.{memory_other}
 use Rattle.json5_de.specs.State.{State}
 use Rattle.json5_de.specs.DeserializeLaw.{Gives, Completes, Unprompted}
 use Rattle.json5_de.specs.Refinement.{if_more}

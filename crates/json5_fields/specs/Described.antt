@@ -4,7 +4,7 @@ use Rattle.std.specs.Prelude.{◌≡◌, ℕ, false, List, ◌∷◌, None, Resu
 use Rattle.json5_grammar.specs.Language.Characters.{right_brace}
 use Rattle.json5_grammar.specs.Model.Collections.{object_of}
 use Rattle.json5_types.specs.declared.error.Error.{Error}
-use Rattle.json5_text.specs.Cursor.{IsOutOfMemory}
+use Rattle.json5_tokens.specs.Cursor.{IsOutOfMemory}
 use Rattle.json5_de.specs.State.{State}
 use Rattle.json5_de.specs.Arrays.{IsAtBracket}
 use Rattle.json5_de.specs.Objects.{MapAccessState}

@@ -7,7 +7,7 @@ use Rattle.json5_grammar.specs.Language.Trees.{Tree}
 use Rattle.json5_grammar.specs.Model.Collections.{array_of, contents}
 use Rattle.json5_types.specs.declared.error.Error.{Error}
 use Rattle.json5_types.specs.Errors.{IsCustomAt, LacksMemory}
-use Rattle.json5_text.specs.Cursor.{IsPositionOf, IsOutOfMemory}
+use Rattle.json5_tokens.specs.Cursor.{IsPositionOf, IsOutOfMemory}
 use Rattle.json5_de.specs.State.{State}
 use Rattle.json5_de.specs.Convert.{text_of}
 use Rattle.json5_de.specs.DeserializeLaw.{TookValue}

@@ -7,7 +7,7 @@ ghost use Rattle.json5_de.specs.DeserializeLaw.{Gives, Completes, Unprompted, Is
 ghost use Rattle.json5_fields.specs.Distinct.{is_one_of, texts, all_texts, may_follow, all_fit, distinct_texts, IsFirstUnfit, IsOwnAt, DistinctFault, ReadsDistinct};
 
 use json5_de::{Deserialize, Deserializer, Spanned};
-use json5_text::input::Input;
+use json5_tokens::input::Input;
 use json5_types::error::{Error, Result};
 use std::alloc::Global;
 use std::fmt;

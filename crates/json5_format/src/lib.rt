@@ -5,13 +5,13 @@ ghost use Rattle.std.specs.Prelude.{IfOk, IfErr, MatchResult, string_bytes};
 ghost use Rattle.std.specs.Str.{chars};
 ghost use Rattle.json5_grammar.specs.Language.Trees.{Tree};
 ghost use Rattle.json5_grammar.specs.Language.Documents.{Doc, max_depth};
-ghost use Rattle.json5_text.specs.Cursor.{IsOutOfMemory};
-ghost use Rattle.json5_value.specs.DocumentReads.{IsRefused, IsRefusedWithin};
+ghost use Rattle.json5_tokens.specs.Cursor.{IsOutOfMemory};
+ghost use Rattle.json5_read.specs.DocumentReads.{IsRefused, IsRefusedWithin};
 ghost use Rattle.json5_format.specs.Formatted.{WritesUnmarked, IsFormatted, IsFormattedWithin};
 
+use json5_read::read_document_within;
 use json5_types::error::Result;
 use json5_types::nesting::Limit;
-use json5_value::read_document_within;
 use json5_write::to_string;
 use std::alloc::Global;
 

@@ -7,7 +7,7 @@ use Rattle.json5_grammar.specs.Language.Documents.{max_depth}
 use Rattle.json5_types.specs.declared.error.Error.{Error}
 use Rattle.json5_types.specs.declared.value.Value.{Value}
 use Rattle.json5_types.specs.Errors.{custom, SaysAt, LacksMemory}
-use Rattle.json5_value.specs.DocumentReads.{ReadsText}
+use Rattle.json5_read.specs.DocumentReads.{ReadsText}
 use Rattle.json5_io.specs.Bytes.{IsNotUtf8}
 
 -- these are all bytes that were left

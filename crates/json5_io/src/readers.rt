@@ -5,10 +5,10 @@ ghost use Rattle.json5_types.specs.Errors.{custom, SaysAt, LacksMemory};
 ghost use Rattle.json5_io.specs.Readers.{HoldsAll, IsReadFault, ReadsReader, RefusesReader};
 
 use crate::text_of_bytes;
+use json5_read::read_document;
 use json5_types::ErrorCode;
 use json5_types::error::{Error, Result};
 use json5_types::value::Value;
-use json5_value::read_document;
 use std::alloc::Global;
 use std::io::{self, ErrorKind, Read};
 

@@ -8,7 +8,7 @@ ghost use Rattle.json5_numbers.specs.NumberTexts.{decimal_of_whole, decimal_of, 
 
 use crate::wholes::sign_and_size;
 use itoa::Buffer;
-use json5_text::scanner::Scanner;
+use json5_tokens::scanner::Scanner;
 use json5_types::ErrorCode;
 use json5_types::decimal::Decimal;
 use json5_types::error::{Error, Result};

@@ -4,7 +4,7 @@ use Rattle.json5_grammar.specs.Language.Trees.{Tree, Trees, Members, null, boole
 use Rattle.json5_grammar.proofs.ScalarsWritten.{alone}
 use Rattle.json5_types.specs.ValueLookups.{datum_depth, items_depth, fields_depth}
 use Rattle.json5_types.specs.ValueMeanings.{Datum}
-use Rattle.json5_value.specs.TreeMeanings.{datum_of, items_of, fields_of}
+use Rattle.json5_read.specs.TreeMeanings.{datum_of, items_of, fields_of}
 use Rattle.json5_styles.specs.Styles.{Style, laid}
 use Rattle.json5_styles.specs.LaidBack.{HasNumbers, ReadsAs}
 use Rattle.json5_styles.proofs.ReadBack.{IsStyle, means}

@@ -4,7 +4,7 @@ use Rattle.std.specs.Char.{encode_utf8}
 use Rattle.std.specs.Str.{IsUtf8, chars, encode_utf8_all, IsCharBoundary}
 use Rattle.std.proofs.lemmas.Bool.Decides.{nat_tests}
 use Rattle.std.proofs.lemmas.Str.{chars-nil, chars-encodes, chars-append, chars_past_char, IsCharBoundary-at_seam, length-encode, len_utf8_bounds, encodes-append}
-use Rattle.json5_text.proofs.TextCuts.{one_scalar}
+use Rattle.json5_tokens.proofs.TextCuts.{one_scalar}
 use Rattle.json5_write.proofs.OutputsJoined.{scalars-append}
 use Rattle.json5_styles.specs.Json.{is_unescaped}
 use Rattle.json5_styles.specs.JsonTexts.{json_escaped, json_escaped_all}

@@ -8,10 +8,10 @@ use Rattle.std.proofs.lemmas.Str.{encodes-append, encodes-chars}
 use lib.Bits.{bit_or}
 use lib.Lanes.{top}
 use Rattle.json5_grammar.specs.Language.Characters.{Each, no_char, char}
-use Rattle.json5_text.specs.Scan.{SkipsAll}
-use Rattle.json5_text.proofs.ByteSearch.{hit}
-use Rattle.json5_text.proofs.RunBoundaries.{FailsAscii, OfChars, of_ascii}
-use Rattle.json5_text.proofs.TextCuts.{Halves, parts_scalar}
+use Rattle.json5_tokens.specs.Scan.{SkipsAll}
+use Rattle.json5_tokens.proofs.ByteSearch.{hit}
+use Rattle.json5_tokens.proofs.RunBoundaries.{FailsAscii, OfChars, of_ascii}
+use Rattle.json5_tokens.proofs.TextCuts.{Halves, parts_scalar}
 use Rattle.json5_styles.specs.Json.{is_unescaped}
 use Rattle.json5_styles.specs.JsonTexts.{json_escaped, json_escaped_all}
 use Rattle.json5_styles.specs.JsonEscapes.{ends_unescaped, StandsBefore}

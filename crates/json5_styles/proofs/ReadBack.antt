@@ -8,7 +8,7 @@ use Rattle.json5_grammar.specs.Language.Values.{Val, is_null, is_true, is_false,
 use Rattle.json5_grammar.proofs.ScalarsWritten.{number_value}
 use Rattle.json5_types.specs.ValueMeanings as datum
 use Rattle.json5_types.specs.ValueMeanings.{Datum, null, boolean, number, text, array, object, Items, no_item, item, Fields, no_field, field}
-use Rattle.json5_value.specs.TreeMeanings.{datum_of, items_of, fields_of}
+use Rattle.json5_read.specs.TreeMeanings.{datum_of, items_of, fields_of}
 use Rattle.json5_styles.specs.Styles.{Style, comma_if, closed, laid, items_laid, fields_laid}
 use Rattle.json5_styles.specs.LaidBack.{HasNumbers, ItemsHaveNumbers, FieldsHaveNumbers}
 

@@ -5,7 +5,7 @@ use Rattle.json5_grammar.specs.Language.Documents.{Doc}
 use Rattle.json5_grammar.specs.Language.Trees.{Tree}
 use Rattle.json5_grammar.specs.Written.NumberText.{IsNumber}
 use Rattle.json5_types.specs.ValueMeanings.{Datum, number, array, object, Items, no_item, item, Fields, no_field, field}
-use Rattle.json5_value.specs.TreeMeanings.{datum_of}
+use Rattle.json5_read.specs.TreeMeanings.{datum_of}
 
 -- the text is a document within the limit, and means this
 pub record ReadsAs (limit : ℕ) (text : List ℕ) (x : Datum) : Type 0 where

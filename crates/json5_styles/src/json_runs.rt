@@ -3,7 +3,7 @@
 ghost use Rattle.std.specs.Prelude.{◌≡◌, ◌+◌, ◌≤◌, length, map};
 ghost use Rattle.std.specs.List.{prefix_len};
 ghost use Rattle.std.specs.Simd.Lanes.{mask_l};
-ghost use Rattle.json5_text.specs.Scan.{SkipsAll};
+ghost use Rattle.json5_tokens.specs.Scan.{SkipsAll};
 ghost use Rattle.json5_styles.specs.Json.{is_unescaped};
 ghost use Rattle.json5_styles.specs.JsonEscapes.{ends_unescaped, StandsBefore};
 

@@ -2,7 +2,7 @@
 
 ghost use Rattle.std.specs.Prelude.{◌≡◌, IfOk, IfErr, IsTrue, string_bytes};
 ghost use Rattle.std.specs.Str.{chars};
-ghost use Rattle.json5_text.specs.Cursor.{IsOutOfMemory};
+ghost use Rattle.json5_tokens.specs.Cursor.{IsOutOfMemory};
 ghost use Rattle.json5_tidy.specs.Styles.{usual_style};
 ghost use Rattle.json5_tidy.specs.Tidied.{IsAlike, IsLaidOut, KeepsJson, TidiesText};
 
@@ -10,9 +10,9 @@ use crate::layout::{Spacing, laid_out};
 use crate::plainness::{Plainness, has_last_commas};
 use crate::style::Style;
 use json5_lexemes::same_lexemes;
+use json5_read::check_document;
 use json5_types::ErrorCode;
 use json5_types::error::{Error, Result};
-use json5_value::check_document;
 use std::alloc::Global;
 
 /// Tidies a document in the usual style. It is [`tidy_with`] in [`Style::usual`].

@@ -5,8 +5,8 @@ use Rattle.std.specs.Str.{encode_utf8_all}
 use Rattle.json5_grammar.specs.Language.Trees.{Tree, depth, array, object, Trees, Members, no_more, no_member}
 use Rattle.json5_grammar.specs.Language.Values.{Val}
 use Rattle.json5_grammar.specs.Model.Collections.{snoc, snoc_member}
-use Rattle.json5_value.specs.declared.brackets.BracketKind.{BracketKind as Kind}
-use Rattle.json5_value.specs.declared.brackets.BracketKind.TheVariants as kind
+use Rattle.json5_read.specs.declared.brackets.BracketKind.{BracketKind as Kind}
+use Rattle.json5_read.specs.declared.brackets.BracketKind.TheVariants as kind
 use Rattle.json5_walk.specs.Nexts.{takes_value}
 use Rattle.json5_walk.specs.Frames.{Frame, in_array, in_object, At, at_value, at_element, at_key, at_colon, at_comma, next_of, value_frames}
 

@@ -2,8 +2,8 @@
 -- A promise rests on this.
 use Rattle.std.specs.Prelude.{ℕ, Bool, List, not, ◌&&◌, ◌||◌, ◌==◌}
 use Rattle.std.specs.Str.{IsUtf8}
-use Rattle.json5_text.specs.Scan.{SkipsAll}
-use Rattle.json5_text.specs.ByteRuns.{is_line_part}
+use Rattle.json5_tokens.specs.Scan.{SkipsAll}
+use Rattle.json5_tokens.specs.ByteRuns.{is_line_part}
 
 -- a byte at which a run of them ends
 abbrev pub ends_escape_free : ℕ → Bool

@@ -2,11 +2,11 @@
 
 use crate::hand::*;
 use crate::own::{Blob, Bytes, Raw};
+use json5_read::read_document;
 use json5_serde_read::{from_reader, from_str, from_str_owned};
 use json5_serde_write::{to_string, to_writer};
 use json5_types::error::{Error, Result};
 use json5_types::nesting::Limit;
-use json5_value::read_document;
 use serde::{Deserialize, DeserializeOwned, Serialize};
 use std::alloc::Global;
 use std::borrow::CowStr;

@@ -1,10 +1,10 @@
 //! The fault of a row.
 
 use crate::rows::count_of;
+use json5_read::read_document;
 use json5_types::error::Error;
 use json5_types::value::Value;
 use json5_types::{ErrorCode, Position};
-use json5_value::read_document;
 use std::alloc::{AllocError, Global};
 
 /// The codes of typed reads, which rows name by their words.

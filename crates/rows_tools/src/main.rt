@@ -12,8 +12,8 @@ mod reports;
 mod rows;
 mod tidies;
 
+use json5_read::read_document;
 use json5_types::value::Value;
-use json5_value::read_document;
 use outcomes::Outcome;
 use rows::text_of;
 use std::alloc::Global;

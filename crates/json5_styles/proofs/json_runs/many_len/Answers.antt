@@ -4,7 +4,7 @@ use lib.Count.{count_trailing_zeros}
 use Rattle.json5_styles.specs.Json.{is_unescaped}
 use Rattle.json5_styles.specs.JsonEscapes.{ends_unescaped}
 use Rattle.json5_styles.proofs.JsonRuns.{opposite}
-use Rattle.json5_text.proofs.ByteSearch.{run_bound, run_through, run_stops}
+use Rattle.json5_tokens.proofs.ByteSearch.{run_bound, run_through, run_stops}
 use Rattle.json5_styles.proofs.json_runs.many_len.Goals as goal
 
 pub returns-then-found-ne0 : goal.returns-then-found-ne0

@@ -1,6 +1,6 @@
 use Rattle.std.proofs.Common.{◌∙◌, ap, rules}
 use Rattle.std.specs.List.{prefix_len}
-use Rattle.json5_text.proofs.RunBoundaries.{stop_boundary, stop_skips}
+use Rattle.json5_tokens.proofs.RunBoundaries.{stop_boundary, stop_skips}
 use Rattle.json5_styles.specs.Json.{is_unescaped}
 use Rattle.json5_styles.proofs.JsonRuns.{unescaped_chars, stands_run}
 use Rattle.json5_styles.proofs.json_runs.skip_unescaped.Goals as goal

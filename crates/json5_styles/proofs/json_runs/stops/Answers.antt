@@ -1,6 +1,6 @@
 use Rattle.std.proofs.Common.{arith}
 use Rattle.std.proofs.lemmas.Simd.{zip2_splat}
-use Rattle.json5_text.proofs.ByteSearch.{hit, either, masked}
+use Rattle.json5_tokens.proofs.ByteSearch.{hit, either, masked}
 use Rattle.json5_styles.specs.JsonEscapes.{ends_unescaped}
 use Rattle.json5_styles.proofs.JsonRuns.{below, unescaped_lane}
 use Rattle.json5_styles.proofs.json_runs.stops.Goals as goal
