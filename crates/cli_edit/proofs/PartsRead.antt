@@ -14,9 +14,9 @@ use Rattle.json5_types.specs.declared.error.Error.{Error}
 use Rattle.json5_types.specs.Errors.{LacksMemory}
 use Rattle.json5_types.specs.ValueLookups.{fits}
 use Rattle.json5_types.specs.ValueMeanings.{Datum}
-use Rattle.json5_value.specs.TreeMeanings.{datum_of}
-use Rattle.json5_layouts.specs.JsonTexts.{is_json}
-use Rattle.json5_layouts.specs.WholeTexts.{RefusesText}
+use Rattle.json5_read.specs.TreeMeanings.{datum_of}
+use Rattle.json5_styles.specs.JsonTexts.{is_json}
+use Rattle.json5_styles.specs.WholeTexts.{RefusesText}
 use Rattle.json5_walk.specs.declared.place.Place.{Place}
 use Rattle.json5_edit.specs.Parts.{part, part_at, part_under}
 use Rattle.json5_edit.specs.Places.{HasPlace, IsValue, Leads}

@@ -10,10 +10,10 @@ use Rattle.json5_types.specs.declared.error.Error.{Error}
 use Rattle.json5_types.specs.Errors.{LacksMemory}
 use Rattle.json5_types.specs.ValueLookups.{fits}
 use Rattle.json5_types.specs.ValueMeanings.{Datum}
-use Rattle.json5_value.specs.TreeMeanings.{datum_of}
-use Rattle.json5_layouts.specs.declared.layout.Layout.TheVariants as layout
-use Rattle.json5_layouts.specs.JsonTexts.{is_json}
-use Rattle.json5_layouts.specs.Layouts.{json_text}
+use Rattle.json5_read.specs.TreeMeanings.{datum_of}
+use Rattle.json5_styles.specs.declared.layout.Layout.TheVariants as layout
+use Rattle.json5_styles.specs.JsonTexts.{is_json}
+use Rattle.json5_styles.specs.Layouts.{json_text}
 use Rattle.json5_edit.specs.Parts.{part, positions_of}
 use Rattle.json5_edit.specs.Refusals.{RefusesPath}
 use Rattle.json5_edit.specs.declared.faults.EditError.TheVariants as error

@@ -11,8 +11,8 @@ ghost use Rattle.std.specs.Str.{chars};
 
 use crate::trouble::TextTrouble;
 use json5_edit::{EditError, Step, find_place};
-use json5_format::read_document;
-use json5_layouts::to_json;
+use json5_read::read_document;
+use json5_styles::to_json;
 use json5_types::ErrorCode;
 use json5_types::error::Error;
 use std::alloc::Global;

@@ -16,7 +16,7 @@ use std::io::Write;
 /// changes nothing in that status.
 ///
 /// ```text
-/// app.json5: expected comma at line 3 column 9
+/// report("app.json5", &failure, &mut rt.stderr())    // app.json5: expected comma at line 3 column 9
 /// ```
 pub fn report<E: Write>(name: &str, failure: &Failure, e: &mut E) -> u8
     ensures status { result ≡ status_of failure.now }

@@ -4,7 +4,7 @@ use Rattle.std.specs.Prelude.{◌≡◌, ℕ, List, [], ◌∷◌, ◌++◌, Opt
 use Rattle.std.specs.Str.{chars, encode_utf8_all, IsUtf8}
 use Rattle.std.specs.Io.KnownBytes.{Appends, Keeps}
 use Rattle.json5_grammar.specs.Language.Characters.{line_feed}
-use Rattle.json5_format.specs.TreeMeanings.{datum_of}
+use Rattle.json5_read.specs.TreeMeanings.{datum_of}
 use Rattle.json5_grammar.specs.Language.Documents.{Doc, max_depth}
 use Rattle.json5_write.specs.EscapeFreeMarks.{unmarked}
 use Rattle.json5_write.specs.Out.{whole, written_text}

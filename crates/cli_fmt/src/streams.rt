@@ -7,7 +7,7 @@ ghost use Rattle.cli_fmt.specs.Runs.{HoldsValue, HoldsDocument, RunFailure, Writ
 ghost use Rattle.cli_files.specs.Failures.{NamesMemory};
 
 use cli_files::{Failure, read_text};
-use json5_format::read_document;
+use json5_read::read_document;
 use json5_types::nesting::Limit;
 use json5_types::value::Value;
 use json5_write::to_writer;

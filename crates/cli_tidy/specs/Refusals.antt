@@ -4,7 +4,7 @@ use Rattle.std.specs.declared.alloc.Global.{Global}
 use Rattle.std.specs.Prelude.{◌≡◌, ℕ, List, Option, IfSome, Result, Ok, Err, String, string_bytes}
 use Rattle.json5_types.specs.declared.error.Error.{Error}
 use Rattle.json5_types.specs.Errors.{LacksMemory}
-use Rattle.json5_text.specs.Cursor.{IsOutOfMemory}
+use Rattle.json5_tokens.specs.Cursor.{IsOutOfMemory}
 use Rattle.json5_report.specs.declared.report.Report.{Report}
 use Rattle.json5_report.specs.Reports.{IsReportOf, IsReportOfWrong, report_text}
 use Rattle.cli_files.specs.declared.failure.Failure.{Failure}

@@ -11,10 +11,10 @@ use Rattle.json5_grammar.specs.Language.Values.{Reads}
 use Rattle.json5_grammar.proofs.BlanksSound.{blank_refused}
 use Rattle.json5_grammar.proofs.Refusals.{Refuses, one_refusal}
 use Rattle.json5_grammar.proofs.OneFault.{blames_text, text_refuses, no_blame}
-use Rattle.json5_value.specs.EntryFaults.{FaultRelation, AfterBlanks, in_blanks, after_gap}
+use Rattle.json5_read.specs.EntryFaults.{FaultRelation, AfterBlanks, in_blanks, after_gap}
 use Rattle.json5_types.specs.declared.error.Error.{Error}
 use Rattle.json5_types.specs.declared.value.Value.{Value}
-use Rattle.json5_text.specs.Cursor.{Refused, IsOutOfMemory}
+use Rattle.json5_tokens.specs.Cursor.{Refused, IsOutOfMemory}
 use Rattle.json5_types.specs.ValueMeanings.{value_of}
 use Rattle.json5_de.specs.AnyTree.{RefusesTree, ReadingRefuses, RefusedInReading}
 use Rattle.json5_de.specs.Convert.{datum_of, every_datum}
@@ -24,9 +24,9 @@ use Rattle.json5_de.specs.State.{State, at_start}
 use Rattle.json5_de.specs.WholeInputs.{ReadsDocument, RefusesReading, in_value, after_value}
 use Rattle.json5_de.proofs.BracketSteps.{failed_of}
 use Rattle.json5_de.proofs.TreeFaults.{as_reading}
-use Rattle.json5_value.proofs.FoundEntries.{placed_after}
+use Rattle.json5_read.proofs.FoundEntries.{placed_after}
 use Rattle.json5_de.proofs.ReadSteps.{input_of}
-use Rattle.json5_format.specs.DocumentReads.{FaultyDocument, unread_text, IsRefusedWithin, ReadsText}
+use Rattle.json5_read.specs.DocumentReads.{FaultyDocument, unread_text, IsRefusedWithin, ReadsText}
 use Rattle.json5_grammar.proofs.DocumentsRead.{to_end, blanks_refused, value_refused, comment_refused, character_refused, rest_refused}
 
 -- what reading refuses the input with

@@ -8,7 +8,7 @@ use Rattle.json5_grammar.specs.Language.Trees.{Tree, depth, depths, member_depth
 use Rattle.json5_grammar.specs.Written.NumberText.{number_text}
 use Rattle.json5_types.specs.declared.error.Error.{Error}
 use Rattle.json5_types.specs.Errors.{FaultKind, code, custom, failed_write, kind_of}
-use Rattle.json5_text.specs.Cursor.{IsOutOfMemory}
+use Rattle.json5_tokens.specs.Cursor.{IsOutOfMemory}
 use Rattle.json5_de.specs.WholeInputs.{ReadsDocument}
 use Rattle.json5_ser.specs.WrittenTrees.{Written, null, boolean, number, text, array, object, Elements, no_element, element, Fields, no_field, field, named, bad}
 use Rattle.json5_ser.specs.Out.{Out, Stop, whole, invalid_key, too_deep, no_number, piece, stopped, followed_by, ◌then◌, out, written_text, elements_out, fields_out, opened_by, closed_by, element_out, value_part}

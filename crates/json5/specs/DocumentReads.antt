@@ -1,4 +1,5 @@
 -- How a whole input is read as a value of any kind, and why it is refused.
+-- A promise rests on this.
 use Rattle.std.specs.Prelude.{◌≡◌, ℕ, ◌≤◌, List, Option, Result}
 use Rattle.json5_grammar.specs.declared.error_code.ErrorCode.{ErrorCode}
 use Rattle.json5_grammar.specs.Language.Documents.{Doc, max_depth}
@@ -6,10 +7,10 @@ use Rattle.json5_grammar.specs.Language.Trees.{Tree}
 use Rattle.json5_types.specs.declared.error.Error.{Error}
 use Rattle.json5_types.specs.declared.value.Value.{Value}
 use Rattle.json5_types.specs.ValueMeanings.{Datum, value_of}
-use Rattle.json5_value.specs.EntryFaults.{FaultRelation}
+use Rattle.json5_read.specs.EntryFaults.{FaultRelation}
 use Rattle.json5_de.specs.State.{State}
 use Rattle.json5_de.specs.WholeInputs.{ReadsWholeText}
-pub use Rattle.json5_format.specs.DocumentReads.{FaultyDocument, unread_text, IsRefused, IsRefusedWithin, ReadsText}
+pub use Rattle.json5_read.specs.DocumentReads.{FaultyDocument, unread_text, IsRefused, IsRefusedWithin, ReadsText}
 
 -- an input has at most one fault of the relation, within each limit
 abbrev pub IsOneFault : (ℕ → FaultRelation) → Type 0

@@ -15,15 +15,15 @@ pub use Rattle.json5_grammar.specs.declared.error_code.ErrorCode
 pub use Rattle.json5_types.specs.Cows
 pub use Rattle.json5_types.specs.ValueMeanings
 pub use Rattle.json5_types.specs.ValueEquality
-pub use Rattle.json5_text.specs.Cursor
-pub use Rattle.json5_text.specs.ShortWays
+pub use Rattle.json5_tokens.specs.Cursor
+pub use Rattle.json5_tokens.specs.ShortWays
 pub use Rattle.json5_types.specs.Errors
 pub use Rattle.json5_types.specs.declared.error.Error
 pub use Rattle.json5_types.specs.declared.value.Value
 -- Formatting.
 pub use Rattle.json5_format.specs.Formatted
 -- Reading.
-pub use Rattle.json5_value.specs.EntryFaults
+pub use Rattle.json5_read.specs.EntryFaults
 pub use Rattle.json5_de.specs.State
 pub use Rattle.json5_de.specs.DeserializeLaw
 pub use Rattle.json5_de.specs.Convert
@@ -61,7 +61,7 @@ pub use Rattle.json5_fields.specs.Spares
 pub use Rattle.json5_fields.specs.Named
 pub use Rattle.json5_fields.specs.WrittenFields
 pub use Rattle.json5_fields.specs.VariantContents
-pub use Rattle.json5_lists.specs.Distinct
+pub use Rattle.json5_fields.specs.Distinct
 -- Writing. Seven modules of json5_ser name the definitions of json5_write again, whose own names a goal shows.
 pub use Rattle.json5_ser.specs.WrittenTrees
 pub use Rattle.json5_ser.specs.ValueTrees

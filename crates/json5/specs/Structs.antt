@@ -1,4 +1,5 @@
 -- The words that `convert` of a struct or of an enum of names is made of, in one place.
+-- A promise rests on this.
 use Rattle.std.specs.Prelude.{Option}
 use Rattle.json5_grammar.specs.Language.Trees.{Tree}
 use Rattle.json5_fields.specs.Layouts.{Layout}

@@ -21,7 +21,7 @@ ghost use Rattle.json5.specs.ReadsBack.{ReadsBack, KeyReadsBack, MembersReadBack
 
 use json5_de::{Deserialize, DeserializeKey};
 use json5_ser::{Serialize, SerializeKey};
-use json5_text::input::Input;
+use json5_tokens::input::Input;
 use json5_types::decimal::Decimal;
 use json5_types::value::Value;
 use std::hash::Hash;

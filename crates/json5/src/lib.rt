@@ -20,7 +20,6 @@
 mod laws;
 pub mod ser;
 
-pub use json5_bytes::{from_slice, to_vec};
 pub use json5_de as de;
 pub use json5_de::{
     Deserialize, DeserializeKey, Deserializer, EnumAccess, IgnoredAny, MapAccess, SeqAccess,
@@ -28,29 +27,26 @@ pub use json5_de::{
 };
 pub use json5_fields as fields;
 pub use json5_fields::{
-    Field, Given, Holding, NoContent, OneOf, Optional, Required, WithDefault, WithDefaultText,
-    one_of_names, read_enum, read_struct, read_struct_only, write_struct,
+    Distinct, Field, Given, Holding, NoContent, OneOf, Optional, Required, WithDefault,
+    WithDefaultText, one_of_names, read_distinct, read_enum, read_struct, read_struct_only,
+    write_struct,
 };
-pub use json5_floats::AsF64;
 pub use json5_format::{format, format_within};
 pub use json5_grammar::error_code::ErrorCode;
 pub use json5_grammar::position::Position;
-pub use json5_layouts::{
-    Layout, is_json, to_json, to_json_compact, to_json_in, to_json_writer, to_json_writer_in,
-    to_string_in, to_vec_in, to_writer_in,
-};
-pub use json5_lists::{Distinct, read_distinct};
-pub use json5_literal::{ToValue, json5};
-pub use json5_numbers::DecimalExt;
-pub use json5_positions::InText;
-pub use json5_readers::{from_reader, read_text, text_of_bytes};
+pub use json5_io::{from_reader, from_slice, read_text, text_of_bytes, to_vec};
+pub use json5_macro::{ToValue, json5};
+pub use json5_numbers::{AsF64, DecimalExt};
 pub use json5_ser::{
     Serialize, SerializeCollection, SerializeKey, Serializer, to_string, to_string_within,
     to_writer, to_writer_within,
 };
-pub use json5_shown::{ShownValue, shown};
-pub use json5_text::char;
-pub use json5_text::input::{Borrows, Input};
+pub use json5_styles::{
+    Layout, ShownValue, is_json, shown, to_json, to_json_compact, to_json_in, to_json_writer,
+    to_json_writer_in, to_string_in, to_vec_in, to_writer_in,
+};
+pub use json5_tokens::input::{Borrows, Input};
+pub use json5_tokens::{InText, char};
 pub use json5_types::byte_buf::ByteBuf;
 pub use json5_types::cow_str::CowStr;
 pub use json5_types::decimal::Decimal;

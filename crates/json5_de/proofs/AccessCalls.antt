@@ -12,8 +12,8 @@ use Rattle.json5_types.specs.Errors.{code, kind_of, error_position, or_position}
 use Rattle.json5_de.specs.State.{State, OnlyRead}
 use Rattle.json5_de.specs.Faults.{AtEnd, AtOther, IsPositionless, IsAfter}
 use Rattle.json5_de.specs.Arrays.{AccessState, bare, Opened, TookElement, AtClose, GivesElement, PositionedAtBracket, IsAtBracket, is_comma_or_closing}
-use Rattle.json5_value.specs.declared.brackets.BracketPair.{BracketPair}
-use Rattle.json5_value.specs.Brackets.{square}
+use Rattle.json5_read.specs.declared.brackets.BracketPair.{BracketPair}
+use Rattle.json5_read.specs.Brackets.{square}
 use Rattle.json5_de.specs.AccessCalls.{Cause, RefusesCall, RefusesElement, not_reached, in_element, RefusesNext}
 use Rattle.json5_de.proofs.ExpectedKinds.{end_fault, other_fault}
 use Rattle.json5_de.proofs.BracketSteps.{square_signs}

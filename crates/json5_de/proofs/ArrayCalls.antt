@@ -1,7 +1,7 @@
 -- What a call of an access to an array means, from what its reader read.
 use Rattle.std.proofs.Common.{◌≡◌, ◌<◌, true, Bool, refl, sym, ap, ◌∙◌, subst, length, Option, Some, None, Ok, Err}
-use Rattle.json5_value.specs.Brackets.{square}
-use Rattle.json5_value.specs.Offsets.{StartsAfter, PositionedAt}
+use Rattle.json5_read.specs.Brackets.{square}
+use Rattle.json5_read.specs.Offsets.{StartsAfter, PositionedAt}
 use Rattle.std.specs.Prelude.{◌||◌, is_some, IfSome}
 use Rattle.json5_grammar.specs.Language.Trees.{Tree}
 use Rattle.json5_grammar.proofs.ArraysPartlyRead.{element_shorter}

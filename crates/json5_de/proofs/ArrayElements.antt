@@ -11,7 +11,7 @@ use Rattle.json5_types.specs.declared.error.Error.{Error}
 use Rattle.json5_de.specs.State.{State, OnlyRead, GivesUp}
 use Rattle.json5_de.proofs.ReadSteps.{input_of}
 use Rattle.json5_de.specs.DeserializeLaw.{TookValue}
-use Rattle.json5_value.specs.Brackets.{square}
+use Rattle.json5_read.specs.Brackets.{square}
 use Rattle.json5_de.proofs.OpenClose.{opens_same, opens_too, closes}
 use Rattle.json5_de.proofs.BracketSteps.{square_signs}
 use Rattle.json5_de.specs.Arrays.{AccessState, OpensAs, OpensArray, ClosesAs, ClosesArray, Opened, Closed, TookElement, AtClose, GivesElement, CompletesElement, ReadsElement, CompletesClose, ElementsRead, ElementsLeft, ReadsMore, LeavesFewer}

@@ -16,8 +16,8 @@ use Rattle.json5_grammar.proofs.ArraysRead.{comma_solid, bracket_solid, opening_
 use Rattle.json5_grammar.proofs.ArraysPartlyRead.{after_same_comma, no_comma_end}
 use Rattle.json5_grammar.proofs.EntriesAfterGaps.{reads_here, no_sign, no_sign_in_blanks}
 use Rattle.json5_types.specs.declared.error.Error.{Error}
-use Rattle.json5_text.specs.Cursor.{Refused}
-use Rattle.json5_text.specs.TokenFaults.{FaultyBlanks}
+use Rattle.json5_tokens.specs.Cursor.{Refused}
+use Rattle.json5_tokens.specs.TokenFaults.{FaultyBlanks}
 use Rattle.json5_types.specs.Errors.{code, kind_of, error_position}
 use Rattle.json5_grammar.specs.declared.position.Position.{Position}
 use Rattle.json5_grammar.specs.Faults.Positions.{position_after}
@@ -25,18 +25,18 @@ use Rattle.std.proofs.lemmas.List.{append-nil}
 use Rattle.json5_de.specs.State.{State, cursor_of, OnlyRead}
 use Rattle.json5_de.specs.DeserializeLaw.{TookValue}
 use Rattle.json5_de.specs.ReaderSteps.{PassedGap, TookText}
-use Rattle.json5_value.specs.declared.brackets.BracketPair.{BracketPair}
+use Rattle.json5_read.specs.declared.brackets.BracketPair.{BracketPair}
 use Rattle.json5_de.specs.BracketSigns.{AreSigns}
-use Rattle.json5_value.specs.Brackets.{square}
+use Rattle.json5_read.specs.Brackets.{square}
 use Rattle.json5_de.specs.Arrays.{TookElement, NotOpened, no_bracket, text_ends, too_deep, NoBracket, other_sign, bracket_missing, NotClosed, not_here, after_comma as comma_before}
-use Rattle.json5_value.specs.ModelSteps.{Unexpected, at_end, at_char}
+use Rattle.json5_read.specs.ModelSteps.{Unexpected, at_end, at_char}
 use Rattle.json5_de.specs.AccessCalls.{AtEntry, NothingNext}
-use Rattle.json5_text.specs.ShortWays.{AfterGap, StepsTo}
-use Rattle.json5_value.specs.EntryFaults.{NoNext, no_comma, comma_missing, in_blanks_after, AfterBlanks, in_blanks, after_gap}
+use Rattle.json5_tokens.specs.ShortWays.{AfterGap, StepsTo}
+use Rattle.json5_read.specs.EntryFaults.{NoNext, no_comma, comma_missing, in_blanks_after, AfterBlanks, in_blanks, after_gap}
 use Rattle.json5_de.specs.Faults.{RefusedBy}
 use Rattle.json5_de.proofs.ReadSteps.{refused_token}
 use Rattle.json5_de.proofs.RefusalPositions.{refused_as, refused_after}
-use Rattle.json5_value.proofs.FoundEntries.{sign_next, none_due}
+use Rattle.json5_read.proofs.FoundEntries.{sign_next, none_due}
 use Rattle.json5_grammar.proofs.CommonLemmas.{same_char, true_false}
 
 pub failed_of : {s t : State} → s ≡ t → s.failed ≡ t.failed

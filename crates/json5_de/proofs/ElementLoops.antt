@@ -5,14 +5,14 @@ use Rattle.std.proofs.lemmas.Bool.{false≢true}
 use Rattle.std.specs.Prelude.{Result, IsOk, IfErr, IsErrAnd}
 use Rattle.std.specs.Str.{encode_utf8_all}
 use Rattle.json5_grammar.specs.Language.Characters.{left_bracket}
-use Rattle.json5_value.specs.Brackets.{square}
+use Rattle.json5_read.specs.Brackets.{square}
 use Rattle.json5_grammar.specs.Language.Documents.{max_depth}
 use Rattle.json5_grammar.specs.Language.Trees.{Tree, Trees, array, no_more, more, depth}
 use Rattle.json5_grammar.specs.Language.Values.{Reads}
 use Rattle.json5_grammar.specs.Model.Collections.{contents, array_of, snoc}
 use Rattle.json5_grammar.proofs.ElementsConverted.{both_parts, contents_snoc}
 use Rattle.json5_types.specs.declared.error.Error.{Error}
-use Rattle.json5_text.specs.Cursor.{IsOutOfMemory}
+use Rattle.json5_tokens.specs.Cursor.{IsOutOfMemory}
 use Rattle.json5_de.specs.State.{State}
 use Rattle.json5_de.specs.DeserializeLaw.{TookValue, Completes}
 use Rattle.json5_de.specs.Arrays.{AccessState, Opened, OpensArray, ClosesArray, ElementsRead, ElementsLeft, ReadsMore, LeavesFewer}

@@ -12,11 +12,11 @@ use Rattle.json5_grammar.proofs.ArraysRead.{comma_solid}
 use Rattle.json5_grammar.proofs.EntriesAfterGaps.{no_sign}
 use Rattle.json5_types.specs.declared.error.Error.{Error}
 use Rattle.json5_de.specs.State.{State}
-use Rattle.json5_value.specs.declared.brackets.BracketPair.{BracketPair}
+use Rattle.json5_read.specs.declared.brackets.BracketPair.{BracketPair}
 use Rattle.json5_de.specs.BracketSigns.{AreSigns}
 use Rattle.json5_de.specs.Arrays.{Closed, NotOpened, no_bracket, text_ends, too_deep, other_sign, bracket_missing, NotClosed, not_here, after_comma, AtFull, is_opening, is_comma_or_closing, begins_close}
 use Rattle.json5_de.specs.AccessCalls.{AdvancesToEntry}
-use Rattle.json5_value.specs.EntryFaults.{NoNext, no_comma, comma_missing, in_blanks_after}
+use Rattle.json5_read.specs.EntryFaults.{NoNext, no_comma, comma_missing, in_blanks_after}
 use Rattle.json5_de.specs.Faults.{AtEnd, AtOther, IsAfter, RefusedBy}
 use Rattle.json5_de.proofs.ExpectedKinds.{Expected, other_fault}
 use Rattle.std.proofs.lemmas.Bool.{or_parts}

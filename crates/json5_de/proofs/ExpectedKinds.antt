@@ -12,12 +12,12 @@ use Rattle.json5_grammar.proofs.BlanksRead.{begins_solid}
 use Rattle.json5_grammar.proofs.BlanksSound.{one_gap, no_blank_fault, gap_last, gap_before}
 use Rattle.json5_grammar.proofs.ValueHeads.{val_head, value_solid}
 use Rattle.json5_types.specs.declared.error.Error.{Error}
-use Rattle.json5_text.specs.Cursor.{Says, IsPositioned}
-use Rattle.json5_text.specs.TokenFaults.{FaultyBlanks}
+use Rattle.json5_tokens.specs.Cursor.{Says, IsPositioned}
+use Rattle.json5_tokens.specs.TokenFaults.{FaultyBlanks}
 use Rattle.json5_de.specs.State.{State, cursor_of}
 use Rattle.json5_de.specs.DeserializeLaw.{Gives, Completes}
 use Rattle.json5_de.specs.Faults.{RefusedBy, RefusedByOr, RefusedByOrMemory, IsPositionless, IsAfter, AtEnd, AtOther, EndsWith, EndsWithOr, DiffersWith, DiffersWithOr}
-use Rattle.json5_value.specs.EntryFaults.{AfterBlanks, in_blanks, after_gap}
+use Rattle.json5_read.specs.EntryFaults.{AfterBlanks, in_blanks, after_gap}
 use Rattle.json5_grammar.proofs.CommonLemmas.{first_same, true_false}
 
 -- a kind of value: what is refused where one is expected, its trees, what begins one, and the codes at the end and at another character

@@ -14,7 +14,7 @@ use Rattle.json5_grammar.proofs.NumbersRead.{number_unsigned}
 use Rattle.json5_grammar.proofs.NumbersSound.{PlaceIs, unsigned_bad}
 use Rattle.json5_grammar.proofs.NumberFaultsRefused.{refused, no_fault, one_number}
 use Rattle.json5_grammar.proofs.ValueHeads.{number_head}
-use Rattle.json5_text.specs.TokenFaults.{FaultyNumber, faulty, no_number, number_missing}
+use Rattle.json5_tokens.specs.TokenFaults.{FaultyNumber, faulty, no_number, number_missing}
 use Rattle.json5_de.specs.Convert.{as_number}
 use Rattle.json5_de.specs.Faults.{NotNumber, faulty_number, other_number}
 use Rattle.json5_de.proofs.ExpectedKinds.{Expected}

@@ -12,7 +12,7 @@ use Rattle.json5_grammar.specs.Language.Trees.{Tree}
 use Rattle.json5_grammar.specs.Language.Values.{Val, Stops, is_null, is_true, is_false, is_number, is_text, is_empty_array, is_array, is_empty_object, is_object}
 use Rattle.json5_grammar.proofs.CommonLemmas.{eq_from, first_same, true_false, none_some}
 use Rattle.json5_grammar.proofs.StringsRead.{no_string_fault, one_string}
-use Rattle.json5_text.specs.TokenFaults.{FaultyString, faulty, no_quote, string_missing}
+use Rattle.json5_tokens.specs.TokenFaults.{FaultyString, faulty, no_quote, string_missing}
 use Rattle.json5_de.specs.Convert.{as_text}
 use Rattle.json5_de.specs.Faults.{NotText, faulty_text, other_text}
 use Rattle.json5_de.proofs.ExpectedKinds.{Expected}

@@ -7,7 +7,7 @@ use Rattle.json5_grammar.specs.declared.error_code.ErrorCode.TheVariants as code
 use Rattle.json5_grammar.specs.Language.Trees.{Tree, null, boolean, number, text, array, object}
 use Rattle.json5_grammar.specs.Language.Values.{Val, is_null, is_true, is_false, is_number, is_text, is_empty_array, is_array, is_empty_object, is_object, null_text, true_text, false_text}
 use Rattle.json5_grammar.proofs.CommonLemmas.{neq_from}
-use Rattle.json5_text.specs.TokenFaults.{FaultyWord}
+use Rattle.json5_tokens.specs.TokenFaults.{FaultyWord}
 use Rattle.json5_de.specs.Convert.{unit_of, bool_of}
 use Rattle.json5_de.specs.Faults.{FaultyNull, FaultyBool}
 use Rattle.json5_de.proofs.ExpectedKinds.{Expected}

@@ -21,15 +21,15 @@ use Rattle.json5_grammar.proofs.ObjectsRead.{one_reads_key}
 use Rattle.json5_grammar.proofs.ValueHeads.{key_head, key_solid}
 use Rattle.json5_types.specs.declared.error.Error.{Error}
 use Rattle.json5_types.specs.Errors.{LacksMemory, code, custom, kind_of, error_position}
-use Rattle.json5_text.specs.Cursor.{Refused, Says, IsOutOfMemory}
-use Rattle.json5_text.specs.TokenFaults.{FaultyBlanks, FaultyKey}
+use Rattle.json5_tokens.specs.Cursor.{Refused, Says, IsOutOfMemory}
+use Rattle.json5_tokens.specs.TokenFaults.{FaultyBlanks, FaultyKey}
 use Rattle.json5_de.specs.declared.de.tokens.FoundText.{FoundText}
 use Rattle.json5_de.specs.State.{State, GivesUp, cursor_of}
 use Rattle.json5_de.specs.DeserializeLaw.{StaysFailed, IsUnprompted}
 use Rattle.json5_de.specs.Convert.{index_of}
 use Rattle.json5_de.specs.ConvertLists.{if_some}
 use Rattle.json5_de.specs.Faults.{RefusedBy, RefusedByOrMemory}
-use Rattle.json5_value.specs.EntryFaults.{AfterBlanks, in_blanks, after_gap}
+use Rattle.json5_read.specs.EntryFaults.{AfterBlanks, in_blanks, after_gap}
 use Rattle.json5_de.specs.Keys.{TookKey, KeyConversion, GivesKey, CompletesAnyKey, CompletesEscapeFreeKey, OneKeyAnswer, ReadsKeyOf, ReadsOneKey}
 use Rattle.json5_de.specs.KeyKinds.{KeyFault, KeyKind, NotKey, no_key, other_key, ReadsKeyAs, not_converted, coded_text_key, text_key, document_key, document_of, NotDocument, some_of, variant_key}
 use Rattle.json5_de.specs.FoundTexts.{TookKeyAt, JudgesText, OfFound}
@@ -37,7 +37,7 @@ use Rattle.json5_de.specs.KeySteps.{IsTextFault, no_memory, at_key, is_out_of_me
 use Rattle.json5_de.specs.TokenKinds.{Kind, RefusedAs}
 use Rattle.json5_de.specs.ReaderSteps.{PassedGap, IsMismatch, IsMismatchOf}
 use Rattle.json5_de.specs.WholeInputs.{ReadsDocument, RefusesReading}
-use Rattle.json5_value.proofs.NoFailedCode.{key_lacks, memory_other}
+use Rattle.json5_read.proofs.NoFailedCode.{key_lacks, memory_other}
 use Rattle.json5_de.proofs.TokenKinds.{refused_other, given_up_after}
 use Rattle.json5_de.proofs.ReadSteps.{input_of, refused_token}
 use Rattle.json5_de.proofs.KeyDocuments.{converts, is_document, IsRefusedText, refused_text}

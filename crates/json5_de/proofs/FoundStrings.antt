@@ -9,12 +9,12 @@ use Rattle.json5_grammar.specs.Language.Trees.{Tree, null, boolean, number, text
 use Rattle.json5_grammar.specs.Language.Values.{is_text}
 use Rattle.json5_types.specs.declared.error.Error.{Error}
 use Rattle.json5_types.specs.Errors.{LacksMemory}
-use Rattle.json5_text.specs.TokenFaults.{FaultyString}
+use Rattle.json5_tokens.specs.TokenFaults.{FaultyString}
 use Rattle.json5_de.specs.declared.de.tokens.FoundText.{FoundText}
 use Rattle.json5_de.specs.State.{State, GivesUp}
 use Rattle.json5_de.specs.Convert.{as_text, every_text, one_character}
 use Rattle.json5_de.specs.Faults.{RefusedByOrMemory, NotText, faulty_text}
-use Rattle.json5_value.specs.EntryFaults.{AfterBlanks, in_blanks, after_gap}
+use Rattle.json5_read.specs.EntryFaults.{AfterBlanks, in_blanks, after_gap}
 use Rattle.json5_de.specs.FoundTexts.{TookStringAt, SpellsText, OfFound, JudgesText}
 use Rattle.json5_de.specs.DeserializeLaw.{CompletesFree, StaysFailed}
 use Rattle.json5_de.specs.TokenKinds.{ReadsAs, coded_text_kind, escape_free_text}

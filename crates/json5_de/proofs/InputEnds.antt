@@ -7,8 +7,8 @@ use Rattle.json5_grammar.specs.Language.Blanks.{LastBlanks, Gap}
 use Rattle.json5_grammar.proofs.BlanksSound.{gap_last, gap_end}
 use Rattle.json5_types.specs.declared.error.Error.{Error}
 use Rattle.json5_types.specs.Errors.{code, kind_of}
-use Rattle.json5_text.specs.Cursor.{IsPositioned, Refused}
-use Rattle.json5_text.specs.TokenFaults.{FaultyBlanks}
+use Rattle.json5_tokens.specs.Cursor.{IsPositioned, Refused}
+use Rattle.json5_tokens.specs.TokenFaults.{FaultyBlanks}
 use Rattle.json5_de.specs.State.{State, cursor_of}
 use Rattle.json5_de.specs.Faults.{AtEnd, Trailing, trailing, RefusedBy}
 use Rattle.json5_de.specs.ReaderSteps.{PassedGap}

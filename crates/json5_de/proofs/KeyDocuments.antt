@@ -16,7 +16,7 @@ use Rattle.json5_grammar.proofs.ValueHeads.{val_head, skip_value, stops_last}
 use Rattle.json5_grammar.proofs.ValuesRead.{read_complete}
 use Rattle.json5_grammar.proofs.ValuesSound.{gap_found, IsGap, read_sound}
 use Rattle.json5_types.specs.declared.error.Error.{Error}
-use Rattle.json5_text.specs.Cursor.{Says}
+use Rattle.json5_tokens.specs.Cursor.{Says}
 use Rattle.json5_types.specs.Errors.{LacksMemory}
 use Rattle.json5_de.specs.Faults.{RefusedByOrMemory}
 use Rattle.json5_de.specs.KeyKinds.{converted, document_of, NotDocument, no_value, more_follows, ConvertsDocuments}

@@ -7,7 +7,7 @@ use Rattle.json5_grammar.proofs.ElementsConverted.{both_parts}
 use Rattle.json5_grammar.proofs.ArraysPartlyRead.{bracket_closes}
 use Rattle.json5_types.specs.declared.error.Error.{Error}
 use Rattle.json5_de.specs.State.{State}
-use Rattle.json5_value.specs.Brackets.{square}
+use Rattle.json5_read.specs.Brackets.{square}
 use Rattle.json5_de.specs.Arrays.{AccessState, OpensArray, ClosesArray, AtClose, ElementsRead, ReadsMore}
 use Rattle.json5_de.specs.ListFaults.{Element, Elements, element, every, count, Accepted, ReadWithin, Shape, HasElement, ListFault, at_element, too_few, RefusesRequired, at_fault, missing, RefusesList}
 use Rattle.json5_grammar.proofs.CommonLemmas.{true_false}

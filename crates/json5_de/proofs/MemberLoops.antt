@@ -14,9 +14,9 @@ use Rattle.json5_grammar.proofs.ElementsConverted.{both_parts}
 use Rattle.json5_grammar.proofs.ObjectsRead.{brace_closes}
 use Rattle.json5_grammar.proofs.MembersConverted.{pair_contents_snoc, pair_contents_at, object_only}
 use Rattle.json5_types.specs.declared.error.Error.{Error}
-use Rattle.json5_text.specs.Cursor.{IsOutOfMemory}
+use Rattle.json5_tokens.specs.Cursor.{IsOutOfMemory}
 use Rattle.json5_de.specs.State.{State}
-use Rattle.json5_value.specs.Brackets.{curly}
+use Rattle.json5_read.specs.Brackets.{curly}
 use Rattle.json5_de.specs.DeserializeLaw.{TookValue, Completes, Gives}
 use Rattle.json5_de.specs.Arrays.{Opened, AtClose}
 use Rattle.json5_de.specs.Keys.{KeyConversion}

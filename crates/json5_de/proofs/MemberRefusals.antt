@@ -21,10 +21,10 @@ use Rattle.json5_grammar.proofs.ArraysPartlyRead.{after_same_comma, same_sign}
 use Rattle.json5_grammar.proofs.ObjectsRead.{colon_solid}
 use Rattle.json5_types.specs.declared.error.Error.{Error}
 use Rattle.json5_types.specs.Errors.{code, kind_of}
-use Rattle.json5_text.specs.TextTokens.{IsSliceAt}
-use Rattle.json5_text.specs.ShortTexts.{IsTextAt}
-use Rattle.json5_text.specs.declared.short_texts.Span.{Span}
-use Rattle.json5_text.specs.Cursor.{Refused}
+use Rattle.json5_tokens.specs.TextTokens.{IsSliceAt}
+use Rattle.json5_tokens.specs.ShortTexts.{IsTextAt}
+use Rattle.json5_tokens.specs.declared.short_texts.Span.{Span}
+use Rattle.json5_tokens.specs.Cursor.{Refused}
 use Rattle.json5_de.specs.Convert.{every_text}
 use Rattle.json5_de.specs.KeyKinds.{RefusedAsKey, string_key}
 use Rattle.json5_de.specs.State.{State, OnlyRead, SameText, cursor_of}
@@ -33,17 +33,17 @@ use Rattle.json5_de.specs.ReaderSteps.{IsCount}
 use Rattle.json5_de.specs.Keys.{KeyConversion, TookKey, GivesKey, CompletesKey, CompletesEscapeFreeKey, ReadsKeyOf}
 use Rattle.json5_de.specs.FieldKeys.{field_key_text}
 use Rattle.json5_de.specs.ShortWays.{filled_if_given}
-use Rattle.json5_value.specs.Brackets.{curly}
+use Rattle.json5_read.specs.Brackets.{curly}
 use Rattle.json5_de.specs.Faults.{RefusedBy, AtEnd, AtOther, IsPositionless, IsAfter}
-use Rattle.json5_value.specs.EntryFaults.{AfterBlanks, in_blanks, after_gap, NoNext, no_comma, comma_missing, in_blanks_after, NoColon, no_colon, colon_missing}
+use Rattle.json5_read.specs.EntryFaults.{AfterBlanks, in_blanks, after_gap, NoNext, no_comma, comma_missing, in_blanks_after, NoColon, no_colon, colon_missing}
 use Rattle.json5_de.specs.Arrays.{AtClose, PositionedAtBracket}
-use Rattle.json5_value.specs.ModelSteps.{Unexpected, at_end, at_char}
-use Rattle.json5_value.specs.Offsets.{StartsAfter}
+use Rattle.json5_read.specs.ModelSteps.{Unexpected, at_end, at_char}
+use Rattle.json5_read.specs.Offsets.{StartsAfter}
 use Rattle.json5_de.specs.AccessCalls.{IsUnexpected, Advances, AtEntry, NothingNext}
-use Rattle.json5_text.specs.ShortWays.{AfterGap, StepsTo}
+use Rattle.json5_tokens.specs.ShortWays.{AfterGap, StepsTo}
 use Rattle.json5_de.specs.Objects.{MapAccessState, bare_map, CompletesEscapeFreeMember, TookMemberKey, AfterColon, TookMemberValue, GivesMemberKey, GivesMemberValue, CompletesMemberKey}
-use Rattle.json5_value.proofs.FoundEntries.{refused_gap as after_passed}
-use Rattle.json5_value.proofs.NoFailedCode.{other_says}
+use Rattle.json5_read.proofs.FoundEntries.{refused_gap as after_passed}
+use Rattle.json5_read.proofs.NoFailedCode.{other_says}
 use Rattle.json5_de.proofs.ShortReads.{kept_key}
 use Rattle.json5_de.proofs.Offsets.{placed_where}
 use Rattle.json5_de.specs.ObjectFaults.{begins_key, AtKey, NoKeyHere, no_key, key_missing, NoKey, no_next, not_here, not_after_comma, PositionedAtKey, at_key, as_it_is, PositionsKey, RefusesMemberKey, not_reached, in_key, ReadsKeyOfMember, begins_next_key, no_key_code, RefusesNextKey, is_colon, RefusesMemberValue, no_value, in_value, RefusesNextValue}

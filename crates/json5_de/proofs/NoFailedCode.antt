@@ -4,13 +4,13 @@ use Rattle.json5_grammar.specs.declared.error_code.ErrorCode.{ErrorCode}
 use Rattle.json5_grammar.specs.declared.error_code.ErrorCode.TheVariants as codes
 use Rattle.json5_grammar.specs.Language.Numbers.{Number}
 use Rattle.json5_de.specs.Faults.{NotNumber, faulty_number, other_number, NotText, faulty_text, other_text, Trailing, trailing}
-use Rattle.json5_value.specs.declared.brackets.BracketPair.{BracketPair}
+use Rattle.json5_read.specs.declared.brackets.BracketPair.{BracketPair}
 use Rattle.json5_de.specs.BracketSigns.{AreSigns}
 use Rattle.json5_de.specs.Arrays.{NotClosed, NoBracket, other_sign, bracket_missing, not_here, after_comma, NotOpened, no_bracket, text_ends, too_deep}
 use Rattle.json5_de.specs.OptionFaults.{NoOption, option_missing, faulty_null}
 use Rattle.json5_grammar.specs.Language.Values.{null_text}
-use Rattle.json5_value.proofs.FoundEntries.{after_lacks}
-use Rattle.json5_value.proofs.NoFailedCode.{Lacks, word_lacks, faulty_number_lacks, faulty_string_lacks}
+use Rattle.json5_read.proofs.FoundEntries.{after_lacks}
+use Rattle.json5_read.proofs.NoFailedCode.{Lacks, word_lacks, faulty_number_lacks, faulty_string_lacks}
 
 pub number_lacks : {C : Type 0} (f : Number → Option C) → Lacks (NotNumber f)
 number_lacks f x reason place (faulty_number k) = faulty_number_lacks x reason place k

@@ -10,10 +10,10 @@ use Rattle.json5_types.specs.declared.error.Error.{Error}
 use Rattle.json5_de.specs.State.{State, GivesUp}
 use Rattle.json5_de.specs.DeserializeLaw.{TookValue}
 use Rattle.json5_de.specs.Keys.{KeyConversion}
-use Rattle.json5_value.specs.declared.brackets.BracketKind.{BracketKind}
-use Rattle.json5_value.specs.declared.brackets.BracketKind.TheVariants as kind
+use Rattle.json5_read.specs.declared.brackets.BracketKind.{BracketKind}
+use Rattle.json5_read.specs.declared.brackets.BracketKind.TheVariants as kind
 use Rattle.json5_de.specs.BracketSigns.{AreSigns}
-use Rattle.json5_value.specs.Brackets.{curly, brackets_of}
+use Rattle.json5_read.specs.Brackets.{curly, brackets_of}
 use Rattle.json5_de.proofs.BracketSteps.{square_signs}
 use Rattle.json5_de.specs.Arrays.{AccessState, Opened, Closed, AtClose, OpensAs, ClosesAs, CompletesClose}
 use Rattle.json5_de.specs.Objects.{MapAccessState, TookMemberKey, TookMemberValue, GivesMemberKey, GivesMemberValue, CompletesMemberKey, CompletesEscapeFreeMember, CompletesMemberValue, CompletesFreeMemberValue, ReadsKeyFree, ReadsValueFree, ReadsMemberKey, ReadsMemberValue, MembersRead, MembersLeft, LeftAfter, ReadsAKey, ReadsAMember, LeavesAValue, LeavesObjectMembers, OpensMap, ClosesMap}

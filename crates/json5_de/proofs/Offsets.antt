@@ -1,12 +1,12 @@
 -- Offsets in bytes, and the positions at them.
 use Rattle.std.proofs.Common.{◌≡◌, ℕ, true, List, ◌++◌, length, ap, sym, ◌∙◌}
 use Rattle.std.specs.Str.{all_scalars, encode_utf8_all}
-use Rattle.json5_text.specs.Cursor.{Cursor, IsOffset, offset_of}
+use Rattle.json5_tokens.specs.Cursor.{Cursor, IsOffset, offset_of}
 use Rattle.json5_de.specs.State.{State}
-use Rattle.json5_value.specs.Offsets.{PositionedAt}
+use Rattle.json5_read.specs.Offsets.{PositionedAt}
 use Rattle.json5_types.specs.declared.error.Error.{Error}
 use Rattle.json5_de.specs.ReaderSteps.{IsCount}
-use Rattle.json5_value.proofs.ModelSteps.{counted_before}
+use Rattle.json5_read.proofs.ModelSteps.{counted_before}
 
 offset_before : (s : State) (cursor : Cursor) (offset : ℕ) → cursor.input ≡ s.input → cursor.unread ≡ s.unread → offset ≡ offset_of cursor → (before : List ℕ) × (cursor.input ≡ before ++ cursor.unread)
     → IsOffset s.input offset × ((before : List ℕ) → s.input ≡ before ++ s.unread → offset ≡ length (encode_utf8_all before))

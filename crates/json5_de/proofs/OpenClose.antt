@@ -7,7 +7,7 @@ use Rattle.json5_grammar.specs.Model.Collections.{IsEnd}
 use Rattle.json5_types.specs.declared.error.Error.{Error}
 use Rattle.json5_de.specs.State.{State}
 use Rattle.json5_de.specs.Faults.{RefusedBy, IsPositionless}
-use Rattle.json5_value.specs.declared.brackets.BracketPair.{BracketPair}
+use Rattle.json5_read.specs.declared.brackets.BracketPair.{BracketPair}
 use Rattle.json5_de.specs.BracketSigns.{AreSigns}
 use Rattle.json5_de.specs.Enums.{ClosesLast}
 use Rattle.json5_de.specs.Arrays.{AccessState, Opened, Closed, NotOpened, NotClosed, OpensAs, ClosesAs}
@@ -17,7 +17,7 @@ use Rattle.json5_de.specs.ReaderSteps.{PassedGap, TookText}
 use Rattle.json5_de.proofs.ReadSteps.{input_of}
 use Rattle.json5_de.proofs.NoFailedCode.{opening_lacks, closing_lacks}
 use Rattle.json5_de.proofs.TokenKinds.{refused_other}
-use Rattle.json5_value.proofs.FoundEntries.{sign_next}
+use Rattle.json5_read.proofs.FoundEntries.{sign_next}
 use Rattle.json5_de.proofs.BracketSteps.{opening_refused, only_read, level_of, unread_of, after_gap_of}
 use Rattle.json5_de.proofs.EntryCodes.{expects_opening, expects_closing, full_fault, end_no_sign, other_no_sign, end_not_closed, other_not_closed}
 use Rattle.json5_grammar.proofs.CommonLemmas.{true_false}

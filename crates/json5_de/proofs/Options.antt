@@ -16,17 +16,17 @@ use Rattle.json5_grammar.proofs.ArraysRead.{phrase_found, reads_found}
 use Rattle.json5_grammar.proofs.EntriesAfterGaps.{reads_here, no_reads_in_blanks}
 use Rattle.json5_types.specs.declared.error.Error.{Error}
 use Rattle.json5_types.specs.Errors.{code, kind_of, error_position}
-use Rattle.json5_text.specs.Cursor.{Refused}
-use Rattle.json5_text.specs.TokenFaults.{FaultyBlanks}
+use Rattle.json5_tokens.specs.Cursor.{Refused}
+use Rattle.json5_tokens.specs.TokenFaults.{FaultyBlanks}
 use Rattle.json5_de.specs.State.{State, SameText, GivesUp, cursor_of}
 use Rattle.json5_de.specs.DeserializeLaw.{TookValue, Gives, Completes, CompletesFree, Unprompted, ReadsValue}
 use Rattle.json5_de.specs.OptionFaults.{NoOption, option_missing, faulty_null, RefusesOption, option_free}
-use Rattle.json5_value.specs.Offsets.{PositionedAt}
+use Rattle.json5_read.specs.Offsets.{PositionedAt}
 use Rattle.json5_de.specs.Convert.{unit_of}
 use Rattle.json5_de.specs.ConvertLists.{option_of, if_some}
 use Rattle.json5_de.specs.Faults.{AtEnd, RefusedBy, IsPositionless, FaultyNull}
 use Rattle.json5_de.specs.ReaderSteps.{PassedGap}
-use Rattle.json5_value.specs.ModelSteps.{Unexpected, at_end, at_char}
+use Rattle.json5_read.specs.ModelSteps.{Unexpected, at_end, at_char}
 use Rattle.json5_de.proofs.ExpectedKinds.{Expected}
 use Rattle.json5_de.proofs.BracketSteps.{only_read, level_of}
 use Rattle.json5_de.proofs.ReadSteps.{input_of, refused_token}

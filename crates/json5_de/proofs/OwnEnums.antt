@@ -8,7 +8,7 @@ use Rattle.json5_grammar.specs.Language.Values.{Reads}
 use Rattle.json5_grammar.specs.Model.Collections.{IsBrace, joint, array_of, object_of, snoc, joined_trees}
 use Rattle.json5_grammar.proofs.MembersConverted.{object_only}
 use Rattle.json5_types.specs.declared.error.Error.{Error}
-use Rattle.json5_text.specs.Cursor.{IsOutOfMemory}
+use Rattle.json5_tokens.specs.Cursor.{IsOutOfMemory}
 use Rattle.json5_de.specs.State.{State, SameText}
 use Rattle.json5_de.specs.DeserializeLaw.{Unprompted, Gives, Completes, TookValue, IsUnprompted}
 use Rattle.json5_de.specs.ConvertLists.{if_some, first_of, last_of}

@@ -10,14 +10,14 @@ use Rattle.json5_grammar.specs.declared.error_code.ErrorCode.TheVariants as code
 use Rattle.json5_grammar.proofs.BlanksSound.{gap_blanks}
 use Rattle.json5_grammar.proofs.ValueHeads.{val_head}
 use Rattle.json5_types.specs.declared.error.Error.{Error}
-use Rattle.json5_text.specs.Cursor.{Took, Refused}
+use Rattle.json5_tokens.specs.Cursor.{Took, Refused}
 use Rattle.json5_types.specs.Errors.{LacksMemory}
-use Rattle.json5_text.specs.TokenFaults.{FaultyBlanks, FaultyWord}
-use Rattle.json5_value.proofs.FoundEntries.{refused_blanks as refused_in_blanks, refused_gap}
+use Rattle.json5_tokens.specs.TokenFaults.{FaultyBlanks, FaultyWord}
+use Rattle.json5_read.proofs.FoundEntries.{refused_blanks as refused_in_blanks, refused_gap}
 use Rattle.json5_de.specs.State.{State, cursor_of}
 use Rattle.json5_de.specs.DeserializeLaw.{TookValue}
 use Rattle.json5_de.specs.Faults.{RefusedBy, RefusedByOrMemory, FaultyBool, begins_with}
-use Rattle.json5_value.specs.EntryFaults.{FaultRelation}
+use Rattle.json5_read.specs.EntryFaults.{FaultRelation}
 use Rattle.json5_de.specs.ReaderSteps.{PassedGap, TookText}
 
 -- a gap before a value is of blanks

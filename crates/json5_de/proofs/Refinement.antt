@@ -10,7 +10,7 @@ use Rattle.json5_grammar.specs.Language.Documents.{max_depth}
 use Rattle.json5_grammar.proofs.ArraysRead.{phrase_found}
 use Rattle.json5_grammar.proofs.OneTree.{one_phrase}
 use Rattle.json5_types.specs.declared.error.Error.{Error}
-use Rattle.json5_text.specs.Cursor.{IsPositionOf}
+use Rattle.json5_tokens.specs.Cursor.{IsPositionOf}
 use Rattle.json5_types.specs.Errors.{IsCustomAt}
 use Rattle.json5_de.specs.State.{State}
 use Rattle.json5_de.specs.Faults.{RefusedBy}

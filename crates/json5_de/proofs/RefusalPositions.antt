@@ -3,10 +3,10 @@ use Rattle.std.proofs.Common.{◌≡◌, ℕ, List, ◌++◌, subst, Option}
 use Rattle.json5_grammar.specs.declared.error_code.ErrorCode.{ErrorCode}
 use Rattle.json5_grammar.specs.Faults.Codes.{after_text}
 use Rattle.json5_types.specs.declared.error.Error.{Error}
-use Rattle.json5_text.specs.Cursor.{Refused}
+use Rattle.json5_tokens.specs.Cursor.{Refused}
 use Rattle.json5_de.specs.State.{State, cursor_of}
 use Rattle.json5_de.specs.ReaderSteps.{TookText}
-use Rattle.json5_value.proofs.FoundEntries.{refused_after as after_taken}
+use Rattle.json5_read.proofs.FoundEntries.{refused_after as after_taken}
 use Rattle.json5_de.proofs.ReadSteps.{took_of}
 
 -- another name for the same fault

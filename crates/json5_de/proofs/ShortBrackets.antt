@@ -3,12 +3,12 @@ use Rattle.std.proofs.Common.{◌≡◌, ℕ, ◌+◌, ◌-◌, ◌<◌, Bool, t
 use Rattle.std.specs.Str.{encode_utf8_all}
 use Rattle.std.proofs.lemmas.Str.{encodes-append}
 use Rattle.json5_grammar.specs.Language.Documents.{max_depth}
-use Rattle.json5_text.specs.Cursor.{Cursor, offset_of}
-use Rattle.json5_text.specs.ShortWays.{TakesShortSign}
-use Rattle.json5_value.specs.Brackets.{brackets_of}
-use Rattle.json5_value.specs.declared.brackets.BracketKind.{BracketKind}
-use Rattle.json5_value.specs.declared.brackets.BracketKind.TheVariants as kind
-use Rattle.json5_value.proofs.ModelSteps.{counted_before}
+use Rattle.json5_tokens.specs.Cursor.{Cursor, offset_of}
+use Rattle.json5_tokens.specs.ShortWays.{TakesShortSign}
+use Rattle.json5_read.specs.Brackets.{brackets_of}
+use Rattle.json5_read.specs.declared.brackets.BracketKind.{BracketKind}
+use Rattle.json5_read.specs.declared.brackets.BracketKind.TheVariants as kind
+use Rattle.json5_read.proofs.ModelSteps.{counted_before}
 use Rattle.json5_de.specs.ShortWays.{OpensShort, ClosesShort}
 use Rattle.json5_de.specs.State.{State}
 use Rattle.json5_de.proofs.ShortReads.{reader_at}

@@ -9,15 +9,15 @@ use Rattle.json5_grammar.specs.Language.Documents.{max_depth}
 use Rattle.json5_grammar.specs.Language.Numbers.{Number, Decimal, whole, decimal}
 use Rattle.json5_grammar.specs.Language.Trees.{number, text}
 use Rattle.json5_grammar.specs.Language.Values.{is_number}
-use Rattle.json5_text.specs.Cursor.{Cursor}
-use Rattle.json5_text.specs.ShortWays.{TookNumber, TookWhole, TookInRange, TakesShortDecimal, StepsTo, TakesShortStep, TakesShortSign}
-use Rattle.json5_text.specs.ShortTexts.{ReadsEscapeFreeString, TookEscapeFree, TakesShortString, TakesShortKey, TookShortOwned, TakesShortOwned, IsTextAt}
-use Rattle.json5_text.specs.ShortTexts as texts
-use Rattle.json5_text.specs.TextTokens.{IsSliceAt}
-use Rattle.json5_text.specs.declared.short_texts.Span.{Span}
-use Rattle.json5_text.specs.declared.short_ways.ShortStep.{ShortStep}
-use Rattle.json5_text.specs.declared.short_ways.ShortStep.TheVariants as short
-use Rattle.json5_value.specs.declared.brackets.BracketPair.{BracketPair}
+use Rattle.json5_tokens.specs.Cursor.{Cursor}
+use Rattle.json5_tokens.specs.ShortWays.{TookNumber, TookWhole, TookInRange, TakesShortDecimal, StepsTo, TakesShortStep, TakesShortSign}
+use Rattle.json5_tokens.specs.ShortTexts.{ReadsEscapeFreeString, TookEscapeFree, TakesShortString, TakesShortKey, TookShortOwned, TakesShortOwned, IsTextAt}
+use Rattle.json5_tokens.specs.ShortTexts as texts
+use Rattle.json5_tokens.specs.TextTokens.{IsSliceAt}
+use Rattle.json5_tokens.specs.declared.short_texts.Span.{Span}
+use Rattle.json5_tokens.specs.declared.short_ways.ShortStep.{ShortStep}
+use Rattle.json5_tokens.specs.declared.short_ways.ShortStep.TheVariants as short
+use Rattle.json5_read.specs.declared.brackets.BracketPair.{BracketPair}
 use Rattle.json5_de.specs.Convert.{natural_below, integer_below, every_text}
 use Rattle.json5_de.specs.KeyKinds.{ReadsKeyAs, string_key}
 use Rattle.json5_de.specs.Keys.{TookKey}
@@ -29,7 +29,7 @@ use Rattle.json5_de.proofs.TokenKinds.{reads_ok}
 use Rattle.json5_de.proofs.ReadSteps.{value_gap, input_of}
 use Rattle.json5_de.proofs.FoundKeys.{key_ok}
 use Rattle.json5_grammar.proofs.CommonLemmas.{true_false}
-use Rattle.json5_value.proofs.NoFailedCode.{memory_other}
+use Rattle.json5_read.proofs.NoFailedCode.{memory_other}
 use Rattle.json5_types.specs.declared.error.Error.{Error}
 
 -- a reader whose scanner is there

@@ -5,7 +5,7 @@ use Rattle.std.specs.Str.{all_scalars}
 use Rattle.std.specs.String.{string_bytes}
 use Rattle.std.specs.declared.string.String.{String}
 use Rattle.json5_grammar.specs.Language.Strings.{Str}
-use Rattle.json5_text.proofs.UnicodeScalars.{text_characters}
+use Rattle.json5_tokens.proofs.UnicodeScalars.{text_characters}
 use Rattle.json5_de.specs.Convert.{one_character}
 use Rattle.json5_de.specs.State.{State}
 use Rattle.json5_de.specs.TokenCalls.{TakesOwnString}

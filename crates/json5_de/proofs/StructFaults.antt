@@ -13,7 +13,7 @@ use Rattle.json5_de.specs.ConvertLists.{if_some}
 use Rattle.json5_de.specs.Faults.{RefusedBy}
 use Rattle.json5_de.specs.Arrays.{NotOpened, IsAtBracket}
 use Rattle.json5_de.specs.AnyTree.{RefusesTree}
-use Rattle.json5_value.specs.Brackets.{curly}
+use Rattle.json5_read.specs.Brackets.{curly}
 use Rattle.json5_de.specs.KeyKinds.{RefusedAsKey, string_key}
 use Rattle.json5_de.specs.Keys.{KeyConversion}
 use Rattle.json5_de.specs.Objects.{MapAccessState, GivesMemberKey, OpensMap, ClosesMap}

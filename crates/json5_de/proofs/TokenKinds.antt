@@ -5,12 +5,12 @@ use Rattle.json5_grammar.specs.declared.error_code.ErrorCode.{ErrorCode}
 use Rattle.json5_grammar.specs.declared.error_code.ErrorCode.TheVariants as codes
 use Rattle.json5_types.specs.declared.error.Error.{Error}
 use Rattle.json5_types.specs.Errors.{code, kind_of}
-use Rattle.json5_text.specs.Cursor.{Cursor}
+use Rattle.json5_tokens.specs.Cursor.{Cursor}
 use Rattle.json5_types.specs.Errors.{LacksMemory}
 use Rattle.json5_grammar.specs.Language.Values.{null_text, true_text, false_text, Stops, is_null, is_number}
 use Rattle.json5_de.specs.State.{State, GivesUp}
-use Rattle.json5_text.specs.Cursor.{Refused}
-use Rattle.json5_text.specs.TokenFaults.{FaultyBlanks, FaultyNumber, FaultyString}
+use Rattle.json5_tokens.specs.Cursor.{Refused}
+use Rattle.json5_tokens.specs.TokenFaults.{FaultyBlanks, FaultyNumber, FaultyString}
 use Rattle.json5_grammar.specs.Language.Strings.{Str}
 use Rattle.json5_de.specs.State.{cursor_of}
 use Rattle.json5_de.specs.ReaderSteps.{PassedGap, TookText, IsMismatch, IsMismatchOf, WholeAt}
@@ -20,7 +20,7 @@ use Rattle.json5_grammar.specs.Language.Numbers.{Number, whole, decimal, Num, le
 use Rattle.json5_grammar.specs.Language.Trees.{Tree, null, boolean, number, text, array, object}
 use Rattle.json5_de.specs.Convert.{as_whole, as_number, every_decimal, as_text, if_escape_free, digits_bytes}
 use Rattle.json5_de.specs.Faults.{RefusedBy, RefusedByOrMemory, NotNumber, faulty_number, other_number, faulty_text, begins_with}
-use Rattle.json5_value.specs.EntryFaults.{FaultRelation, AfterBlanks, in_blanks, after_gap}
+use Rattle.json5_read.specs.EntryFaults.{FaultRelation, AfterBlanks, in_blanks, after_gap}
 use Rattle.json5_de.specs.TokenKinds.{Kind, RefusedWith, ReadsAs, ReadsNull, EndsWhere, DiffersWhere, TellsApart, every_tree, no_tree, escape_free_text, null_kind, bool_kind, whole_kind, decimal_kind, coded_text_kind, text_kind, escape_free_kind, bytes_kind}
 use Rattle.json5_de.proofs.ExpectedKinds.{Expected, wrongly_refused, completes_or_memory, ends_from, ends_or_memory, differs_from, differs_or_memory}
 use Rattle.json5_de.proofs.ExpectsWords.{expects_null, expects_bool}
@@ -32,9 +32,9 @@ use Rattle.json5_de.proofs.AllocationFreeFronts.{whole_there, no_other_number, e
 use Rattle.json5_grammar.specs.Language.Characters.{NotBegun}
 use Rattle.json5_types.specs.NumberMeanings.{keeps_digits}
 use Rattle.std.proofs.lemmas.Bool.{false≢true}
-use Rattle.json5_value.proofs.FoundEntries.{after_lacks}
+use Rattle.json5_read.proofs.FoundEntries.{after_lacks}
 use Rattle.json5_de.proofs.NoFailedCode.{number_lacks, text_lacks}
-use Rattle.json5_value.proofs.NoFailedCode.{Lacks, in_blanks_other, word_lacks, other_says, memory_other}
+use Rattle.json5_read.proofs.NoFailedCode.{Lacks, in_blanks_other, word_lacks, other_says, memory_other}
 use Rattle.json5_grammar.proofs.CommonLemmas.{true_false}
 
 -- a kind of value is told apart from all others, and none of its faults is that the reader had failed

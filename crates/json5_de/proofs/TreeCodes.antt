@@ -15,7 +15,7 @@ use Rattle.json5_grammar.proofs.ValuesRead.{read_complete}
 use Rattle.json5_grammar.proofs.ValueSteps.{read_missing, read_nothing}
 use Rattle.json5_types.specs.declared.error.Error.{Error}
 use Rattle.json5_de.proofs.TreeFaults.{as_reading}
-use Rattle.json5_text.specs.Cursor.{IsOutOfMemory}
+use Rattle.json5_tokens.specs.Cursor.{IsOutOfMemory}
 use Rattle.json5_de.specs.AnyTree.{ReadingRefuses, RefusedInReading, ReadsTree, TellsTreesApart}
 use Rattle.json5_de.specs.DeserializeLaw.{Gives}
 use Rattle.json5_de.specs.State.{State}

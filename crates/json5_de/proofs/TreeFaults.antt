@@ -15,7 +15,7 @@ use Rattle.json5_grammar.proofs.OneTree.{phrase_reader}
 use Rattle.json5_grammar.proofs.ValuesSound.{read_place}
 use Rattle.json5_types.specs.declared.error.Error.{Error}
 use Rattle.json5_de.specs.AnyTree.{RefusesTree, ReadingRefuses, RefusedInReading}
-use Rattle.json5_value.specs.EntryFaults.{AfterBlanks, in_blanks, after_gap}
+use Rattle.json5_read.specs.EntryFaults.{AfterBlanks, in_blanks, after_gap}
 use Rattle.json5_de.specs.State.{State}
 
 -- a comment's fault, or that of the value after the blanks, is what reading refuses

@@ -17,17 +17,17 @@ use Rattle.json5_grammar.proofs.ArraysRead.{phrase_found}
 use Rattle.json5_grammar.proofs.ValuesRead.{read_complete}
 use Rattle.json5_grammar.proofs.ValuesSound.{read_sound, read_place}
 use Rattle.json5_types.specs.declared.error.Error.{Error}
-use Rattle.json5_text.specs.Cursor.{Refused, Says, IsOutOfMemory}
-use Rattle.json5_text.specs.TokenFaults.{FaultyBlanks}
+use Rattle.json5_tokens.specs.Cursor.{Refused, Says, IsOutOfMemory}
+use Rattle.json5_tokens.specs.TokenFaults.{FaultyBlanks}
 use Rattle.json5_de.proofs.TreeFaults.{as_fault}
 use Rattle.json5_types.specs.declared.value.Value.{Value}
 use Rattle.json5_types.specs.ValueMeanings.{value_of}
-use Rattle.json5_value.specs.OwnedReads.{ReadsDatum, BlamesOrMemory, as_datum, datum_at}
-use Rattle.json5_value.specs.SkipSteps.{SkipsValue}
-use Rattle.json5_value.specs.ModelSteps.{HasPositionAt, RefusesRead, value_at}
-use Rattle.json5_value.proofs.BuildScalars.{datum_got}
-use Rattle.json5_value.proofs.NoFailedCode.{memory_other}
-use Rattle.json5_value.proofs.ModelSteps.{blames_as, forget_got}
+use Rattle.json5_read.specs.OwnedReads.{ReadsDatum, BlamesOrMemory, as_datum, datum_at}
+use Rattle.json5_read.specs.SkipSteps.{SkipsValue}
+use Rattle.json5_read.specs.ModelSteps.{HasPositionAt, RefusesRead, value_at}
+use Rattle.json5_read.proofs.BuildScalars.{datum_got}
+use Rattle.json5_read.proofs.NoFailedCode.{memory_other}
+use Rattle.json5_read.proofs.ModelSteps.{blames_as, forget_got}
 use Rattle.json5_de.specs.Convert.{every_datum}
 use Rattle.json5_de.specs.AnyTree.{ReadingRefuses, RefusedInReading, ReadsTree, nothing, every_value}
 use Rattle.json5_de.specs.DeserializeLaw.{TookValue, StaysFailed, Unprompted}

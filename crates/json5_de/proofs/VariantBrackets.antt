@@ -4,11 +4,11 @@ use Rattle.json5_grammar.specs.Language.Trees.{array, object, no_member}
 use Rattle.json5_grammar.specs.Model.Collections.{IsBrace}
 use Rattle.json5_grammar.proofs.ArraysPartlyRead.{one_end}
 use Rattle.json5_types.specs.declared.error.Error.{Error}
-use Rattle.json5_value.specs.Offsets.{StartsAfter, PositionedAt}
+use Rattle.json5_read.specs.Offsets.{StartsAfter, PositionedAt}
 use Rattle.json5_de.specs.State.{State, GivesUp}
-use Rattle.json5_value.specs.declared.brackets.BracketPair.{BracketPair}
+use Rattle.json5_read.specs.declared.brackets.BracketPair.{BracketPair}
 use Rattle.json5_de.specs.BracketSigns.{AreSigns}
-use Rattle.json5_value.specs.Brackets.{square, curly}
+use Rattle.json5_read.specs.Brackets.{square, curly}
 use Rattle.json5_de.specs.Arrays.{AccessState, IsStart, Opened, OpensAs, ClosesArray}
 use Rattle.json5_de.specs.Objects.{MapAccessState, ClosesMap, LeftAfter}
 use Rattle.json5_de.specs.Enums.{EnumAccessState, in_content, ClosesLast, ClosesContent, not_ended, brace_open, ClosesTuple, ClosesStruct, EndsArray, EndsObject, OpensContent, OpensTuple, OpensStruct}

@@ -11,8 +11,8 @@ use Rattle.json5_de.specs.State.{State, SameText, GivesUp}
 use Rattle.json5_de.specs.DeserializeLaw.{Gives, Completes, CompletesFree, Unprompted}
 use Rattle.json5_de.specs.ReaderSteps.{IsMismatch}
 use Rattle.json5_de.specs.ConvertLists.{if_some}
-use Rattle.json5_value.specs.Offsets.{PositionedAt, StartsAfter}
-use Rattle.json5_value.specs.Brackets.{curly}
+use Rattle.json5_read.specs.Offsets.{PositionedAt, StartsAfter}
+use Rattle.json5_read.specs.Brackets.{curly}
 use Rattle.json5_de.specs.Arrays.{ClosesAs}
 use Rattle.json5_de.specs.Enums.{EnumAccessState, AfterName, ContentLeft, RefusesContent, no_content, in_content, not_closed, ReadsInBrace, ReadsVariant, content_of, content_free}
 use Rattle.json5_de.proofs.ArrayElements.{still_live}

@@ -21,31 +21,31 @@ use Rattle.json5_grammar.proofs.ArraysPartlyRead.{same_sign}
 use Rattle.json5_grammar.proofs.ObjectsRead.{opening_brace_solid, colon_solid, one_opening_brace, one_key, one_reads_key, object_front}
 use Rattle.json5_grammar.proofs.OneTree.{one_phrase}
 use Rattle.json5_types.specs.declared.error.Error.{Error}
-use Rattle.json5_text.specs.Cursor.{Refused, IsOutOfMemory}
-use Rattle.json5_value.specs.Offsets.{StartsAfter, PositionedAt}
-use Rattle.json5_text.specs.TokenFaults.{FaultyBlanks}
+use Rattle.json5_tokens.specs.Cursor.{Refused, IsOutOfMemory}
+use Rattle.json5_read.specs.Offsets.{StartsAfter, PositionedAt}
+use Rattle.json5_tokens.specs.TokenFaults.{FaultyBlanks}
 use Rattle.json5_de.specs.State.{State, SameText, GivesUp, cursor_of}
 use Rattle.json5_de.specs.DeserializeLaw.{TookValue, IsUnprompted, Unprompted}
 use Rattle.json5_de.specs.ReaderSteps.{PassedGap}
 use Rattle.json5_de.specs.Convert.{as_text, index_of}
 use Rattle.json5_de.specs.ConvertLists.{if_some}
 use Rattle.json5_de.specs.Faults.{RefusedBy, AtEnd, AtOther, IsPositionless}
-use Rattle.json5_value.specs.Brackets.{curly}
+use Rattle.json5_read.specs.Brackets.{curly}
 use Rattle.json5_de.specs.Arrays.{AccessState, OpensAs, NotOpened, Closed}
-use Rattle.json5_value.specs.ModelSteps.{Unexpected, at_end, at_char}
+use Rattle.json5_read.specs.ModelSteps.{Unexpected, at_end, at_char}
 use Rattle.json5_de.specs.TokenKinds.{ReadsAs, variant_kind}
 use Rattle.json5_de.specs.Keys.{TookKey, GivesKey}
 use Rattle.json5_de.specs.KeyKinds.{ReadsKeyAs, variant_key}
 use Rattle.json5_de.specs.Objects.{MapAccessState, MembersRead, AfterColon, bare_map}
 use Rattle.json5_de.specs.ObjectFaults.{begins_key, BeginsKey}
-use Rattle.json5_value.specs.EntryFaults.{NoColon}
+use Rattle.json5_read.specs.EntryFaults.{NoColon}
 use Rattle.json5_de.specs.Enums.{named_variant, EnumAccessState, AtContent, AfterName, NameRead, ContentTail, content_depth, ContentLeft, begins_variant, NoVariant, no_variant, variant_missing, NotKeyed, not_keyed, key_missing, is_left_brace, FirstCharIs, IsNext, no_only_key, other_key, not_followed, RefusesKeyed, RefusesName, nothing_named, other_text, not_opened, in_object, NamesVariant, ReadsOnlyKey, ReadsKeyed}
-use Rattle.json5_value.proofs.FoundEntries.{sign_next}
+use Rattle.json5_read.proofs.FoundEntries.{sign_next}
 use Rattle.json5_de.proofs.BracketSteps.{only_read, level_of, failed_of, after_gap_of}
 use Rattle.json5_de.proofs.ArrayElements.{still_live, same_level}
 use Rattle.json5_de.proofs.ExpectedKinds.{Expected, end_fault, other_fault}
 use Rattle.json5_de.proofs.Options.{end_next, value_next, value_no_end, took_after}
-use Rattle.json5_value.proofs.NoFailedCode.{Lacks}
+use Rattle.json5_read.proofs.NoFailedCode.{Lacks}
 use Rattle.json5_de.proofs.MemberRefusals.{value_read, key_there, no_key_begun, pair_key_found}
 use Rattle.json5_de.proofs.ObjectMembers.{pair_read, all_read, opens_map, refuses_map}
 use Rattle.json5_de.proofs.RefusalPositions.{refused_as}

@@ -2,7 +2,7 @@
 use Rattle.std.proofs.Common.{◌≡◌, ℕ, ◌+◌, ◌≤◌, false, List, ap, sym, ◌∙◌, subst, arith, ◌⊎◌, inl, inr, Option, Some}
 use Rattle.std.specs.Prelude.{Err}
 use Rattle.json5_types.specs.declared.error.Error.{Error}
-use Rattle.json5_text.specs.Cursor.{Cursor, Refused, IsOutOfMemory}
+use Rattle.json5_tokens.specs.Cursor.{Cursor, Refused, IsOutOfMemory}
 use Rattle.json5_grammar.specs.Language.Blanks.{LastBlanks}
 use Rattle.json5_grammar.specs.Language.Trees.{Tree, depth}
 use Rattle.json5_grammar.specs.Language.Values.{Reads}
@@ -11,7 +11,7 @@ use Rattle.json5_grammar.proofs.OneTree.{document_phrase, phrase_document, one_p
 use Rattle.json5_de.specs.State.{State, at_start}
 use Rattle.json5_de.specs.DeserializeLaw.{TookValue, Gives, Completes}
 use Rattle.json5_de.specs.Faults.{AtEnd, RefusedBy, Trailing}
-use Rattle.json5_value.specs.EntryFaults.{AfterBlanks}
+use Rattle.json5_read.specs.EntryFaults.{AfterBlanks}
 use Rattle.json5_de.proofs.ReadSteps.{input_of}
 use Rattle.std.proofs.lemmas.Option.{same_Some}
 use Rattle.json5_de.proofs.BracketSteps.{failed_of}

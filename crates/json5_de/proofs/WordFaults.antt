@@ -2,7 +2,7 @@
 use Rattle.std.proofs.Common.{◌≡◌, ◌≢◌, ℕ, List, [], ◌∷◌, ◌++◌, refl, ap, sym, ◌∙◌, append_assoc, Option, Some, None}
 use Rattle.std.proofs.lemmas.List.{append-nil, append_cancel_left}
 use Rattle.json5_grammar.specs.declared.error_code.ErrorCode.{ErrorCode}
-use Rattle.json5_text.specs.TokenFaults.{FaultyWord, word_differs, word_ends}
+use Rattle.json5_tokens.specs.TokenFaults.{FaultyWord, word_differs, word_ends}
 use Rattle.json5_grammar.proofs.CommonLemmas.{first_same}
 
 pub append_not_nil : (p : List ℕ) (c : ℕ) (r : List ℕ) → p ++ c ∷ r ≡ [] → ⊥

@@ -1,22 +1,23 @@
 -- The steps of an access, and how its calls refuse.
+-- A promise rests on this.
 use Rattle.std.specs.Prelude.{◌≡◌, ℕ, ◌-◌, Bool, true, false, List, ◌∷◌, Option, is_some, ◌==◌, ◌||◌, Result, IfOk, IfErr, OnOk, OnErr, IsErrAnd}
 use Rattle.json5_grammar.specs.Language.Trees.{Tree}
 use Rattle.json5_grammar.specs.declared.error_code.ErrorCode.{ErrorCode}
 use Rattle.json5_grammar.specs.declared.error_code.ErrorCode.TheVariants as codes
 use Rattle.json5_grammar.specs.Language.Characters.{NotBegun}
 use Rattle.json5_grammar.specs.Model.Collections.{IsEnd}
-use Rattle.json5_text.specs.Cursor.{Refused}
-use Rattle.json5_text.specs.ShortWays.{StepsTo}
+use Rattle.json5_tokens.specs.Cursor.{Refused}
+use Rattle.json5_tokens.specs.ShortWays.{StepsTo}
 use Rattle.json5_types.specs.declared.error.Error.{Error}
 use Rattle.json5_types.specs.Errors.{code, kind_of}
 use Rattle.json5_de.specs.State.{State, OnlyRead, SameText, cursor_of, FailsIfErr}
-use Rattle.json5_value.specs.declared.brackets.BracketPair.{BracketPair}
-use Rattle.json5_value.specs.Brackets.{square}
-use Rattle.json5_value.specs.EntryFaults.{NoNext}
+use Rattle.json5_read.specs.declared.brackets.BracketPair.{BracketPair}
+use Rattle.json5_read.specs.Brackets.{square}
+use Rattle.json5_read.specs.EntryFaults.{NoNext}
 use Rattle.json5_de.specs.DeserializeLaw.{Unprompted, Steady}
 use Rattle.json5_de.specs.Faults.{RefusedBy, AtEnd, DiffersWith}
 use Rattle.json5_de.specs.Arrays.{AccessState, bare, GivesElement, CompletesElement, CompletesClose, AtClose, HasPosition, PositionedAtBracket, IsAtBracket, is_comma_or_closing, AnswersFailedAtBracket}
-use Rattle.json5_value.specs.ModelSteps.{Unexpected}
+use Rattle.json5_read.specs.ModelSteps.{Unexpected}
 
 -- the closing bracket in front was taken
 abbrev pub TookClosing : BracketPair → State → State → Type 0

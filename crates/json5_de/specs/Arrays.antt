@@ -1,4 +1,5 @@
 -- What contracts see of an access to an array.
+-- A promise rests on this.
 use Rattle.std.specs.Prelude.{◌≡◌, ◌≢◌, ◌⊎◌, ℕ, ◌+◌, ◌-◌, ◌<◌, ◌≤◌, Bool, true, false, List, [], ◌∷◌, ◌++◌, length, Option, Some, None, Result, Ok, Err, IfOk, IfErr, OnOk, IsOk, IsOkAnd, IsErrAnd, MatchResult, ◌==◌, ◌||◌, ◌&&◌}
 use Rattle.std.specs.Str.{encode_utf8_all}
 use Rattle.json5_grammar.specs.Language.Characters.{comma_sign}
@@ -14,14 +15,14 @@ use Rattle.json5_grammar.specs.Model.Collections.{IsSign, IsEnd, Opens, IsElemen
 use Rattle.json5_types.specs.declared.error.Error.{Error}
 use Rattle.json5_types.specs.Errors.{code, kind_of, error_position}
 use Rattle.json5_de.specs.State.{State, OnlyRead, SameText, FailsIfErr, GivesUpIfErr}
-use Rattle.json5_text.specs.Cursor.{IsOutOfMemory}
+use Rattle.json5_tokens.specs.Cursor.{IsOutOfMemory}
 use Rattle.json5_de.specs.DeserializeLaw.{IsOkOrMemory, TookValue, Unprompted, AnswersFailed}
-use Rattle.json5_value.specs.Offsets.{PositionedAt, StartsAfter}
+use Rattle.json5_read.specs.Offsets.{PositionedAt, StartsAfter}
 use Rattle.json5_de.specs.ConvertLists.{if_some}
 use Rattle.json5_de.specs.Faults.{IsAfter, RefusedBy, EndsWith, DiffersWith}
-use Rattle.json5_value.specs.EntryFaults.{AfterBlanks}
-use Rattle.json5_value.specs.declared.brackets.BracketPair.{BracketPair}
-use Rattle.json5_value.specs.Brackets.{square}
+use Rattle.json5_read.specs.EntryFaults.{AfterBlanks}
+use Rattle.json5_read.specs.declared.brackets.BracketPair.{BracketPair}
+use Rattle.json5_read.specs.Brackets.{square}
 
 -- what contracts see of an access: the reader that is lent to it, the count of bytes before the opening bracket,
 -- and whether a comma is due

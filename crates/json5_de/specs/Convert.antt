@@ -1,4 +1,5 @@
 -- What each type takes of a tree: at most one content.
+-- A promise rests on this.
 use Rattle.std.specs.Prelude.{◌≤◌, ◌≤ℤ◌, ◌-ℤ◌, neg_ℤ, ℕ, Bool, true, false, if◌then◌else◌, nat_lt, List, [], ◌∷◌, map, ℤ, pos, negsuc, nat_abs, Option, Some, None}
 use Rattle.std.specs.Fmt as numerals
 use Rattle.std.specs.Borrow.{Bor}
@@ -9,7 +10,7 @@ use Rattle.hex.specs.Hex.{decode_of}
 use Rattle.json5_grammar.specs.Language.Numbers.{Number, Decimal, whole, decimal, finite, without_zeros, normal_exponent}
 use Rattle.json5_grammar.specs.Language.Trees.{Tree, null, boolean, number, text}
 use Rattle.json5_types.specs.ValueMeanings.{Datum}
-pub use Rattle.json5_value.specs.TreeMeanings.{datum_of, items_of, fields_of}
+pub use Rattle.json5_read.specs.TreeMeanings.{datum_of, items_of, fields_of}
 
 -- null
 abbrev pub unit_of : Tree → Option (Unit {0})

@@ -1,4 +1,5 @@
 -- What options and lists take of a tree.
+-- A promise rests on this.
 use Rattle.std.specs.Prelude.{◌==◌, ℕ, if◌then◌else◌, List, length, Option, Some, None}
 use Rattle.json5_grammar.specs.Language.Trees.{Tree, Trees, null, boolean, number, text, array, object, no_more, more}
 use Rattle.json5_grammar.specs.Model.Collections.{joint, contents}

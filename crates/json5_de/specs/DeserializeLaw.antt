@@ -1,14 +1,15 @@
 -- The law of a type that is read.
+-- A promise rests on this.
 use Rattle.std.specs.Prelude.{◌≡◌, ℕ, ◌+◌, ◌≤◌, Bool, false, true, List, Option, Some, None, Result, Ok, Err, IsOk, IfOk, IfErr, IsErrAnd}
 use Rattle.json5_grammar.specs.declared.error_code.ErrorCode.TheVariants as codes
 use Rattle.json5_grammar.specs.Language.Trees.{Tree, depth}
 use Rattle.json5_grammar.specs.Language.Values.{Reads}
 use Rattle.json5_grammar.specs.Language.Documents.{max_depth}
 use Rattle.json5_types.specs.declared.error.Error.{Error}
-use Rattle.json5_text.specs.Cursor.{IsOutOfMemory}
+use Rattle.json5_tokens.specs.Cursor.{IsOutOfMemory}
 use Rattle.json5_de.specs.State.{State, OnlyRead, SameText, FailsIfErr}
 use Rattle.json5_de.specs.Faults.{IsPositionless}
-pub use Rattle.json5_value.specs.ModelSteps.{IsUnprompted}
+pub use Rattle.json5_read.specs.ModelSteps.{IsUnprompted}
 
 -- one value of the tree t was read, blanks before it included, and nothing else happened
 pub record TookValue (old : State) (t : Tree) (new : State) : Type 0 where

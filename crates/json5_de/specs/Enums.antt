@@ -1,4 +1,5 @@
 -- Enums: a value names one of the variants, and may hold its content.
+-- A promise rests on this.
 use Rattle.std.specs.Prelude.{◌≡◌, ◌⊎◌, ◌==◌, ◌||◌, ℕ, ◌+◌, ◌<◌, ◌≤◌, Bool, true, false, List, [], ◌∷◌, ◌++◌, length, Option, Some, None, is_some, Result, IfOk, IfErr, OnOk, OnErr, IsOk, IsOkAnd, MatchResult}
 use Rattle.std.specs.Str.{encode_utf8_all}
 use Rattle.json5_grammar.specs.Language.Characters.{left_brace}
@@ -10,23 +11,23 @@ use Rattle.json5_grammar.specs.Language.Strings.{is_quote}
 use Rattle.json5_grammar.specs.Language.Trees.{Tree, Trees, Members, null, boolean, number, text, array, object, member, no_member, no_more, depth}
 use Rattle.json5_grammar.specs.Language.Values.{Reads}
 use Rattle.json5_types.specs.declared.error.Error.{Error}
-use Rattle.json5_text.specs.Cursor.{IsOutOfMemory}
+use Rattle.json5_tokens.specs.Cursor.{IsOutOfMemory}
 use Rattle.json5_de.specs.State.{State, SameText, GivesUp, GivesUpIfErr, FailsIfErr}
 use Rattle.json5_de.specs.DeserializeLaw.{IsOkOrMemory, TookValue, Unprompted, AnswersFailed}
 use Rattle.json5_de.specs.Convert.{unit_of, index_of}
 use Rattle.json5_de.specs.ConvertLists.{if_some}
 use Rattle.json5_de.specs.Refinement.{if_more}
-use Rattle.json5_value.specs.Offsets.{PositionedAt, StartsAfter}
+use Rattle.json5_read.specs.Offsets.{PositionedAt, StartsAfter}
 use Rattle.json5_de.specs.ReaderSteps.{PassedGap, IsMismatch}
 use Rattle.json5_de.specs.Faults.{RefusedBy, RefusedByOrMemory, NotText, EndsWith, DiffersWith}
-use Rattle.json5_value.specs.declared.brackets.BracketPair.{BracketPair}
-use Rattle.json5_value.specs.Brackets.{square, curly}
+use Rattle.json5_read.specs.declared.brackets.BracketPair.{BracketPair}
+use Rattle.json5_read.specs.Brackets.{square, curly}
 use Rattle.json5_de.specs.Arrays.{AccessState, IsStart, Opened, NotOpened, Closed, NotClosed, ClosesAs, ClosesArray, ElementsRead, ElementsLeft}
 use Rattle.json5_de.specs.Keys.{TookKey}
 use Rattle.json5_de.specs.KeyKinds.{NotKey, not_converted}
 use Rattle.json5_de.specs.Objects.{MapAccessState, MembersRead, MembersLeft, AfterColon, ClosesMap, bare_map}
 use Rattle.json5_de.specs.ObjectFaults.{begins_key}
-use Rattle.json5_value.specs.EntryFaults.{NoColon}
+use Rattle.json5_read.specs.EntryFaults.{NoColon}
 
 -- ---- what a tree means
 

@@ -1,4 +1,5 @@
 -- What is refused where a value is expected.
+-- A promise rests on this.
 use Rattle.std.specs.Prelude.{◌≡◌, ℕ, Bool, true, false, if◌then◌else◌, ◌==◌, ◌⊎◌, List, [], ◌∷◌, ◌++◌, Option, Some, None, Result, IsErrAnd}
 use Rattle.json5_grammar.specs.Language.Characters.{letter_f}
 use Rattle.json5_grammar.specs.declared.error_code.ErrorCode.{ErrorCode}
@@ -9,9 +10,9 @@ use Rattle.json5_grammar.specs.Language.Strings.{Str}
 use Rattle.json5_grammar.specs.Language.Values.{Stops, null_text, true_text, false_text}
 use Rattle.json5_types.specs.declared.error.Error.{Error}
 use Rattle.json5_types.specs.Errors.{LacksMemory, code, kind_of, error_position}
-use Rattle.json5_text.specs.Cursor.{IsPositioned, Refused}
-use Rattle.json5_text.specs.TokenFaults.{FaultyWord, FaultyNumber, FaultyString}
-use Rattle.json5_value.specs.EntryFaults.{FaultRelation, AfterBlanks}
+use Rattle.json5_tokens.specs.Cursor.{IsPositioned, Refused}
+use Rattle.json5_tokens.specs.TokenFaults.{FaultyWord, FaultyNumber, FaultyString}
+use Rattle.json5_read.specs.EntryFaults.{FaultRelation, AfterBlanks}
 use Rattle.json5_de.specs.State.{State, cursor_of}
 
 -- a number in front is faulty, or it is complete and isn't the type's: a custom message, at the number's start

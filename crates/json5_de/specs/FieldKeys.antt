@@ -1,11 +1,12 @@
 -- The key of a member, while a struct is read.
+-- A promise rests on this.
 use Rattle.std.specs.Prelude.{ℕ, Bool, false, List, Option, Some, None, Result, IfSome, String, string_bytes, slice_range}
 use Rattle.std.specs.Str.{chars}
 use Rattle.json5_types.specs.declared.error.Error.{Error}
-use Rattle.json5_text.specs.declared.short_texts.Span.{Span}
-use Rattle.json5_text.specs.declared.text_token.TextToken.{TextToken}
-use Rattle.json5_text.specs.TextTokens.{IsSliceAt, Spells}
-use Rattle.json5_value.specs.Brackets.{curly}
+use Rattle.json5_tokens.specs.declared.short_texts.Span.{Span}
+use Rattle.json5_tokens.specs.declared.text_token.TextToken.{TextToken}
+use Rattle.json5_tokens.specs.TextTokens.{IsSliceAt, Spells}
+use Rattle.json5_read.specs.Brackets.{curly}
 use Rattle.json5_de.specs.State.{State}
 use Rattle.json5_de.specs.Convert.{every_text}
 use Rattle.json5_de.specs.AccessCalls.{AtEntry}

@@ -1,21 +1,22 @@
 -- Strings and keys that were found, and what their text converts to.
+-- Private.
 use Rattle.std.specs.Prelude.{◌≡◌, ℕ, Bool, true, ◌⊎◌, List, ◌++◌, length, Option, Some, None, Result, IfOk, IfErr, OnOk, OnErr}
 use Rattle.std.specs.Str.{all_scalars, encode_utf8_all}
 use Rattle.json5_grammar.specs.declared.error_code.ErrorCode.{ErrorCode}
 use Rattle.json5_grammar.specs.Language.Names.{Key}
 use Rattle.json5_grammar.specs.Language.Strings.{Str}
-use Rattle.json5_text.specs.declared.text_token.TextToken.{TextToken}
+use Rattle.json5_tokens.specs.declared.text_token.TextToken.{TextToken}
 use Rattle.json5_types.specs.declared.cow_str.CowStr.{CowStr}
 use Rattle.json5_types.specs.declared.error.Error.{Error}
-use Rattle.json5_text.specs.Cursor.{IsOffset}
+use Rattle.json5_tokens.specs.Cursor.{IsOffset}
 use Rattle.json5_types.specs.Errors.{LacksMemory}
-use Rattle.json5_text.specs.TextTokens.{Spells, IsTextOf, IsCowOf}
-use Rattle.json5_text.specs.TokenFaults.{FaultyKey, FaultyString}
+use Rattle.json5_tokens.specs.TextTokens.{Spells, IsTextOf, IsCowOf}
+use Rattle.json5_tokens.specs.TokenFaults.{FaultyKey, FaultyString}
 use Rattle.json5_de.specs.declared.de.tokens.FoundText.{FoundText}
 use Rattle.json5_de.specs.State.{State, GivesUp}
 use Rattle.json5_de.specs.Convert.{as_text, every_text}
 use Rattle.json5_de.specs.Faults.{RefusedByOrMemory}
-use Rattle.json5_value.specs.EntryFaults.{FaultRelation}
+use Rattle.json5_read.specs.EntryFaults.{FaultRelation}
 use Rattle.json5_de.specs.DeserializeLaw.{CompletesFree, StaysFailed}
 use Rattle.json5_de.specs.TokenKinds.{escape_free_text}
 use Rattle.json5_de.specs.ReaderSteps.{PassedGap, TookText, IsMismatchOf}

@@ -1,4 +1,5 @@
 -- The kinds of keys, and the law of a method that reads one.
+-- A promise rests on this.
 use Rattle.std.specs.Prelude.{◌≡◌, ◌≤◌, ◌↔◌, ℕ, Bool, List, [], ◌++◌, Option, Some, None, Result}
 use Rattle.json5_grammar.specs.declared.error_code.ErrorCode.{ErrorCode}
 use Rattle.json5_grammar.specs.declared.error_code.ErrorCode.TheVariants as codes
@@ -9,12 +10,12 @@ use Rattle.json5_grammar.specs.Model.ReadValues.{document}
 use Rattle.json5_grammar.specs.Language.Trees.{Tree, depth}
 use Rattle.json5_grammar.specs.Language.Values.{Reads}
 use Rattle.json5_types.specs.declared.error.Error.{Error}
-use Rattle.json5_text.specs.TokenFaults.{FaultyKey}
+use Rattle.json5_tokens.specs.TokenFaults.{FaultyKey}
 use Rattle.json5_de.specs.State.{State}
 use Rattle.json5_de.specs.Convert.{every_text, if_escape_free, every_cow, one_character, index_of, digits_bytes}
 use Rattle.json5_de.specs.ConvertLists.{if_some}
 use Rattle.json5_de.specs.Faults.{RefusedByOrMemory, Trailing}
-use Rattle.json5_value.specs.EntryFaults.{AfterBlanks}
+use Rattle.json5_read.specs.EntryFaults.{AfterBlanks}
 use Rattle.json5_de.specs.Keys.{KeyConversion, every_key, ReadsOneKey}
 use Rattle.json5_de.specs.TokenKinds.{Kind}
 

@@ -1,9 +1,10 @@
 -- The steps of a read of a key.
+-- Private.
 use Rattle.std.specs.Prelude.{◌≡◌, ℕ, Bool, true, false, List, Some}
 use Rattle.json5_grammar.specs.declared.error_code.ErrorCode.TheVariants as codes
 use Rattle.json5_grammar.specs.declared.position.Position.{Position}
 use Rattle.json5_types.specs.declared.error.Error.{Error}
-use Rattle.json5_text.specs.Cursor.{IsPositionOf}
+use Rattle.json5_tokens.specs.Cursor.{IsPositionOf}
 use Rattle.json5_types.specs.Errors.{FaultKind, LacksMemory, SaysAt, code, kind_of}
 
 abbrev pub is_out_of_memory : FaultKind → Bool

@@ -1,9 +1,10 @@
 -- Keys, and the law of a type that is read from one.
+-- A promise rests on this.
 -- JSON5 section 3 (a key is a string or an identifier).
 use Rattle.std.specs.Prelude.{◌≡◌, ℕ, Bool, true, false, List, Option, Some, Result, IfOk, IfErr, IsOk}
 use Rattle.json5_grammar.specs.Model.Collections.{ReadsKey}
 use Rattle.json5_types.specs.declared.error.Error.{Error}
-use Rattle.json5_text.specs.Cursor.{IsOutOfMemory}
+use Rattle.json5_tokens.specs.Cursor.{IsOutOfMemory}
 use Rattle.json5_de.specs.State.{State, OnlyRead, SameText, FailsIfErr}
 use Rattle.json5_de.specs.DeserializeLaw.{StaysFailed, Unprompted}
 

@@ -1,11 +1,12 @@
 -- An access and the reader that is lent to it.
+-- A promise rests on this.
 use Rattle.std.specs.Prelude.{◌≡◌, ◌<◌, ℕ, Bool, true, false, List, length, Option, None, is_some, Result, IfOk, IfSome}
-use Rattle.json5_value.specs.Brackets.{square, curly}
+use Rattle.json5_read.specs.Brackets.{square, curly}
 use Rattle.std.specs.Borrow.{Fml, RattleType, MutBor, RestsIfErr}
 use Rattle.json5_types.specs.declared.error.Error.{Error}
 use Rattle.json5_types.specs.declared.byte_buf.ByteBuf.{ByteBuf}
 use Rattle.json5_types.specs.declared.cow_str.CowStr.{CowStr}
-use Rattle.json5_text.specs.declared.input.Input as input
+use Rattle.json5_tokens.specs.declared.input.Input as input
 use Rattle.json5_types.specs.ByteBufs.{bytes_of}
 use Rattle.json5_types.specs.Cows.{cow_bytes, is_borrowed}
 use Rattle.json5_de.specs.State.{State, SameText, GivesUp}

@@ -1,14 +1,15 @@
 -- Why a list is refused.
+-- A promise rests on this.
 use Rattle.std.specs.Prelude.{◌≡◌, ◌⊎◌, ◌<◌, ℕ, zero, suc, Bool, true, false, List, ◌∷◌, ◌++◌, length, Option, Some, None, is_some, Result, Ok, Err}
 use Rattle.std.specs.Str.{encode_utf8_all}
 use Rattle.json5_grammar.specs.declared.error_code.ErrorCode.TheVariants as codes
 use Rattle.json5_grammar.specs.Language.Characters.{left_bracket}
 use Rattle.json5_grammar.specs.Language.Trees.{Tree, Trees, no_more, more}
 use Rattle.json5_types.specs.declared.error.Error.{Error}
-use Rattle.json5_text.specs.Cursor.{Says, IsOutOfMemory}
+use Rattle.json5_tokens.specs.Cursor.{Says, IsOutOfMemory}
 use Rattle.json5_types.specs.Errors.{LacksMemory}
 use Rattle.json5_de.specs.State.{State}
-use Rattle.json5_value.specs.Brackets.{square}
+use Rattle.json5_read.specs.Brackets.{square}
 use Rattle.json5_de.specs.Faults.{RefusedBy, IsPositionless}
 use Rattle.json5_de.specs.Arrays.{AccessState, Opened, AtClose, NotOpened, NotClosed, ElementsRead, LeavesFewer, IsAtBracket}
 use Rattle.json5_de.specs.AccessCalls.{RefusedAtBracket}

@@ -1,4 +1,5 @@
 -- Why a map is refused.
+-- A promise rests on this.
 use Rattle.std.specs.Prelude.{◌≡◌, ℕ, Bool, true, false, List, ◌∷◌, ◌++◌, length, Option, Some, None}
 use Rattle.std.specs.Str.{encode_utf8_all}
 use Rattle.json5_grammar.specs.declared.error_code.ErrorCode.TheVariants as codes
@@ -8,7 +9,7 @@ use Rattle.json5_grammar.specs.Model.Collections.{pair_contents}
 use Rattle.json5_types.specs.declared.error.Error.{Error}
 use Rattle.json5_types.specs.Errors.{LacksMemory}
 use Rattle.json5_de.specs.State.{State}
-use Rattle.json5_value.specs.Brackets.{curly}
+use Rattle.json5_read.specs.Brackets.{curly}
 use Rattle.json5_de.specs.Faults.{RefusedBy, IsPositionless}
 use Rattle.json5_de.specs.Arrays.{Opened, NotOpened}
 use Rattle.json5_de.specs.Keys.{KeyConversion}

@@ -1,4 +1,5 @@
 -- What a map is read to. Of members with equal keys the first gives the key and its place in the order, and the last gives the value.
+-- A promise rests on this.
 use Rattle.std.specs.Prelude.{◌≡◌, Bool, List, [], ◌∷◌, map, Option, Some, None, if◌then◌else◌, fold}
 use Rattle.std.specs.declared.cmp.Ordering.{Ordering}
 use Rattle.std.specs.BTreeMap as tree

@@ -1,4 +1,5 @@
 -- How the calls of an access to an object refuse.
+-- A promise rests on this.
 use Rattle.std.specs.Prelude.{◌≡◌, ℕ, Bool, true, false, ◌==◌, ◌||◌, List, [], ◌∷◌, ◌++◌, Option, Some, None, is_some, Result, Ok, IfOk, IfErr, OnOk, OnErr, IsOk, IsErrAnd, MatchResult}
 use Rattle.json5_grammar.specs.declared.error_code.ErrorCode.{ErrorCode}
 use Rattle.json5_grammar.specs.declared.error_code.ErrorCode.TheVariants as codes
@@ -11,10 +12,10 @@ use Rattle.json5_grammar.specs.Model.Collections.{IsKeyValue}
 use Rattle.json5_grammar.specs.Language.Trees.{Tree}
 use Rattle.json5_de.specs.State.{State, GivesUp}
 use Rattle.json5_de.specs.DeserializeLaw.{Steady}
-use Rattle.json5_value.specs.Offsets.{PositionedAt}
-use Rattle.json5_value.specs.Brackets.{curly}
+use Rattle.json5_read.specs.Offsets.{PositionedAt}
+use Rattle.json5_read.specs.Brackets.{curly}
 use Rattle.json5_de.specs.Faults.{RefusedBy}
-use Rattle.json5_value.specs.EntryFaults.{AfterBlanks, NoNext, NoColon}
+use Rattle.json5_read.specs.EntryFaults.{AfterBlanks, NoNext, NoColon}
 use Rattle.json5_de.specs.Arrays.{CompletesClose, bare, is_comma_or_closing}
 use Rattle.json5_de.specs.AccessCalls.{AtEntry, PositionedFault, RefusesCall}
 use Rattle.json5_de.specs.Keys.{KeyConversion}

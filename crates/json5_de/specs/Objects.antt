@@ -1,4 +1,5 @@
 -- What contracts see of an access to an object.
+-- A promise rests on this.
 use Rattle.std.specs.Prelude.{◌≡◌, ◌⊎◌, ℕ, ◌+◌, ◌≤◌, Bool, true, false, List, Option, Some, None, is_some, Result, Ok, Err, IfOk, OnOk, OnErr, IsOk, IsOkAnd, MatchResult}
 use Rattle.json5_grammar.specs.Language.Characters.{colon_sign}
 use Rattle.json5_grammar.specs.Language.Trees.{Tree, Members, object, member, no_member, depth, member_depths}
@@ -6,12 +7,12 @@ use Rattle.json5_grammar.specs.Language.Documents.{max_depth}
 use Rattle.json5_grammar.specs.Language.Values.{Reads}
 use Rattle.json5_grammar.specs.Model.Collections.{IsSign, OpensObject, IsKey, IsKeyValue, IsAtBrace, MembersPassed, MembersTail, snoc_member}
 use Rattle.json5_types.specs.declared.error.Error.{Error}
-use Rattle.json5_text.specs.Cursor.{IsOutOfMemory}
+use Rattle.json5_tokens.specs.Cursor.{IsOutOfMemory}
 use Rattle.json5_de.specs.State.{State, OnlyRead, SameText, FailsIfErr}
 use Rattle.json5_de.specs.DeserializeLaw.{IsOkOrMemory, TookValue}
 use Rattle.json5_de.specs.Keys.{KeyConversion}
 use Rattle.json5_de.specs.ConvertLists.{if_some}
-use Rattle.json5_value.specs.Brackets.{curly}
+use Rattle.json5_read.specs.Brackets.{curly}
 use Rattle.json5_de.specs.Arrays.{AccessState, bare, AtClose, OpensAs, ClosesAs}
 
 -- as of an array, and whether a key was read and its value wasn't yet

@@ -1,16 +1,17 @@
 -- What is refused where an option is expected.
+-- A promise rests on this.
 use Rattle.std.specs.Prelude.{◌≡◌, ◌⊎◌, ◌==◌, ℕ, Bool, true, false, List, [], ◌∷◌, ◌++◌, Option, Some, None}
 use Rattle.json5_grammar.specs.Language.Characters.{letter_n}
 use Rattle.json5_grammar.specs.declared.error_code.ErrorCode.{ErrorCode}
 use Rattle.json5_grammar.specs.declared.error_code.ErrorCode.TheVariants as codes
 use Rattle.json5_grammar.specs.Language.Trees.{Tree, null, boolean, number, text, array, object}
 use Rattle.json5_types.specs.declared.error.Error.{Error}
-use Rattle.json5_text.specs.Cursor.{Refused}
+use Rattle.json5_tokens.specs.Cursor.{Refused}
 use Rattle.json5_de.specs.State.{State, cursor_of}
 use Rattle.json5_de.specs.ReaderSteps.{PassedGap}
 use Rattle.json5_de.specs.Faults.{FaultyNull}
-use Rattle.json5_value.specs.EntryFaults.{AfterBlanks}
-use Rattle.json5_value.specs.Offsets.{PositionedAt}
+use Rattle.json5_read.specs.EntryFaults.{AfterBlanks}
+use Rattle.json5_read.specs.Offsets.{PositionedAt}
 
 -- null is read without memory, and what T reads so
 abbrev pub option_free : (Tree → Bool) → Tree → Bool

@@ -1,4 +1,5 @@
 -- A struct by its fields, one plan: what it takes of an object, and what each member changes of what was read of it.
+-- A promise rests on this.
 use Rattle.std.proofs.Common.{◌≡◌, ℕ, Bool, true, false, List, [], ◌∷◌, refl, sym, ap, ◌∙◌, Option, Some, None}
 use Rattle.std.specs.Prelude.{if◌then◌else◌, ◌&&◌, ◌<◌, length, Result, Ok, Err, OnOk, IsOk}
 use Rattle.std.specs.Str.{bytes_eq, encode_utf8_all}
@@ -6,7 +7,7 @@ use Rattle.json5_grammar.specs.Language.Characters.{right_brace}
 use Rattle.json5_grammar.specs.Language.Trees.{Tree, Trees, Members, no_more, more, no_member, member, object}
 use Rattle.json5_grammar.specs.Model.Collections.{joint, snoc_member}
 use Rattle.json5_types.specs.declared.error.Error.{Error}
-use Rattle.json5_text.specs.Cursor.{IsOutOfMemory}
+use Rattle.json5_tokens.specs.Cursor.{IsOutOfMemory}
 use Rattle.json5_de.specs.State.{State, FailsIfErr}
 use Rattle.json5_de.specs.ConvertLists.{if_some}
 use Rattle.json5_de.specs.DeserializeLaw.{Unprompted}

@@ -1,9 +1,10 @@
 -- Where an access is in its array or object, and how a call of it refuses or ends it.
+-- A promise rests on this.
 use Rattle.std.specs.Prelude.{◌≡◌, ℕ, true, false, Option, None, Some, Result}
 use Rattle.std.specs.Borrow.{GName, MutBor}
 use Rattle.json5_types.specs.declared.error.Error.{Error}
-use Rattle.json5_value.specs.Offsets.{PositionedAt, StartsAfter}
-use Rattle.json5_value.specs.declared.brackets.BracketPair.{BracketPair}
+use Rattle.json5_read.specs.Offsets.{PositionedAt, StartsAfter}
+use Rattle.json5_read.specs.declared.brackets.BracketPair.{BracketPair}
 use Rattle.json5_de.specs.State.{State}
 use Rattle.json5_de.specs.Arrays.{AccessState}
 use Rattle.json5_de.specs.Enums.{ClosesContent, ClosesLast}

@@ -1,4 +1,5 @@
 -- The steps of a typed read.
+-- A promise rests on this.
 use Rattle.std.specs.Prelude.{◌≡◌, ◌≤◌, ◌==◌, ℕ, ℤ, Bool, true, false, List, [], ◌∷◌, ◌++◌, length, Option, Some, None, ◌⊎◌, String, string_bytes}
 use Rattle.std.specs.Str.{all_scalars, chars, encode_utf8_all}
 use Rattle.hex.specs.declared.error.FromHexError.{FromHexError}
@@ -15,12 +16,12 @@ use Rattle.json5_types.specs.NumberMeanings.{number_of}
 use Rattle.json5_grammar.specs.Faults.Positions.{position_after}
 use Rattle.json5_types.specs.declared.error.Error.{Error}
 use Rattle.json5_types.specs.Errors.{LacksMemory, error_position}
-use Rattle.json5_text.specs.Cursor.{Says, Refused, IsOffset}
+use Rattle.json5_tokens.specs.Cursor.{Says, Refused, IsOffset}
 use Rattle.json5_grammar.specs.Language.Blanks.{Gap, Solid}
 use Rattle.json5_grammar.specs.Language.Documents.{max_depth}
 use Rattle.json5_grammar.specs.Language.Values.{Stops}
 use Rattle.json5_de.specs.State.{State, OnlyRead, cursor_of}
-use Rattle.json5_value.specs.EntryFaults.{FaultRelation}
+use Rattle.json5_read.specs.EntryFaults.{FaultRelation}
 
 -- a reader that hasn't failed passed over a gap
 pub record PassedGap (old new : State) : Type 0 where

@@ -1,16 +1,17 @@
 -- What the short ways promise: they return what the reader's other calls return, or None, and then nothing has changed.
+-- Private.
 use Rattle.std.specs.Prelude.{◌≡◌, ℕ, Bool, true, false, List, Option, Some, None, MatchOption, Result, Ok, Err, String, string_bytes}
 use Rattle.std.specs.Borrow.{Bor}
 use Rattle.std.specs.Str.{encode_utf8_all}
 use Rattle.json5_grammar.specs.Language.Trees.{text}
 use Rattle.json5_types.specs.Errors.{LacksMemory}
-use Rattle.json5_text.specs.TextTokens.{IsSliceAt}
-use Rattle.json5_text.specs.ShortTexts.{IsTextAt}
+use Rattle.json5_tokens.specs.TextTokens.{IsSliceAt}
+use Rattle.json5_tokens.specs.ShortTexts.{IsTextAt}
 use Rattle.json5_types.specs.declared.error.Error.{Error}
-use Rattle.json5_text.specs.declared.short_texts.Span.{Span}
-use Rattle.json5_text.specs.declared.short_ways.ShortStep.{ShortStep}
-use Rattle.json5_text.specs.declared.short_ways.ShortStep.TheVariants as short
-use Rattle.json5_value.specs.declared.brackets.BracketPair.{BracketPair}
+use Rattle.json5_tokens.specs.declared.short_texts.Span.{Span}
+use Rattle.json5_tokens.specs.declared.short_ways.ShortStep.{ShortStep}
+use Rattle.json5_tokens.specs.declared.short_ways.ShortStep.TheVariants as short
+use Rattle.json5_read.specs.declared.brackets.BracketPair.{BracketPair}
 use Rattle.json5_de.specs.Arrays.{Opened, Closed, IsStart}
 use Rattle.json5_de.specs.Keys.{TookKey}
 use Rattle.json5_de.specs.DeserializeLaw.{TookValue}

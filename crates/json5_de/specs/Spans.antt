@@ -1,9 +1,10 @@
 -- The offsets of a value that was read.
+-- A promise rests on this.
 use Rattle.std.specs.Prelude.{◌≡◌, ◌⊎◌, ℕ, ◌++◌, true, false, List, length}
 use Rattle.std.specs.Str.{encode_utf8_all}
 use Rattle.json5_types.specs.declared.error.Error.{Error}
-use Rattle.json5_text.specs.Cursor.{Refused}
-use Rattle.json5_text.specs.TokenFaults.{FaultyBlanks}
+use Rattle.json5_tokens.specs.Cursor.{Refused}
+use Rattle.json5_tokens.specs.TokenFaults.{FaultyBlanks}
 use Rattle.json5_de.specs.State.{State, cursor_of}
 use Rattle.json5_de.specs.ReaderSteps.{PassedGap}
 

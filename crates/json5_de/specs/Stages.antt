@@ -1,4 +1,5 @@
 -- How far an access has come.
+-- A promise rests on this.
 use Rattle.std.specs.Prelude.{Bool, true, false}
 use Rattle.json5_de.specs.declared.stage.AccessStage.{AccessStage}
 use Rattle.json5_de.specs.declared.stage.AccessStage.TheVariants as stage

@@ -1,8 +1,9 @@
 -- What contracts see of a reader.
+-- A promise rests on this.
 use Rattle.std.specs.Prelude.{◌≡◌, ℕ, ◌-◌, List, Bool, true, false, Option, Result, slice_get, OnOk, OnErr, IsErrAnd}
 use Rattle.json5_grammar.specs.Language.Documents.{max_depth}
 use Rattle.json5_types.specs.declared.error.Error.{Error}
-use Rattle.json5_text.specs.Cursor.{Cursor}
+use Rattle.json5_tokens.specs.Cursor.{Cursor}
 
 -- the whole input, its unread part, how many of 128 brackets are taken (those that are open, and those past the reader's limit, which is 128 by default),
 -- and whether a call refused, or an access holds the reader or was dropped before its end

@@ -1,4 +1,5 @@
 -- What the reader's calls for one token mean: it is taken, or refused with one of its faults, and then the reader has failed.
+-- Private.
 use Rattle.std.specs.Prelude.{◌≡◌, ℕ, Bool, true, false, List, ◌++◌, String, Result, IfOk, IfErr, OnOk, OnErr, IsOk}
 use Rattle.json5_grammar.specs.declared.error_code.ErrorCode.{ErrorCode}
 use Rattle.json5_grammar.specs.Language.Characters.{NotBegun}
@@ -7,14 +8,14 @@ use Rattle.json5_grammar.specs.Language.Numbers.{Number, Num, lengthens}
 use Rattle.json5_grammar.specs.Language.Strings.{Str}
 use Rattle.json5_types.specs.declared.cow_str.CowStr.{CowStr}
 use Rattle.json5_types.specs.declared.error.Error.{Error}
-use Rattle.json5_text.specs.declared.text_token.TextToken.{TextToken}
+use Rattle.json5_tokens.specs.declared.text_token.TextToken.{TextToken}
 use Rattle.json5_types.specs.declared.number.Number as token
-use Rattle.json5_text.specs.Cursor.{Refused}
+use Rattle.json5_tokens.specs.Cursor.{Refused}
 use Rattle.json5_types.specs.Errors.{LacksMemory}
 use Rattle.json5_types.specs.NumberMeanings.{keeps_digits}
-use Rattle.json5_text.specs.TokenFaults.{FaultyBlanks, FaultyWord, FaultyNumber, FaultyString, FaultyKey}
+use Rattle.json5_tokens.specs.TokenFaults.{FaultyBlanks, FaultyWord, FaultyNumber, FaultyString, FaultyKey}
 use Rattle.json5_de.specs.State.{State, GivesUp, cursor_of}
-use Rattle.json5_value.specs.EntryFaults.{FaultRelation}
+use Rattle.json5_read.specs.EntryFaults.{FaultRelation}
 use Rattle.json5_de.specs.DeserializeLaw.{StaysFailed, Unprompted}
 use Rattle.json5_de.specs.ReaderSteps.{PassedGap, TookText, TookNumber, TookOwned, TookCharacters, TookCow, RefusesToken}
 use Rattle.json5_de.specs.FoundTexts.{TookToken, IsString}

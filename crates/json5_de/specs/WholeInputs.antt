@@ -1,14 +1,15 @@
 -- How a whole input is read, and why it is refused.
+-- A promise rests on this.
 use Rattle.std.specs.Prelude.{◌≡◌, ◌⊎◌, ℕ, ◌≤◌, List, [], Option, Some, Result, MatchResult, IfOk, IfErr, OnOk, OnErr, IsOk}
 use Rattle.json5_grammar.specs.Language.Documents.{Doc}
 use Rattle.json5_grammar.specs.Language.Trees.{Tree, depth}
 use Rattle.json5_grammar.specs.Language.Values.{Reads}
 use Rattle.json5_types.specs.declared.error.Error.{Error}
-use Rattle.json5_text.specs.Cursor.{Refused, IsOutOfMemory}
+use Rattle.json5_tokens.specs.Cursor.{Refused, IsOutOfMemory}
 use Rattle.json5_de.specs.State.{State, GivesUp, at_start}
 use Rattle.json5_de.specs.DeserializeLaw.{TookValue, StaysFailed, IsUnprompted}
 use Rattle.json5_de.specs.Faults.{RefusedBy, AtEnd, Trailing}
-use Rattle.json5_value.specs.EntryFaults.{AfterBlanks}
+use Rattle.json5_read.specs.EntryFaults.{AfterBlanks}
 
 -- a document within the limit whose tree converts is read as what it converts to, unless memory runs out
 abbrev pub ReadsDocument : {V C : Type 0} → (V → C) → (Tree → Option C) → ℕ → List ℕ → Result V Error → Type 0

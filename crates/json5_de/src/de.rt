@@ -2,10 +2,10 @@
 
 ghost use Rattle.std.specs.Prelude.{◌≡◌, ◌≤◌, ◌<◌, ◌+◌, ◌-◌, Bool, true, false, IfOk, IfErr, OnOk};
 ghost use Rattle.std.specs.Str.{chars};
-ghost use Rattle.json5_text.specs.Cursor.{Locates};
+ghost use Rattle.json5_tokens.specs.Cursor.{Locates};
 ghost use Rattle.json5_grammar.specs.Language.Documents.{max_depth};
 ghost use Rattle.json5_grammar.specs.declared.error_code.ErrorCode.TheVariants as codes;
-ghost use Rattle.json5_value.specs.Offsets.{PositionedAt, StartsAfter};
+ghost use Rattle.json5_read.specs.Offsets.{PositionedAt, StartsAfter};
 ghost use Rattle.json5_de.specs.State.{State, SameText, GivesUpWith, at_start};
 ghost use Rattle.json5_de.specs.Faults.{IsPositionless};
 ghost use Rattle.json5_de.specs.DeserializeLaw.{Gives, Completes, CompletesFree, Unprompted};
@@ -24,13 +24,13 @@ mod strings;
 pub(crate) mod tokens;
 
 use crate::mismatch::Mismatch;
-use json5_text::input::Input;
-use json5_text::scanner::Scanner;
+use json5_read::faults::{fault_here, unexpected_here, with_position_at};
+use json5_tokens::input::Input;
+use json5_tokens::scanner::Scanner;
 use json5_types::error::{Error, Result};
 use json5_types::nesting::Limit;
 use json5_types::value::Value;
 use json5_types::{ErrorCode, Position};
-use json5_value::faults::{fault_here, unexpected_here, with_position_at};
 use std::alloc::Global;
 use std::marker::Model;
 

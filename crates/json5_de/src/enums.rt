@@ -5,7 +5,7 @@ ghost use Rattle.std.specs.Borrow.{sem};
 ghost use Rattle.std.specs.List.{position};
 ghost use Rattle.std.specs.Str.{bytes_eq};
 ghost use Rattle.json5_de.specs.Convert.{names_bytes, index_of};
-ghost use Rattle.json5_value.specs.Brackets.{brackets_of};
+ghost use Rattle.json5_read.specs.Brackets.{brackets_of};
 ghost use Rattle.json5_de.specs.TokenKinds.{RefusedAs, null_kind, every_tree, ReadsAs, variant_kind};
 ghost use Rattle.json5_de.specs.Enums.{NamesVariant, ReadsVariant, ReadsInBrace, ClosesContent, TakesContentOpening, OpensTuple, OpensStruct, content_of, unit_content, content_free, FirstCharIs, ReadsOnlyKey, ReadsKeyed, is_left_brace};
 ghost use Rattle.json5_grammar.specs.Language.Characters.{NotBegun};
@@ -20,11 +20,11 @@ use crate::map::MapAccess;
 use crate::mismatch::Mismatch;
 use crate::seq::SeqAccess;
 use crate::stage::Progress;
-use json5_text::input::Input;
-use json5_text::strings::is_quote;
+use json5_read::brackets::BracketKind;
+use json5_tokens::input::Input;
+use json5_tokens::strings::is_quote;
 use json5_types::ErrorCode;
 use json5_types::error::{Error, Result};
-use json5_value::brackets::BracketKind;
 
 /// The variant of an enum: its name was read, and one of four calls reads its content. The caller chooses the call by
 /// `variant`; each of them takes the access.
@@ -36,8 +36,8 @@ use json5_value::brackets::BracketKind;
 /// match access.variant() {
 ///     0 => access.unit_variant()?,                                   // 'off', {off: null}
 ///     1 => hour = access.newtype_variant::<u8>()?,                   // {daily: 7}
-///     2 => hours = read_hours(access.tuple_variant(2)?)?,            // {weekly: [1, 7]}
-///     _ => day = read_day(access.struct_variant(&["day", "hour"])?)?,    // {once: {day: 'today', hour: 7}}
+///     2 => hours = access.tuple_variant(2)?,                         // {weekly: [1, 7]}
+///     _ => once = access.struct_variant(&["day", "hour"])?,          // {once: {day: 'today', hour: 7}}
 /// }
 /// ```
 ///
@@ -305,8 +305,8 @@ impl<'a, I: Input> EnumAccess<'a, I> {
     ///
     /// ```text
     /// match access.variant() {
-    ///     0 => read_off(access),       // the first of the names
-    ///     _ => read_daily(access),
+    ///     0 => access.unit_variant()?,                    // the first of the names
+    ///     _ => hour = access.newtype_variant::<u8>()?,
     /// }
     /// ```
     pub fn variant(&self) -> usize
@@ -319,8 +319,7 @@ impl<'a, I: Input> EnumAccess<'a, I> {
     /// which one comma may be. Takes no memory.
     ///
     /// ```text
-    /// 'off'            // read so
-    /// {off: null}      // and so
+    /// access.unit_variant()?    // 'off', {off: null}
     /// ```
     ///
     /// # Errors
@@ -339,7 +338,7 @@ impl<'a, I: Input> EnumAccess<'a, I> {
     /// Reads a variant that holds a `T`: the value and `}`, before which one comma may be.
     ///
     /// ```text
-    /// {daily: 7}
+    /// access.newtype_variant::<u8>()?    // {daily: 7}
     /// ```
     ///
     /// # Errors

@@ -9,7 +9,7 @@ ghost use Rattle.json5_de.specs.Keys.{GivesKey, CompletesKey, ReadsKeyOf};
 ghost use Rattle.json5_de.specs.KeyKinds.{some_of};
 ghost use Rattle.json5_grammar.specs.Language.Characters.{NotBegun};
 ghost use Rattle.json5_types.specs.Errors.{kind_of};
-ghost use Rattle.json5_value.specs.Offsets.{StartsAfter};
+ghost use Rattle.json5_read.specs.Offsets.{StartsAfter};
 ghost use Rattle.json5_de.specs.ObjectFaults as faults;
 ghost use Rattle.json5_de.specs.ObjectFaults.{BeginsKey, PositionsKey, ReadsKeyAtEntry, ReadsKeyOfMember, is_positionless};
 
@@ -17,11 +17,11 @@ mod documents;
 mod texts;
 
 use crate::de::Deserializer;
-use json5_text::char::is_json5_identifier_start;
-use json5_text::input::Input;
+use json5_read::brackets::BracketKind;
+use json5_tokens::char::is_json5_identifier_start;
+use json5_tokens::input::Input;
 use json5_types::ErrorCode;
 use json5_types::error::{Error, Result};
-use json5_value::brackets::BracketKind;
 use std::alloc::Global;
 
 /// A key that is to be read, a string or an identifier (JSON5 section 3). Each of its methods reads it whole, and a type calls

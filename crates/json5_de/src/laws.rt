@@ -15,7 +15,7 @@ ghost use Rattle.json5_de.specs.TokenKinds.{TellsApart, no_tree, null_kind, bool
 use crate::de::Deserialize;
 use crate::key::DeserializeKey;
 use indexmap::IndexMap;
-use json5_text::input::Input;
+use json5_tokens::input::Input;
 use std::collections::{BTreeMap, HashMap};
 use std::hash::Hash;
 

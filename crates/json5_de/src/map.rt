@@ -2,7 +2,7 @@
 
 ghost use Rattle.std.specs.Prelude.{◌≡◌, false, true};
 ghost use Rattle.std.specs.Borrow.{sem};
-ghost use Rattle.json5_text.specs.Cursor.{Locates};
+ghost use Rattle.json5_tokens.specs.Cursor.{Locates};
 ghost use Rattle.json5_de.specs.Arrays.{PositionedAtBracket};
 ghost use Rattle.json5_de.specs.DeserializeLaw.{answered};
 ghost use Rattle.json5_de.specs.Enums.{EndsObject};
@@ -12,10 +12,10 @@ ghost use Rattle.json5_de.specs.Objects.{CompletesFreeMemberValue, ReadsValueFre
 use crate::de::{Deserialize, Deserializer};
 use crate::key::DeserializeKey;
 use crate::stage::{AccessStage, Progress};
-use json5_text::input::Input;
+use json5_read::brackets::BracketKind;
+use json5_tokens::input::Input;
 use json5_types::Position;
 use json5_types::error::{Error, Result};
-use json5_value::brackets::BracketKind;
 use std::alloc::Global;
 
 /// The members of an object, one after another: a key, then its value.

@@ -4,8 +4,8 @@ ghost use Rattle.std.specs.Prelude.{◌≡◌, ◌||◌, false, ℕ, List, None,
 ghost use Rattle.std.specs.Borrow.{sem};
 ghost use Rattle.json5_grammar.specs.declared.error_code.ErrorCode.TheVariants as codes;
 ghost use Rattle.json5_grammar.specs.Language.Trees.{Trees};
-ghost use Rattle.json5_text.specs.Cursor.{Locates};
-ghost use Rattle.json5_value.specs.Brackets.{square};
+ghost use Rattle.json5_tokens.specs.Cursor.{Locates};
+ghost use Rattle.json5_read.specs.Brackets.{square};
 ghost use Rattle.json5_de.specs.DeserializeLaw.{Steady, Unprompted, answered};
 ghost use Rattle.json5_de.specs.Arrays.{bare, GivesElement, CompletesElement, CompletesClose, PositionedAtBracket, ElementsLeft, ReadsMore};
 ghost use Rattle.json5_de.specs.Enums.{EndsArray};
@@ -14,10 +14,10 @@ ghost use Rattle.json5_de.specs.AccessCalls.{RefusesElement, TakesElement};
 
 use crate::de::{Deserialize, Deserializer};
 use crate::stage::Progress;
-use json5_text::input::Input;
+use json5_read::brackets::BracketKind;
+use json5_tokens::input::Input;
 use json5_types::Position;
 use json5_types::error::{Error, Result};
-use json5_value::brackets::BracketKind;
 use std::alloc::Global;
 
 /// The elements of an array, one after another.

@@ -6,7 +6,7 @@ ghost use Rattle.json5_de.specs.Spans.{SpansValue, RefusesSpanned};
 ghost use Rattle.json5_de.specs.State.{FailsIfErr};
 
 use crate::de::{Deserialize, Deserializer};
-use json5_text::input::Input;
+use json5_tokens::input::Input;
 use json5_types::error::Result;
 
 /// A value and where it is in the text, for your own fault at its position.

@@ -1,15 +1,15 @@
 //! How far an access has come.
 
 ghost use Rattle.std.specs.Prelude.{◌≡◌};
-ghost use Rattle.json5_value.specs.Brackets.{brackets_of};
+ghost use Rattle.json5_read.specs.Brackets.{brackets_of};
 ghost use Rattle.json5_de.specs.Progress.{EndsAccess, RefusesAccess, begun};
 ghost use Rattle.json5_de.specs.Stages.{is_comma_due, is_pending, with_element, with_key};
 
 use crate::de::Deserializer;
-use json5_text::input::Input;
+use json5_read::brackets::BracketKind;
+use json5_tokens::input::Input;
 use json5_types::ErrorCode;
 use json5_types::error::{Error, Result};
-use json5_value::brackets::BracketKind;
 use std::mem;
 
 /// Where an access is in its array or object.

@@ -9,8 +9,8 @@ use Rattle.json5_grammar.specs.Language.Documents.{Doc}
 use Rattle.json5_grammar.specs.Language.Trees.{Tree, depth}
 use Rattle.json5_grammar.specs.Language.Values.{Val}
 use Rattle.json5_grammar.proofs.OneTree.{one_tree}
-use Rattle.json5_value.specs.declared.brackets.BracketKind.{BracketKind as Kind}
-use Rattle.json5_value.specs.declared.brackets.BracketKind.TheVariants as kind
+use Rattle.json5_read.specs.declared.brackets.BracketKind.{BracketKind as Kind}
+use Rattle.json5_read.specs.declared.brackets.BracketKind.TheVariants as kind
 use Rattle.json5_walk.specs.Moves.{Closes}
 use Rattle.json5_walk.specs.Walks.{Walked, Trail, IsAt, Moved, Ends}
 use Rattle.json5_walk.proofs.Rests.{append_nil}

@@ -14,13 +14,13 @@ use Rattle.json5_grammar.proofs.BlanksRead.{skip_blanks}
 use Rattle.json5_grammar.proofs.BlanksSound.{blank_refused, gap_blanks}
 use Rattle.json5_grammar.proofs.Refusals.{not_both}
 use Rattle.json5_grammar.proofs.ValueHeads.{key_head, skip_key}
-use Rattle.json5_layouts.specs.Json.{JsonString}
-use Rattle.json5_layouts.specs.JsonTexts.{json_string}
-use Rattle.json5_layouts.proofs.JsonWritten.{string_is}
-use Rattle.json5_layouts.proofs.Spelled.{json_key_is}
-use Rattle.json5_text.specs.Cursor.{Cursor, Took, Refused, offset_of}
-use Rattle.json5_text.specs.Outcome.{bytes_in}
-use Rattle.json5_text.specs.TokenFaults.{FaultyBlanks}
+use Rattle.json5_styles.specs.Json.{JsonString}
+use Rattle.json5_styles.specs.JsonTexts.{json_string}
+use Rattle.json5_styles.proofs.JsonWritten.{string_is}
+use Rattle.json5_styles.proofs.Spelled.{json_key_is}
+use Rattle.json5_tokens.specs.Cursor.{Cursor, Took, Refused, offset_of}
+use Rattle.json5_tokens.specs.Outcome.{bytes_in}
+use Rattle.json5_tokens.specs.TokenFaults.{FaultyBlanks}
 use Rattle.json5_types.specs.declared.error.Error.{Error}
 use Rattle.json5_types.specs.Errors.{LacksMemory}
 use Rattle.json5_walk.proofs.Calls.{bytes_joined}

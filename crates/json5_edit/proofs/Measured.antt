@@ -21,14 +21,14 @@ use Rattle.json5_grammar.proofs.ObjectsRead.{colon_solid, brace_solid, value_lef
 use Rattle.json5_grammar.proofs.OneTree.{phrase_complete, one_phrase}
 use Rattle.json5_grammar.proofs.Refusals.{not_both}
 use Rattle.json5_grammar.proofs.ValueHeads.{val_head, key_head, key_solid, skip_value, skip_key, key_spelling}
-use Rattle.json5_text.specs.Cursor.{Cursor, Took, Refused, offset_of}
-use Rattle.json5_text.specs.Outcome.{bytes_in}
-use Rattle.json5_text.specs.TokenFaults.{FaultyBlanks}
+use Rattle.json5_tokens.specs.Cursor.{Cursor, Took, Refused, offset_of}
+use Rattle.json5_tokens.specs.Outcome.{bytes_in}
+use Rattle.json5_tokens.specs.TokenFaults.{FaultyBlanks}
 use Rattle.json5_types.specs.declared.error.Error.{Error}
 use Rattle.json5_types.specs.Errors.{LacksMemory}
-use Rattle.json5_value.specs.declared.brackets.BracketKind.{BracketKind as Kind}
-use Rattle.json5_value.specs.declared.brackets.BracketKind.TheVariants as kind
-use Rattle.json5_value.specs.ModelSteps.{RefusesRead, Gave, value_at}
+use Rattle.json5_read.specs.declared.brackets.BracketKind.{BracketKind as Kind}
+use Rattle.json5_read.specs.declared.brackets.BracketKind.TheVariants as kind
+use Rattle.json5_read.specs.ModelSteps.{RefusesRead, Gave, value_at}
 use Rattle.json5_walk.proofs.Rests.{append_nil, token_reads}
 use Rattle.json5_walk.proofs.Calls.{passed, bytes_joined}
 use Rattle.json5_walk.proofs.Determined.{here, sign_left, value_left_over, tail_left, pairs_left, tail_after_comma, pairs_after_comma}

@@ -10,9 +10,9 @@ use Rattle.json5_grammar.specs.Language.Documents.{Doc, max_depth}
 use Rattle.json5_grammar.specs.Language.Trees.{Tree, array, object, Trees, Members, no_more, more, no_member, member, depth}
 use Rattle.json5_grammar.specs.Language.Values.{Val}
 use Rattle.json5_grammar.specs.Model.Collections.{joined_trees, joined_members}
-use Rattle.json5_text.specs.Cursor.{Cursor}
-use Rattle.json5_text.specs.Outcome.{bytes_in}
-use Rattle.json5_value.specs.ModelSteps.{Gave, value_at}
+use Rattle.json5_tokens.specs.Cursor.{Cursor}
+use Rattle.json5_tokens.specs.Outcome.{bytes_in}
+use Rattle.json5_read.specs.ModelSteps.{Gave, value_at}
 use Rattle.json5_walk.specs.declared.place.Place.{Place}
 use Rattle.json5_walk.specs.Frames.{Frame, in_array, in_object, text_end, ClosesTo, At, at_value, at_comma, value_frames}
 use Rattle.json5_walk.specs.Moves.{Stays, stays}

@@ -6,7 +6,7 @@ use Rattle.std.proofs.lemmas.Str.{chars-encodes, chars-append}
 use Rattle.json5_grammar.specs.Language.Blanks.{Blanks}
 use Rattle.json5_grammar.specs.Language.Characters.{comma_sign}
 use Rattle.json5_grammar.specs.Language.Trees.{Tree}
-use Rattle.json5_layouts.specs.Json.{JsonString}
+use Rattle.json5_styles.specs.Json.{JsonString}
 use Rattle.json5_lexemes.specs.Plain.{Plain, KeepsPlain, PlainText, StaysPlain}
 use Rattle.json5_lexemes.specs.Plain as plain
 use Rattle.json5_lexemes.specs.Spans.{AfterEntry}
@@ -16,8 +16,8 @@ use Rattle.json5_lexemes.specs.LastTokens as last
 use Rattle.json5_lexemes.proofs.DocumentLexemes.{sign_no_part}
 use Rattle.json5_lexemes.proofs.PlainSeams.{seam, put_before, free_turn, BeginsFree, key_begins, value_begins, after_stops, after_turn, entry_put_after, entry_put_before}
 use Rattle.json5_lexemes.proofs.TokensSpanned.{joined, value_alone, key_alone, SpansAlone}
-use Rattle.json5_value.specs.declared.brackets.BracketKind.{BracketKind as Kind}
-use Rattle.json5_value.specs.declared.brackets.BracketKind.TheVariants as kind
+use Rattle.json5_read.specs.declared.brackets.BracketKind.{BracketKind as Kind}
+use Rattle.json5_read.specs.declared.brackets.BracketKind.TheVariants as kind
 use Rattle.json5_edit.specs.Entries.{entries}
 use Rattle.json5_edit.specs.Places.{IsValue}
 use Rattle.json5_edit.specs.Pieces.{SpellsKey}

@@ -14,10 +14,10 @@ use Rattle.json5_grammar.proofs.BlanksRead.{begins_solid}
 use Rattle.json5_grammar.proofs.CharacterClasses.{EndsValues, colon_no_name, comma_ends_values, bracket_ends_values, brace_ends_values}
 use Rattle.json5_grammar.proofs.ObjectsRead.{opening_brace_solid, pairs_comma}
 use Rattle.json5_grammar.proofs.ValueHeads.{stops_blanks, key_before_blanks}
-use Rattle.json5_text.specs.Outcome.{bytes_in}
-use Rattle.json5_value.specs.declared.brackets.BracketKind.{BracketKind as Kind}
-use Rattle.json5_value.specs.declared.brackets.BracketKind.TheVariants as kind
-use Rattle.json5_value.specs.Brackets.{brackets_of}
+use Rattle.json5_tokens.specs.Outcome.{bytes_in}
+use Rattle.json5_read.specs.declared.brackets.BracketKind.{BracketKind as Kind}
+use Rattle.json5_read.specs.declared.brackets.BracketKind.TheVariants as kind
+use Rattle.json5_read.specs.Brackets.{brackets_of}
 use Rattle.json5_walk.specs.Frames.{value_end, Spells}
 use Rattle.json5_walk.proofs.Rests.{append_nil}
 use Rattle.json5_walk.proofs.Determined.{here}

@@ -18,12 +18,12 @@ use Rattle.json5_grammar.proofs.ValueHeads.{stops_all}
 use Rattle.json5_grammar.proofs.ValuesRead.{read_complete}
 use Rattle.json5_types.specs.declared.error.Error.{Error}
 use Rattle.json5_types.specs.Errors.{kind_of, known_code}
-use Rattle.json5_text.specs.Cursor.{Cursor, Refused, IsOutOfMemory}
-use Rattle.json5_value.specs.declared.brackets.BracketKind.{BracketKind as Kind}
-use Rattle.json5_value.specs.declared.brackets.BracketKind.TheVariants as kind
-use Rattle.json5_value.specs.Brackets.{brackets_of}
-use Rattle.json5_value.specs.ModelSteps.{RefusesRead, Gave, value_at}
-use Rattle.json5_format.specs.DocumentReads.{FaultyDocument, unread_text, IsRefusedWithin}
+use Rattle.json5_tokens.specs.Cursor.{Cursor, Refused, IsOutOfMemory}
+use Rattle.json5_read.specs.declared.brackets.BracketKind.{BracketKind as Kind}
+use Rattle.json5_read.specs.declared.brackets.BracketKind.TheVariants as kind
+use Rattle.json5_read.specs.Brackets.{brackets_of}
+use Rattle.json5_read.specs.ModelSteps.{RefusesRead, Gave, value_at}
+use Rattle.json5_read.specs.DocumentReads.{FaultyDocument, unread_text, IsRefusedWithin}
 use Rattle.json5_walk.specs.declared.place.Place.{Place}
 use Rattle.json5_walk.specs.Walks.{IsDocument}
 use Rattle.json5_walk.proofs.Rests.{append_nil}

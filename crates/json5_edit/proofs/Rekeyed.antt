@@ -17,12 +17,12 @@ use Rattle.json5_grammar.proofs.BlanksSound.{one_gap}
 use Rattle.json5_grammar.proofs.CharacterClasses.{colon_no_name}
 use Rattle.json5_grammar.proofs.ObjectsRead.{opening_brace_solid, brace_solid, brace_no_key, one_reads_key}
 use Rattle.json5_grammar.proofs.ValueHeads.{key_before_blanks, key_spelling, val_head, value_solid}
-use Rattle.json5_layouts.specs.Json.{JsonString}
+use Rattle.json5_styles.specs.Json.{JsonString}
 use Rattle.json5_lexemes.specs.Plain.{Plain, KeepsPlain}
 use Rattle.json5_lexemes.specs.LastTokens as last
 use Rattle.json5_lexemes.proofs.PlainSeams.{seam as plain_seam, blank_seam, key_seam as plain_key_seam}
-use Rattle.json5_text.specs.Outcome.{bytes_in}
-use Rattle.json5_value.specs.declared.brackets.BracketKind.TheVariants as kind
+use Rattle.json5_tokens.specs.Outcome.{bytes_in}
+use Rattle.json5_read.specs.declared.brackets.BracketKind.TheVariants as kind
 use Rattle.json5_walk.specs.Frames.{value_end, Spells}
 use Rattle.json5_walk.specs.Seams.{WholeTokens}
 use Rattle.json5_walk.proofs.Calls.{sign_front}

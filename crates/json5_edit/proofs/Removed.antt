@@ -6,7 +6,7 @@ use Rattle.json5_edit.specs.Pieces.{Cuts}
 use Rattle.json5_edit.specs.declared.faults.EditError.{EditError}
 use Rattle.std.specs.Str.{chars, IsUtf8, IsCharBoundary, all_scalars, encode_utf8_all}
 use Rattle.std.proofs.Math.Seq.{drop-append_seam, take-append_seam}
-use Rattle.json5_text.specs.Outcome.{bytes_in}
+use Rattle.json5_tokens.specs.Outcome.{bytes_in}
 use Rattle.std.proofs.lemmas.Str.{chars-encodes, encodes-append, scalars-chars}
 use Rattle.json5_grammar.specs.Language.Blanks.{Blanks, Gap, Solid}
 use Rattle.json5_grammar.specs.Language.Documents.{max_depth}
@@ -17,8 +17,8 @@ use Rattle.json5_grammar.proofs.BlanksSound.{Blanks-append, gap_blanks}
 use Rattle.json5_lexemes.specs.LastTokens as last
 use Rattle.json5_lexemes.specs.Plain.{Plain, KeepsPlain}
 use Rattle.json5_lexemes.specs.Spans.{Spans}
-use Rattle.json5_value.specs.declared.brackets.BracketKind.{BracketKind as Kind}
-use Rattle.json5_value.specs.declared.brackets.BracketKind.TheVariants as kind
+use Rattle.json5_read.specs.declared.brackets.BracketKind.{BracketKind as Kind}
+use Rattle.json5_read.specs.declared.brackets.BracketKind.TheVariants as kind
 use Rattle.json5_walk.proofs.Determined.{here}
 use Rattle.json5_walk.proofs.Rests.{append_nil}
 use Rattle.json5_edit.specs.Changes.{ChangesBy}

@@ -5,7 +5,7 @@ use Rattle.json5_grammar.specs.Language.Trees.{Tree, null, boolean, number, text
 use Rattle.json5_grammar.specs.Language.Values.{Reads}
 use Rattle.json5_grammar.specs.Model.Collections.{IsSign, ReadsKey, Tail, MembersTail}
 use Rattle.json5_lexemes.specs.Plain.{is_closing}
-use Rattle.json5_value.specs.declared.brackets.BracketKind.{BracketKind as Kind}
+use Rattle.json5_read.specs.declared.brackets.BracketKind.{BracketKind as Kind}
 use Rattle.json5_walk.specs.Frames.{Frame, in_array, in_object, value_end, Spells, ClosesTo}
 use Rattle.json5_walk.specs.Seams.{WholeTokens, then_blanks, then_punctuator, then_key, then_value, as_unended}
 use Rattle.json5_walk.proofs.Rests.{append_nil}

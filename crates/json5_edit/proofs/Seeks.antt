@@ -11,9 +11,9 @@ use Rattle.json5_grammar.specs.Language.Values.{Val, is_empty_array, is_array, i
 use Rattle.json5_grammar.specs.Model.Collections.{snoc, snoc_member}
 use Rattle.std.specs.Prelude.{OnSome, IfNone, OnOk, Result, Ok, Err}
 use Rattle.std.specs.Option.{is_some}
-use Rattle.json5_value.specs.declared.brackets.OpenBracket.{OpenBracket}
-use Rattle.json5_value.specs.declared.brackets.BracketKind.{BracketKind as Kind}
-use Rattle.json5_value.specs.declared.brackets.BracketKind.TheVariants as kind
+use Rattle.json5_read.specs.declared.brackets.OpenBracket.{OpenBracket}
+use Rattle.json5_read.specs.declared.brackets.BracketKind.{BracketKind as Kind}
+use Rattle.json5_read.specs.declared.brackets.BracketKind.TheVariants as kind
 use Rattle.json5_walk.specs.Nexts.{takes_value}
 use Rattle.json5_walk.specs.Frames.{Frame, in_array, in_object, At, at_value, at_element, at_key, at_comma, next_of, value_frames}
 use Rattle.json5_walk.specs.Moves.{Stays, stays, TakesValue, takes, Opens, opens_array, opens_object, TakesKeyOf, takes_key, TakesColon, takes_colon, TakesComma, after_element, after_member, Closes, closes_elements, closes_array, closes_members, closes_object}

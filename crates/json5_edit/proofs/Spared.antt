@@ -15,8 +15,8 @@ use Rattle.json5_grammar.proofs.ArraysPartlyRead.{element_shorter, sign_shorter}
 use Rattle.json5_grammar.proofs.ObjectsRead.{key_shorter, key_value_shorter}
 use Rattle.json5_types.specs.declared.error.Error.{Error}
 use Rattle.json5_types.specs.Errors.{LacksMemory}
-use Rattle.json5_value.specs.declared.brackets.OpenBracket.{OpenBracket}
-use Rattle.json5_value.specs.declared.brackets.BracketKind.TheVariants as kind
+use Rattle.json5_read.specs.declared.brackets.OpenBracket.{OpenBracket}
+use Rattle.json5_read.specs.declared.brackets.BracketKind.TheVariants as kind
 use Rattle.json5_walk.specs.declared.next.Next.TheVariants as next
 use Rattle.json5_walk.specs.Nexts.{takes_value}
 use Rattle.json5_walk.specs.Frames.{Frame, in_array, in_object, frame_kinds, text_end, At, at_value, at_element, at_key, at_colon, at_comma, value_frames}

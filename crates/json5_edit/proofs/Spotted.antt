@@ -8,9 +8,9 @@ use Rattle.json5_grammar.specs.Language.Values.{Val}
 use Rattle.json5_grammar.specs.Model.Collections.{Tail, MembersTail, joined_trees, joined_members, snoc, snoc_member}
 use Rattle.json5_grammar.proofs.ArraysPartlyRead.{element_shorter, sign_shorter}
 use Rattle.json5_grammar.proofs.ObjectsRead.{key_shorter}
-use Rattle.json5_text.specs.Outcome.{bytes_in}
-use Rattle.json5_value.specs.declared.brackets.BracketKind.{BracketKind as Kind}
-use Rattle.json5_value.specs.declared.brackets.BracketKind.TheVariants as kind
+use Rattle.json5_tokens.specs.Outcome.{bytes_in}
+use Rattle.json5_read.specs.declared.brackets.BracketKind.{BracketKind as Kind}
+use Rattle.json5_read.specs.declared.brackets.BracketKind.TheVariants as kind
 use Rattle.json5_walk.specs.Frames.{Frame, in_array, in_object, value_end, Spells, At, at_value, at_element, at_key, at_colon, at_comma, CompletesUntil, is_inner}
 use Rattle.json5_walk.specs.Seams.{WholeTokens, is_unended}
 use Rattle.json5_walk.specs.Walks.{Walked, IsAt}

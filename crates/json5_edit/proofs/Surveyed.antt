@@ -17,9 +17,9 @@ use Rattle.json5_grammar.proofs.OneTree.{one_tree}
 use Rattle.json5_grammar.proofs.ValueHeads.{val_head}
 use Rattle.json5_types.specs.declared.error.Error.{Error}
 use Rattle.json5_types.specs.Errors.{LacksMemory}
-use Rattle.json5_value.specs.declared.brackets.BracketKind.{BracketKind as Kind}
-use Rattle.json5_value.specs.declared.brackets.BracketKind.TheVariants as kind
-use Rattle.json5_value.specs.Brackets.{brackets_of}
+use Rattle.json5_read.specs.declared.brackets.BracketKind.{BracketKind as Kind}
+use Rattle.json5_read.specs.declared.brackets.BracketKind.TheVariants as kind
+use Rattle.json5_read.specs.Brackets.{brackets_of}
 use Rattle.json5_walk.specs.Nexts.{takes_value}
 use Rattle.json5_walk.specs.Seams.{WholeTokens, is_unended}
 use Rattle.json5_walk.specs.Frames.{Frame, in_object, value_end, Spells, At, at_value, at_element, at_key, at_colon, at_comma, next_of, value_frames}
@@ -42,7 +42,7 @@ use Rattle.json5_edit.proofs.EntriesPassed.{elements_snoc, members_snoc, same_co
 use Rattle.json5_edit.proofs.Refused.{begins_with}
 use Rattle.json5_edit.proofs.Seeks.{there, stayed, value_taken, name_gives}
 use Rattle.json5_edit.proofs.Spared.{fewer, fewer_members, awaits_element, awaits_key, awaits_value}
-use Rattle.json5_text.specs.Outcome.{bytes_in}
+use Rattle.json5_tokens.specs.Outcome.{bytes_in}
 use Rattle.json5_edit.proofs.Spotted.{spells_value, value_document, spot, entries_joined, joined_kind}
 
 -- ---- the first bracket

@@ -6,7 +6,7 @@ use Rattle.std.proofs.Math.Seq.{drop-append_seam, take-append_seam}
 use Rattle.json5_edit_style.specs.Comments.{IsLead, IsTrail, CommentLines}
 use Rattle.json5_grammar.specs.Language.Blanks.{Solid}
 use Rattle.json5_grammar.specs.Language.Characters.{no_char}
-use Rattle.json5_text.specs.Outcome.{bytes_in}
+use Rattle.json5_tokens.specs.Outcome.{bytes_in}
 use Rattle.json5_walk.proofs.Calls.{bytes_joined}
 use Rattle.json5_walk.proofs.Rests.{append_nil}
 use Rattle.json5_edit.specs.Pieces.{IsEntryText, IsWithComments}

@@ -9,8 +9,8 @@ use Rattle.json5_grammar.specs.Language.Values.{Val}
 use Rattle.json5_edit_style.specs.declared.habits.Names.{Names}
 use Rattle.json5_edit_style.specs.declared.habits.Names.TheVariants as names
 use Rattle.json5_lexemes.specs.Plain.{StaysPlain}
-use Rattle.json5_value.specs.declared.brackets.BracketKind.{BracketKind as Kind}
-use Rattle.json5_value.specs.declared.brackets.BracketKind.TheVariants as kind
+use Rattle.json5_read.specs.declared.brackets.BracketKind.{BracketKind as Kind}
+use Rattle.json5_read.specs.declared.brackets.BracketKind.TheVariants as kind
 use Rattle.json5_edit.specs.Comparing.{IsWithout, IsWithLast, IsWithAt, IsRenamed}
 use Rattle.json5_edit.specs.Parts.{part, put, positions_of}
 use Rattle.json5_edit.specs.Pieces.{Cuts, Grows, Respells}

@@ -3,8 +3,8 @@
 use Rattle.std.specs.Prelude.{◌≡◌, ◌≢◌, ℕ, List, [], ◌∷◌, ◌++◌, length, Option, Some, None, ⊤}
 use Rattle.json5_grammar.specs.Language.Trees.{Tree}
 use Rattle.json5_types.specs.Cows.{cow_bytes}
-use Rattle.json5_value.specs.declared.brackets.BracketKind.{BracketKind as Kind}
-use Rattle.json5_value.specs.declared.brackets.BracketKind.TheVariants as kind
+use Rattle.json5_read.specs.declared.brackets.BracketKind.{BracketKind as Kind}
+use Rattle.json5_read.specs.declared.brackets.BracketKind.TheVariants as kind
 use Rattle.json5_walk.specs.Moves.{Closes}
 use Rattle.json5_walk.specs.Walks.{Walked, Moved}
 use Rattle.json5_edit.specs.Entries.{entries, kind_of, TakesEntry, Holds, Closed}

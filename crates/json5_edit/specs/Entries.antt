@@ -7,8 +7,8 @@ use Rattle.json5_grammar.specs.Language.Trees.{Tree, null, boolean, number, text
 use Rattle.json5_grammar.specs.Language.Values.{Val}
 use Rattle.json5_grammar.specs.Model.Collections.{snoc, snoc_member}
 use Rattle.json5_types.specs.Cows.{cow_bytes}
-use Rattle.json5_value.specs.declared.brackets.BracketKind.{BracketKind as Kind}
-use Rattle.json5_value.specs.declared.brackets.BracketKind.TheVariants as kind
+use Rattle.json5_read.specs.declared.brackets.BracketKind.{BracketKind as Kind}
+use Rattle.json5_read.specs.declared.brackets.BracketKind.TheVariants as kind
 use Rattle.json5_walk.specs.Nexts.{takes_value}
 use Rattle.json5_walk.specs.Frames.{Frame, in_array, in_object, At, at_value, at_element, at_key, at_colon, at_comma, next_of, value_frames}
 use Rattle.json5_walk.specs.Moves.{Closes}

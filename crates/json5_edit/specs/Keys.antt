@@ -8,7 +8,7 @@ use Rattle.json5_grammar.specs.Language.Names.{Key}
 use Rattle.json5_grammar.specs.Language.Trees.{Tree, Members, member}
 use Rattle.json5_grammar.specs.Model.Collections.{MembersTail}
 use Rattle.json5_lexemes.specs.Plain.{KeepsPlain}
-use Rattle.json5_text.specs.Outcome.{bytes_in}
+use Rattle.json5_tokens.specs.Outcome.{bytes_in}
 use Rattle.json5_edit.specs.Changes.{ChangesBy}
 use Rattle.json5_edit.specs.Comparing.{IsRenamed}
 use Rattle.json5_edit.specs.Pieces.{Respells}

@@ -9,7 +9,7 @@ use Rattle.json5_grammar.specs.Language.Trees.{Tree, depth}
 use Rattle.json5_grammar.specs.Language.Values.{Val}
 use Rattle.json5_grammar.specs.Model.Collections.{IsSign}
 use Rattle.json5_lexemes.specs.Plain.{is_closing}
-use Rattle.json5_text.specs.Outcome.{bytes_in}
+use Rattle.json5_tokens.specs.Outcome.{bytes_in}
 use Rattle.json5_walk.specs.Seams.{WholeTokens}
 use Rattle.json5_walk.specs.declared.place.Place.{Place}
 use Rattle.json5_edit.specs.Parts.{part, put, positions_of}

@@ -7,11 +7,11 @@ use Rattle.json5_grammar.specs.Language.Documents.{Doc, max_depth}
 use Rattle.json5_grammar.specs.Language.Trees.{Tree, object}
 use Rattle.json5_grammar.specs.Language.Values.{Val}
 use Rattle.json5_types.specs.declared.error.Error.{Error}
-use Rattle.json5_text.specs.Cursor.{Refused, IsOutOfMemory}
-use Rattle.json5_value.specs.declared.brackets.BracketKind.{BracketKind as Kind}
-use Rattle.json5_value.specs.declared.brackets.BracketKind.TheVariants as kind
-use Rattle.json5_value.specs.ModelSteps.{IsUnprompted}
-use Rattle.json5_format.specs.DocumentReads.{unread_text}
+use Rattle.json5_tokens.specs.Cursor.{Refused, IsOutOfMemory}
+use Rattle.json5_read.specs.declared.brackets.BracketKind.{BracketKind as Kind}
+use Rattle.json5_read.specs.declared.brackets.BracketKind.TheVariants as kind
+use Rattle.json5_read.specs.ModelSteps.{IsUnprompted}
+use Rattle.json5_read.specs.DocumentReads.{unread_text}
 use Rattle.json5_walk.specs.Walks.{IsDocument}
 use Rattle.json5_edit.specs.Entries.{kind_of as kind_of_tree}
 use Rattle.json5_edit.specs.Parts.{part, member_of, positions_of}

@@ -8,11 +8,11 @@ use Rattle.json5_grammar.specs.Language.Trees.{Tree, null, boolean, number, text
 use Rattle.json5_grammar.specs.Language.Values.{Val, KeyText, Reads}
 use Rattle.json5_grammar.specs.Model.Collections.{IsKeyValue, Tail, MembersTail, joined_trees, joined_members}
 use Rattle.json5_lexemes.specs.Plain.{KeepsPlain, StaysPlain}
-use Rattle.json5_text.specs.Cursor.{Cursor, Took}
-use Rattle.json5_text.specs.Outcome.{bytes_in}
+use Rattle.json5_tokens.specs.Cursor.{Cursor, Took}
+use Rattle.json5_tokens.specs.Outcome.{bytes_in}
 use Rattle.json5_types.specs.declared.error.Error.{Error}
-use Rattle.json5_value.specs.declared.brackets.BracketKind.{BracketKind as Kind}
-use Rattle.json5_value.specs.declared.brackets.BracketKind.TheVariants as kind
+use Rattle.json5_read.specs.declared.brackets.BracketKind.{BracketKind as Kind}
+use Rattle.json5_read.specs.declared.brackets.BracketKind.TheVariants as kind
 use Rattle.json5_walk.specs.Frames.{Frame, value_end, Spells, At, at_value, at_element, at_key, at_colon, at_comma}
 use Rattle.json5_walk.specs.Seams.{WholeTokens}
 use Rattle.json5_walk.specs.Walks.{Walked, Trail, IsAt, AwaitsKey}

@@ -11,8 +11,8 @@ use crate::faults::{EditError, Result};
 use crate::pieces::split;
 use crate::plain::entry_len;
 use json5_edit_style::comments::{is_lead, is_trail};
-use json5_text::scanner::Scanner;
-use json5_value::brackets::BracketKind;
+use json5_read::brackets::BracketKind;
+use json5_tokens::scanner::Scanner;
 use std::alloc::Global;
 
 /// Refuses what isn't an entry with comments that belong to it, between the other texts.

@@ -10,7 +10,7 @@ ghost use Rattle.json5_edit.specs.declared.faults.EditError.TheVariants as edit_
 ghost use Rattle.json5_edit.specs.declared.paths.Step.TheVariants as step;
 ghost use Rattle.json5_edit_style.specs.declared.habits.Names.TheVariants as layout_names;
 ghost use Rattle.json5_lexemes.specs.Plain.{KeepsPlain, StaysPlain};
-ghost use Rattle.json5_value.specs.declared.brackets.BracketKind.TheVariants as kind;
+ghost use Rattle.json5_read.specs.declared.brackets.BracketKind.TheVariants as kind;
 ghost use Rattle.json5_grammar.specs.Language.Documents.{max_depth};
 ghost use Rattle.json5_walk.specs.Walks.{IsDocument};
 ghost use Rattle.std.specs.Str.{chars, encode_utf8_all};
@@ -30,8 +30,8 @@ use crate::setting::{check_value, place_of, put_made, splice};
 use crate::survey::Found;
 use json5_edit_style::{Added, Collection, Names, Which, cut_for, growth_before, growth_for};
 use json5_lexemes::keeps_plain;
-use json5_text::scanner::Scanner;
-use json5_value::brackets::BracketKind;
+use json5_read::brackets::BracketKind;
+use json5_tokens::scanner::Scanner;
 use json5_walk::place::Place;
 use std::alloc::Global;
 

@@ -10,9 +10,9 @@ ghost use Rattle.json5_edit.specs.Changes.{ChangesBy, Gains, GainsAt};
 
 use crate::entries::{Entry, failed, next_entry};
 use crate::paths::Step;
+use json5_read::brackets::BracketKind;
 use json5_types::error::Result;
 use json5_types::nesting::Limit;
-use json5_value::brackets::BracketKind;
 use json5_walk::walk::Walk;
 use std::alloc::Global;
 

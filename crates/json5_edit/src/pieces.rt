@@ -13,8 +13,8 @@ use crate::faults::{EditError, Result};
 use crate::setting::join;
 use json5_edit_style::{Cut, Growth, Respelling};
 use json5_lexemes::same_lexemes;
-use json5_text::scanner::Scanner;
-use json5_value::brackets::BracketKind;
+use json5_read::brackets::BracketKind;
+use json5_tokens::scanner::Scanner;
 use std::alloc::Global;
 
 /// The text without what goes, where that is an entry of such a collection with the comments that belong to it.

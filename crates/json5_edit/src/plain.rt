@@ -7,7 +7,7 @@ ghost use Rattle.json5_grammar.specs.Language.Documents.{max_depth};
 ghost use Rattle.json5_grammar.specs.Language.Trees.{Tree, depth};
 ghost use Rattle.json5_lexemes.specs.Plain.{StaysPlain};
 ghost use Rattle.json5_types.specs.Errors.{LacksMemory};
-ghost use Rattle.json5_value.specs.declared.brackets.BracketKind.TheVariants as kind;
+ghost use Rattle.json5_read.specs.declared.brackets.BracketKind.TheVariants as kind;
 ghost use Rattle.json5_edit.specs.Changes.{Gains, GainsAt};
 ghost use Rattle.json5_edit.specs.Places.{IsValue};
 ghost use Rattle.json5_edit.specs.Refusals.{RefusesFree, RefusesKind, RefusesStep};
@@ -22,10 +22,10 @@ use crate::paths::Step;
 use crate::setting::join;
 use crate::spelled::json_key;
 use crate::survey::{Found, find_entry};
-use json5_text::scanner::Scanner;
+use json5_read::brackets::BracketKind;
+use json5_read::skip::skip_value;
+use json5_tokens::scanner::Scanner;
 use json5_types::error;
-use json5_value::brackets::BracketKind;
-use json5_value::skip::skip_value;
 use std::alloc::Global;
 
 /// Where the entry begins that the step goes to.

@@ -13,7 +13,7 @@ use crate::pieces::{join_five, respelled};
 use crate::places::ValueSpan;
 use crate::spelled::json_key;
 use json5_edit_style::{Collection, Which, respelling_for};
-use json5_text::scanner::Scanner;
+use json5_tokens::scanner::Scanner;
 use json5_types::error;
 use std::alloc::Global;
 

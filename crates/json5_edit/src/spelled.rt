@@ -2,12 +2,12 @@
 
 ghost use Rattle.std.specs.Prelude.{◌≡◌, IfOk, IfErr, string_bytes};
 ghost use Rattle.std.specs.Str.{chars};
-ghost use Rattle.json5_layouts.specs.Json.{JsonString};
+ghost use Rattle.json5_styles.specs.Json.{JsonString};
 ghost use Rattle.json5_edit.specs.Pieces.{SpellsKey};
 ghost use Rattle.json5_edit.specs.declared.faults.EditError.TheVariants as edit_errors;
 
 use crate::faults::{EditError, Result};
-use json5_layouts::to_json_string;
+use json5_styles::to_json_string;
 use std::alloc::Global;
 
 /// The key as JSON writes it: between double quotes.

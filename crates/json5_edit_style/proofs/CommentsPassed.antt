@@ -4,7 +4,7 @@ use Rattle.std.specs.Prelude.{◌==◌, ◌≢◌, not, slice_get, IsTrue}
 use Rattle.std.proofs.lemmas.Bool.{eqb-false, eqb-true}
 use Rattle.json5_grammar.specs.Language.Blanks.{Inside}
 use Rattle.json5_grammar.specs.Language.Characters.{is_blank, is_terminator, NotBegun, Each, no_char, char}
-use Rattle.json5_text.specs.Cursor.{Cursor, Took}
+use Rattle.json5_tokens.specs.Cursor.{Cursor, Took}
 use Rattle.json5_lexemes.specs.Lexemes.{is_line_blank}
 use Rattle.json5_lexemes.specs.SameLexemes.{is_line_part}
 use Rattle.json5_edit_style.specs.Comments.{LineEnd, CommentLines, BeginsLine, EndsLine, CommentsAfter, is_closing}

@@ -3,7 +3,7 @@
 use Rattle.std.specs.Prelude.{◌≡◌, ◌≢◌, ◌==◌, ℕ, Bool, true, false, List, [], ◌∷◌, ◌++◌, Option, IsTrue, MatchOption, ⊤}
 use Rattle.json5_grammar.specs.Language.Blanks.{Inside}
 use Rattle.json5_grammar.specs.Language.Characters.{is_blank, slash_sign, star_sign, NotBegun, Each}
-use Rattle.json5_text.specs.Cursor.{Cursor, Took}
+use Rattle.json5_tokens.specs.Cursor.{Cursor, Took}
 use Rattle.json5_lexemes.specs.Lexemes.{is_line_blank}
 use Rattle.json5_lexemes.specs.SameLexemes.{is_line_part}
 use Rattle.json5_edit_style.specs.Comments.{LineEnd, CommentLines, BeginsLine}

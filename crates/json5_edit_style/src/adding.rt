@@ -6,9 +6,9 @@ use crate::keys::key_for;
 use crate::lines::{has_lines, indentation, line_start};
 use crate::removing::joined;
 use crate::spots::{Around, Spot, Which, find_around};
+use json5_read::brackets::BracketKind;
 use json5_types::ErrorCode;
 use json5_types::error::{Error, Result};
-use json5_value::brackets::BracketKind;
 use std::alloc::Global;
 
 /// What is added at the end: its key, which is empty in an array, and its value.

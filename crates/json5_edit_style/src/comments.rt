@@ -7,8 +7,8 @@ ghost use Rattle.json5_lexemes.specs.SameLexemes.{is_line_part};
 ghost use Rattle.json5_edit_style.specs.Comments.{BeginsLine, CommentsAfter, EndsLine, IsLead, IsTrail, is_closing};
 ghost use Rattle.json5_edit_style.specs.Passing.{BeginsAfter, BeginsOn, EndsBlock, HasAfter, PassesBlock, PassesLine, PassesLines, PassesPiece, MayFollow, StaysOne};
 
-use json5_text::char::{is_json5_line_terminator, is_json5_whitespace};
-use json5_text::scanner::Scanner;
+use json5_tokens::char::{is_json5_line_terminator, is_json5_whitespace};
+use json5_tokens::scanner::Scanner;
 use std::alloc::Global;
 
 /// A part of what stands between two tokens.

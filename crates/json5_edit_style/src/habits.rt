@@ -3,10 +3,10 @@
 use crate::gaps::{Gap, between};
 use crate::lines::indentation;
 use crate::spots::{next_spot, opened};
+use json5_read::brackets::BracketKind;
 use json5_types::ErrorCode;
 use json5_types::error::Result;
 use json5_types::nesting::Limit;
-use json5_value::brackets::BracketKind;
 use json5_walk::next::Next;
 use json5_walk::walk::Walk;
 use std::alloc::Global;

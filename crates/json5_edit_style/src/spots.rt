@@ -1,11 +1,11 @@
 //! Where the elements or members of a collection stand in its text.
 
 use crate::gaps::Gap;
+use json5_read::brackets::BracketKind;
 use json5_types::ErrorCode;
 use json5_types::cow_str::CowStr;
 use json5_types::error::{Error, Result};
 use json5_types::nesting::Limit;
-use json5_value::brackets::BracketKind;
 use json5_walk::next::Next;
 use json5_walk::walk::Walk;
 use std::alloc::Global;

@@ -4,8 +4,8 @@ use Rattle.std.specs.Str.{chars}
 use Rattle.json5_grammar.specs.Language.Documents.{max_depth}
 use Rattle.json5_grammar.specs.Language.Trees.{Tree, depth}
 use Rattle.json5_grammar.specs.Language.Values.{Val}
-use Rattle.json5_value.specs.declared.brackets.BracketKind.{BracketKind as Kind}
-use Rattle.json5_value.specs.declared.brackets.BracketKind.TheVariants as kind
+use Rattle.json5_read.specs.declared.brackets.BracketKind.{BracketKind as Kind}
+use Rattle.json5_read.specs.declared.brackets.BracketKind.TheVariants as kind
 use Rattle.json5_write.specs.EscapeFreeMarks.{marks}
 use Rattle.json5_write.specs.Out.{written_text}
 use Rattle.json5_write.specs.WrittenTrees.{Written}

@@ -11,8 +11,8 @@ use Rattle.json5_grammar.proofs.ScalarsWritten.{alone}
 use Rattle.json5_lexemes.specs.Lexemes.{HaveSameLexemes}
 use Rattle.json5_lexemes.proofs.SameTrees.{same_tree}
 use Rattle.json5_types.specs.ValueMeanings.{Datum}
-use Rattle.json5_value.specs.TreeMeanings.{datum_of}
-use Rattle.json5_layouts.specs.LaidBack.{ReadsAs}
+use Rattle.json5_read.specs.TreeMeanings.{datum_of}
+use Rattle.json5_styles.specs.LaidBack.{ReadsAs}
 use Rattle.json5_format.proofs.Formats.{written_tree}
 use Rattle.json5_write.specs.EscapeFreeMarks.{marks, element_marks, field_marks, unmarked, unmarked_elements, unmarked_fields}
 use Rattle.json5_write.specs.Out.{written_text}

@@ -2,7 +2,7 @@
 -- A promise rests on this.
 use Rattle.std.specs.Prelude.{◌≡◌, ℕ, List, []}
 use Rattle.json5_grammar.specs.Language.Trees.{Tree}
-use Rattle.json5_value.specs.declared.brackets.BracketKind.TheVariants as kind
+use Rattle.json5_read.specs.declared.brackets.BracketKind.TheVariants as kind
 use Rattle.json5_edit.specs.Changes.{IsChanged}
 use Rattle.json5_edit.specs.Comparing.{IsWithAt, IsWithLast}
 use Rattle.json5_edit.specs.Pieces.{Grows}

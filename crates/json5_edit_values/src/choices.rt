@@ -1,7 +1,7 @@
 //! What a text leaves open to those who edit it.
 
 use json5_edit::Names;
-use json5_layouts::Layout;
+use json5_styles::Layout;
 
 /// What a text leaves open to the caller of an edit with a value.
 ///

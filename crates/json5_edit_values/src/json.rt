@@ -9,9 +9,9 @@ ghost use Rattle.json5_grammar.specs.Language.Values.{Val};
 
 use crate::laid_out::is_value;
 use json5_edit::{EditError, Result};
-use json5_format::read_document;
-use json5_layouts::to_json;
 use json5_lexemes::is_plain;
+use json5_read::read_document;
+use json5_styles::to_json;
 use json5_types::ErrorCode;
 use json5_types::error::{self, Error};
 use std::alloc::Global;

@@ -12,10 +12,10 @@ ghost use Rattle.json5_grammar.specs.Language.Values.{Val};
 use crate::lines::arranged;
 use crate::seats::{Goes, seat_of};
 use json5_edit::{EditError, Result, Step};
-use json5_layouts::Layout;
 use json5_lexemes::same_lexemes;
-use json5_text::scanner::Scanner;
-use json5_value::skip::skip_value;
+use json5_read::skip::skip_value;
+use json5_styles::Layout;
+use json5_tokens::scanner::Scanner;
 use std::alloc::{AllocError, Global};
 
 /// The written value, laid out for where it goes; as it is, if it has one line.

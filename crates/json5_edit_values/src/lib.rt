@@ -18,4 +18,4 @@ pub use edits::{
     insert_element_value, insert_element_value_in, insert_value, insert_value_in, push_value,
     push_value_in, set_value, set_value_in,
 };
-pub use json5_layouts::Layout;
+pub use json5_styles::Layout;

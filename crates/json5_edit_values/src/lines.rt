@@ -1,4 +1,4 @@
-//! The lines of a written value, put together otherwise. Each is one that json5 or json5_layouts writes: it has no line end
+//! The lines of a written value, put together otherwise. Each is one that json5 or json5_styles writes: it has no line end
 //! within a string, two blanks a level, and a comma after the last entry or none.
 
 use crate::seats::{Lines, Seat};

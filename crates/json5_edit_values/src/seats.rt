@@ -4,7 +4,7 @@ use json5_edit::{Names, Step, ValueSpan, find};
 use json5_edit_style::{
     Collection, entry_indentation, has_last_commas, indentation, line_end, step_of,
 };
-use json5_layouts::Layout;
+use json5_styles::Layout;
 use std::alloc::{AllocError, Global};
 
 /// Where a value goes.

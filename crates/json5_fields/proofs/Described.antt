@@ -9,7 +9,7 @@ use Rattle.std.specs.Str.{bytes_eq}
 use Rattle.json5_grammar.specs.Language.Trees.{Tree, Members, member}
 use Rattle.json5_grammar.specs.Model.Collections.{joint, snoc_member}
 use Rattle.json5_types.specs.declared.error.Error.{Error}
-use Rattle.json5_text.specs.Cursor.{IsOutOfMemory}
+use Rattle.json5_tokens.specs.Cursor.{IsOutOfMemory}
 use Rattle.json5_de.specs.State.{State}
 use Rattle.json5_de.specs.AnyTree.{RefusesTree, every_value}
 use Rattle.json5_de.specs.TokenKinds.{every_tree}

@@ -8,7 +8,7 @@ use Rattle.json5_grammar.specs.Language.Values.{Reads}
 use Rattle.json5_grammar.proofs.MembersConverted.{object_only}
 use Rattle.json5_grammar.specs.Model.Collections.{object_of}
 use Rattle.json5_types.specs.declared.error.Error.{Error}
-use Rattle.json5_text.specs.Cursor.{IsOutOfMemory}
+use Rattle.json5_tokens.specs.Cursor.{IsOutOfMemory}
 use Rattle.json5_de.specs.State.{State}
 use Rattle.json5_de.specs.DeserializeLaw.{Completes, CompletesFree}
 use Rattle.json5_de.specs.Fields.{IsOwnAtBracket}

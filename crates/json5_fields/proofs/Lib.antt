@@ -2,5 +2,7 @@
 pub mod Described
 pub mod DescribedFaults
 pub mod EnumsRead
-pub mod NamedValues
 pub mod FieldsWritten
+pub mod NamedValues
+pub mod TextsApart
+pub mod TextsThatDiffer

@@ -1,9 +1,10 @@
 -- What reading by a description means.
+-- A promise rests on this.
 use Rattle.std.specs.Prelude.{◌≡◌, ℕ, false, List, ◌∷◌, None, Result}
 use Rattle.json5_grammar.specs.Language.Characters.{right_brace}
 use Rattle.json5_grammar.specs.Model.Collections.{object_of}
 use Rattle.json5_types.specs.declared.error.Error.{Error}
-use Rattle.json5_text.specs.Cursor.{IsOutOfMemory}
+use Rattle.json5_tokens.specs.Cursor.{IsOutOfMemory}
 use Rattle.json5_de.specs.State.{State}
 use Rattle.json5_de.specs.Arrays.{IsAtBracket}
 use Rattle.json5_de.specs.Objects.{MapAccessState}

@@ -1,4 +1,5 @@
 -- The content of the first of some variants, or of a later one.
+-- A promise rests on this.
 use Rattle.json5_fields.specs.VariantContents.{Either, first, later}
 use Rattle.json5_fields.specs.declared.variants.OneOf.{OneOf}
 use Rattle.json5_fields.specs.declared.variants.OneOf.TheVariants.{First, Later}

@@ -1,8 +1,9 @@
 -- What the calls for a description of fields mean.
+-- A promise rests on this.
 use Rattle.std.specs.Prelude.{◌≡◌, ◌⊎◌, ℕ, Bool, true, false, List, Option, Some, None, is_some, Result, Ok, Err, OnOk}
 use Rattle.json5_grammar.specs.Language.Trees.{Tree}
 use Rattle.json5_types.specs.declared.error.Error.{Error}
-use Rattle.json5_text.specs.Cursor.{IsOutOfMemory}
+use Rattle.json5_tokens.specs.Cursor.{IsOutOfMemory}
 use Rattle.json5_de.specs.State.{State, SameText}
 use Rattle.json5_de.specs.DeserializeLaw.{IsUnprompted}
 use Rattle.json5_de.specs.Fields.{IsOwnAtBracket}

@@ -1,4 +1,5 @@
 -- Which structs of a description are read without memory.
+-- A promise rests on this.
 use Rattle.std.specs.Prelude.{◌≡◌, ◌&&◌, Bool, true, false, Option, Some, None, Result, IsOk}
 use Rattle.json5_grammar.specs.Language.Trees.{Tree}
 use Rattle.json5_types.specs.declared.error.Error.{Error}

@@ -1,4 +1,5 @@
 -- What reading an enum by its names and the contents of its variants means.
+-- A promise rests on this.
 use Rattle.std.specs.Prelude.{◌≡◌, ◌≢◌, ◌⊎◌, ◌==◌, ◌-◌, if◌then◌else◌, ℕ, false, List, Option, Result, IfErr}
 use Rattle.json5_grammar.specs.Language.Trees.{Tree}
 use Rattle.json5_types.specs.declared.error.Error.{Error}

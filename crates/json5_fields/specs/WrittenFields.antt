@@ -1,4 +1,5 @@
 -- Some fields of a struct, written one after another.
+-- A promise rests on this.
 use Rattle.std.specs.Prelude.{◌≡◌, ℕ, List, Option, Some, None, Result, IfErr, OnOk, IsErrAnd}
 use Rattle.std.specs.Str.{chars}
 use Rattle.std.specs.Borrow.{GName}

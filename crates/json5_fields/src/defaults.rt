@@ -2,7 +2,7 @@
 
 use crate::fields::{StructFields, take_field};
 use json5_de::{Deserialize, MapAccess};
-use json5_text::input::Input;
+use json5_tokens::input::Input;
 use json5_types::error::Result;
 
 /// A string that may be missing. The default is made only then, since it takes memory.

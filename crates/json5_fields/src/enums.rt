@@ -9,7 +9,7 @@ ghost use Rattle.json5_fields.specs.VariantContents.{RefusesEnum, ReadsEnum};
 
 use crate::variants::EnumVariants;
 use json5_de::Deserializer;
-use json5_text::input::Input;
+use json5_tokens::input::Input;
 use json5_types::error::Result;
 
 /// The same as `read_enum`, by separate clauses.

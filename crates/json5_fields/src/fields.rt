@@ -9,7 +9,7 @@ ghost use Rattle.json5_fields.specs.Spares.{spared};
 
 use crate::field_names::FieldNames;
 use json5_de::{Deserialize, MapAccess};
-use json5_text::input::Input;
+use json5_tokens::input::Input;
 use json5_types::error::Result;
 
 /// A description of the fields of a struct, whose values are a `V`: one field, or a tuple of descriptions.

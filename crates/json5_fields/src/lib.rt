@@ -1,4 +1,5 @@
-//! Structs and enums by a description: their fields and names, which are a value of a type that json5 knows.
+//! Structs and enums by a description: their fields and names, which are a value of a type that json5 knows; and lists of
+//! strings that differ.
 //!
 //! ```text
 //! let (host, port, label) = read_struct(de, (Required("host"), WithDefault("port", 80), Optional("label")))?;
@@ -9,6 +10,7 @@
 #![tactic(auto)]
 
 mod defaults;
+mod distinct_texts;
 mod entries;
 mod enums;
 mod field_names;
@@ -22,6 +24,7 @@ mod written_objects;
 mod written_tuples;
 
 pub use defaults::WithDefaultText;
+pub use distinct_texts::{Distinct, read_distinct};
 pub use entries::{Field, Given, WrittenFields};
 pub use enums::read_enum;
 pub use field_names::FieldNames;

@@ -5,7 +5,7 @@ ghost use Rattle.json5_de.specs.Convert.{names_bytes};
 ghost use Rattle.json5_fields.specs.Named.{ReadsOneOf};
 
 use json5_de::Deserializer;
-use json5_text::input::Input;
+use json5_tokens::input::Input;
 use json5_types::error::Result;
 
 /// Reads a string that is one of these names, and returns the value at the same index; of equal names it is the first's. A

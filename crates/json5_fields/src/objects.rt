@@ -10,7 +10,7 @@ ghost use Rattle.json5_fields.specs.Described.{RefusesDescribed, ReadsDescribed}
 
 use crate::fields::StructFields;
 use json5_de::{Deserializer, Fields, MapAccess};
-use json5_text::input::Input;
+use json5_tokens::input::Input;
 use json5_types::error::Result;
 use std::marker::PhantomData;
 

@@ -12,7 +12,7 @@ ghost use Rattle.json5_fields.specs.Described.{RefusesOnly, ReadsOnly};
 use crate::field_names::UnknownField;
 use crate::fields::StructFields;
 use json5_de::{Deserializer, Fields, MapAccess};
-use json5_text::input::Input;
+use json5_tokens::input::Input;
 use json5_types::error::Result;
 use std::marker::PhantomData;
 

@@ -2,7 +2,7 @@
 
 use crate::fields::StructFields;
 use json5_de::MapAccess;
-use json5_text::input::Input;
+use json5_tokens::input::Input;
 use json5_types::error::Result;
 
 /// Two descriptions.

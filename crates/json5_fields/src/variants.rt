@@ -1,7 +1,7 @@
 //! What the variants of an enum hold, and how it is read.
 
 use json5_de::{Deserialize, Deserializer, Named};
-use json5_text::input::Input;
+use json5_tokens::input::Input;
 use json5_types::error::Result;
 
 /// The content of one of some variants, which are counted from 0.

@@ -7,10 +7,10 @@ use Rattle.json5_grammar.specs.Language.Documents.{Doc, max_depth}
 use Rattle.json5_grammar.specs.Language.Trees.{Tree, Trees, Members, null, boolean, number, text, array, object, no_more, more, no_member, member}
 use Rattle.json5_grammar.proofs.OneTree.{one_tree}
 use Rattle.json5_types.specs.declared.error.Error.{Error}
-use Rattle.json5_text.specs.Cursor.{IsOutOfMemory}
+use Rattle.json5_tokens.specs.Cursor.{IsOutOfMemory}
 use Rattle.json5_types.specs.Errors.{FaultKind, code, custom, failed_write, kind_of}
 use Rattle.json5_types.specs.ValueMeanings.{Datum}
-use Rattle.json5_value.specs.TreeMeanings.{datum_of, items_of, fields_of}
+use Rattle.json5_read.specs.TreeMeanings.{datum_of, items_of, fields_of}
 use Rattle.json5_write.specs.EscapeFreeMarks.{marks, unmarked, unmarked_elements, unmarked_fields}
 use Rattle.json5_write.specs.Out.{Out, whole, invalid_key, too_deep, written_text, text_within}
 use Rattle.json5_write.specs.Pieces.{AppendsFront, Pushes}

@@ -1,4 +1,2 @@
 -- Lists the lemmas about `format`.
-pub mod DocumentReads
-pub mod DocumentChecks
 pub mod Formats

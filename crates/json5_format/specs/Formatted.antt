@@ -1,4 +1,5 @@
 -- What the formatter gives.
+-- A promise rests on this.
 use Rattle.std.specs.Prelude.{◌≡◌, ℕ, List}
 use Rattle.std.specs.Str.{chars}
 use Rattle.json5_grammar.specs.Language.Trees.{Tree}

@@ -1,26 +1,17 @@
-//! Reads a document as a `Value`, checks it, and formats it.
-//!
-//! It needs no reader of types: a program that reads only values of any kind can do without json5_de.
+//! Formats a document: reads its value, and writes that anew.
 #![tactic(auto)]
-
-mod checks;
 
 ghost use Rattle.std.specs.Prelude.{IfOk, IfErr, MatchResult, string_bytes};
 ghost use Rattle.std.specs.Str.{chars};
 ghost use Rattle.json5_grammar.specs.Language.Trees.{Tree};
 ghost use Rattle.json5_grammar.specs.Language.Documents.{Doc, max_depth};
-ghost use Rattle.json5_text.specs.Cursor.{IsOutOfMemory};
-ghost use Rattle.json5_format.specs.DocumentReads.{IsRefused, IsRefusedWithin, ReadsText};
+ghost use Rattle.json5_tokens.specs.Cursor.{IsOutOfMemory};
+ghost use Rattle.json5_read.specs.DocumentReads.{IsRefused, IsRefusedWithin};
 ghost use Rattle.json5_format.specs.Formatted.{WritesUnmarked, IsFormatted, IsFormattedWithin};
 
-pub use checks::check_document;
-use json5_text::scanner::Scanner;
-use json5_types::ErrorCode;
+use json5_read::read_document_within;
 use json5_types::error::Result;
 use json5_types::nesting::Limit;
-use json5_types::value::Value;
-use json5_value::faults::fault_here;
-use json5_value::read::read_value;
 use json5_write::to_string;
 use std::alloc::Global;
 
@@ -65,44 +56,4 @@ pub fn format_within(alloc: Global, limit: Limit, text: &str) -> Result<String>
 {
     let value = read_document_within(alloc, limit, text)?;
     to_string(alloc, limit, &value)
-}
-
-/// Reads a document as a value, nested at most 128 deep. It is [`read_document_within`] at the full limit.
-///
-/// ```text
-/// read_document(alloc, "{a: [1]}")?    // an Object of an Array
-/// ```
-///
-/// # Errors
-///
-/// As [`read_document_within`].
-pub fn read_document(alloc: Global, text: &str) -> Result<Value>
-    ensures { ReadsText max_depth (chars text.now) result }
-{
-    read_document_within(alloc, Limit::full(), text)
-}
-
-/// Reads a document as a value, with no more brackets open at once than the limit.
-///
-/// Returns Ok exactly when the text is such a document, and then what its tree means, unless memory runs out. Any other text is
-/// refused with its fault.
-///
-/// ```text
-/// read_document_within(alloc, Limit::new(1).unwrap(), "[1, 'a'] // two")?    // an Array of a Whole and a String
-/// ```
-///
-/// # Errors
-///
-/// As [`format_within`].
-pub fn read_document_within(alloc: Global, limit: Limit, text: &str) -> Result<Value>
-    ensures { ReadsText limit (chars text.now) result }
-{
-    let mut scanner = Scanner::new(alloc, text);
-    scanner.skip_blank()?;
-    let value = read_value(&mut scanner, usize::from(limit.get()))?;
-    scanner.skip_blank()?;
-    match scanner.peek() {
-        Some(_) => Err(fault_here(&scanner, ErrorCode::TrailingCharacters)),
-        None => Ok(value),
-    }
 }

@@ -1,4 +1,5 @@
 -- The fault table: the faults of an input, each with its code, its position, the part at fault, and what shows it.
+-- A promise rests on this.
 pub mod Codes
 pub mod CodeTexts
 pub mod Positions

@@ -1,4 +1,5 @@
 -- The language: what a document is, and the tree that it spells.
+-- Private.
 pub mod Characters
 pub mod Blanks
 pub mod Numbers

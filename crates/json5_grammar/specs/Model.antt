@@ -1,4 +1,5 @@
 -- Models that follow the code: reading as functions on lists, and arrays and objects from the front.
+-- Private.
 pub mod Reading
 pub mod ReadBlanks
 pub mod ReadTexts

@@ -1,3 +1,4 @@
 -- How numbers and strings are written.
+-- Private.
 pub mod NumberText
 pub mod Quoting

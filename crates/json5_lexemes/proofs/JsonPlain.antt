@@ -3,8 +3,8 @@ use Rattle.std.proofs.Common.{◌≡◌, ◌≢◌, ℕ, Bool, true, List, [], �
 use Rattle.std.proofs.lemmas.List.{append-nil}
 use Rattle.json5_grammar.specs.Language.Characters.{comma_sign, left_bracket, right_bracket, left_brace, right_brace, NotBegun, no_char, char}
 use Rattle.json5_grammar.proofs.ValuesRead.{regroup, regroup_pair}
-use Rattle.json5_layouts.specs.Json.{is_json_blank, JsonBlanks, JsonValue, JsonElements, JsonMembers, JsonMember, JsonText}
-use Rattle.json5_layouts.specs.Json as json
+use Rattle.json5_styles.specs.Json.{is_json_blank, JsonBlanks, JsonValue, JsonElements, JsonMembers, JsonMember, JsonText}
+use Rattle.json5_styles.specs.Json as json
 use Rattle.json5_lexemes.specs.Plain.{JsonWord, is_closing, Plain}
 use Rattle.json5_lexemes.specs.Plain as plain
 use Rattle.json5_lexemes.specs.SameLexemes.{is_word_part}

@@ -8,8 +8,8 @@ use Rattle.json5_grammar.specs.Language.Documents.{Doc}
 use Rattle.json5_grammar.specs.Language.Trees.{Tree, Trees, Members}
 use Rattle.json5_grammar.specs.Language.Values.{KeyText, Val, is_null, is_true, is_false, is_number, is_text, is_empty_array, is_array, is_empty_object, is_object, ElementList, last as last_element, next, MemberList, last_member, next_member, Member, entry, no_last_comma, last_comma}
 use Rattle.json5_grammar.proofs.ValuesRead.{regroup, regroup_pair}
-use Rattle.json5_layouts.specs.Json.{JsonBlanks, JsonString, JsonValue, JsonElements, JsonMembers, JsonMember, JsonText}
-use Rattle.json5_layouts.specs.Json as json
+use Rattle.json5_styles.specs.Json.{JsonBlanks, JsonString, JsonValue, JsonElements, JsonMembers, JsonMember, JsonText}
+use Rattle.json5_styles.specs.Json as json
 use Rattle.json5_lexemes.specs.Plain.{JsonWord, is_closing, Plain, IsPlain, IsBare}
 use Rattle.json5_lexemes.specs.Plain as plain
 use Rattle.json5_lexemes.specs.SameLexemes.{is_sign, is_word_part}

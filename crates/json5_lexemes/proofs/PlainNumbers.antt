@@ -9,8 +9,8 @@ use Rattle.json5_grammar.specs.Language.Characters.{is_in, is_digit, Begun, NotB
 use Rattle.json5_grammar.specs.Language.Numbers.{Integer, lone_zero, nonzero}
 use Rattle.json5_grammar.proofs.CharacterTests.{nonzero_digit, digit_nonzero, e_no_digit}
 use Rattle.json5_grammar.proofs.CommonLemmas.{not_eq}
-use Rattle.json5_layouts.specs.Json.{JsonNumber, json_number, no_minus, minus, no_fraction, fraction, Exponent, no_exponent, exponent, no_sign, sign}
-use Rattle.json5_text.specs.Scan.{SkipsAll}
+use Rattle.json5_styles.specs.Json.{JsonNumber, json_number, no_minus, minus, no_fraction, fraction, Exponent, no_exponent, exponent, no_sign, sign}
+use Rattle.json5_tokens.specs.Scan.{SkipsAll}
 use Rattle.json5_lexemes.specs.SameLexemes.{is_word_part}
 use Rattle.json5_lexemes.specs.PlainSteps.{is_exponent_letter, is_exponent_sign, is_json_part, Digits, Unsigned, unsigned, AfterDigits, after_digits, SignedDigits, signed_digits, IsEmpty, Then, GoesOn, GoesOnIf, PassesDigits}
 use Rattle.json5_lexemes.proofs.OneList.{one_run}

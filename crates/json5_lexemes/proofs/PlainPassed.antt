@@ -4,8 +4,8 @@ use Rattle.std.proofs.Common.{◌≡◌, ◌≢◌, ◌<◌, ◌≤◌, ℕ, Boo
 use Rattle.std.specs.Prelude.{◌==◌, ◌↔◌}
 use Rattle.std.specs.Str.{chars}
 use Rattle.json5_grammar.specs.Language.Characters.{NotBegun, Each, no_char, char}
-use Rattle.json5_layouts.specs.Json.{is_json_blank, quoted}
-use Rattle.json5_text.specs.Scan.{SkipsAll}
+use Rattle.json5_styles.specs.Json.{is_json_blank, quoted}
+use Rattle.json5_tokens.specs.Scan.{SkipsAll}
 use Rattle.json5_lexemes.specs.SameLexemes.{is_word_part}
 use Rattle.json5_lexemes.specs.Plain.{Plain, is_opening, is_closing, JsonWord}
 use Rattle.json5_lexemes.specs.Plain as plain

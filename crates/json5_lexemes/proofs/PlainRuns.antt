@@ -9,9 +9,9 @@ use lib.Lanes.{top}
 use Rattle.json5_grammar.specs.Language.Characters.{NotBegun, is_digit}
 use Rattle.json5_grammar.specs.Model.ReadNumbers.{front_of, rest_of}
 use Rattle.json5_grammar.proofs.CharacterTests.{front_each, rest_stops}
-use Rattle.json5_layouts.specs.Json.{is_json_blank}
-use Rattle.json5_layouts.proofs.JsonRuns.{below}
-use Rattle.json5_text.specs.Scan.{SkipsAll}
+use Rattle.json5_styles.specs.Json.{is_json_blank}
+use Rattle.json5_styles.proofs.JsonRuns.{below}
+use Rattle.json5_tokens.specs.Scan.{SkipsAll}
 use Rattle.json5_types.proofs.AsciiRuns.{PassesAscii, counted, chars_split, rest_cut, rest_chars, front_boundary}
 use Rattle.json5_lexemes.specs.PlainSteps.{ends_blanks, ends_digits, is_json_part}
 

@@ -12,7 +12,7 @@ use Rattle.json5_grammar.specs.Language.Strings.{is_quote}
 use Rattle.json5_grammar.specs.Language.Trees.{Tree, Trees, Members, no_more, more, no_member, member}
 use Rattle.json5_grammar.specs.Language.Values.{KeyText, Val, is_null, is_true, is_false, is_number, is_text, is_empty_array, is_array, is_empty_object, is_object}
 use Rattle.json5_grammar.specs.Model.Collections.{IsSign, IsEnd, Tail, MembersTail}
-use Rattle.json5_layouts.specs.Json.{is_json_blank, JsonString}
+use Rattle.json5_styles.specs.Json.{is_json_blank, JsonString}
 use Rattle.json5_lexemes.specs.Plain.{is_opening, is_closing, Plain}
 use Rattle.json5_lexemes.specs.Plain as plain
 use Rattle.json5_lexemes.specs.SameLexemes.{is_separator, is_sign, is_word_part}

@@ -7,11 +7,11 @@ use Rattle.std.proofs.lemmas.Bool.{both_ways}
 use Rattle.std.proofs.lemmas.Bool.Decides.{nat_tests}
 use Rattle.json5_grammar.specs.Language.Blanks.{Inside}
 use Rattle.json5_grammar.specs.Language.Blanks as blanks
-use Rattle.json5_text.specs.ByteRuns as bytes
+use Rattle.json5_tokens.specs.ByteRuns as bytes
 use Rattle.json5_grammar.proofs.CharacterTests.{Each-append, each_weaken}
 use Rattle.json5_grammar.specs.Language.Characters.{is_terminator, is_hex_digit, NotBegun, Each, no_char, char}
-use Rattle.json5_layouts.specs.Json.{is_unescaped, is_escape_letter, JsonChars, no_char as json_end, unescaped, letter, code}
-use Rattle.json5_text.specs.Scan.{SkipsAll}
+use Rattle.json5_styles.specs.Json.{is_unescaped, is_escape_letter, JsonChars, no_char as json_end, unescaped, letter, code}
+use Rattle.json5_tokens.specs.Scan.{SkipsAll}
 use Rattle.json5_lexemes.specs.SameLexemes.{is_line_part}
 use Rattle.json5_lexemes.specs.PlainSteps.{TakesString, TakesHex, TakesCode, TakesEscape, TakesWord, TakesLine, TakesBlock, TakesComment, Leaves}
 use Rattle.json5_lexemes.specs.PlainSteps as steps

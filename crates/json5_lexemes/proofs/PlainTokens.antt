@@ -11,7 +11,7 @@ use Rattle.json5_grammar.specs.Language.Strings.{is_quote}
 use Rattle.json5_grammar.proofs.BlanksRead.{printable_no_blank}
 use Rattle.json5_grammar.proofs.CharacterTests.{Each-append, each_weaken, digit_in_run, e_in_run, nonzero_digit}
 use Rattle.json5_grammar.proofs.CommonLemmas.{neq_from}
-use Rattle.json5_layouts.specs.Json.{is_json_blank, is_unescaped, JsonChars, no_char as json_end, unescaped, letter, code, JsonString, quoted, json_number, Minus, no_minus, minus, Fraction, no_fraction, fraction, Exponent, no_exponent, exponent, ExponentSign, no_sign, sign}
+use Rattle.json5_styles.specs.Json.{is_json_blank, is_unescaped, JsonChars, no_char as json_end, unescaped, letter, code, JsonString, quoted, json_number, Minus, no_minus, minus, Fraction, no_fraction, fraction, Exponent, no_exponent, exponent, ExponentSign, no_sign, sign}
 use Rattle.json5_lexemes.specs.Lexemes.{Quoted}
 use Rattle.json5_lexemes.specs.Lexemes as lexemes
 use Rattle.json5_lexemes.specs.SameLexemes.{is_separator, is_sign, is_word_part, is_line_part}

@@ -8,7 +8,7 @@ use Rattle.std.proofs.lemmas.Str.{chars-IsAscii}
 use Rattle.json5_grammar.specs.Language.Characters.{is_in, NotBegun, Each}
 use Rattle.json5_grammar.specs.Language.Numbers.{lone_zero, nonzero}
 use Rattle.json5_grammar.specs.Language.Values.{null_text, true_text, false_text}
-use Rattle.json5_layouts.specs.Json.{JsonNumber, json_number, no_minus, minus}
+use Rattle.json5_styles.specs.Json.{JsonNumber, json_number, no_minus, minus}
 use Rattle.json5_types.proofs.AsciiRuns.{each_below}
 use Rattle.json5_lexemes.specs.SameLexemes.{is_word_part}
 use Rattle.json5_lexemes.specs.Plain.{JsonWord}

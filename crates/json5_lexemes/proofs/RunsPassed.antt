@@ -8,7 +8,7 @@ use Rattle.std.proofs.lemmas.Str.{IsUtf8-from_ascii, IsUtf8-append, IsUtf8-encod
 use Rattle.json5_grammar.specs.Language.Characters.{is_in, is_terminator, star_sign, backslash, Each, no_char, char}
 use Rattle.json5_grammar.specs.Language.Strings.{is_quote}
 use Rattle.json5_grammar.proofs.BlanksRead.{printable_no_blank}
-use Rattle.json5_text.specs.Cursor.{Cursor}
+use Rattle.json5_tokens.specs.Cursor.{Cursor}
 use Rattle.json5_lexemes.specs.SameLexemes.{Same, Within, is_separator, is_sign, is_word_part, is_line_part}
 use Rattle.json5_lexemes.specs.SameLexemes as same
 use Rattle.json5_lexemes.specs.SameSteps.{IsFollowed, PassesWithin}

@@ -2,7 +2,7 @@
 use Rattle.std.proofs.Common.{◌≡◌, ◌≤◌, ◌<◌, ◌==◌, ℕ, Bool, false, nat_eq, List, [], ◌∷◌, length, refl, sym, ap, subst, arith}
 use Rattle.std.specs.Prelude.{Some, None, slice_get, IsTrue}
 use Rattle.json5_grammar.specs.Language.Characters.{star_sign, slash_sign, backslash, NotBegun}
-use Rattle.json5_text.specs.Cursor.{Cursor}
+use Rattle.json5_tokens.specs.Cursor.{Cursor}
 use Rattle.json5_lexemes.specs.SameLexemes.{Same, Within, is_separator, is_word_part, is_line_part}
 use Rattle.json5_lexemes.specs.SameLexemes as same
 use Rattle.json5_lexemes.specs.SameSteps.{Takes, PassesWithin, IsFollowed, Compares, EndsBlock}

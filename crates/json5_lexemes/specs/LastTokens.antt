@@ -1,4 +1,5 @@
 -- What the last token was, for the proofs of other crates.
+-- Private.
 use Rattle.json5_lexemes.specs.declared.plain.Last.{Last}
 use Rattle.json5_lexemes.specs.declared.plain.Last.TheVariants as last
 

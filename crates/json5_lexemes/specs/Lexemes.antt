@@ -1,4 +1,5 @@
 -- The lexemes of a text: its tokens, as they are spelled, and its comments. Blanks and commas are no lexemes here.
+-- A promise rests on this.
 use Rattle.std.specs.Prelude.{◌≡◌, ◌≢◌, ℕ, Bool, true, ◌&&◌, List, [], ◌∷◌, ◌++◌}
 use Rattle.json5_grammar.specs.Language.Blanks.{Inside}
 use Rattle.json5_grammar.specs.Language.Characters.{is_blank, slash_sign, star_sign, backslash, NotBegun, Each}

@@ -1,10 +1,11 @@
 -- Texts whose lexemes are those of JSON (RFC 8259), and comments.
+-- A promise rests on this.
 use Rattle.std.specs.Prelude.{◌≡◌, ◌≢◌, ◌||◌, ◌==◌, ℕ, Bool, true, false, List, [], ◌∷◌, ◌++◌}
 use Rattle.std.specs.Str.{chars}
 use Rattle.json5_grammar.specs.Language.Blanks.{Inside}
 use Rattle.json5_grammar.specs.Language.Characters.{comma_sign, colon_sign, slash_sign, star_sign, left_bracket, right_bracket, left_brace, right_brace, NotBegun, Each}
 use Rattle.json5_grammar.specs.Language.Values.{null_text, true_text, false_text}
-use Rattle.json5_layouts.specs.Json.{is_json_blank, JsonNumber, JsonString}
+use Rattle.json5_styles.specs.Json.{is_json_blank, JsonNumber, JsonString}
 use Rattle.json5_lexemes.specs.SameLexemes.{is_word_part, is_line_part}
 use Rattle.json5_lexemes.specs.declared.plain.Last.{Last}
 use Rattle.json5_lexemes.specs.declared.plain.Last.TheVariants as last

@@ -1,4 +1,5 @@
 -- Steps over a text that is asked for JSON's lexemes. Private clauses and proofs alone cite it.
+-- Private.
 use denote.Ref.{Bor}
 use Rattle.std.specs.Prelude.{◌≡◌, ◌<◌, ◌⊎◌, ◌↔◌, ◌||◌, ◌==◌, ◌≢◌, ℕ, Bool, true, not, List, [], ◌∷◌, ◌++◌, length, Option, MatchOption}
 use Rattle.std.specs.Str.{chars}
@@ -6,8 +7,8 @@ use Rattle.json5_grammar.specs.Language.Blanks.{Inside}
 use Rattle.json5_grammar.specs.Language.Characters.{double_quote, slash_sign, star_sign, plus_sign, minus_sign, point_sign, letter_e, capital_e, letter_f, letter_n, letter_t, letter_u, is_digit, is_hex_digit, is_in, Begun, NotBegun, Each}
 use Rattle.json5_grammar.specs.Language.Numbers.{Integer}
 use Rattle.json5_grammar.specs.Language.Values.{null_text, true_text, false_text}
-use Rattle.json5_text.specs.Scan.{SkipsAll}
-use Rattle.json5_layouts.specs.Json.{Fraction, ExponentSign, Exponent, JsonChars, is_escape_letter, is_json_blank}
+use Rattle.json5_tokens.specs.Scan.{SkipsAll}
+use Rattle.json5_styles.specs.Json.{Fraction, ExponentSign, Exponent, JsonChars, is_escape_letter, is_json_blank}
 use Rattle.json5_lexemes.specs.SameLexemes.{is_word_part, is_line_part}
 use Rattle.json5_lexemes.specs.Plain.{JsonWord, Plain}
 use Rattle.json5_lexemes.specs.declared.plain.Last.{Last}

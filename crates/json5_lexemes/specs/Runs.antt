@@ -1,7 +1,8 @@
 -- Letters and digits in front of two texts, which are the same in both, and spaces in front of one.
+-- Private.
 use Rattle.std.specs.Prelude.{◌≡◌, ◌≤◌, ℕ, Bool, ◌||◌, ◌==◌, List, ◌++◌, length, take}
 use Rattle.json5_grammar.specs.Language.Characters.{is_in, Each}
-use Rattle.json5_text.specs.Cursor.{Cursor}
+use Rattle.json5_tokens.specs.Cursor.{Cursor}
 
 -- a letter or a digit of ASCII
 abbrev pub is_alphanumeric : ℕ → Bool

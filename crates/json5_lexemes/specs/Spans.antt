@@ -1,4 +1,5 @@
 -- Texts of whole tokens, by the kind of the last one. Private clauses and proofs alone cite it.
+-- Private.
 use Rattle.std.specs.Prelude.{◌≡◌, ◌≢◌, ℕ, true, List, [], ◌∷◌, ◌++◌}
 use Rattle.json5_grammar.specs.Language.Blanks.{Blanks, LastBlanks, Inside}
 use Rattle.json5_grammar.specs.Language.Characters.{is_blank, is_terminator, slash_sign, star_sign, comma_sign, NotBegun, Each}

@@ -1,4 +1,5 @@
 -- The tokens among the lexemes of a text, and the tree that a list of tokens spells. Commas are no lexemes.
+-- A promise rests on this.
 use Rattle.std.specs.Prelude.{ℕ, Bool, true, false, ◌&&◌, ◌==◌, if◌then◌else◌, List, [], ◌∷◌}
 use Rattle.json5_grammar.specs.Language.Characters.{slash_sign, colon_sign, left_bracket, right_bracket, left_brace, right_brace}
 use Rattle.json5_grammar.specs.Language.Numbers.{Number, Num, is_empty}

@@ -1,9 +1,10 @@
 -- Texts that are JSON but for comments: without these they are in the grammar of RFC 8259.
+-- A promise rests on this.
 use Rattle.std.specs.Prelude.{◌≡◌, ℕ, Bool, true, List, [], ◌∷◌, ◌++◌}
 use Rattle.json5_grammar.specs.Language.Blanks.{Inside}
 use Rattle.json5_grammar.specs.Language.Characters.{is_blank, slash_sign, star_sign, comma_sign, NotBegun, Each}
 use Rattle.json5_grammar.specs.Language.Strings.{is_quote}
-use Rattle.json5_layouts.specs.Json.{JsonText}
+use Rattle.json5_styles.specs.Json.{JsonText}
 use Rattle.json5_lexemes.specs.Lexemes.{Quoted}
 use Rattle.json5_lexemes.specs.SameLexemes.{is_sign, is_word_part, is_line_part}
 

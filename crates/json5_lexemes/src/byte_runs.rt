@@ -4,8 +4,8 @@ ghost use Rattle.std.specs.Prelude.{◌≡◌, ◌+◌, ◌≤◌, length, drop,
 ghost use Rattle.std.specs.List.{prefix_len};
 ghost use Rattle.std.specs.Simd.Lanes.{mask_l};
 ghost use Rattle.json5_grammar.specs.Language.Characters.{is_digit};
-ghost use Rattle.json5_layouts.specs.Json.{is_json_blank};
-ghost use Rattle.json5_text.specs.ByteRuns.{is_in_line, is_no_star};
+ghost use Rattle.json5_styles.specs.Json.{is_json_blank};
+ghost use Rattle.json5_tokens.specs.ByteRuns.{is_in_line, is_no_star};
 ghost use Rattle.memchr.specs.Find.{is_byte, is_byte3};
 ghost use Rattle.json5_lexemes.specs.PlainSteps.{ends_blanks, ends_digits};
 

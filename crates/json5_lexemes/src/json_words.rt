@@ -4,8 +4,8 @@ ghost use Rattle.std.specs.Prelude.{◌≡◌, ◌↔◌, IsTrue};
 ghost use Rattle.std.specs.List.{prefix_len};
 ghost use Rattle.std.specs.Str.{chars};
 ghost use Rattle.json5_grammar.specs.Language.Characters.{Each, is_digit};
-ghost use Rattle.json5_layouts.specs.Json.{Exponent, JsonNumber};
-ghost use Rattle.json5_text.specs.Scan.{SkipsAll};
+ghost use Rattle.json5_styles.specs.Json.{Exponent, JsonNumber};
+ghost use Rattle.json5_tokens.specs.Scan.{SkipsAll};
 ghost use Rattle.json5_lexemes.specs.PlainSteps.{AfterDigits, Digits, GoesOn, GoesOnIf, IsEmpty, IsLiteral, PassesDigits, SignedDigits, Unsigned, is_exponent_letter, is_exponent_sign, is_json_part};
 
 use crate::byte_runs::digits_len;

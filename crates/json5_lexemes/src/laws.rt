@@ -3,7 +3,7 @@
 ghost use Rattle.std.specs.Prelude.{◌≡◌, ℕ, true, List, map};
 ghost use Rattle.json5_grammar.specs.Language.Trees.{Tree};
 ghost use Rattle.json5_grammar.specs.Language.Documents.{Doc};
-ghost use Rattle.json5_layouts.specs.Json.{JsonText};
+ghost use Rattle.json5_styles.specs.Json.{JsonText};
 ghost use Rattle.json5_lexemes.specs.Lexemes.{Lexemes, HaveSameLexemes};
 ghost use Rattle.json5_lexemes.specs.Plain.{IsPlain, IsBare};
 ghost use Rattle.json5_lexemes.specs.Tokens.{without_comments, settled, Spells};

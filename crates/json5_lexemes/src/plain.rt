@@ -3,9 +3,9 @@
 ghost use Rattle.std.specs.Prelude.{◌≡◌, ◌≢◌, ◌↔◌, ◌∷◌, IsTrue, true, false, MatchOption};
 ghost use Rattle.std.specs.Str.{chars};
 ghost use Rattle.json5_grammar.specs.Language.Characters.{NotBegun, is_hex_digit};
-ghost use Rattle.json5_layouts.specs.Json.{is_escape_letter, is_json_blank};
-ghost use Rattle.json5_text.specs.ByteRuns.{is_line_part as is_surely_in_line, is_no_star};
-ghost use Rattle.json5_text.specs.Scan.{SkipsAll, StartsWith};
+ghost use Rattle.json5_styles.specs.Json.{is_escape_letter, is_json_blank};
+ghost use Rattle.json5_tokens.specs.ByteRuns.{is_line_part as is_surely_in_line, is_no_star};
+ghost use Rattle.json5_tokens.specs.Scan.{SkipsAll, StartsWith};
 ghost use Rattle.json5_lexemes.specs.Plain.{is_closing, is_opening, IsPlain, KeepsPlain, Plain};
 ghost use Rattle.json5_lexemes.specs.PlainSteps.{begins_literal, is_slash, IsLiteral, Leaves, LeavesWith, PassesComment, PassesLexeme, PassesSign, TakesBlock, TakesCode, TakesComment, TakesEscape, TakesHex, TakesLine, TakesString, TakesWord, Then};
 ghost use Rattle.json5_lexemes.specs.SameLexemes.{is_word_part};
@@ -15,8 +15,8 @@ use crate::byte_runs::{blanks_len, line_len, star_offset};
 use crate::json_words::{is_literal, json_part_len, skip_number};
 use crate::rest::front;
 use crate::same::is_word_part;
-use json5_layouts::json_runs::skip_unescaped;
-use json5_text::char::is_json5_line_terminator;
+use json5_styles::json_runs::skip_unescaped;
+use json5_tokens::char::is_json5_line_terminator;
 
 /// What the last token was.
 #[derive(Clone, Copy, Drop)]

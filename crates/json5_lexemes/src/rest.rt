@@ -1,7 +1,7 @@
 //! What is left of a text that is compared with another.
 
 ghost use Rattle.std.specs.Prelude.{◌≡◌, ◌≤◌, IsTrue, false, length, slice_get};
-ghost use Rattle.json5_text.specs.Scan.{IsFront};
+ghost use Rattle.json5_tokens.specs.Scan.{IsFront};
 ghost use Rattle.json5_lexemes.specs.Runs.{IsRun, IsSpaces, PassesRun, PassesSpaces, is_alphanumeric};
 ghost use Rattle.json5_lexemes.specs.SameSteps.{Takes};
 
@@ -15,7 +15,7 @@ pub(crate) struct Rest<'x> {
 
 impl<'x> Model for Rest<'x> {
     ghost use Rattle.std.specs.Str.{chars};
-    ghost use Rattle.json5_text.specs.Cursor.{Cursor};
+    ghost use Rattle.json5_tokens.specs.Cursor.{Cursor};
 
     ghost Value = { Cursor };
 

@@ -22,7 +22,7 @@ use Rattle.json5_grammar.specs.Language.Numbers.{without_front_zeros, without_ze
 use Rattle.json5_grammar.specs.Written.NumberText.{IsNormal}
 use Rattle.json5_grammar.proofs.DecimalsWritten.{length-front}
 use Rattle.json5_types.specs.NumberWholes.{distance}
-use Rattle.json5_floats.proofs.SpelledNumbers.{all_digits}
+use Rattle.json5_numbers.proofs.SpelledNumbers.{all_digits}
 use Rattle.json5_numbers.specs.Orders.{size_in}
 use Rattle.json5_numbers.specs.SizeOrders.{digits_cmp}
 

@@ -1,4 +1,6 @@
 -- Lists the lemmas about the order of decimals, and about texts of numbers.
-pub mod DigitOrders
 pub mod DecimalOrders
+pub mod DigitOrders
 pub mod ParsedNumbers
+pub mod PrintedFloats
+pub mod SpelledNumbers

@@ -13,11 +13,11 @@ use Rattle.json5_grammar.proofs.NumberFaultsRefused.{no_fault, one_number}
 use Rattle.json5_grammar.proofs.ValueHeads.{number_head}
 use Rattle.json5_grammar.proofs.DecimalsWritten.{length-front}
 use Rattle.json5_types.specs.declared.error.Error.{Error}
-use Rattle.json5_floats.proofs.SpelledNumbers.{each_digit}
+use Rattle.json5_numbers.proofs.SpelledNumbers.{each_digit}
 use Rattle.json5_types.specs.Errors.{LacksMemory, kind_of, known_code}
 use Rattle.json5_numbers.specs.NumberTexts.{is_memory}
-use Rattle.json5_text.specs.Cursor.{Cursor, Refused}
-use Rattle.json5_text.specs.TokenFaults.{FaultyNumber, faulty, no_number, number_missing}
+use Rattle.json5_tokens.specs.Cursor.{Cursor, Refused}
+use Rattle.json5_tokens.specs.TokenFaults.{FaultyNumber, faulty, no_number, number_missing}
 
 abbrev pub NoNumber : List ℕ → Type 0
 NoNumber text = (n : Number) → Num text n → ⊥

@@ -1,4 +1,5 @@
 -- Lists the definitions of orders and of texts of numbers.
+pub mod Floats
+pub mod NumberTexts
 pub mod Orders
 pub mod SizeOrders
-pub mod NumberTexts

@@ -1,4 +1,5 @@
 -- Texts that are numbers, and the decimal with the value of a number.
+-- A promise rests on this.
 use Rattle.std.specs.Prelude.{◌≡◌, Bool, true, false, List, ℕ, ℤ, pos, Option, Some, None}
 use Rattle.std.specs.Fmt.{decimal as decimal_digits}
 use Rattle.json5_grammar.specs.declared.error_code.ErrorCode.{ErrorCode}

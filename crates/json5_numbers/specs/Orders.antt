@@ -1,4 +1,5 @@
 -- The order of decimals.
+-- A promise rests on this.
 use Rattle.std.specs.Prelude.{ℕ, ◌*◌, ◌^◌, Bool, List, ℤ, ◌-ℤ◌, Option, Some, None, if◌then◌else◌}
 use Rattle.std.specs.Int.{int_min}
 use Rattle.std.specs.Ordering.{int_cmp, bool_cmp}

@@ -1,4 +1,5 @@
 -- Steps by which decimals are compared. Private clauses and proofs alone cite them.
+-- Private.
 use Rattle.std.specs.Prelude.{ℕ, Bool, true, false, ◌&&◌, ◌||◌, not, List, ℤ, if◌then◌else◌}
 use Rattle.std.specs.Int.{int_min}
 use Rattle.std.specs.Ordering.{nat_cmp, bool_cmp, ordering_reverse}

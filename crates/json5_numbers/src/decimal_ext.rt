@@ -3,7 +3,7 @@
 ghost use Rattle.std.specs.Prelude.{◌≡◌, MatchResult};
 ghost use Rattle.std.specs.Str.{chars};
 ghost use Rattle.std.specs.Float.{binary64};
-ghost use Rattle.json5_floats.specs.Floats.{nearest_to};
+ghost use Rattle.json5_numbers.specs.Floats.{nearest_to};
 ghost use Rattle.json5_types.specs.Errors.{LacksMemory};
 ghost use Rattle.json5_numbers.specs.NumberTexts.{IsTextOf, decimal_of_whole};
 ghost use Rattle.json5_numbers.specs.Orders.{decimal_cmp};
@@ -100,13 +100,13 @@ impl DecimalExt for Decimal {
     fn to_f64(&self, alloc: Global) -> Result<f64>
         ensures { MatchResult result (λ x. x ≡ nearest_to binary64 self.now) LacksMemory }
     {
-        json5_floats::to_f64(alloc, self)
+        crate::to_f64(alloc, self)
     }
 
     fn from_f64(alloc: Global, number: f64) -> Result<Decimal>
         ensures { MatchResult result (λ d. nearest_to binary64 d ≡ number) LacksMemory }
     {
-        json5_floats::from_f64(alloc, number)
+        crate::from_f64(alloc, number)
     }
 
     fn compare(&self, other: &Decimal) -> Option<Ordering>

@@ -1,8 +1,17 @@
-//! Decimals compared, and read of a text.
+//! Decimals compared, and read of a text; the floats nearest to numbers of any count of digits, and the decimals of floats.
+//!
+//! A `Decimal` keeps each digit that was read; a float keeps about 16.
 #![tactic(auto)]
 
 pub mod decimal_ext;
+pub mod decimals;
+pub mod from_floats;
+pub mod nearest;
 mod order;
 mod texts;
+pub mod wholes;
 
 pub use decimal_ext::DecimalExt;
+pub use decimals::to_f64;
+pub use from_floats::from_f64;
+pub use nearest::AsF64;

@@ -6,9 +6,9 @@ ghost use Rattle.json5_types.specs.Errors.{LacksMemory, kind_of, known_code};
 ghost use Rattle.json5_types.specs.NumberMeanings.{number_of};
 ghost use Rattle.json5_numbers.specs.NumberTexts.{decimal_of_whole, decimal_of, is_memory, IsTextOfNumber};
 
+use crate::wholes::sign_and_size;
 use itoa::Buffer;
-use json5_floats::wholes::sign_and_size;
-use json5_text::scanner::Scanner;
+use json5_tokens::scanner::Scanner;
 use json5_types::ErrorCode;
 use json5_types::decimal::Decimal;
 use json5_types::error::{Error, Result};

@@ -11,8 +11,8 @@ use Rattle.json5_grammar.specs.declared.error_code.ErrorCode.{ErrorCode}
 use Rattle.json5_grammar.specs.Model.Reading.{Read, got, bad, Place}
 use Rattle.json5_grammar.specs.Model.ReadSteps.{forget}
 use Rattle.json5_grammar.specs.Model.ReadValues.{read}
-use Rattle.json5_text.specs.Cursor.{Cursor, Took, Refused, offset_of}
-use Rattle.json5_text.specs.Outcome.{bytes_in}
+use Rattle.json5_tokens.specs.Cursor.{Cursor, Took, Refused, offset_of}
+use Rattle.json5_tokens.specs.Outcome.{bytes_in}
 use Rattle.json5_report.specs.declared.due.Due.{Due}
 use Rattle.json5_report.specs.declared.due.Due.TheVariants as due
 use Rattle.json5_types.specs.declared.cow_str.CowStr.{CowStr}
@@ -27,8 +27,8 @@ use Rattle.json5_grammar.proofs.ObjectsRead.{colon_solid, one_reads_key}
 use Rattle.json5_grammar.proofs.ValuesSound.{read_sound}
 use Rattle.json5_types.specs.declared.error.Error.{Error}
 use Rattle.json5_types.specs.Errors.{LacksMemory}
-use Rattle.json5_value.specs.ModelSteps.{Gave, RefusesRead, value_at}
-use Rattle.json5_text.specs.TokenFaults.{FaultyBlanks}
+use Rattle.json5_read.specs.ModelSteps.{Gave, RefusesRead, value_at}
+use Rattle.json5_tokens.specs.TokenFaults.{FaultyBlanks}
 use Rattle.json5_report.proofs.TokensTaken.{step_takes, bytes_joined, fewer_bytes, step_after, step_found, past_first, none_in_blanks, key_split, unsigned, only_value, only_key, only_colon, only_comma, none_at_end, nothing_else}
 
 -- ---- brackets

@@ -24,8 +24,8 @@ use Rattle.json5_grammar.proofs.EntriesAfterGaps.{reads_here, no_sign, no_sign_i
 use Rattle.json5_grammar.proofs.ValueHeads.{val_head, key_head, key_solid}
 use Rattle.json5_grammar.proofs.ValuesRead.{read_complete}
 use Rattle.json5_grammar.proofs.ValuesSound.{sign_gap}
-use Rattle.json5_text.specs.Outcome.{bytes_in}
-use Rattle.json5_text.specs.TokenFaults.{FaultyBlanks}
+use Rattle.json5_tokens.specs.Outcome.{bytes_in}
+use Rattle.json5_tokens.specs.TokenFaults.{FaultyBlanks}
 use Rattle.json5_report.specs.declared.due.Due.{Due}
 use Rattle.json5_report.specs.declared.due.Due.TheVariants as due
 use Rattle.json5_report.specs.Paths.{Crumb, whole, element, member, takes_value, closing, Step, value, array, object, key, colon, next_element, next_member, closes}

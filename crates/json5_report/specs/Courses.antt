@@ -2,7 +2,7 @@
 -- Private.
 use Rattle.std.specs.Prelude.{◌≡◌, ◌≤◌, ◌<◌, ◌==◌, ℕ, Bool, true, false, List, [], ◌∷◌, Some, None, ⊤}
 use Rattle.json5_grammar.specs.Language.Characters.{NotBegun}
-use Rattle.json5_text.specs.Cursor.{Cursor, offset_of}
+use Rattle.json5_tokens.specs.Cursor.{Cursor, offset_of}
 use Rattle.json5_types.specs.Cows.{cow_bytes}
 use Rattle.json5_report.specs.declared.due.Due.{Due}
 use Rattle.json5_report.specs.declared.course.Open.{Open}

@@ -4,7 +4,7 @@ use Rattle.std.specs.Prelude.{◌≡◌, ◌≤◌, ◌+◌, ◌++◌, ℕ, List
 use Rattle.std.specs.Str.{chars}
 use Rattle.json5_grammar.specs.declared.position.Position.{Position}
 use Rattle.json5_grammar.specs.Faults.Positions.{position_after}
-use Rattle.json5_positions.specs.Places.{HasPosition}
+use Rattle.json5_tokens.specs.Places.{HasPosition}
 
 -- the position that is shown: the fault's own, or that of the text's end
 abbrev pub shown_position : List ℕ → Option Position → Position

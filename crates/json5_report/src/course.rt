@@ -3,18 +3,18 @@
 ghost use Rattle.std.specs.Prelude.{◌≡◌, ◌∷◌, false, true, IfOk, MatchOption};
 ghost use Rattle.std.specs.Str.{chars};
 ghost use Rattle.json5_grammar.specs.Language.Blanks.{Solid};
-ghost use Rattle.json5_text.specs.Cursor.{offset_of};
+ghost use Rattle.json5_tokens.specs.Cursor.{offset_of};
 ghost use Rattle.json5_types.specs.Errors.{LacksMemory};
 ghost use Rattle.json5_report.specs.Paths.{IsOpenAt, takes_value, after, closing};
 ghost use Rattle.json5_report.specs.declared.due.Due.TheVariants as due;
 ghost use Rattle.json5_report.specs.Courses.{AtMost, NotClosed, Turned, Unclosed, crumb_of, open_in};
 
 use crate::due::Due;
-use json5_text::scanner::Scanner;
+use json5_read::skip::skip_value;
+use json5_tokens::scanner::Scanner;
 use json5_types::ErrorCode;
 use json5_types::cow_str::CowStr;
 use json5_types::error::Error;
-use json5_value::skip::skip_value;
 use std::alloc::{AllocError, Global};
 use std::mem;
 

@@ -3,7 +3,7 @@
 //! Plain code, of which no promise is made but that it is safe and ends: change it by the rows of reports, which judge it.
 
 use crate::path::name_len;
-use json5_text::char::is_json5_identifier_start;
+use json5_tokens::char::is_json5_identifier_start;
 use std::fmt;
 
 /// What begins at an offset.

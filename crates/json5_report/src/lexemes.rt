@@ -2,7 +2,7 @@
 //!
 //! Plain code, of which no promise is made but that it is safe and ends: change it by the rows of reports, which judge it.
 
-use json5_text::char::{is_json5_line_terminator, is_json5_whitespace};
+use json5_tokens::char::{is_json5_line_terminator, is_json5_whitespace};
 
 /// What kind of lexeme it is.
 #[derive(Clone, Copy, Debug, PartialEq, Eq)]

@@ -10,7 +10,7 @@ ghost use Rattle.json5_report.specs.Paths.{crumb_text, path_text, point_after, s
 
 use crate::course::{Course, Open};
 use crate::lexemes::Lexeme;
-use json5_text::char::{is_json5_identifier, is_json5_identifier_start};
+use json5_tokens::char::{is_json5_identifier, is_json5_identifier_start};
 use std::alloc::{AllocError, Global};
 
 /// The path of what is open; nothing for the document itself.

@@ -4,8 +4,8 @@ ghost use Rattle.std.specs.Prelude.{◌≡◌};
 ghost use Rattle.json5_types.specs.Errors.{error_position};
 ghost use Rattle.json5_report.specs.Places.{IsOffsetOf, shown_position};
 
-use json5_positions::{InText, utf16_units};
-use json5_text::char::is_json5_line_terminator;
+use json5_tokens::char::is_json5_line_terminator;
+use json5_tokens::{InText, utf16_units};
 use json5_types::Position;
 use json5_types::error::Error;
 

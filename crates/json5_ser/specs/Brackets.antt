@@ -1,4 +1,5 @@
 -- The brackets of a collection, and of what a variant holds.
+-- A promise rests on this.
 use Rattle.std.specs.Prelude.{ℕ, List, Bool, true, false}
 use Rattle.json5_grammar.specs.Faults.Fronts.{opening}
 use Rattle.json5_write.specs.Brackets.{bracket_of}

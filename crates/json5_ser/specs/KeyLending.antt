@@ -1,4 +1,5 @@
 -- The serializer that is lent to a key.
+-- A promise rests on this.
 use Rattle.std.specs.Prelude.{Result}
 use Rattle.json5_grammar.specs.Language.Values.{null_text}
 use Rattle.json5_types.specs.declared.error.Error.{Error}

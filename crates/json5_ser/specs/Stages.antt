@@ -1,4 +1,5 @@
 -- How far a collection has come.
+-- A promise rests on this.
 use Rattle.std.specs.Prelude.{Bool, true, false}
 use Rattle.json5_ser.specs.declared.collection.CollectionStage.{CollectionStage}
 use Rattle.json5_ser.specs.declared.collection.CollectionStage.TheVariants as stage

@@ -1,4 +1,5 @@
 -- A collection, and the serializer that is lent to it.
+-- A promise rests on this.
 use Rattle.std.specs.Prelude.{◌≡◌, ℕ, ◌+◌, ◌-◌, List, [], ◌∷◌, Bool, true, false, Result, OnOk, OnErr, IfErr, MatchResult, ⊤}
 use Rattle.std.specs.Borrow.{Fml, GName, RattleType, MutBor, RestsIfErr}
 use Rattle.std.specs.declared.io.Write as write

@@ -1,4 +1,5 @@
 -- What a call does that writes a key.
+-- A promise rests on this.
 use Rattle.std.specs.Prelude.{Result}
 use Rattle.json5_types.specs.declared.error.Error.{Error}
 use Rattle.json5_write.specs.WrittenTrees.{WrittenKey}

@@ -6,9 +6,9 @@ use crate::raw::is_raw_text;
 use crate::reader::{Json5, Saved, Step};
 use fast_float::FastFloat;
 use json5_grammar::error_code::ErrorCode;
+use json5_read::brackets::BracketKind;
+use json5_read::kinds::Literal;
 use json5_types::cow_str::CowStr;
-use json5_value::brackets::BracketKind;
-use json5_value::kinds::Literal;
 use serde::{Format, Kind, Name};
 use std::alloc::Global;
 

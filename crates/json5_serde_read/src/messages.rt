@@ -3,7 +3,7 @@
 use crate::fault::{Fault, Long, Saying, Wanted, words};
 use json5_grammar::error_code::ErrorCode;
 use json5_grammar::position::Position;
-use json5_text::scanner::Scanner;
+use json5_tokens::scanner::Scanner;
 use json5_types::error::{Error, Result};
 use json5_types::number::Number;
 use std::alloc::Global;

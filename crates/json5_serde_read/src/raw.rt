@@ -10,7 +10,6 @@ pub(crate) const RAW_TEXT: &str = "\0json5 text";
 ///
 /// ```text
 /// let text = json5_serde::raw_text(from)?;      // 0x1F of `{mask: 0x1F}`, at the value
-/// let mask: Mask = Mask::parse(text)..
 /// ```
 ///
 /// # Errors

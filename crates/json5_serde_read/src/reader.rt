@@ -5,14 +5,14 @@ ghost use Rattle.json5_walk.specs.Walks.{IsDocumentWithin};
 
 use crate::fault::{Fault, Long, Saying, Wanted};
 use json5_grammar::error_code::ErrorCode;
-use json5_text::scanner::Scanner;
+use json5_read::brackets::BracketKind;
+use json5_read::kinds::Literal;
+use json5_tokens::scanner::Scanner;
 use json5_types::cow_str::CowStr;
 use json5_types::error::{Error, Result};
 use json5_types::nesting::Limit;
 use json5_types::number::Number;
 use json5_types::whole::Whole;
-use json5_value::brackets::BracketKind;
-use json5_value::kinds::Literal;
 use json5_walk::next::Next;
 use json5_walk::walk::Walk;
 use serde::{Kind, Name};

@@ -1,4 +1,5 @@
 -- What is known of the part of a text that was written: whatever completes it, makes it the text of a tree.
+-- A promise rests on this.
 use Rattle.std.specs.Prelude.{◌≡◌, ℕ, Bool, true, false, List, [], ◌∷◌, length, Option, Some, None}
 use Rattle.json5_write.specs.Commas.{comma_before}
 use Rattle.json5_write.specs.Out.{Out, piece, ◌then◌, out, elements_out, fields_out, text_within}

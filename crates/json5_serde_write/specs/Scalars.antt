@@ -1,4 +1,5 @@
 -- The trees of values without brackets.
+-- Private.
 use Rattle.std.specs.Str.{chars}
 use Rattle.json5_grammar.specs.Language.Numbers as numbers
 use Rattle.json5_write.specs.WrittenTrees.{Written, null, boolean, number, text, integer, natural}

@@ -1,4 +1,5 @@
 -- What is written of a type that says nothing of its values.
+-- A promise rests on this.
 use Rattle.std.specs.Prelude.{ℕ, List, Option}
 use Rattle.std.specs.Str.{chars}
 use Rattle.std.specs.Io.KnownBytes.{Appends}

@@ -6,7 +6,7 @@ ghost use Rattle.json5_serde_write.specs.WrittenTexts.{IsWrittenWithin};
 use crate::fault::{Fault, Step};
 use crate::pen::Pen;
 use crate::scalar::Scalar;
-use json5_text::scanner::Scanner;
+use json5_tokens::scanner::Scanner;
 use json5_types::decimal::Decimal;
 use json5_types::nesting::Limit;
 use json5_types::number::Number;

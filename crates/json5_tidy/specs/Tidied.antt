@@ -6,8 +6,8 @@ use Rattle.std.specs.Str.{chars}
 use Rattle.json5_grammar.specs.Language.Documents.{Doc, max_depth}
 use Rattle.json5_grammar.specs.Language.Trees.{Tree}
 use Rattle.json5_types.specs.declared.error.Error.{Error}
-use Rattle.json5_text.specs.Cursor.{IsOutOfMemory}
-use Rattle.json5_format.specs.DocumentReads.{IsRefused}
+use Rattle.json5_tokens.specs.Cursor.{IsOutOfMemory}
+use Rattle.json5_read.specs.DocumentReads.{IsRefused}
 use Rattle.json5_lexemes.specs.Lexemes.{HaveSameLexemes}
 use Rattle.json5_lexemes.specs.Plain.{KeepsPlain}
 use Rattle.json5_tidy.specs.declared.style.LastCommas.TheVariants as commas

@@ -2,15 +2,15 @@
 
 ghost use Rattle.std.specs.Prelude.{◌≡◌, IfOk, IfErr, IsTrue, string_bytes};
 ghost use Rattle.std.specs.Str.{chars};
-ghost use Rattle.json5_text.specs.Cursor.{IsOutOfMemory};
+ghost use Rattle.json5_tokens.specs.Cursor.{IsOutOfMemory};
 ghost use Rattle.json5_tidy.specs.Styles.{usual_style};
 ghost use Rattle.json5_tidy.specs.Tidied.{IsAlike, IsLaidOut, KeepsJson, TidiesText};
 
 use crate::layout::{Spacing, laid_out};
 use crate::plainness::{Plainness, has_last_commas};
 use crate::style::Style;
-use json5_format::check_document;
 use json5_lexemes::same_lexemes;
+use json5_read::check_document;
 use json5_types::ErrorCode;
 use json5_types::error::{Error, Result};
 use std::alloc::Global;

@@ -1,4 +1,5 @@
 -- What contracts see of a text that may be borrowed.
+-- A promise rests on this.
 use Rattle.std.specs.Prelude.{ℕ, List, Bool, true, false, string_bytes}
 use Rattle.json5_types.specs.declared.cow_str.CowStr.{CowStr}
 use Rattle.json5_types.specs.declared.cow_str.CowStr.TheVariants as cow

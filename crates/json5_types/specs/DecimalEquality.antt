@@ -1,4 +1,5 @@
 -- Decimals are equal exactly when they are the same, and what is equal is hashed alike.
+-- A promise rests on this.
 use Rattle.std.proofs.Common.{◌≡◌, ℕ, Bool, true, ◌&&◌, nat_eq, List, refl, ap, sym, ◌∙◌}
 use Rattle.std.specs.Prelude.{ℤ}
 use mathlib.Core.Bool.{true≢false}

@@ -1,4 +1,5 @@
 -- A spelling that is returned in pieces.
+-- A promise rests on this.
 use Rattle.std.specs.Prelude.{◌≡◌, ◌<◌, ℕ, List, ◌++◌, length}
 
 -- the spelling begins with this piece, which isn't empty, and rest follows it

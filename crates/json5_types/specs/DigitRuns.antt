@@ -1,4 +1,5 @@
 -- Decimal digits in front of a text.
+-- A promise rests on this.
 use Rattle.std.specs.Prelude.{◌≡◌, ◌++◌, ℕ, List}
 use Rattle.std.specs.Str.{IsUtf8, chars}
 use Rattle.json5_grammar.specs.Language.Characters.{is_digit, Each}

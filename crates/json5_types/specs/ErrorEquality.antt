@@ -1,4 +1,5 @@
 -- Which faults are equal, and that this is an equivalence.
+-- A promise rests on this.
 use Rattle.std.specs.Prelude.{Bool, ◌&&◌}
 use Rattle.std.specs.Option.{option_eq}
 use Rattle.std.specs.Cmp.{IsEquivalence, on_equiv, and_equiv}

@@ -1,4 +1,5 @@
 -- What contracts see of a fault.
+-- A promise rests on this.
 use Rattle.std.specs.Prelude.{◌≡◌, ◌++◌, ◌+◌, ℕ, List, Option, Some, None, string_bytes, decimal}
 use lib.Chars.{codes}
 use Rattle.json5_grammar.specs.declared.error_code.ErrorCode.{ErrorCode}

@@ -1,4 +1,5 @@
 -- Steps by which code finds a number. Private clauses and proofs alone cite them.
+-- A promise rests on this.
 use Rattle.std.specs.Prelude.{ℕ, ◌-◌, ◌^◌, ◌==◌, if◌then◌else◌, ℤ, pos, neg_ℤ, ◌+ℤ◌, ◌≤ℤ◌}
 
 -- the exponent of digits without the zeros at their end: it grows by one for each zero, and zero has 0

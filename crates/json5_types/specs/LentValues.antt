@@ -1,4 +1,5 @@
 -- What a value ends as, once a `&mut` into it has ended.
+-- A promise rests on this.
 use Rattle.std.specs.Prelude.{◌≡◌, ℕ, List, [], ◌∷◌, Option, OnSome, String, Vec}
 use Rattle.std.specs.Borrow.{Fml, MutBor, RattleType, LendsSo}
 use denote.Struct.Tuple.{Tuple}

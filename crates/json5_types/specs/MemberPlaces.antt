@@ -1,4 +1,5 @@
 -- The place of the last member with a key. Private clauses and proofs alone cite it.
+-- Private.
 use Rattle.std.specs.Prelude.{◌≡◌, ◌<◌, ℕ, suc, true, nat_eq, List, length, drop, slice_index_or, Option, None, option_map, MatchOption, Result, Ok, Err, String, string_bytes}
 use Rattle.std.specs.declared.alloc.Global.{Global}
 use Rattle.std.specs.Str.{chars}

@@ -1,4 +1,5 @@
 -- What contracts see of a decimal: its sign, its kind, its digits and its exponent; equality and hashing.
+-- A promise rests on this.
 use Rattle.std.specs.Prelude.{◌≡◌, ◌↔◌, ℕ, Bool, true, false, ◌&&◌, nat_eq, List, [], ◌++◌, ℤ, pos, Option, IsSome, IfSome, string_bytes}
 use Rattle.std.specs.Bool.{beq}
 use Rattle.std.specs.Ordering.{int_eq}

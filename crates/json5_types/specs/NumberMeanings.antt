@@ -1,4 +1,5 @@
 -- A number as the grammar has it.
+-- A promise rests on this.
 use Rattle.std.specs.Prelude.{Bool, true, false, ℤ, Option, Some, None}
 use Rattle.json5_grammar.specs.Language.Numbers as numbers
 use Rattle.json5_types.specs.declared.number.Number.{Number}

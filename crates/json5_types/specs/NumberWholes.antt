@@ -1,4 +1,5 @@
 -- What contracts see of a whole number.
+-- A promise rests on this.
 use Rattle.std.specs.Prelude.{◌≡◌, ◌↔◌, ℕ, suc, ◌^◌, ◌<◌, ◌≤◌, Bool, true, false, ℤ, pos, negsuc, Option, IsSome, IfSome}
 use Rattle.json5_grammar.specs.Language.Numbers.{InWhole}
 

@@ -1,4 +1,5 @@
 -- How a part of a pointer is compared with a key, and where it leads. Private clauses and proofs alone cite it.
+-- Private.
 use Rattle.std.specs.Prelude.{◌≡◌, ◌<◌, ℕ, List, ◌++◌, false, nat_eq, length, take, slice_index_or, Option, None, Some, MatchOption, String}
 use Rattle.std.specs.declared.alloc.Global.{Global}
 use Rattle.std.specs.Borrow.{Bor}

@@ -1,4 +1,5 @@
 -- What a value has at a JSON pointer (RFC 6901): the bytes of its text are split at the slashes, and each part is a step.
+-- A promise rests on this.
 use Rattle.std.specs.Prelude.{ℕ, ◌^◌, Bool, false, ◌&&◌, ◌||◌, ◌==◌, nat_eq, nat_lt, if◌then◌else◌, List, [], ◌∷◌, ◌++◌, Option, Some, None, option_and_then}
 use Rattle.std.specs.List.{list_all}
 use Rattle.std.specs.Str.{encode_utf8_all}

@@ -1,4 +1,5 @@
 -- What a value becomes when it is changed.
+-- A promise rests on this.
 use Rattle.std.specs.Prelude.{◌≡◌, ℕ, Bool, if◌then◌else◌, not, ◌||◌, nat_eq, List, Option, Some, None, is_some, Result, Ok, Err}
 use Rattle.std.specs.Cmp.Lexicographic.{pointwise}
 use Rattle.json5_grammar.specs.declared.error_code.ErrorCode.{ErrorCode}

@@ -1,4 +1,5 @@
 -- What a value feeds a hasher: its kind, and what it holds. What a whole number feeds is the hash of its type.
+-- A promise rests on this.
 use Rattle.std.specs.Prelude.{◌≡◌, true, [], ◌++◌, ℤ}
 use Rattle.std.proofs.Common.{ap}
 use Rattle.std.specs.Hash as fed

@@ -1,4 +1,5 @@
 -- Which kind a value is, how many it holds, and the number that it is in the machine's types.
+-- A promise rests on this.
 use Rattle.std.specs.Prelude.{◌≡◌, ℕ, suc, ℤ, pos, ◌≤ℤ◌, ◌<ℤ◌, Option, Some, None, MatchOption}
 use Rattle.json5_grammar.specs.Language.Numbers.{Number}
 use Rattle.json5_types.specs.NumberWholes.{Converts}

@@ -1,4 +1,5 @@
 -- How deep a value is nested, and what is found in it.
+-- A promise rests on this.
 use Rattle.std.specs.Prelude.{◌≡◌, ℕ, zero, suc, max, Bool, true, false, if◌then◌else◌, nat_eq, nat_le, List, ℤ, Option, Some, None, Result, Ok, Err}
 use Rattle.std.specs.Cmp.Lexicographic.{pointwise}
 use Rattle.json5_grammar.specs.Language.Numbers.{Decimal, whole, decimal}

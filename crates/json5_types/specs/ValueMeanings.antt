@@ -1,4 +1,5 @@
 -- What a value means, apart from how it is stored.
+-- A promise rests on this.
 use Rattle.std.specs.Prelude.{ℕ, Bool, List, [], ◌∷◌, map, String, string_bytes}
 use Rattle.std.specs.declared.alloc.Global.{Global}
 use Rattle.std.specs.Str.{chars}

@@ -21,17 +21,17 @@ use Rattle.json5_grammar.proofs.OneTree.{document_phrase, phrase_document}
 use Rattle.json5_grammar.proofs.BlanksSound.{gap_end}
 use Rattle.json5_grammar.proofs.ValueHeads.{val_head}
 use Rattle.json5_grammar.proofs.ValuesSound.{text_stops, read_sound}
-use Rattle.json5_text.specs.Cursor.{Cursor, offset_of}
-use Rattle.json5_text.specs.Outcome.{bytes_in}
-use Rattle.json5_value.specs.ModelSteps.{Gave, value_at}
-use Rattle.json5_value.specs.declared.kinds.Literal.{Literal}
-use Rattle.json5_value.specs.declared.kinds.Literal.TheVariants as literal
-use Rattle.json5_value.specs.Kinds.{word_of}
-use Rattle.json5_value.specs.declared.brackets.OpenBracket.{OpenBracket}
-use Rattle.json5_value.specs.Brackets.{bracket_of, brackets_of}
-use Rattle.json5_value.specs.declared.brackets.BracketPair.{BracketPair}
-use Rattle.json5_value.specs.declared.brackets.BracketKind.{BracketKind as Kind}
-use Rattle.json5_value.specs.declared.brackets.BracketKind.TheVariants as kind
+use Rattle.json5_tokens.specs.Cursor.{Cursor, offset_of}
+use Rattle.json5_tokens.specs.Outcome.{bytes_in}
+use Rattle.json5_read.specs.ModelSteps.{Gave, value_at}
+use Rattle.json5_read.specs.declared.kinds.Literal.{Literal}
+use Rattle.json5_read.specs.declared.kinds.Literal.TheVariants as literal
+use Rattle.json5_read.specs.Kinds.{word_of}
+use Rattle.json5_read.specs.declared.brackets.OpenBracket.{OpenBracket}
+use Rattle.json5_read.specs.Brackets.{bracket_of, brackets_of}
+use Rattle.json5_read.specs.declared.brackets.BracketPair.{BracketPair}
+use Rattle.json5_read.specs.declared.brackets.BracketKind.{BracketKind as Kind}
+use Rattle.json5_read.specs.declared.brackets.BracketKind.TheVariants as kind
 use Rattle.json5_walk.specs.declared.next.Next.{Next}
 use Rattle.json5_walk.specs.declared.next.Next.TheVariants as next
 use Rattle.json5_walk.specs.declared.place.Place.{Place}

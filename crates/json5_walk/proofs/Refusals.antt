@@ -20,15 +20,15 @@ use Rattle.json5_grammar.proofs.ObjectsRead.{colon_solid, brace_solid}
 use Rattle.json5_grammar.proofs.OneTree.{phrase_complete}
 use Rattle.json5_grammar.proofs.Refusals.{not_both}
 use Rattle.json5_grammar.proofs.ValueHeads.{val_head, key_head, key_solid, skip_value, skip_key}
-use Rattle.json5_text.specs.Cursor.{Cursor}
-use Rattle.json5_text.specs.TokenFaults.{FaultyBlanks}
+use Rattle.json5_tokens.specs.Cursor.{Cursor}
+use Rattle.json5_tokens.specs.TokenFaults.{FaultyBlanks}
 use Rattle.json5_types.specs.declared.error.Error.{Error}
-use Rattle.json5_value.specs.ModelSteps.{RefusesRead, value_at}
+use Rattle.json5_read.specs.ModelSteps.{RefusesRead, value_at}
 use Rattle.json5_grammar.specs.Faults.Fronts.{BracketKind}
-use Rattle.json5_value.specs.Brackets.{bracket_of, brackets_of}
-use Rattle.json5_value.specs.declared.brackets.BracketPair.{BracketPair}
-use Rattle.json5_value.specs.declared.brackets.BracketKind.{BracketKind as Kind}
-use Rattle.json5_value.specs.declared.brackets.BracketKind.TheVariants as kind
+use Rattle.json5_read.specs.Brackets.{bracket_of, brackets_of}
+use Rattle.json5_read.specs.declared.brackets.BracketPair.{BracketPair}
+use Rattle.json5_read.specs.declared.brackets.BracketKind.{BracketKind as Kind}
+use Rattle.json5_read.specs.declared.brackets.BracketKind.TheVariants as kind
 use Rattle.json5_walk.specs.declared.next.Next.{Next}
 use Rattle.json5_walk.specs.declared.next.Next.TheVariants as next
 use Rattle.json5_walk.specs.Nexts.{takes_value}

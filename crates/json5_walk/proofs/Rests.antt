@@ -16,9 +16,9 @@ use Rattle.json5_grammar.proofs.ArraysPartlyRead.{same_sign, element_left}
 use Rattle.json5_grammar.proofs.CharacterClasses.{EndsValues, colon_no_name, comma_ends_values, bracket_ends_values, brace_ends_values}
 use Rattle.json5_grammar.proofs.ValueHeads.{val_head, stops_blanks, stops_last, key_before_blanks, key_spelling}
 use Rattle.json5_grammar.proofs.ValuesSound.{sign_gap, tail_gap, pairs_gap}
-use Rattle.json5_value.specs.Brackets.{bracket_of, brackets_of}
-use Rattle.json5_value.specs.declared.brackets.BracketKind.{BracketKind as Kind}
-use Rattle.json5_value.specs.declared.brackets.BracketKind.TheVariants as kind
+use Rattle.json5_read.specs.Brackets.{bracket_of, brackets_of}
+use Rattle.json5_read.specs.declared.brackets.BracketKind.{BracketKind as Kind}
+use Rattle.json5_read.specs.declared.brackets.BracketKind.TheVariants as kind
 use Rattle.json5_walk.specs.declared.next.Next.{Next}
 use Rattle.json5_walk.specs.declared.next.Next.TheVariants as next
 use Rattle.json5_walk.specs.Nexts.{takes_value}

@@ -1,4 +1,5 @@
 -- Open brackets with what was read in them, and how a text goes on from within them to its end.
+-- A promise rests on this.
 use Rattle.std.specs.Prelude.{◌≡◌, ℕ, suc, ◌+◌, ◌≤◌, Bool, true, false, List, [], ◌∷◌, length}
 use Rattle.json5_grammar.specs.Faults.Fronts.{BracketKind, of_array, of_object}
 use Rattle.json5_grammar.specs.Language.Blanks.{LastBlanks}

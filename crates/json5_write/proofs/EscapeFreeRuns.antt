@@ -5,16 +5,16 @@ use Rattle.std.specs.List.{prefix_len}
 use Rattle.std.specs.Char.{encode_utf8}
 use Rattle.std.specs.Str.{chars}
 use Rattle.std.proofs.lemmas.Str.{chars-nil}
-use Rattle.json5_text.specs.Scan.{SkipsAll}
+use Rattle.json5_tokens.specs.Scan.{SkipsAll}
 use lib.Bits.{bit_or}
 use lib.Lanes.{top}
 use Rattle.std.proofs.lemmas.Bool.{and_parts}
 use Rattle.std.proofs.lemmas.Bool.Decides.{nat_tests}
 use Rattle.json5_grammar.specs.Language.Characters.{Each, no_char, char}
 use Rattle.json5_grammar.proofs.CommonLemmas.{eq_from}
-use Rattle.json5_text.specs.ByteRuns.{is_in_line, is_line_part}
-use Rattle.json5_text.proofs.RunBoundaries.{FailsAscii, OfChars, of_ascii, line_chars}
-use Rattle.json5_text.proofs.ByteSearch.{hit}
+use Rattle.json5_tokens.specs.ByteRuns.{is_in_line, is_line_part}
+use Rattle.json5_tokens.proofs.RunBoundaries.{FailsAscii, OfChars, of_ascii, line_chars}
+use Rattle.json5_tokens.proofs.ByteSearch.{hit}
 use Rattle.json5_write.specs.EscapeFree.{ends_escape_free, is_escape_free_byte, is_unmarked, is_escape_free}
 
 -- ---- two tests at once

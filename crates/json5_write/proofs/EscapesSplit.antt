@@ -8,15 +8,15 @@ use Rattle.std.specs.Prelude.{◌==◌, false}
 use Rattle.std.specs.List.{list_any}
 use Rattle.json5_grammar.specs.Written.Quoting.{escaped, escaped_all, quoted_text}
 use Rattle.json5_grammar.specs.Language.Strings.{is_quote}
-use Rattle.json5_text.specs.Escapes.{escape_of}
+use Rattle.json5_tokens.specs.Escapes.{escape_of}
 use Rattle.json5_write.specs.declared.quoting.Quote.{Quote}
 use Rattle.json5_write.specs.declared.quoting.Quote.TheVariants as quote
 use Rattle.json5_write.specs.Quotes.{delimiter}
 use Rattle.json5_write.specs.Escaping.{StartsWithScalar, SplitsAtEscape, WritesAsIs}
 use Rattle.json5_write.proofs.OutputsJoined.{scalars-append}
 use Rattle.json5_grammar.specs.Language.Characters.{Each, no_char, char}
-use Rattle.json5_text.specs.Scan.{SkipsAll}
-use Rattle.json5_text.proofs.TextCuts.{Halves, one_scalar, parts_scalar}
+use Rattle.json5_tokens.specs.Scan.{SkipsAll}
+use Rattle.json5_tokens.proofs.TextCuts.{Halves, one_scalar, parts_scalar}
 use Rattle.json5_write.specs.EscapeFree.{is_unmarked, is_escape_free}
 use Rattle.json5_write.proofs.QuotesFound.{double_quotes}
 

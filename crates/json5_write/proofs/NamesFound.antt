@@ -10,8 +10,8 @@ use Rattle.json5_grammar.specs.Language.Characters.{is_identifier_start, is_iden
 use Rattle.json5_grammar.specs.Model.ReadNumbers.{rest_of}
 use Rattle.json5_grammar.proofs.CharacterTests.{front_each}
 use Rattle.json5_types.proofs.AsciiRuns.{PassesAscii, chars_split, rest_cut}
-use Rattle.json5_text.specs.ByteRuns.{is_ascii_part}
-use Rattle.json5_text.proofs.AsciiNames.{ascii_part}
+use Rattle.json5_tokens.specs.ByteRuns.{is_ascii_part}
+use Rattle.json5_tokens.proofs.AsciiNames.{ascii_part}
 use Rattle.json5_write.specs.NameBytes.{is_name_byte}
 use Rattle.json5_grammar.specs.Written.Quoting.{is_name}
 use Rattle.json5_write.specs.Escaping.{StartsWithScalar}

@@ -1,4 +1,5 @@
 -- The kinds of brackets, and what stands before an element, in the words of the grammar.
+-- A promise rests on this.
 use Rattle.std.specs.Prelude.{ℕ}
 use Rattle.json5_grammar.specs.Language.Characters.{left_bracket, comma_sign}
 use Rattle.json5_grammar.specs.Faults.Fronts.{BracketKind, of_array, of_object}

@@ -1,4 +1,5 @@
 -- Elements and members without the comma after them, which is written with what follows. Private clauses and proofs alone cite it.
+-- A promise rests on this.
 use Rattle.std.specs.Prelude.{ℕ, Bool, true, false, [], ◌∷◌}
 use Rattle.json5_grammar.specs.Language.Characters.{comma_sign, colon_sign, space}
 use Rattle.json5_write.specs.WrittenTrees.{WrittenKey, Written}

@@ -1,4 +1,5 @@
 -- Copies into a row of bytes. Private clauses and proofs alone cite it.
+-- Private.
 use Rattle.std.specs.Prelude.{◌≡◌, ℕ, ◌+◌, List, ◌++◌, length, take}
 
 -- the row has these bytes after the first `at`, up to `end`

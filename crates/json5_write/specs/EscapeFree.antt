@@ -1,8 +1,9 @@
 -- Characters that are written as they are between any quotes, and are no quotes themselves. Private clauses and proofs alone cite it.
+-- A promise rests on this.
 use Rattle.std.specs.Prelude.{ℕ, Bool, List, not, ◌&&◌, ◌||◌, ◌==◌}
 use Rattle.std.specs.Str.{IsUtf8}
-use Rattle.json5_text.specs.Scan.{SkipsAll}
-use Rattle.json5_text.specs.ByteRuns.{is_line_part}
+use Rattle.json5_tokens.specs.Scan.{SkipsAll}
+use Rattle.json5_tokens.specs.ByteRuns.{is_line_part}
 
 -- a byte at which a run of them ends
 abbrev pub ends_escape_free : ℕ → Bool

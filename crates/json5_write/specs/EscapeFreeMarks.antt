@@ -1,4 +1,5 @@
 -- Which strings and keys of a written tree are escape-free, and the tree without these marks.
+-- A promise rests on this.
 use Rattle.std.specs.Prelude.{ℕ, List, Bool, ◌||◌, not, ⊤}
 use Rattle.json5_grammar.specs.Language.Strings.{holds_backslash}
 use Rattle.json5_grammar.specs.Written.NumberText.{IsNumber}

@@ -1,4 +1,5 @@
 -- The output of a tree, and where it stops.
+-- A promise rests on this.
 -- Each element or member of a collection is on its own line, indented by two spaces a level, and a comma follows it.
 use Rattle.std.specs.Prelude.{ℕ, ◌+◌, ◌*◌, List, [], ◌∷◌, ◌++◌, Bool, true, false, replicate, nat_lt, cond}
 use Rattle.json5_grammar.specs.Language.Characters.{line_feed, space, comma_sign, colon_sign, left_bracket, right_bracket, left_brace, right_brace}

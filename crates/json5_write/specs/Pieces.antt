@@ -1,4 +1,5 @@
 -- What a writer does with a piece.
+-- A promise rests on this.
 use Rattle.std.specs.Prelude.{◌≡◌, ℕ, List, [], ◌∷◌, ◌++◌, Option, Result, Ok, Err}
 use Rattle.json5_grammar.specs.Language.Characters.{double_quote}
 use Rattle.std.specs.Io.KnownBytes.{Appends}

@@ -1,4 +1,5 @@
 -- The quotes as characters.
+-- Private.
 use Rattle.std.specs.Prelude.{ℕ}
 use Rattle.json5_grammar.specs.Language.Characters.{double_quote, single_quote}
 use Rattle.json5_write.specs.declared.quoting.Quote.{Quote}

@@ -1,4 +1,5 @@
 -- The bytes of a writer that a reference leads to.
+-- A promise rests on this.
 use Rattle.std.specs.Prelude.{ℕ, List, ◌∷◌, Option}
 use Rattle.std.specs.Option.{option_map}
 use Rattle.std.specs.Borrow.{GName}

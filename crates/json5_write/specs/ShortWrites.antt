@@ -1,4 +1,5 @@
 -- What a call does that writes pieces or a value, and returns a small value.
+-- A promise rests on this.
 use Rattle.std.specs.Prelude.{◌≡◌, None, Result, Ok, Err, ⊤}
 use Rattle.json5_grammar.specs.declared.error_code.ErrorCode.TheVariants as codes
 use Rattle.json5_types.specs.declared.error.Error.{Error}

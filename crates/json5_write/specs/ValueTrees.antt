@@ -1,4 +1,5 @@
 -- The tree of a value of any kind.
+-- A promise rests on this.
 use Rattle.std.specs.Prelude.{ℕ, String, string_bytes}
 use Rattle.std.specs.declared.alloc.Global.{Global}
 use Rattle.std.specs.Str.{chars}

@@ -1,4 +1,5 @@
 -- What `to_string` returns.
+-- A promise rests on this.
 use Rattle.std.specs.Prelude.{◌≡◌, ℕ, List, None, Result, ⊤, IsOk, IsErrAnd, String, string_bytes}
 use Rattle.std.specs.declared.alloc.Global.{Global}
 use Rattle.std.specs.Str.{chars, encode_utf8_all}

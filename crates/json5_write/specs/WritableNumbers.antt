@@ -1,4 +1,5 @@
 -- Which numbers have a spelling: whole ones of 128 bits, and decimals in normal form.
+-- A promise rests on this.
 use Rattle.std.specs.Prelude.{ℕ, ◌-◌, ◌^◌, Bool, true, ◌&&◌, ◌||◌, not, nat_eq, List, ℤ, pos, neg_ℤ}
 use Rattle.std.specs.List.{list_all}
 use Rattle.std.specs.Ordering.{int_eq}

@@ -1,4 +1,5 @@
 -- What contracts see of a serializer, and what a call does to it.
+-- A promise rests on this.
 use Rattle.std.specs.Prelude.{◌≡◌, ℕ, ◌-◌, List, ◌++◌, Bool, true, false, Option, None, Result, Ok, Err}
 use Rattle.std.specs.Str.{encode_utf8_all, all_scalars}
 use Rattle.std.specs.Io.KnownBytes.{Appends, Keeps}

@@ -1,4 +1,5 @@
 -- What is written: a tree, with the keys of an object in order.
+-- A promise rests on this.
 use Rattle.std.specs.Prelude.{ℕ, List, [], ◌∷◌, Bool, ℤ, pos, Option, None, Some}
 use Rattle.json5_grammar.specs.Language.Numbers.{Number, whole}
 use Rattle.json5_grammar.specs.Written.NumberText.{number_text}

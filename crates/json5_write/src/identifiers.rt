@@ -8,7 +8,7 @@ ghost use Rattle.json5_grammar.specs.Written.Quoting.{is_name};
 ghost use Rattle.json5_write.specs.NameBytes.{is_name_byte, SkipsNameBytes};
 
 use crate::quoting::front;
-use json5_text::char::{is_json5_identifier, is_json5_identifier_start};
+use json5_tokens::char::{is_json5_identifier, is_json5_identifier_start};
 
 // Each byte that may continue an identifier stands at its own place, and a comma at every other place.
 static NAME_BYTES: [u8; 256] = *b"\

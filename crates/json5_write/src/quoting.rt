@@ -7,7 +7,7 @@ ghost use Rattle.json5_write.specs.Quotes.{delimiter};
 ghost use Rattle.json5_write.specs.Escaping.{NeedsNoEscape, SplitsAtEscape, StartsWithScalar};
 
 use crate::escape_free::skip_escape_free;
-use json5_text::char::escape;
+use json5_tokens::char::escape;
 
 /// The quotes round a string.
 #[derive(Clone, Copy)]

@@ -1,4 +1,5 @@
 -- What the enums of the rows stand for, whose impls are written by hand.
+-- A promise rests on this.
 use Rattle.std.specs.Prelude.{◌==◌, ◌^◌, ℕ, ℤ, Bool, if◌then◌else◌, List, [], ◌∷◌, Option, Some, None, codes}
 use Rattle.std.specs.Str.{chars}
 use Rattle.json5.specs.WrittenTrees.{Written, Elements, element, no_element, Fields, field, no_field, text, null, integer, newtype_variant, tuple_variant, struct_variant, WrittenKey, named, bad}

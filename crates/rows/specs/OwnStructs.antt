@@ -1,4 +1,5 @@
 -- What the structs of the rows take of an object, a field a line, and what is written of one.
+-- A promise rests on this.
 use Rattle.std.specs.Prelude.{ℕ, ◌^◌, List, Option, codes}
 use Rattle.std.specs.Str.{chars}
 use Rattle.json5.specs.Convert.{text_of, escape_free_of, unsigned_below}

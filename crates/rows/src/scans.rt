@@ -2,7 +2,7 @@
 
 use crate::call_results::{Answer, Any, place, push_answer, shown, unknown};
 use json5::{ErrorCode, Result, Value};
-use json5_text::scanner::Scanner;
+use json5_tokens::scanner::Scanner;
 use json5_types::number::Number;
 use json5_types::whole::Whole;
 use std::alloc::Global;

@@ -1,7 +1,7 @@
 //! The fault of a row.
 
 use crate::rows::count_of;
-use json5_format::read_document;
+use json5_read::read_document;
 use json5_types::error::Error;
 use json5_types::value::Value;
 use json5_types::{ErrorCode, Position};

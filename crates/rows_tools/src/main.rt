@@ -12,7 +12,7 @@ mod reports;
 mod rows;
 mod tidies;
 
-use json5_format::read_document;
+use json5_read::read_document;
 use json5_types::value::Value;
 use outcomes::Outcome;
 use rows::text_of;

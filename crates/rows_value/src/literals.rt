@@ -7,7 +7,7 @@ ghost use Rattle.json5_types.specs.ValueMeanings.{value_of, number, text, array,
 
 use crate::writing::text_of;
 use json5::{Layout, Result, Value, to_string_in};
-use json5_literal::json5;
+use json5_macro::json5;
 use std::alloc::Global;
 
 /// The row's literal, on one line.

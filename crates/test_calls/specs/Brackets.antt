@@ -1,4 +1,5 @@
 -- What values within brackets convert to.
+-- A promise rests on this.
 use Rattle.std.specs.Prelude.{Option}
 use Rattle.json5_grammar.specs.Language.Trees.{Tree}
 use Rattle.json5_grammar.specs.Model.Collections.{array_of}

@@ -1,7 +1,7 @@
 //! Readers: what outlives them, and what they return once an access was dropped.
 
 use json5::{CowStr, Deserializer, Error, ErrorCode, Result};
-use json5_text::scanner::Scanner;
+use json5_tokens::scanner::Scanner;
 use std::alloc::Global;
 use std::test::Fail;
 use test_own_types::gives_up;

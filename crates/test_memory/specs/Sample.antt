@@ -1,4 +1,5 @@
 -- What the sample takes of an object, a field a line.
+-- A promise rests on this.
 use Rattle.std.specs.Prelude.{Option, codes}
 use Rattle.json5.specs.Trees.{Tree}
 use Rattle.json5.specs.Plans.{Plan, plan_required, plan_and}

@@ -5,7 +5,7 @@ use json5::{
     AsF64, Decimal, DecimalExt, Layout, Result, Value, from_reader, from_slice, from_str,
     read_text, shown, to_json, to_json_in, to_string, to_string_in, to_vec,
 };
-use json5_literal::json5;
+use json5_macro::json5;
 use std::alloc::Global;
 use std::io::{self, Write};
 

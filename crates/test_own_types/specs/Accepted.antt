@@ -1,4 +1,5 @@
 -- What is read as the types of this crate.
+-- A promise rests on this.
 use Rattle.std.specs.Prelude.{◌==◌, ◌^◌, ℕ, Bool, if◌then◌else◌, nat_lt, length, List, [], ◌∷◌, Option, Some, None, codes, string_bytes}
 use Rattle.json5.specs.Trees.{Tree, Trees}
 use Rattle.json5.specs.Collections.{contents}

@@ -1,4 +1,5 @@
 -- What is written of the types of this crate.
+-- A promise rests on this.
 use Rattle.std.specs.Prelude.{◌≡◌, ℕ, List, codes, string_bytes}
 use Rattle.std.specs.Str.{chars}
 use Rattle.json5.specs.WrittenFields.{field_named, field_given}

@@ -6,7 +6,7 @@ ghost use Rattle.json5_de.specs.Convert.{every_datum};
 ghost use Rattle.json5_de.specs.TokenKinds.{every_tree, no_tree};
 
 use crate::de::{Deserialize, Deserializer};
-use json5_text::input::Input;
+use json5_tokens::input::Input;
 use json5_types::error::Result;
 use json5_types::value::Value;
 

@@ -7,18 +7,18 @@ ghost use Rattle.json5_grammar.specs.Model.Collections.{IsEnd};
 ghost use Rattle.json5_de.specs.State.{SameText};
 ghost use Rattle.json5_de.specs.Faults.{RefusedBy};
 ghost use Rattle.json5_de.specs.DeserializeLaw.{AnswersFailed, answered};
-ghost use Rattle.json5_value.specs.Brackets.{brackets_of};
+ghost use Rattle.json5_read.specs.Brackets.{brackets_of};
 ghost use Rattle.json5_de.specs.Enums.{ClosesLast};
 ghost use Rattle.json5_de.specs.ObjectFaults.{PassesColon};
 ghost use Rattle.json5_de.specs.ShortWays.{StepsShort, PassesShortColon, OpensShort, ClosesShort};
 
 use crate::de::Deserializer;
-use json5_text::input::Input;
-use json5_text::short_ways::ShortStep;
+use json5_read::brackets::BracketKind;
+use json5_read::steps::{advance_to_entry, pass_colon};
+use json5_tokens::input::Input;
+use json5_tokens::short_ways::ShortStep;
 use json5_types::ErrorCode;
 use json5_types::error::{Error, Result};
-use json5_value::brackets::BracketKind;
-use json5_value::steps::{advance_to_entry, pass_colon};
 
 impl<I: Input> Deserializer<I> {
     ghost use Rattle.json5_de.specs.Arrays.{Closed, TakesOpening, NotClosed};

@@ -12,7 +12,7 @@ ghost use Rattle.json5_de.specs.ReaderSteps.{IsFaultAt, IsUndecoded};
 use crate::de::Deserializer;
 use crate::de::tokens::FoundText;
 use hex::FromHexError;
-use json5_text::input::Input;
+use json5_tokens::input::Input;
 use json5_types::ErrorCode;
 use json5_types::byte_buf::ByteBuf;
 use json5_types::error::{Error, Result};

@@ -3,9 +3,9 @@
 ghost use Rattle.json5_de.specs.TokenKinds.{ReadsAs, ReadsNull, bool_kind};
 
 use crate::de::Deserializer;
-use json5_text::input::Input;
+use json5_read::kinds::Literal;
+use json5_tokens::input::Input;
 use json5_types::error::Result;
-use json5_value::kinds::Literal;
 
 impl<I: Input> Deserializer<I> {
     /// Reads `null` (JSON5 section 2). Takes no memory.

@@ -10,7 +10,7 @@ ghost use Rattle.json5_types.specs.Errors.{LacksMemory};
 use crate::de::Deserializer;
 use crate::mismatch::Mismatch;
 use itoa::Buffer;
-use json5_text::input::Input;
+use json5_tokens::input::Input;
 use json5_types::decimal::Decimal;
 use json5_types::error::Result;
 use json5_types::number::Number;

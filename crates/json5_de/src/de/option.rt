@@ -8,10 +8,10 @@ ghost use Rattle.json5_de.specs.OptionFaults.{option_free, RefusesOption, Refuse
 ghost use Rattle.json5_de.specs.Faults.{EndsWith};
 
 use crate::de::{Deserialize, Deserializer};
-use json5_text::input::Input;
+use json5_read::kinds::Literal;
+use json5_tokens::input::Input;
 use json5_types::ErrorCode;
 use json5_types::error::{Error, Result};
-use json5_value::kinds::Literal;
 
 impl<I: Input> Deserializer<I> {
     /// Reads `null` as None and any other value as Some of a `T`. A value that begins with `n` is read as `null`, whatever `T`

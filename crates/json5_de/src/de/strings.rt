@@ -9,7 +9,7 @@ ghost use Rattle.json5_de.specs.TokenKinds.{ReadsAs, ReadsCow, ReadsEscapeFree, 
 use crate::de::Deserializer;
 use crate::de::tokens::FoundText;
 use crate::mismatch::Mismatch;
-use json5_text::input::{Borrows, Input};
+use json5_tokens::input::{Borrows, Input};
 use json5_types::cow_str::CowStr;
 use json5_types::error::Result;
 

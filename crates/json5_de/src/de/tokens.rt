@@ -4,11 +4,11 @@
 //! the other calls say what is there.
 
 ghost use Rattle.std.specs.Prelude.{◌≡◌, ◌-◌, ◌+◌, nat_abs, string_bytes, IfSome};
-ghost use Rattle.json5_text.specs.Cursor.{IsInput};
+ghost use Rattle.json5_tokens.specs.Cursor.{IsInput};
 ghost use Rattle.json5_grammar.specs.Language.Documents.{max_depth};
-ghost use Rattle.json5_value.specs.OwnedReads.{OwnsKey, ReadsDatum};
-ghost use Rattle.json5_value.specs.Kinds.{word_of, ends_of, differs_of};
-ghost use Rattle.json5_value.specs.SkipSteps.{SkipsValue};
+ghost use Rattle.json5_read.specs.OwnedReads.{OwnsKey, ReadsDatum};
+ghost use Rattle.json5_read.specs.Kinds.{word_of, ends_of, differs_of};
+ghost use Rattle.json5_read.specs.SkipSteps.{SkipsValue};
 ghost use Rattle.json5_de.specs.State.{Calls, next};
 ghost use Rattle.json5_de.specs.ReaderSteps.{Eats, IsCount};
 ghost use Rattle.json5_de.specs.FoundTexts.{SpellsText, SpellsCow, FindsKey, FindsString};
@@ -19,19 +19,19 @@ ghost use Rattle.json5_de.specs.TokenKinds.{natural_kind, integer_kind, decimal_
 ghost use Rattle.json5_de.specs.ShortWays.{ReadsShort, ReadsShortText, ReadsShortKey, ReadsEscapeFreeText, TakesEscapeFreeKey, OwnsTextAt, RunsOut};
 
 use crate::de::Deserializer;
-use json5_text::input::{Borrows, Input};
-use json5_text::short_texts::Span;
-use json5_text::text_token::TextToken;
+use json5_read::kinds::{Literal, skip_literal};
+use json5_read::owned_tokens::key_owned;
+use json5_read::read::read_value;
+use json5_read::skip::skip_value;
+use json5_tokens::input::{Borrows, Input};
+use json5_tokens::short_texts::Span;
+use json5_tokens::text_token::TextToken;
 use json5_types::ErrorCode;
 use json5_types::cow_str::CowStr;
 use json5_types::decimal::Decimal;
 use json5_types::error::{Error, Result};
 use json5_types::number::Number;
 use json5_types::value::Value;
-use json5_value::kinds::{Literal, skip_literal};
-use json5_value::owned_tokens::key_owned;
-use json5_value::read::read_value;
-use json5_value::skip::skip_value;
 
 /// A string or a key that was taken, and its offset.
 #[derive(Drop)]

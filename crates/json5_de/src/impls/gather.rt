@@ -9,7 +9,7 @@ ghost use Rattle.json5_de.specs.MapFaults.{sides, RefusesMap};
 
 use crate::de::{Deserialize, Deserializer};
 use crate::key::DeserializeKey;
-use json5_text::input::Input;
+use json5_tokens::input::Input;
 use json5_types::ErrorCode;
 use json5_types::error::{Error, Result};
 

@@ -3,7 +3,7 @@
 use crate::de::{Deserialize, Deserializer};
 use crate::impls::gather::{Gathers, gather};
 use crate::key::DeserializeKey;
-use json5_text::input::Input;
+use json5_tokens::input::Input;
 use json5_types::error::Result;
 use std::collections::HashMap;
 use std::hash::Hash;

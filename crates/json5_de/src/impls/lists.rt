@@ -1,7 +1,7 @@
 //! Lists of elements of one type, and tuples, which are arrays of a fixed length.
 
 use crate::de::{Deserialize, Deserializer};
-use json5_text::input::Input;
+use json5_tokens::input::Input;
 use json5_types::ErrorCode;
 use json5_types::error::{Error, Result};
 

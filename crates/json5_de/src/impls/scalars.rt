@@ -5,7 +5,7 @@ ghost use Rattle.json5_types.specs.ValueMeanings.{value_of};
 ghost use Rattle.json5_de.specs.TokenKinds.{ReadsAs, ReadsBytes, ReadsCow, ReadsDecimal, ReadsEscapeFree, ReadsNull, ReadsString, bool_kind, char_kind, natural_kind, integer_kind};
 
 use crate::de::{Deserialize, Deserializer};
-use json5_text::input::{Borrows, Input};
+use json5_tokens::input::{Borrows, Input};
 use json5_types::byte_buf::ByteBuf;
 use json5_types::cow_str::CowStr;
 use json5_types::decimal::Decimal;

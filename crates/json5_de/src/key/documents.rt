@@ -9,7 +9,7 @@ ghost use Rattle.json5_de.specs.KeySteps.{IsTextFault, is_out_of_memory};
 use crate::de::Deserializer;
 use crate::impls::keys::FromText;
 use crate::key::MapKey;
-use json5_text::input::Input;
+use json5_tokens::input::Input;
 use json5_types::ErrorCode;
 use json5_types::decimal::Decimal;
 use json5_types::error::{Error, Result};

@@ -8,7 +8,7 @@ ghost use Rattle.json5_de.specs.KeyKinds.{ReadsKeyAs, string_key, char_key, esca
 use crate::de::Deserializer;
 use crate::key::MapKey;
 use crate::mismatch::Mismatch;
-use json5_text::input::{Borrows, Input};
+use json5_tokens::input::{Borrows, Input};
 use json5_types::byte_buf::ByteBuf;
 use json5_types::cow_str::CowStr;
 use json5_types::error::Result;

@@ -2,7 +2,7 @@ use Rattle.std.proofs.Common.{string_bytes}
 use Rattle.std.specs.Str.{chars}
 use Rattle.std.proofs.lemmas.Result.{err_from_is_err_and, IfOk-weaker, IfErr-weaker}
 use Rattle.json5_types.specs.ValueMeanings.{value_of}
-use Rattle.json5_format.proofs.DocumentReads.{memory_refused}
+use Rattle.json5_read.proofs.DocumentReads.{memory_refused}
 use Rattle.json5_format.proofs.Formats.{formatted_within, completed, only_memory}
 use Rattle.json5_format.proofs.format_within.Goals as goal
 

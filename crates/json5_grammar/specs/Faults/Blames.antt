@@ -1,4 +1,5 @@
 -- A fault by its parts, and what laws say of the faults of one kind.
+-- A promise rests on this.
 use Rattle.std.specs.Prelude.{◌≡◌, ℕ, Bool, false, List, [], ◌∷◌, ◌++◌, ◌≤◌, Option, Some}
 use Rattle.json5_grammar.specs.Language.Characters.{NotBegun}
 use Rattle.json5_grammar.specs.Faults.Codes.{ErrorCode, Shown, by_char, by_end}

@@ -1,4 +1,5 @@
 -- What each code prints.
+-- A promise rests on this.
 use Rattle.std.specs.Prelude.{ℕ, List}
 use lib.Chars.{codes}
 use Rattle.json5_grammar.specs.declared.error_code.ErrorCode.{ErrorCode}

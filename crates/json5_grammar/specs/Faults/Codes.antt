@@ -1,4 +1,5 @@
 -- The codes of faults, and what shows a fault.
+-- A promise rests on this.
 use Rattle.std.specs.Prelude.{ℕ, List, ◌++◌, Option, Some, None}
 pub use Rattle.json5_grammar.specs.declared.error_code.ErrorCode.{ErrorCode}
 pub use Rattle.json5_grammar.specs.declared.error_code.ErrorCode.TheVariants.{EofParsingArray, EofParsingBool, EofParsingComment, EofParsingEscapeSequence, EofParsingIdentifier, EofParsingNull, EofParsingNumber, EofParsingObject, EofParsingString, EofParsingValue, ExpectedBool, ExpectedColon, ExpectedComma, ExpectedComment, ExpectedIdentifier, ExpectedNull, ExpectedNumber, ExpectedValue, InvalidEscapeSequence, LeadingZero, LineTerminatorInString, OverflowParsingNumber, TrailingCharacters, TooDeep}

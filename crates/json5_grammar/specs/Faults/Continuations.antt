@@ -1,4 +1,5 @@
 -- How documents go on from a front: with what is expected there; and each front begins a document.
+-- A promise rests on this.
 use Rattle.std.specs.Prelude.{◌≡◌, ◌⊎◌, ℕ, Bool, true, List, [], ◌∷◌, ◌++◌}
 use Rattle.json5_grammar.specs.Language.Characters.{comma_sign, colon_sign, right_bracket, right_brace}
 use Rattle.json5_grammar.specs.Language.Blanks.{LastBlanks}

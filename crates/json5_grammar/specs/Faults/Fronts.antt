@@ -1,4 +1,5 @@
 -- Fronts: prefixes of documents, cut between tokens, with the open brackets and what is expected.
+-- A promise rests on this.
 use Rattle.std.specs.Prelude.{◌≡◌, ℕ, ◌+◌, ◌≤◌, ◌<◌, Bool, true, false, List, [], ◌∷◌, ◌++◌, length}
 use Rattle.json5_grammar.specs.Language.Characters.{comma_sign, colon_sign, left_bracket, right_bracket, left_brace, right_brace}
 use Rattle.json5_grammar.specs.Language.Blanks.{Gap}

@@ -1,4 +1,5 @@
 -- Parts: what can be at fault, a begun token with at most one character after it.
+-- A promise rests on this.
 use Rattle.std.specs.Prelude.{◌≡◌, ℕ, Bool, true, List, [], ◌∷◌, ◌++◌}
 use Rattle.json5_grammar.specs.Language.Characters.{star_sign, slash_sign, digit_zero, backslash, is_hex_digit, Each}
 use Rattle.json5_grammar.specs.Faults.Codes.{ErrorCode}

@@ -1,4 +1,5 @@
 -- Positions: the line and the column after a prefix of the input, both counted from 0.
+-- A promise rests on this.
 -- ECMAScript 5.1 section 7.3: LF, CR, U+2028 and U+2029 end a line, and CR LF is one end.
 use Rattle.std.specs.Prelude.{ℕ, suc, ◌+◌, Bool, false, if◌then◌else◌, ◌&&◌, not, ◌==◌, List, [], ◌∷◌, length}
 use Rattle.std.specs.List.{list_any}

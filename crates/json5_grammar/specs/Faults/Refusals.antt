@@ -1,4 +1,5 @@
 -- What a refusal says of an input: its one fault, what begins a document and what doesn't, and where the faulty part is.
+-- A promise rests on this.
 use Rattle.std.specs.Prelude.{◌≡◌, ℕ, List, ◌++◌, Option}
 use Rattle.json5_grammar.specs.Faults.Blames.{StandsIn, Shows}
 use Rattle.json5_grammar.specs.Faults.Codes.{ErrorCode, Shown, by_char}

@@ -1,4 +1,5 @@
 -- The faults of each kind of token, from its first character on: the code (None: custom), what comes before the position (None: it is the
+-- A promise rests on this.
 -- end's), the part at fault, and what shows it.
 use Rattle.std.specs.Prelude.{◌≡◌, ◌≢◌, ℕ, Bool, true, false, ◌||◌, ◌==◌, List, [], ◌∷◌, ◌++◌, Option, Some, None, ◌<◌, ◌&&◌, length, ◌^◌, ◌≤◌, ℤ}
 use Rattle.json5_grammar.specs.Language.Characters.{slash_sign, star_sign, Each, line_feed, carriage_return, digit_zero, digit_one, digit_nine, backslash, letter_u, letter_x, is_in, is_digit, is_hex_digit, first_high_surrogate, last_low_surrogate, is_identifier_start, is_identifier_part, capital_e, capital_i, capital_n, letter_e, plus_sign, minus_sign, point_sign}

@@ -1,4 +1,5 @@
 -- Blanks: white space and comments, which are allowed around every token.
+-- A promise rests on this.
 -- JSON5 section 7 (comments) and section 8 (white space).
 use Rattle.std.specs.Prelude.{◌≡◌, ◌≢◌, ℕ, Bool, true, not, ◌||◌, ◌==◌, List, [], ◌∷◌, ◌++◌}
 use Rattle.json5_grammar.specs.Language.Characters.{is_terminator, is_blank, slash_sign, star_sign, NotBegun, Each}

@@ -1,4 +1,5 @@
 -- Characters by their codes, and the character classes.
+-- A promise rests on this.
 -- JSON5 section 8 (white space), ECMAScript 5.1 sections 7.3 (line terminators) and 7.6 (identifier names).
 use Rattle.std.specs.Prelude.{◌≡◌, ℕ, Bool, true, false, ◌&&◌, ◌||◌, ◌==◌, nat_le, List, [], ◌∷◌, ⊤}
 use Rattle.unicode.specs.GeneralCategory.{general_category}

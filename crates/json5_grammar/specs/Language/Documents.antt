@@ -1,4 +1,5 @@
 -- Documents, and readable prefixes. The nesting limit is a parameter.
+-- A promise rests on this.
 use Rattle.std.specs.Prelude.{◌≡◌, ℕ, ◌≤◌, List, ◌++◌}
 use Rattle.json5_grammar.specs.Language.Blanks.{Blanks, LastBlanks}
 use Rattle.json5_grammar.specs.Language.Trees.{Tree, depth}

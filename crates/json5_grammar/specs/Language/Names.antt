@@ -1,4 +1,5 @@
 -- Identifiers, and the keys of objects.
+-- A promise rests on this.
 -- JSON5 section 3 (objects), ECMAScript 5.1 section 7.6.
 use Rattle.std.specs.Prelude.{◌≡◌, ◌≢◌, ℕ, Bool, true, false, ◌&&◌, ◌||◌, ◌==◌, List, [], ◌∷◌, ◌++◌}
 use Rattle.json5_grammar.specs.Language.Characters.{backslash, is_identifier_start, is_identifier_part}

@@ -1,4 +1,5 @@
 -- Number literals, the number that each means, and the normal form of a decimal.
+-- A promise rests on this.
 -- JSON5 section 6 (numbers), ECMAScript 5.1 section 7.8.3.
 use Rattle.std.specs.Prelude.{◌≡◌, ℕ, ◌+◌, ◌-◌, ◌*◌, ◌^◌, Bool, true, false, if◌then◌else◌, ◌||◌, ◌==◌, List, [], ◌∷◌, ◌++◌, length, reverse, ℤ, pos, ◌+ℤ◌, ◌-ℤ◌, neg_ℤ, ◌≤ℤ◌, Option, Some, None, ◌&&◌}
 use Rattle.std.specs.Char.{digit_value}

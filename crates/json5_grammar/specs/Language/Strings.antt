@@ -1,4 +1,5 @@
 -- String literals and their escapes, with the characters that they mean; escape-free if they hold no backslash.
+-- A promise rests on this.
 -- JSON5 section 5 (strings), ECMAScript 5.1 section 7.8.4.
 use Rattle.std.specs.Prelude.{◌≡◌, ◌≢◌, ℕ, ◌+◌, ◌-◌, ◌*◌, Bool, true, false, if◌then◌else◌, ◌||◌, not, ◌==◌, List, [], ◌∷◌, ◌++◌, Option, Some, None}
 use Rattle.std.specs.Char.{digit_value}

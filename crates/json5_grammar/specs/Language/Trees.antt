@@ -1,4 +1,5 @@
 -- Trees: what an input says, whatever type it is read as. A string or a key has a mark, whether it was spelled without an escape.
+-- A promise rests on this.
 use Rattle.std.specs.Prelude.{ℕ, suc, max, Bool, List}
 use Rattle.json5_grammar.specs.Language.Numbers.{Number}
 

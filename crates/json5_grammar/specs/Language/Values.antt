@@ -1,4 +1,5 @@
 -- The value grammar, and where a value stops.
+-- A promise rests on this.
 -- JSON5 sections 2 to 4 (values, objects, arrays).
 use Rattle.std.specs.Prelude.{◌≡◌, ℕ, Bool, true, false, List, [], ◌∷◌, ◌++◌}
 use lib.Chars.{codes}

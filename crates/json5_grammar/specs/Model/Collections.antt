@@ -1,4 +1,5 @@
 -- Arrays and objects from their front: the elements or members one after another, and the closing sign.
+-- A promise rests on this.
 -- JSON5 sections 3 and 4 (objects and arrays; a comma is allowed after the last element or member).
 use Rattle.std.specs.Prelude.{◌≡◌, ◌⊎◌, ℕ, Bool, true, false, List, [], ◌∷◌, ◌++◌, Option, Some, None}
 use Rattle.json5_grammar.specs.Language.Characters.{comma_sign, colon_sign, left_bracket, right_bracket, left_brace, right_brace}

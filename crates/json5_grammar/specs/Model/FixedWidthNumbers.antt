@@ -1,4 +1,5 @@
 -- Forms of a number's value that code can compute in a fixed width.
+-- Private.
 use Rattle.std.specs.Prelude.{ℕ, ◌+◌, ◌*◌, min, cond, nat_lt, List, [], ◌∷◌, Option, Some, None}
 use Rattle.std.specs.Char.{digit_value}
 

@@ -1,4 +1,5 @@
 -- Counting the position after characters, from the first on, character by character: a CR ends a line at once, and an LF right after it ends none.
+-- Private.
 use Rattle.std.specs.Prelude.{ℕ, suc, Bool, if◌then◌else◌, ◌&&◌, ◌==◌, List, [], ◌∷◌}
 use Rattle.json5_grammar.specs.Language.Characters.{is_terminator, line_feed, carriage_return}
 use Rattle.json5_grammar.specs.declared.position.Position.{Position}

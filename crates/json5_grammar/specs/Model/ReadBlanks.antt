@@ -1,4 +1,5 @@
 -- Passing over blanks as a function on lists.
+-- A promise rests on this.
 use Rattle.std.specs.Prelude.{ℕ, cond, ◌==◌, List, [], ◌∷◌, Some}
 use Rattle.json5_grammar.specs.Language.Characters.{star_sign, slash_sign, is_terminator, is_blank}
 use Rattle.json5_grammar.specs.Faults.Codes.{EofParsingComment, ExpectedComment}

@@ -1,4 +1,5 @@
 -- Reading a number as a function on lists.
+-- A promise rests on this.
 use Rattle.std.specs.Prelude.{ℕ, ◌+◌, ◌*◌, ◌^◌, Bool, true, false, cond, ◌&&◌, ◌||◌, not, ◌==◌, nat_lt, nat_le, List, [], ◌∷◌, ℤ, pos, negsuc, neg_ℤ, Option, Some, None}
 use Rattle.std.specs.Char.{digit_value}
 use lib.Chars.{codes}

@@ -1,4 +1,5 @@
 -- Reading strings and names as functions on lists.
+-- A promise rests on this.
 use Rattle.std.specs.Prelude.{ℕ, zero, suc, ◌+◌, ◌*◌, Bool, true, false, cond, ◌&&◌, ◌||◌, ◌==◌, List, [], ◌∷◌, ◌++◌, length, Option, Some, None}
 use Rattle.std.specs.Char.{digit_value}
 use Rattle.json5_grammar.specs.Language.Characters.{backslash, carriage_return, digit_zero, letter_u, letter_x, line_feed, is_terminator, is_identifier_start, is_identifier_part, is_digit, is_hex_digit}

@@ -1,4 +1,5 @@
 -- Reading a value and a document as functions on lists.
+-- A promise rests on this.
 use Rattle.std.specs.Prelude.{ℕ, zero, suc, true, false, cond, ◌||◌, ◌==◌, List, [], ◌∷◌, length, Some}
 use Rattle.json5_grammar.specs.Language.Characters.{comma_sign, colon_sign, left_bracket, right_bracket, left_brace, right_brace, letter_f, letter_n, letter_t}
 use Rattle.json5_grammar.specs.Faults.Codes.{EofParsingArray, EofParsingBool, EofParsingNull, EofParsingObject, EofParsingValue, ExpectedBool, ExpectedColon, ExpectedComma, ExpectedNull, ExpectedValue, TrailingCharacters, TooDeep}

@@ -1,4 +1,5 @@
 -- Reading as functions on lists, which give what is at the front and what follows it, or the fault. Private clauses and proofs cite them.
+-- A promise rests on this.
 -- Public clauses cite the fault table instead. The only exception is `document_of` of json5_de, which says what a key converts to; the law
 -- `document_keys` says which keys are documents.
 use Rattle.std.specs.Prelude.{◌≡◌, ℕ, cond, ◌==◌, List, [], ◌∷◌, ◌++◌, Option, Some, None}

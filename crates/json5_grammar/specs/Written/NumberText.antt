@@ -1,4 +1,5 @@
 -- How a number is written: a whole number as its digits, a decimal as digits with a point and without an exponent.
+-- A promise rests on this.
 use Rattle.std.specs.Prelude.{◌≡◌, ℕ, suc, ◌-◌, cond, nat_lt, List, [], ◌∷◌, ◌++◌, length, take, drop, replicate, ℤ, pos, negsuc, ⊤}
 use Rattle.std.specs.Fmt.{sign_text, signed_decimal}
 use lib.Chars.{codes}

@@ -1,4 +1,5 @@
 -- How a string is written: between quotes; as a key bare, if it is an identifier.
+-- A promise rests on this.
 use Rattle.std.specs.Prelude.{ℕ, Bool, false, if◌then◌else◌, ◌&&◌, not, ◌==◌, List, [], ◌∷◌, ◌++◌}
 use Rattle.std.specs.List.{list_any, list_all}
 use lib.Chars.{codes}

@@ -4,8 +4,8 @@ use Rattle.std.proofs.Math.Bool.{or-true}
 use Rattle.std.proofs.lemmas.Bool.Decides.{nat_tests}
 use Rattle.json5_grammar.specs.Language.Characters.{backslash}
 use Rattle.json5_grammar.specs.Language.Strings.{is_quote}
-use Rattle.json5_text.specs.ByteRuns.{is_ascii_start}
-use Rattle.json5_text.proofs.AsciiNames.{ascii_start}
+use Rattle.json5_tokens.specs.ByteRuns.{is_ascii_start}
+use Rattle.json5_tokens.proofs.AsciiNames.{ascii_start}
 use Rattle.json5_de.specs.ObjectFaults.{begins_key}
 use Rattle.json5_de.proofs.key.begins_key.Goals as goal
 

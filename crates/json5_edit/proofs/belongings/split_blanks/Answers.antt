@@ -1,7 +1,7 @@
 use Rattle.std.proofs.Common.{◌≡◌, ◌-◌, ◌++◌, ap, sym, ◌∙◌}
 use Rattle.std.specs.Str.{chars}
-use Rattle.json5_text.specs.Cursor.{Cursor}
-use Rattle.json5_text.specs.Outcome.{bytes_in}
+use Rattle.json5_tokens.specs.Cursor.{Cursor}
+use Rattle.json5_tokens.specs.Outcome.{bytes_in}
 use Rattle.json5_edit.proofs.TakenApart.{solid_there}
 use Rattle.json5_edit.proofs.PiecesJoined.{ok_both}
 use Rattle.json5_edit.proofs.belongings.split_blanks.Goals as goal

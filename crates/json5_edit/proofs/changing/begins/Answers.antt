@@ -1,8 +1,8 @@
 use Rattle.std.proofs.Common.{ap, sym, ◌∙◌}
 use Rattle.std.specs.Prelude.{slice_get}
 use Rattle.std.specs.Str.{chars}
-use Rattle.json5_text.specs.Cursor.{Cursor}
-use Rattle.json5_value.specs.declared.brackets.BracketPair.{BracketPair}
+use Rattle.json5_tokens.specs.Cursor.{Cursor}
+use Rattle.json5_read.specs.declared.brackets.BracketPair.{BracketPair}
 use Rattle.json5_edit.proofs.Refused.{begins_no, nothing_begins}
 use Rattle.json5_edit.proofs.changing.begins.Goals as goal
 

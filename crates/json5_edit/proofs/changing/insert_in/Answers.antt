@@ -4,7 +4,7 @@ use Rattle.json5_lexemes.specs.Plain.{KeepsPlain, StaysPlain}
 use Rattle.json5_edit.specs.Changes.{Gains}
 use Rattle.json5_edit.specs.Pieces.{Grows}
 use Rattle.json5_edit.specs.Refusals.{RefusesInsert}
-use Rattle.json5_value.specs.declared.brackets.BracketKind.TheVariants as kind
+use Rattle.json5_read.specs.declared.brackets.BracketKind.TheVariants as kind
 use Rattle.json5_edit.proofs.Placed.{ok_then}
 use Rattle.json5_edit.proofs.Changed.{has_place, is_small, changed_within}
 use Rattle.json5_edit.proofs.PlainPlaces.{part_stays, plain_within}

@@ -1,5 +1,5 @@
 use Rattle.std.proofs.Common.{refl}
-use Rattle.json5_value.specs.declared.brackets.BracketKind.TheVariants as kind
+use Rattle.json5_read.specs.declared.brackets.BracketKind.TheVariants as kind
 use Rattle.json5_edit.proofs.EntriesPassed.{opens}
 use Rattle.json5_edit.proofs.Compared.{renamed}
 use Rattle.json5_edit.proofs.Seeks.{on_then}

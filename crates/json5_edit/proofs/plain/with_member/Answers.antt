@@ -1,6 +1,6 @@
 use Rattle.std.proofs.Common.{◌∙◌, sym, subst}
 use Rattle.std.specs.Str.{chars}
-use Rattle.json5_layouts.specs.Json.{JsonString}
+use Rattle.json5_styles.specs.Json.{JsonString}
 use Rattle.json5_edit.specs.Pieces.{SpellsKey}
 use Rattle.json5_edit.proofs.Placed.{ok_then}
 use Rattle.json5_edit.proofs.PlainlyEdited.{member_added}

@@ -1,5 +1,5 @@
 use Rattle.std.proofs.Common.{◌≡◌, ◌∷◌, [], ◌++◌, true, false, refl, ap, sym, ◌∙◌, append_assoc, append-nil, subst, arith}
-use Rattle.json5_text.specs.Cursor.{Cursor}
+use Rattle.json5_tokens.specs.Cursor.{Cursor}
 use Rattle.json5_edit_style.specs.Comments.{BeginsLine}
 use Rattle.json5_edit_style.proofs.CommentsPassed.{begins_on, took_shorter, nothing_left}
 use Rattle.json5_edit_style.proofs.comments.begins_line.Goals as goal

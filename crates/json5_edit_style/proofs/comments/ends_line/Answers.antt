@@ -1,5 +1,5 @@
 use Rattle.std.proofs.Common.{refl, sym, ap, ◌∙◌, subst}
-use Rattle.json5_text.specs.Cursor.{Cursor}
+use Rattle.json5_tokens.specs.Cursor.{Cursor}
 use Rattle.json5_edit_style.specs.Comments.{EndsLine}
 use Rattle.json5_edit_style.proofs.CommentsPassed.{ends_before, ends_at, closes_at}
 use Rattle.json5_edit_style.proofs.comments.ends_line.Goals as goal

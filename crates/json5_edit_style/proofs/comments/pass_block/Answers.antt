@@ -1,5 +1,5 @@
 use Rattle.std.proofs.Common.{refl, sym, subst}
-use Rattle.json5_text.specs.Cursor.{Cursor}
+use Rattle.json5_tokens.specs.Cursor.{Cursor}
 use Rattle.json5_edit_style.proofs.CommentsPassed.{Further, further_on, block_ends}
 use Rattle.json5_edit_style.proofs.comments.pass_block.Goals as goal
 

@@ -1,5 +1,5 @@
 use Rattle.std.proofs.Common.{sym, ap, ◌∙◌}
-use Rattle.json5_text.specs.Cursor.{Cursor}
+use Rattle.json5_tokens.specs.Cursor.{Cursor}
 use Rattle.json5_grammar.specs.Language.Documents.{max_depth}
 use Rattle.json5_edit.proofs.Placed.{value_alone}
 use Rattle.json5_edit_values.proofs.laid_out.is_value.Goals as goal

@@ -1,7 +1,7 @@
 use Rattle.std.proofs.Common.{sym, ap, ◌∙◌, arith}
 use lib.Count.{count_trailing_zeros}
 use Rattle.json5_grammar.specs.Language.Characters.{is_digit}
-use Rattle.json5_text.proofs.ByteSearch.{run_stops}
+use Rattle.json5_tokens.proofs.ByteSearch.{run_stops}
 use Rattle.json5_lexemes.specs.PlainSteps.{ends_digits}
 use Rattle.json5_lexemes.proofs.PlainRuns.{digit_or_not}
 use Rattle.json5_lexemes.proofs.byte_runs.digits_len.Goals as goal

@@ -1,7 +1,7 @@
 use Rattle.std.proofs.Common.{arith}
 use Rattle.std.proofs.lemmas.Simd.{zip2_splat}
 use Rattle.memchr.specs.Find.{is_byte3}
-use Rattle.json5_text.proofs.ByteSearch.{hit, either, masked, three_lane}
+use Rattle.json5_tokens.proofs.ByteSearch.{hit, either, masked, three_lane}
 use Rattle.json5_lexemes.proofs.byte_runs.line_ends.Goals as goal
 
 pub returns : goal.returns

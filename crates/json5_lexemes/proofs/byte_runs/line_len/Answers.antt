@@ -2,9 +2,9 @@ use Rattle.std.proofs.Common.{◌≡◌, ℕ, Bool, true, false, not, ◌||◌, 
 use lib.Count.{count_trailing_zeros}
 use Rattle.std.specs.Prelude.{◌==◌}
 use Rattle.memchr.specs.Find.{is_byte3}
-use Rattle.json5_text.specs.ByteRuns.{is_in_line}
-use Rattle.json5_text.proofs.ByteSearch.{run_stops}
-use Rattle.json5_text.proofs.FirstBytes.{run_found}
+use Rattle.json5_tokens.specs.ByteRuns.{is_in_line}
+use Rattle.json5_tokens.proofs.ByteSearch.{run_stops}
+use Rattle.json5_tokens.proofs.FirstBytes.{run_found}
 use Rattle.json5_lexemes.proofs.byte_runs.line_len.Goals as goal
 
 none_of_three : (a b c : Bool) → (not a && (not b && not c)) ≡ not (a || b || c)

@@ -1,7 +1,7 @@
 use Rattle.std.proofs.Common.{sym, ap, ◌∙◌, arith}
 use lib.Count.{count_trailing_zeros}
-use Rattle.json5_layouts.specs.Json.{is_json_blank}
-use Rattle.json5_text.proofs.ByteSearch.{run_through, run_stops}
+use Rattle.json5_styles.specs.Json.{is_json_blank}
+use Rattle.json5_tokens.proofs.ByteSearch.{run_through, run_stops}
 use Rattle.json5_lexemes.specs.PlainSteps.{ends_blanks}
 use Rattle.json5_lexemes.proofs.PlainRuns.{blank_or_not}
 use Rattle.json5_lexemes.proofs.byte_runs.many_blanks_len.Goals as goal

@@ -1,6 +1,6 @@
 use Rattle.std.proofs.Common.{◌≡◌, ◌+◌, ◌-◌, ◌≤◌, length, drop}
 use Rattle.std.specs.List.{prefix_len}
-use Rattle.json5_layouts.specs.Json.{is_json_blank}
+use Rattle.json5_styles.specs.Json.{is_json_blank}
 use Rattle.json5_lexemes.proofs.byte_runs.many_blanks_len.Given as goal
 
 abbrev pub invariant-loop-i : goal.invariant-loop-i

@@ -1,7 +1,7 @@
 use Rattle.std.proofs.Common.{arith}
 use Rattle.std.proofs.lemmas.Simd.{zip2_splat, zip2_splat_left}
-use Rattle.json5_layouts.proofs.JsonRuns.{below}
-use Rattle.json5_text.proofs.ByteSearch.{either, masked}
+use Rattle.json5_styles.proofs.JsonRuns.{below}
+use Rattle.json5_tokens.proofs.ByteSearch.{either, masked}
 use Rattle.json5_lexemes.specs.PlainSteps.{ends_digits}
 use Rattle.json5_lexemes.proofs.PlainRuns.{digit_lane}
 use Rattle.json5_lexemes.proofs.byte_runs.no_digits.Goals as goal

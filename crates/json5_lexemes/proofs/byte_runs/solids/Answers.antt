@@ -1,7 +1,7 @@
 use Rattle.std.proofs.Common.{arith}
 use Rattle.std.proofs.lemmas.Simd.{zip2_splat, zip2_of_maps}
 use lib.Bits.{bit_and}
-use Rattle.json5_text.proofs.ByteSearch.{masked}
+use Rattle.json5_tokens.proofs.ByteSearch.{masked}
 use Rattle.json5_lexemes.specs.PlainSteps.{ends_blanks}
 use Rattle.json5_lexemes.proofs.PlainRuns.{miss, solid_lane}
 use Rattle.json5_lexemes.proofs.byte_runs.solids.Goals as goal

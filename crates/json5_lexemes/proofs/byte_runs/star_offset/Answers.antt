@@ -1,9 +1,9 @@
 use Rattle.std.proofs.Common.{refl, sym, ap, ◌∙◌, arith}
 use lib.Count.{count_trailing_zeros}
 use Rattle.memchr.specs.Find.{is_byte}
-use Rattle.json5_text.specs.ByteRuns.{is_no_star}
-use Rattle.json5_text.proofs.ByteSearch.{run_stops}
-use Rattle.json5_text.proofs.FirstBytes.{run_found}
+use Rattle.json5_tokens.specs.ByteRuns.{is_no_star}
+use Rattle.json5_tokens.proofs.ByteSearch.{run_stops}
+use Rattle.json5_tokens.proofs.FirstBytes.{run_found}
 use Rattle.json5_lexemes.proofs.byte_runs.star_offset.Goals as goal
 
 pub returns : goal.returns

@@ -1,7 +1,7 @@
 use Rattle.std.proofs.Common.{arith}
 use Rattle.std.proofs.lemmas.Simd.{zip2_splat}
 use Rattle.memchr.specs.Find.{is_byte}
-use Rattle.json5_text.proofs.ByteSearch.{hit, masked, byte_lane}
+use Rattle.json5_tokens.proofs.ByteSearch.{hit, masked, byte_lane}
 use Rattle.json5_lexemes.proofs.byte_runs.stars.Goals as goal
 
 pub returns : goal.returns

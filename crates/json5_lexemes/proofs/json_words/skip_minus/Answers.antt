@@ -2,7 +2,7 @@ use Rattle.std.proofs.Common.{◌∷◌, sym, ap, ◌∙◌, subst}
 use Rattle.std.specs.Prelude.{◌↔◌}
 use Rattle.std.specs.Str.{chars}
 use Rattle.json5_grammar.proofs.CommonLemmas.{not_eq}
-use Rattle.json5_layouts.specs.Json.{JsonNumber}
+use Rattle.json5_styles.specs.Json.{JsonNumber}
 use Rattle.json5_lexemes.specs.PlainSteps.{Unsigned, Then}
 use Rattle.json5_lexemes.proofs.PlainNumbers.{is_minus, minus_passed, no_minus_passed, not_begun, none_begun}
 use Rattle.json5_lexemes.proofs.json_words.skip_minus.Goals as goal

@@ -1,4 +1,4 @@
-use Rattle.json5_layouts.specs.Json.{JsonNumber, Exponent}
+use Rattle.json5_styles.specs.Json.{JsonNumber, Exponent}
 use Rattle.json5_lexemes.specs.PlainSteps.{Unsigned, AfterDigits, IsEmpty}
 use Rattle.json5_lexemes.proofs.PlainNumbers.{goes_nowhere, goes_far, goes_through}
 use Rattle.json5_lexemes.proofs.json_words.skip_number.Goals as goal

@@ -4,7 +4,7 @@ use denote.Text.{Utf8}
 use denote.Shadow.{shadow}
 use Rattle.std.specs.Str.{chars}
 use Rattle.json5_grammar.specs.Language.Characters.{NotBegun}
-use Rattle.json5_layouts.specs.Json.{is_json_blank}
+use Rattle.json5_styles.specs.Json.{is_json_blank}
 use Rattle.json5_lexemes.specs.Plain.{Plain}
 use Rattle.json5_lexemes.specs.declared.plain.Last.TheVariants as last
 use Rattle.json5_lexemes.proofs.plain.is_plain_with.Given as goal

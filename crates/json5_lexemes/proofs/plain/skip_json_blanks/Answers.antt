@@ -1,6 +1,6 @@
 use Rattle.std.proofs.Common.{◌∙◌, ap}
 use Rattle.std.specs.List.{prefix_len}
-use Rattle.json5_layouts.specs.Json.{is_json_blank}
+use Rattle.json5_styles.specs.Json.{is_json_blank}
 use Rattle.json5_lexemes.proofs.PlainRuns.{blank_is_ascii, ascii_boundary, ascii_skips}
 use Rattle.json5_lexemes.proofs.plain.skip_json_blanks.Goals as goal
 

@@ -1,7 +1,7 @@
 use Rattle.std.proofs.Common.{◌∙◌, ap}
 use Rattle.std.specs.List.{prefix_len}
-use Rattle.json5_text.specs.ByteRuns.{is_in_line, is_line_part}
-use Rattle.json5_text.proofs.RunBoundaries.{stop_boundary, stop_skips, line_chars}
+use Rattle.json5_tokens.specs.ByteRuns.{is_in_line, is_line_part}
+use Rattle.json5_tokens.proofs.RunBoundaries.{stop_boundary, stop_skips, line_chars}
 use Rattle.json5_lexemes.proofs.plain.skip_line_part.Goals as goal
 
 pub split_at-requires : goal.split_at-requires

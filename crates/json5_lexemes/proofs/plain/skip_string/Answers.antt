@@ -2,7 +2,7 @@ use Rattle.std.proofs.Common.{◌≡◌, ◌∷◌, sym, ap, ◌∙◌, subst}
 use Rattle.std.specs.Prelude.{◌↔◌}
 use Rattle.std.specs.Str.{chars}
 use Rattle.json5_grammar.specs.Language.Characters.{NotBegun}
-use Rattle.json5_layouts.specs.Json.{is_unescaped}
+use Rattle.json5_styles.specs.Json.{is_unescaped}
 use Rattle.json5_lexemes.specs.PlainSteps.{TakesString}
 use Rattle.json5_lexemes.proofs.PlainTakes.{no_string, string_ends, string_past_escape, string_no_escape, string_stops, passed_run, shorter_by}
 use Rattle.json5_lexemes.proofs.plain.skip_string.Goals as goal

@@ -4,7 +4,7 @@ use denote.Text.{Utf8}
 use denote.Shadow.{shadow}
 use Rattle.std.specs.Str.{chars}
 use Rattle.json5_grammar.specs.Language.Characters.{NotBegun}
-use Rattle.json5_layouts.specs.Json.{is_unescaped}
+use Rattle.json5_styles.specs.Json.{is_unescaped}
 use Rattle.json5_lexemes.specs.PlainSteps.{TakesString}
 use Rattle.json5_lexemes.proofs.plain.skip_string.Given as goal
 

@@ -1,6 +1,6 @@
 use Rattle.std.proofs.Common.{◌++◌, ap, sym, ◌∙◌}
 use Rattle.std.specs.Char.{encode_utf8}
-use Rattle.json5_text.proofs.TextCuts.{begins_char}
+use Rattle.json5_tokens.proofs.TextCuts.{begins_char}
 use Rattle.json5_lexemes.proofs.rest.front.Goals as goal
 
 pub returns : goal.returns

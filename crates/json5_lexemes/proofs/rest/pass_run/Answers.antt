@@ -1,6 +1,6 @@
 use Rattle.std.proofs.Common.{◌∙◌, ap, sym, drop}
 use Rattle.std.specs.Str.{chars}
-use Rattle.json5_text.specs.Cursor.{Cursor}
+use Rattle.json5_tokens.specs.Cursor.{Cursor}
 use Rattle.json5_lexemes.proofs.RunsPassed.{passes, passes_none}
 use Rattle.json5_lexemes.proofs.rest.pass_run.Goals as goal
 

@@ -1,8 +1,8 @@
 use Rattle.std.proofs.Common.{◌<◌, ◌≤◌, ◌∷◌, [], ◌∙◌, None, refl, subst}
 use Rattle.std.specs.Prelude.{◌==◌}
 use Rattle.json5_grammar.specs.Language.Characters.{NotBegun}
-use Rattle.json5_text.specs.Cursor.{Took}
-use Rattle.json5_value.specs.ModelSteps.{Gave, RefusesRead, value_at}
+use Rattle.json5_tokens.specs.Cursor.{Took}
+use Rattle.json5_read.specs.ModelSteps.{Gave, RefusesRead, value_at}
 use Rattle.json5_report.specs.declared.due.Due.TheVariants as due
 use Rattle.json5_report.specs.Paths.{element, member, value, array, object, after}
 use Rattle.json5_report.specs.Courses.{crumb_of, open_in}

@@ -1,6 +1,6 @@
 use Rattle.std.proofs.Common.{sym, subst}
 use Rattle.std.specs.Prelude.{IfOk}
-use Rattle.json5_text.specs.Cursor.{offset_of}
+use Rattle.json5_tokens.specs.Cursor.{offset_of}
 use Rattle.json5_report.specs.Courses.{AtMost, Turned, crumb_of}
 use Rattle.json5_report.proofs.CoursesTaken.{rests_in_blanks, turned_after, turned_after_ok, counted_after}
 use Rattle.json5_report.proofs.course.turn.Goals as goal

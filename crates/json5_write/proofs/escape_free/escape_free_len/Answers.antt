@@ -1,7 +1,7 @@
 use Rattle.std.proofs.Common.{refl, ap, sym, ◌∙◌, arith}
 use lib.Count.{count_trailing_zeros}
 use Rattle.json5_write.specs.EscapeFree.{ends_escape_free, is_escape_free_byte}
-use Rattle.json5_text.proofs.ByteSearch.{run_through, run_stops}
+use Rattle.json5_tokens.proofs.ByteSearch.{run_through, run_stops}
 use Rattle.json5_write.proofs.escape_free.escape_free_len.Goals as goal
 
 pub returns-then-found-ne0 : goal.returns-then-found-ne0

@@ -1,6 +1,6 @@
 use Rattle.std.proofs.Common.{◌∙◌, ap, rules}
 use Rattle.std.specs.List.{prefix_len}
-use Rattle.json5_text.proofs.RunBoundaries.{stop_boundary, stop_skips}
+use Rattle.json5_tokens.proofs.RunBoundaries.{stop_boundary, stop_skips}
 use Rattle.json5_write.specs.EscapeFree.{is_escape_free_byte, is_escape_free}
 use Rattle.json5_write.proofs.EscapeFreeRuns.{escape_free_chars}
 use Rattle.json5_write.proofs.escape_free.skip_escape_free.Goals as goal

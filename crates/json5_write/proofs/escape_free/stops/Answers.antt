@@ -1,6 +1,6 @@
 use Rattle.std.proofs.Common.{arith}
 use Rattle.std.proofs.lemmas.Simd.{zip2_splat}
-use Rattle.json5_text.proofs.ByteSearch.{hit, either, masked}
+use Rattle.json5_tokens.proofs.ByteSearch.{hit, either, masked}
 use Rattle.json5_write.specs.EscapeFree.{ends_escape_free}
 use Rattle.json5_write.proofs.EscapeFreeRuns.{escape_free_lane}
 use Rattle.json5_write.proofs.escape_free.stops.Goals as goal

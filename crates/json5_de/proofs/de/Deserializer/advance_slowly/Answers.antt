@@ -1,9 +1,9 @@
 use Rattle.std.proofs.Common.{◌∙◌, subst}
 use Rattle.json5_grammar.proofs.CommonLemmas.{true_false}
-use Rattle.json5_text.specs.Cursor.{Refused}
-use Rattle.json5_value.specs.Brackets.{brackets_of}
-use Rattle.json5_value.specs.EntryFaults.{AfterBlanks, NoNext}
-use Rattle.json5_value.proofs.FoundEntries.{next_lacks, ends_other}
+use Rattle.json5_tokens.specs.Cursor.{Refused}
+use Rattle.json5_read.specs.Brackets.{brackets_of}
+use Rattle.json5_read.specs.EntryFaults.{AfterBlanks, NoNext}
+use Rattle.json5_read.proofs.FoundEntries.{next_lacks, ends_other}
 use Rattle.json5_de.specs.State.{State, cursor_of}
 use Rattle.json5_de.proofs.ReadSteps.{input_of}
 use Rattle.json5_de.proofs.TokenKinds.{refused_other}

@@ -1,5 +1,5 @@
 use Rattle.std.proofs.Common.{sym, ◌∙◌}
-use Rattle.json5_value.proofs.ModelSteps.{some_next}
+use Rattle.json5_read.proofs.ModelSteps.{some_next}
 use Rattle.json5_de.proofs.de.Deserializer.at_text.Goals as goal
 
 pub returns-in-Some-clause-found : goal.returns-in-Some-clause-found

@@ -1,5 +1,5 @@
 use Rattle.json5_de.proofs.VariantBrackets.{content_ended, content_not_ended}
-use Rattle.json5_value.specs.Brackets.{brackets_of}
+use Rattle.json5_read.specs.Brackets.{brackets_of}
 use Rattle.json5_de.proofs.ObjectMembers.{signs_of}
 use Rattle.json5_de.proofs.de.Deserializer.close_content.Goals as goal
 

@@ -1,5 +1,5 @@
 use Rattle.std.proofs.Common.{subst}
-use Rattle.json5_value.specs.Brackets.{brackets_of}
+use Rattle.json5_read.specs.Brackets.{brackets_of}
 use Rattle.json5_de.specs.ShortWays.{ClosesShort}
 use Rattle.json5_de.proofs.OpenClose.{closes_at_once}
 use Rattle.json5_de.proofs.ObjectMembers.{signs_of}

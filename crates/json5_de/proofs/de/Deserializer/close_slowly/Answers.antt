@@ -2,7 +2,7 @@ use Rattle.std.proofs.Common.{◌∙◌}
 use Rattle.json5_de.proofs.BracketSteps.{failed_of}
 use Rattle.json5_de.proofs.OpenClose.{closes, refuses_closing}
 use Rattle.json5_de.proofs.ReadSteps.{input_of}
-use Rattle.json5_value.specs.Brackets.{brackets_of}
+use Rattle.json5_read.specs.Brackets.{brackets_of}
 use Rattle.json5_de.proofs.ObjectMembers.{signs_of}
 use Rattle.json5_de.proofs.de.Deserializer.close_slowly.Goals as goal
 

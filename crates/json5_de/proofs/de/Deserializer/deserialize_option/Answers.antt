@@ -6,7 +6,7 @@ use Rattle.json5_grammar.specs.Language.Values.{null_text, is_null}
 use Rattle.json5_de.proofs.ExpectedKinds.{end_fault, wrongly_refused}
 use Rattle.json5_de.proofs.ExpectsWords.{expects_null}
 use Rattle.json5_de.proofs.ReadSteps.{took_leaf, refused_blanks, refused_token, null_stops}
-use Rattle.json5_value.proofs.ModelSteps.{none_next, some_next}
+use Rattle.json5_read.proofs.ModelSteps.{none_next, some_next}
 use Rattle.json5_de.proofs.TokenKinds.{given_up, gives_up}
 use Rattle.json5_de.proofs.Options.{expects_nothing, blanks_no_value, end_next, value_no_end, null_next, null_not_next, option_some, null_unit, took_after, reads_option, refuses_option, refuses_some, missing_there, null_there, other_sign}
 use Rattle.json5_de.proofs.de.Deserializer.deserialize_option.Goals as goal

@@ -1,7 +1,7 @@
 use Rattle.std.proofs.Common.{refl, subst, Some, []}
 use Rattle.std.proofs.lemmas.Result.{err_from_is_err_and}
 use Rattle.json5_grammar.proofs.CommonLemmas.{true_false}
-use Rattle.json5_text.specs.Cursor.{IsPositioned}
+use Rattle.json5_tokens.specs.Cursor.{IsPositioned}
 use Rattle.json5_de.specs.State.{State, cursor_of}
 use Rattle.json5_de.proofs.InputEnds.{not_ended, ended, refused_trailing, end_not_blamed}
 use Rattle.json5_de.proofs.TokenKinds.{given_up, gives_up}

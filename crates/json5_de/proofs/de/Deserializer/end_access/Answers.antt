@@ -1,6 +1,6 @@
 use Rattle.std.proofs.Common.{◌≡◌, ◌∙◌, sym, subst, Some, None}
 use Rattle.std.proofs.lemmas.Option.{same_Some}
-use Rattle.json5_value.specs.Brackets.{brackets_of}
+use Rattle.json5_read.specs.Brackets.{brackets_of}
 use Rattle.json5_de.specs.Enums.{ClosesContent}
 use Rattle.json5_de.specs.Stages.{is_comma_due}
 use Rattle.json5_de.proofs.de.Deserializer.end_access.Goals as goal

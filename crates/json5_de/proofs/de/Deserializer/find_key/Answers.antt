@@ -1,10 +1,10 @@
 use Rattle.std.proofs.Common.{inr, sym, subst}
 use Rattle.std.proofs.lemmas.Result.{err_from_is_err_and}
 use Rattle.json5_grammar.proofs.CommonLemmas.{true_false}
-use Rattle.json5_text.specs.Cursor.{IsOffset}
-use Rattle.json5_text.specs.TextTokens.{Spells}
+use Rattle.json5_tokens.specs.Cursor.{IsOffset}
+use Rattle.json5_tokens.specs.TextTokens.{Spells}
 use Rattle.json5_de.proofs.ReadSteps.{input_of, refused_blanks, refused_or_memory}
-use Rattle.json5_text.proofs.UnicodeScalars.{key_scalars}
+use Rattle.json5_tokens.proofs.UnicodeScalars.{key_scalars}
 use Rattle.json5_de.proofs.FoundKeys.{key_after, no_fault_before}
 use Rattle.json5_de.proofs.TokenKinds.{given_up}
 use Rattle.json5_de.proofs.de.Deserializer.find_key.Goals as goal

@@ -1,9 +1,9 @@
 use Rattle.std.proofs.Common.{None, inr, refl, sym, subst}
 use Rattle.std.proofs.lemmas.Result.{err_from_is_err_and}
 use Rattle.json5_grammar.proofs.CommonLemmas.{true_false}
-use Rattle.json5_text.specs.Cursor.{IsOffset}
-use Rattle.json5_text.specs.TextTokens.{Spells}
-use Rattle.json5_text.proofs.UnicodeScalars.{string_scalars}
+use Rattle.json5_tokens.specs.Cursor.{IsOffset}
+use Rattle.json5_tokens.specs.TextTokens.{Spells}
+use Rattle.json5_tokens.proofs.UnicodeScalars.{string_scalars}
 use Rattle.json5_de.specs.Convert.{every_text}
 use Rattle.json5_de.proofs.ExpectedKinds.{wrongly_refused}
 use Rattle.json5_de.proofs.ExpectsStrings.{expects_text}

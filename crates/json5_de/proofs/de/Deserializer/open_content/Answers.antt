@@ -1,6 +1,6 @@
 use Rattle.json5_de.specs.Lending.{named_state_of}
 use Rattle.json5_de.proofs.VariantBrackets.{content_not_opened}
-use Rattle.json5_value.specs.Brackets.{brackets_of}
+use Rattle.json5_read.specs.Brackets.{brackets_of}
 use Rattle.json5_de.proofs.de.Deserializer.open_content.Goals as goal
 
 pub returns-in-Err : goal.returns-in-Err

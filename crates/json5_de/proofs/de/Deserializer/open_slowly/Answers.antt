@@ -6,7 +6,7 @@ use Rattle.json5_de.specs.State.{State}
 use Rattle.json5_de.proofs.TokenKinds.{given_up, gives_up}
 use Rattle.json5_de.proofs.BracketSteps.{level_of, failed_of, not_opened_here, too_deep_here}
 use Rattle.json5_de.proofs.OpenClose.{opens, opened_here, starts_here, refuses_opening}
-use Rattle.json5_value.specs.Brackets.{brackets_of}
+use Rattle.json5_read.specs.Brackets.{brackets_of}
 use Rattle.json5_de.proofs.ObjectMembers.{signs_of}
 use Rattle.json5_de.proofs.de.Deserializer.open_slowly.Goals as goal
 use Rattle.json5_grammar.proofs.CommonLemmas.{true_false}

@@ -1,5 +1,5 @@
 use Rattle.std.proofs.Common.{ap, sym, subst}
-use Rattle.json5_text.specs.TextTokens.{Spells}
+use Rattle.json5_tokens.specs.TextTokens.{Spells}
 use Rattle.json5_de.specs.State.{State}
 use Rattle.json5_de.proofs.de.Deserializer.own_key_text.Goals as goal
 

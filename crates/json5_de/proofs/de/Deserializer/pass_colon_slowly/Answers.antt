@@ -1,8 +1,8 @@
 use Rattle.std.proofs.Common.{ap, ◌∙◌, subst}
 use Rattle.json5_grammar.proofs.CommonLemmas.{true_false}
-use Rattle.json5_text.specs.Cursor.{Refused}
-use Rattle.json5_value.specs.EntryFaults.{AfterBlanks, NoColon}
-use Rattle.json5_value.proofs.FoundEntries.{colon_lacks}
+use Rattle.json5_tokens.specs.Cursor.{Refused}
+use Rattle.json5_read.specs.EntryFaults.{AfterBlanks, NoColon}
+use Rattle.json5_read.proofs.FoundEntries.{colon_lacks}
 use Rattle.json5_de.specs.State.{State, cursor_of}
 use Rattle.json5_de.proofs.ReadSteps.{input_of}
 use Rattle.json5_de.proofs.MemberRefusals.{none_without_colon}

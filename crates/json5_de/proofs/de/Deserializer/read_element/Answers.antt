@@ -2,7 +2,7 @@ use Rattle.std.proofs.Common.{◌∙◌, arith}
 use Rattle.std.proofs.lemmas.Result.{err_from_is_err_and}
 use Rattle.std.proofs.Math.Bool.{or-true}
 use Rattle.json5_grammar.proofs.CommonLemmas.{true_false}
-use Rattle.json5_value.specs.Brackets.{square}
+use Rattle.json5_read.specs.Brackets.{square}
 use Rattle.json5_de.specs.AccessCalls.{not_reached, in_element}
 use Rattle.json5_de.proofs.BracketSteps.{square_signs, no_element_next, element_found, no_close_found, took_element, level_of, failed_of}
 use Rattle.json5_de.proofs.ReadSteps.{input_of}

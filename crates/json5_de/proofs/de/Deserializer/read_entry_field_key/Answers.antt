@@ -1,5 +1,5 @@
 use Rattle.std.proofs.Common.{Err, refl}
-use Rattle.json5_value.specs.Offsets.{StartsAfter}
+use Rattle.json5_read.specs.Offsets.{StartsAfter}
 use Rattle.json5_de.specs.Convert.{every_text}
 use Rattle.json5_de.specs.FieldKeys.{field_key_text}
 use Rattle.json5_de.specs.KeyKinds.{RefusedAsKey, string_key}

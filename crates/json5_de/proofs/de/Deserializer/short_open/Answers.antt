@@ -1,6 +1,6 @@
 use Rattle.std.proofs.Common.{true, ap, subst, arith}
-use Rattle.json5_text.specs.ShortWays.{TakesShortSign}
-use Rattle.json5_value.specs.declared.brackets.BracketPair.{BracketPair}
+use Rattle.json5_tokens.specs.ShortWays.{TakesShortSign}
+use Rattle.json5_read.specs.declared.brackets.BracketPair.{BracketPair}
 use Rattle.json5_de.proofs.ShortBrackets.{short_open}
 use Rattle.json5_de.proofs.de.Deserializer.short_open.Goals as goal
 

@@ -1,7 +1,7 @@
 use Rattle.std.proofs.Common.{ap, subst}
-use Rattle.json5_text.specs.ShortWays.{TakesShortStep}
-use Rattle.json5_value.specs.Brackets.{brackets_of}
-use Rattle.json5_value.specs.declared.brackets.BracketPair.{BracketPair}
+use Rattle.json5_tokens.specs.ShortWays.{TakesShortStep}
+use Rattle.json5_read.specs.Brackets.{brackets_of}
+use Rattle.json5_read.specs.declared.brackets.BracketPair.{BracketPair}
 use Rattle.json5_de.proofs.ShortReads.{short_step}
 use Rattle.json5_de.proofs.de.Deserializer.short_step.Goals as goal
 

@@ -1,6 +1,6 @@
 use Rattle.std.proofs.Common.{refl}
 use Rattle.std.proofs.lemmas.Result.{err_from_is_err_and}
-use Rattle.json5_value.specs.Brackets.{curly}
+use Rattle.json5_read.specs.Brackets.{curly}
 use Rattle.json5_de.specs.Lending.{map_state_of, enum_state_of, reader_of_enum}
 use Rattle.json5_de.proofs.BracketSteps.{failed_of}
 use Rattle.json5_de.proofs.AccessCalls.{opened_seen}

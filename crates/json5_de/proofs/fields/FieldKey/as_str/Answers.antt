@@ -1,4 +1,4 @@
-use Rattle.json5_text.proofs.TextTokens.{slice_starts, slice_ends}
+use Rattle.json5_tokens.proofs.TextTokens.{slice_starts, slice_ends}
 use Rattle.json5_de.proofs.fields.FieldKey.as_str.Goals as goal
 
 pub range-requires-clause-start_boundary : goal.range-requires-clause-start_boundary

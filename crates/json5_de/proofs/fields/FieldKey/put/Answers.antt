@@ -1,4 +1,4 @@
-use Rattle.json5_text.proofs.TextTokens.{slice_bytes}
+use Rattle.json5_tokens.proofs.TextTokens.{slice_bytes}
 use Rattle.json5_de.proofs.fields.FieldKey.put.Goals as goal
 
 pub returns : goal.returns

@@ -1,6 +1,6 @@
 use Rattle.std.proofs.Common.{◌≡◌, ◌∙◌, ◌++◌, ap, sym}
 use Rattle.std.specs.Char.{encode_utf8}
-use Rattle.json5_text.specs.Cursor.{Cursor}
+use Rattle.json5_tokens.specs.Cursor.{Cursor}
 use Rattle.json5_lexemes.proofs.RunsPassed.{char_taken}
 use Rattle.json5_lexemes.proofs.rest.Rest.eat.Goals as goal
 

@@ -1,6 +1,6 @@
 use Rattle.std.proofs.Common.{◌∷◌, [], refl, ap, subst}
 use Rattle.std.specs.Str.{chars}
-use Rattle.json5_text.specs.Cursor.{Cursor}
+use Rattle.json5_tokens.specs.Cursor.{Cursor}
 use Rattle.json5_report.specs.Paths.{whole}
 use Rattle.json5_report.specs.Courses.{Turned, crumbs_onto}
 use Rattle.json5_report.proofs.TokensTaken.{shorter, step_takes}

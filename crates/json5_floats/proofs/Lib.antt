@@ -1,3 +1,0 @@
--- Lists the lemmas about floats.
-pub mod SpelledNumbers
-pub mod PrintedFloats

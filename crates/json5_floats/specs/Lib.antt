@@ -1,2 +1,0 @@
--- Lists the definitions of floats.
-pub mod Floats

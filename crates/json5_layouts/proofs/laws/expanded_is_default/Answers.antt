@@ -1,6 +1,0 @@
-use Rattle.json5_layouts.proofs.DefaultLayout.{default_written}
-use Rattle.json5_layouts.proofs.TextsBack.{within}
-use Rattle.json5_layouts.proofs.laws.expanded_is_default.Goals as goal
-
-pub returns : goal.returns
-returns c = λ x h k. default_written x h (within _ _ k)

@@ -1,5 +1,0 @@
-use Rattle.json5_layouts.proofs.JsonWritten.{text_is}
-use Rattle.json5_layouts.proofs.laws.json_is_written.Goals as goal
-
-pub returns : goal.returns
-returns c = λ l x h k. text_is l x h k

@@ -1,3 +1,0 @@
--- Lists the lemmas on texts that differ.
-pub mod TextsApart
-pub mod TextsThatDiffer

@@ -1,3 +1,0 @@
--- Lists the lemmas of places in a text.
-pub mod PositionsReached
-pub mod UnitsCounted

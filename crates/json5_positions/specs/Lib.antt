@@ -1,2 +1,0 @@
--- Lists the definitions of places in a text.
-pub mod Places

@@ -1,0 +1,27 @@
+-- Lists the lemmas about reading and skipping a value of any kind.
+pub mod NoFailedCode
+pub mod ModelSteps
+pub mod TokenSteps
+pub mod WordCharacters
+pub mod UnexpectedCharacters
+pub mod FaultPositions
+pub mod EntrySteps
+pub mod EntryValues
+pub mod Nesting
+pub mod SkipScalars
+pub mod RestsShorter
+pub mod SkipInvariant
+pub mod ShortEntries
+pub mod FoundEntries
+pub mod SkipTurns
+pub mod BuildRests
+pub mod BuildSteps
+pub mod OwnedTexts
+pub mod BuildKeys
+pub mod BuildScalars
+pub mod TakenElements
+pub mod TakenMembers
+pub mod BuildTurns
+pub mod BuildValues
+pub mod DocumentChecks
+pub mod DocumentReads

@@ -1,0 +1,150 @@
+//! What is around an entry, which is an element of an array or a member of an object (JSON5 sections 3 and 4). A call that is
+//! refused returns None, and leaves its error in `fault`: so no error is in the frame of a loop over entries.
+
+ghost use Rattle.json5_grammar.specs.Language.Blanks.{Solid};
+ghost use Rattle.json5_grammar.specs.Model.ReadBlanks.{skip, between};
+ghost use Rattle.json5_grammar.specs.Model.ReadSteps.{forget, colon_after, next_value};
+ghost use Rattle.json5_grammar.specs.Model.ReadTexts.{key};
+ghost use Rattle.json5_read.specs.Brackets.{bracket_of};
+ghost use Rattle.json5_read.specs.Entries.{next_entry};
+ghost use Rattle.json5_read.specs.ModelSteps.{IsInside, Steps, answered};
+
+use crate::brackets::BracketKind;
+use crate::faults::{leave_code, leave_error};
+use crate::steps::{advance_to_entry, pass_colon};
+use json5_tokens::input::Input;
+use json5_tokens::scanner::Scanner;
+use json5_tokens::short_ways::ShortStep;
+use json5_tokens::strings::is_quote;
+use json5_types::ErrorCode;
+use json5_types::error::Error;
+
+/// Passes over blanks.
+#[inline(never)]
+fn skip_blank<I: Input>(scanner: &mut Scanner<I>, fault: &mut Error) -> Option<()>
+    requires { IsInside scanner.old }
+    ensures { Steps (skip between scanner.old.unread) scanner.old scanner.new (answered result fault.new) }
+{
+    leave_error(scanner.skip_blank(), fault)
+}
+
+/// The same as `skip_colon`, whatever is in front.
+#[inline(never)]
+fn skip_colon_slowly<I: Input>(scanner: &mut Scanner<I>, fault: &mut Error) -> Option<()>
+    requires { IsInside scanner.old }
+    ensures { Steps (colon_after scanner.old.unread) scanner.old scanner.new (answered result fault.new) }
+{
+    leave_error(pass_colon(scanner), fault)?;
+    skip_blank(scanner, fault)
+}
+
+/// Passes over blanks, a colon and blanks.
+#[inline(always)]
+pub(crate) fn skip_colon<I: Input>(scanner: &mut Scanner<I>, fault: &mut Error) -> Option<()>
+    requires { IsInside scanner.old }
+    ensures { Steps (colon_after scanner.old.unread) scanner.old scanner.new (answered result fault.new) }
+{
+    if !scanner.short_sign(b':') {
+        return skip_colon_slowly(scanner, fault);
+    }
+    // Where no comma is due, a step passes over the blanks, whatever follows them.
+    match scanner.short_step(b'}', false) {
+        ShortStep::Other => skip_blank(scanner, fault),
+        _ => Some(()),
+    }
+}
+
+/// The same as `skip_key`, whatever is in front.
+#[inline(never)]
+fn skip_key_slowly<I: Input>(scanner: &mut Scanner<I>, fault: &mut Error) -> Option<()>
+    requires { IsInside scanner.old }
+    ensures { Steps (forget (key scanner.old.unread)) scanner.old scanner.new (answered result fault.new) }
+{
+    let Some(c) = scanner.peek() else {
+        leave_code(ErrorCode::EofParsingObject, fault);
+        return None;
+    };
+    if is_quote(c) {
+        return leave_error(scanner.skip_string(), fault);
+    }
+    leave_error(scanner.skip_identifier(), fault)
+}
+
+/// Passes over a key.
+#[inline(always)]
+fn skip_key<I: Input>(scanner: &mut Scanner<I>, fault: &mut Error) -> Option<()>
+    requires ready { IsInside scanner.old }
+    requires solid { Solid scanner.old.unread }
+    ensures { Steps (forget (key scanner.old.unread)) scanner.old scanner.new (answered result fault.new) }
+{
+    match scanner.short_key() {
+        Some(_) => Some(()),
+        None => skip_key_slowly(scanner, fault),
+    }
+}
+
+/// The same as `next_entry`, whatever is in front.
+#[inline(never)]
+fn next_entry_slowly<I: Input>(
+    scanner: &mut Scanner<I>,
+    kind: BracketKind,
+    comma_due: bool,
+    fault: &mut Error,
+) -> Option<bool>
+    requires { IsInside scanner.old }
+    ensures { Steps (next_entry (bracket_of kind) comma_due scanner.old.unread) scanner.old scanner.new (answered result fault.new) }
+{
+    let more = leave_error(advance_to_entry(scanner, kind, comma_due), fault)?;
+    if more {
+        return Some(true);
+    }
+    let _ = scanner.eat(kind.brackets().closing);
+    Some(false)
+}
+
+/// Goes to the next entry, after a comma if one is due, and returns true; or passes over the closing bracket and returns false.
+#[inline(always)]
+pub(crate) fn next_entry<I: Input>(
+    scanner: &mut Scanner<I>,
+    kind: BracketKind,
+    comma_due: bool,
+    fault: &mut Error,
+) -> Option<bool>
+    requires { IsInside scanner.old }
+    ensures { Steps (next_entry (bracket_of kind) comma_due scanner.old.unread) scanner.old scanner.new (answered result fault.new) }
+{
+    let closing = kind.brackets().closing;
+    match scanner.short_step(closing as u8, comma_due) {
+        ShortStep::Entry => Some(true),
+        ShortStep::Closing => {
+            let _ = scanner.eat(closing);
+            Some(false)
+        }
+        ShortStep::Other => next_entry_slowly(scanner, kind, comma_due, fault),
+    }
+}
+
+/// Goes to the next entry as `next_entry` does, but on to its value: over the key and the colon of a member too.
+#[inline(always)]
+pub(crate) fn next_value<I: Input>(
+    scanner: &mut Scanner<I>,
+    kind: BracketKind,
+    comma_due: bool,
+    fault: &mut Error,
+) -> Option<bool>
+    requires { IsInside scanner.old }
+    ensures { Steps (next_value (bracket_of kind) comma_due scanner.old.unread) scanner.old scanner.new (answered result fault.new) }
+{
+    let more = next_entry(scanner, kind, comma_due, fault)?;
+    if !more {
+        return Some(false);
+    }
+    match kind {
+        BracketKind::Array => Some(true),
+        BracketKind::Object => {
+            skip_key(scanner, fault)?;
+            skip_colon(scanner, fault)?;
+            Some(true)
+        }
+    }
+}

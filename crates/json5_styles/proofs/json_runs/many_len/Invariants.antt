@@ -1,0 +1,11 @@
+use Rattle.std.proofs.Common.{◌≡◌, ◌+◌, ◌-◌, ◌≤◌, length, drop}
+use Rattle.std.specs.List.{prefix_len}
+use Rattle.json5_styles.specs.Json.{is_unescaped}
+use Rattle.json5_styles.proofs.json_runs.many_len.Given as goal
+
+abbrev pub invariant-loop-i : goal.invariant-loop-i
+invariant-loop-i l =
+    (prefix_len is_unescaped l.bytes ≡ l.i + prefix_len is_unescaped (drop l.i l.bytes)) × (l.i + 16 ≤ length l.bytes)
+
+abbrev pub decreases-loop-i : goal.decreases-loop-i
+decreases-loop-i l = length l.bytes - l.i

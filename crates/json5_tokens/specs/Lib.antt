@@ -1,0 +1,23 @@
+-- Lists the definitions for the scanner and its tokens.
+pub mod ByteRuns
+pub mod Cursor
+pub mod Escapes
+pub mod NumberParts
+pub mod Outcome
+pub mod Places
+pub mod RefusalOutcomes
+pub mod Scan
+pub mod ScanComments
+pub mod ScanHexadecimal
+pub mod ScanKeys
+pub mod ScanTextTokens
+pub mod ScanTexts
+pub mod ShortEscapes
+pub mod ShortNumberSkips
+pub mod ShortTexts
+pub mod ShortWays
+pub mod ShortWords
+pub mod TextTokens
+pub mod TokenCalls
+pub mod TokenFaults
+pub mod TokenResults

@@ -1,0 +1,115 @@
+//! Short ways of numbers: a whole number of few digits and a decimal that takes no memory are taken at once. Where a call returns
+//! None it takes nothing, and the scanner's other calls say what is in front.
+
+ghost use Rattle.std.specs.Prelude.{IfSome, ◌≡◌, [], true};
+ghost use Rattle.std.specs.Str.{chars};
+ghost use Rattle.json5_tokens.specs.ShortWays.{IsWholeOfFewDigits, GivesSpaced, TakesShortWhole, TakesShortDecimal};
+ghost use Rattle.json5_grammar.specs.Language.Numbers as numbers;
+ghost use Rattle.json5_grammar.specs.Written.NumberText.{IsNormal};
+ghost use Rattle.json5_grammar.specs.Model.ReadNumbers as model;
+ghost use Rattle.json5_tokens.specs.TokenResults.{GivesValue};
+ghost use Rattle.json5_tokens.specs.NumberParts.{IsAtRun, is_whole_literal};
+
+use crate::blanks::skip_ascii;
+use crate::byte_runs::{begins_minus, few_digits};
+use crate::char::front;
+use crate::input::Input;
+use crate::numbers::decimal_literals::{gather_decimal_literal, split_sign};
+use crate::numbers::slices::few_exponent;
+use crate::scanner::Scanner;
+use json5_types::decimal::Decimal;
+use json5_types::inline_digits::InlineDigits;
+
+/// A whole number of few digits, and how many bytes follow it.
+#[derive(Clone, Copy)]
+struct SpacedWhole {
+    number: i128,
+    left: usize,
+}
+
+/// The whole number in front, if it has few digits, and what follows it.
+#[inline(always)]
+fn front_whole(text: &str) -> Option<(i128, &str)>
+    ensures { IfSome result (λ p. IsWholeOfFewDigits text.now p.0 p.1.now) }
+{
+    if begins_minus(text.as_bytes()) {
+        let (magnitude, rest) = few_digits(text.split_at(1).1)?;
+        return Some((-i128::from(magnitude), rest));
+    }
+    let (magnitude, rest) = few_digits(text)?;
+    Some((i128::from(magnitude), rest))
+}
+
+/// The whole number after ASCII blanks, if it has few digits.
+#[inline(always)]
+fn spaced_whole(text: &str) -> Option<SpacedWhole>
+    ensures { IfSome result (GivesSpaced text.now) }
+{
+    let (number, rest) = front_whole(skip_ascii(text))?;
+    Some(SpacedWhole {
+        number,
+        left: rest.len(),
+    })
+}
+
+impl<I: Input> Scanner<I> {
+    /// Takes ASCII blanks and a whole number of at most 19 digits from `min` to `max`, up to where a number can't go on. Returns
+    /// None where anything else is in front, and takes nothing then.
+    #[inline(always)]
+    pub fn short_whole(&mut self, min: i128, max: i128) -> Option<i128>
+        ensures { TakesShortWhole min max self.old self.new result }
+    {
+        let found = spaced_whole(self.rest(self.input.as_text()))?;
+        if found.number < min || max < found.number {
+            return None;
+        }
+        self.set_remaining(found.left);
+        Some(found.number)
+    }
+
+    /// Takes ASCII blanks and a decimal with a point or an exponent whose digits take no memory, up to where a number can't go on.
+    /// Returns None where anything else is in front, and takes nothing then.
+    #[inline(always)]
+    pub fn short_decimal(&mut self) -> Option<Decimal>
+        ensures { TakesShortDecimal self.old self.new result }
+    {
+        let mut digits = InlineDigits::empty();
+        let text = skip_ascii(self.rest(self.input.as_text()));
+        let (negative, exponent, rest) = front_decimal(&mut digits, text)?;
+        let left = rest.len();
+        self.set_remaining(left);
+        Some(digits.into_decimal(negative, exponent))
+    }
+}
+
+/// Whether a digit or a point is in front that begins a decimal run; after a first `0` goes a point or an exponent.
+#[inline(always)]
+fn begins_run(text: &str) -> bool
+    ensures { result ≡ true → IsAtRun (chars text.now) }
+{
+    match front(text) {
+        Some(('1'..='9' | '.', _)) => true,
+        Some(('0', rest)) => matches!(front(rest), Some(('.' | 'e' | 'E', _))),
+        _ => false,
+    }
+}
+
+/// Gathers the digits of the decimal with a point or an exponent in front; returns whether it is negative, its exponent, and what
+/// follows it. Returns None if there is no room for the digits.
+#[inline(always)]
+fn front_decimal<'t>(digits: &mut InlineDigits, text: &'t str) -> Option<(bool, i16, &'t str)>
+    requires { digits.old ≡ [] }
+    ensures read { IfSome result (λ p. GivesValue (model.number (chars text.now)) (numbers.decimal (numbers.finite p.0 digits.new p.1)) p.2.now) }
+    ensures normal { IfSome result (λ p. IsNormal digits.new p.1) }
+{
+    let (negative, body) = split_sign(text);
+    if !begins_run(body) {
+        return None;
+    }
+    let literal = gather_decimal_literal(digits, body)?;
+    if literal.after.is_none() && literal.exponent.is_none() {
+        return None;
+    }
+    let exponent = few_exponent(&literal, digits)?;
+    Some((negative, exponent, literal.rest))
+}

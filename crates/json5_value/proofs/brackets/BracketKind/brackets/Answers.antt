@@ -1,5 +1,0 @@
-use Rattle.std.proofs.Common.{rules}
-use Rattle.json5_value.proofs.brackets.BracketKind.brackets.Goals as goal
-
-pub returns-in-Array : goal.returns-in-Array
-returns-in-Array c = search rules
