@@ -1,4 +1,4 @@
-use Rattle.std.proofs.Common.{subst, ap, sym, ◌∙◌, true, false}
+use Rattle.std.proofs.Common.{subst}
 use Rattle.std.specs.Str.{chars}
 use Rattle.json5_tokens.specs.ShortWays.{IsInFront}
 use Rattle.json5_tokens.proofs.DecimalRuns.{minus_split, plus_split, no_sign_split}
