@@ -1,16 +1,18 @@
 -- A run of bytes that pass q, seen some bytes at a time through the mask of those that fail it.
-use Rattle.std.proofs.Common.{◌≡◌, ℕ, ◌+◌, ◌*◌, ◌%◌, ◌^◌, ◌<◌, ◌≤◌, Bool, true, false, not, cond, eqb, ◌||◌, List, [], ◌∷◌, map, length, drop, refl, sym, ap, ap₂, ◌∙◌, arith}
+use Rattle.std.proofs.Common.{◌≡◌, ℕ, ◌+◌, ◌*◌, ◌%◌, ◌^◌, ◌<◌, ◌≤◌, Bool, true, false, not, cond, eqb, ltb, ◌||◌, ◌&&◌, List, [], ◌∷◌, map, length, drop, refl, sym, ap, ap₂, ◌∙◌, arith}
 use Rattle.std.specs.Prelude.{◌==◌}
 use Rattle.std.proofs.lemmas.Simd.{chunk-drop, length-chunk, leading_from_mask_l, trailing_mask_l, mask_l-mod}
 use Rattle.std.proofs.lemmas.List.{length-drop, length-map}
 use Rattle.std.proofs.lemmas.List.Folds.{prefix_len-append}
 use Rattle.std.proofs.lemmas.List.Sums.{prefix_len-le-length}
 use Rattle.std.proofs.lemmas.Bool.{eq-eqb, ne_eqb}
+use Rattle.std.proofs.lemmas.Bool.Decides.{nat_tests}
 use Rattle.std.specs.List.{prefix_len}
-use lib.Bits.{bit_or}
+use lib.Bits.{bit_and, bit_or}
 use lib.Lanes.{chunk, mask_l, zip2, top}
 use lib.Count.{count_trailing_zeros}
-use Rattle.json5_tokens.specs.ByteRuns.{ends_raw}
+use Rattle.json5_grammar.specs.Language.Characters.{is_digit}
+use Rattle.json5_tokens.specs.ByteRuns.{ends_raw, is_no_digit, is_ascii_blank, is_no_blank}
 
 pub run_bound : (q : ℕ → Bool) (d : List ℕ) (i : ℕ) → i ≤ length d → i + prefix_len q (drop i d) ≤ length d
 run_bound q d i h = omega (arith, prefix_len-le-length q (drop i d), length-drop i d)
@@ -104,3 +106,41 @@ three_lane m n o x = one_of_three (x == m) (x == n) (x == o)
 
 pub raw_lane : (q x : ℕ) → top 7 (bit_or (bit_or (bit_or (hit x q) (hit x 92)) (hit x 10)) (hit x 13)) ≡ ends_raw q x
 raw_lane q x = one_of_four (x == q) (x == 92) (x == 10) (x == 13)
+
+-- ---- digits
+
+abbrev pub below : ℕ → ℕ → ℕ
+below a b = cond (ltb a b) 255 0
+
+one_of_two : (a b : Bool) → top 7 (bit_or (cond a 255 0) (cond b 255 0)) ≡ (a || b)
+one_of_two true true = refl
+one_of_two true false = refl
+one_of_two false true = refl
+one_of_two false false = refl
+
+pub no_digit_lane : (x : ℕ) → top 7 (bit_or (below x 48) (below 57 x)) ≡ is_no_digit x
+no_digit_lane x = one_of_two (ltb x 48) (ltb 57 x)
+
+pub digit_or_none : (x : ℕ) → is_digit x ≡ not (is_no_digit x)
+digit_or_none x = grind (arith, nat_tests)
+
+-- ---- blanks
+
+abbrev pub other : ℕ → ℕ → ℕ
+other a b = cond (not (eqb a b)) 255 0
+
+none_of_two : (a b c : Bool) → top 7 (bit_and (cond (not a) 255 0) (bit_or (cond b 255 0) (cond c 255 0))) ≡ (not a && (b || c))
+none_of_two true true true = refl
+none_of_two true true false = refl
+none_of_two true false true = refl
+none_of_two true false false = refl
+none_of_two false true true = refl
+none_of_two false true false = refl
+none_of_two false false true = refl
+none_of_two false false false = refl
+
+pub no_blank_lane : (x : ℕ) → top 7 (bit_and (other x 32) (bit_or (below x 9) (below 13 x))) ≡ is_no_blank x
+no_blank_lane x = none_of_two (x == 32) (ltb x 9) (ltb 13 x)
+
+pub blank_or_none : (x : ℕ) → is_ascii_blank x ≡ not (is_no_blank x)
+blank_or_none x = grind (arith, nat_tests)

@@ -1,7 +1,8 @@
 -- A decimal run in front of the input, read from its first character on.
-use Rattle.std.proofs.Common.{◌≡◌, ℕ, Bool, true, false, ◌||◌, List, [], ◌∷◌, refl, ap, sym, ◌∙◌, subst, arith, Option, Some, None}
-use Rattle.std.specs.Prelude.{◌==◌}
-use Rattle.std.specs.Str.{chars}
+use Rattle.std.proofs.Common.{◌≡◌, ℕ, Bool, true, false, not, ◌||◌, ◌<◌, List, [], ◌∷◌, length, refl, ap, sym, ◌∙◌, subst, arith, Option, Some, None}
+use Rattle.std.specs.Prelude.{◌==◌, slice_index}
+use Rattle.std.specs.Str.{IsUtf8, chars}
+use Rattle.json5_types.proofs.AsciiRuns.{PassesAscii, front_chars}
 use Rattle.std.proofs.lemmas.Bool.Decides.{nat_tests}
 use Rattle.json5_grammar.specs.Language.Characters.{is_digit, NotBegun}
 use Rattle.json5_grammar.specs.Language.Numbers.{is_empty, in_run}
@@ -183,3 +184,44 @@ run_escape_free x i (c ∷ t) e h n = by (in_run c) refl
 pub run_pointed : (x i s t f z : List ℕ) (c : ℕ) → i ≡ front_of is_digit x → s ≡ rest_of is_digit x → s ≡ c ∷ t → c ≡ 46 → f ≡ front_of is_digit t → z ≡ rest_of is_digit t → literal_at (run_of x) ≡ at_point i f (run_of z)
 run_pointed x i s t f z c e h k n g l =
     literal_pointed (run_of x) i (run_of s) (run_of t) f (run_of z) 46 (front_is x i e) (rest_is x s h) (run_more s t 46 (k ∙ ap (λ d. d ∷ t) n) refl) refl (front_is t f g) (rest_is t z l)
+
+-- ---- what is in front, by bytes
+
+pub minus_split : (x y : List ℕ) → x ≡ 45 ∷ y → split_sign x ≡ (true, y)
+minus_split x y e = rw e refl
+
+pub plus_split : (x y : List ℕ) → x ≡ 43 ∷ y → split_sign x ≡ (false, y)
+plus_split x y e = rw e refl
+
+pub no_sign_split : (x : List ℕ) → NotBegun (λ c. c == 45) x → NotBegun (λ c. c == 43) x → split_sign x ≡ (false, x)
+no_sign_split [] m p = refl
+no_sign_split (c ∷ x) m p = rw (p, m) refl
+
+begun_front : (x : List ℕ) → begun in_run x ≡ not (is_empty (front_of in_run x))
+unfolding front_of
+begun_front [] = refl
+begun_front (c ∷ x) = decide (in_run c) refl
+  where
+    decide : (b : Bool) → in_run c ≡ b → in_run c ≡ not (is_empty (front_of in_run (c ∷ x)))
+    decide true h = rw h refl
+    decide false h = rw h refl
+
+run_is_ascii : PassesAscii in_run
+run_is_ascii c h = grind (arith, nat_tests)
+
+begun_bytes : (s : List ℕ) → IsUtf8 s → begun in_run s ≡ begun in_run (chars s)
+begun_bytes s u = begun_front s ∙ ap (λ z. not (is_empty z)) (front_chars in_run s run_is_ascii u) ∙ sym (begun_front (chars s))
+
+first_begun : (s : List ℕ) → 0 < length s → in_run (slice_index s 0) ≡ begun in_run s
+first_begun [] l = absurd (omega arith)
+first_begun (c ∷ s) l = refl
+
+none_begun : (s : List ℕ) → length s ≡ 0 → false ≡ begun in_run s
+none_begun [] l = refl
+none_begun (c ∷ s) l = absurd (omega arith)
+
+pub run_begun : (s : List ℕ) (found : Bool) → IsUtf8 s → 0 < length s → found ≡ in_run (slice_index s 0) → found ≡ begun in_run (chars s)
+run_begun s found u l e = e ∙ first_begun s l ∙ begun_bytes s u
+
+pub no_run_begun : (s : List ℕ) → IsUtf8 s → length s ≡ 0 → false ≡ begun in_run (chars s)
+no_run_begun s u l = none_begun s l ∙ begun_bytes s u

@@ -17,6 +17,9 @@ ends_raw q x = (x == q) || ((x == 92) || ((x == 10) || (x == 13)))
 abbrev pub is_ascii_blank : ℕ → Bool
 is_ascii_blank x = (x == 32) || is_in 9 13 x
 
+abbrev pub is_no_blank : ℕ → Bool
+is_no_blank x = not (x == 32) && (nat_lt x 9 || nat_lt 13 x)
+
 -- a byte that is neither LF nor CR and begins no character from U+2000 to U+2FFF
 abbrev pub is_in_line : ℕ → Bool
 is_in_line x = not (x == 10) && (not (x == 13) && not (x == 226))
@@ -27,6 +30,9 @@ is_line_part c = not (c == 10) && (not (c == 13) && not (is_in 0x2000 0x2FFF c))
 
 abbrev pub is_no_star : ℕ → Bool
 is_no_star x = not (x == 42)
+
+abbrev pub is_no_digit : ℕ → Bool
+is_no_digit x = nat_lt x 48 || nat_lt 57 x
 
 -- an ASCII character that may begin a name
 abbrev pub is_ascii_start : ℕ → Bool

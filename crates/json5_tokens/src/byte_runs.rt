@@ -6,7 +6,8 @@ ghost use Rattle.std.specs.List.{prefix_len};
 ghost use Rattle.std.specs.Simd.Lanes.{mask_l};
 ghost use Rattle.memchr.specs.Find.{is_byte, is_byte3};
 ghost use Rattle.json5_grammar.specs.Language.Strings.{is_raw};
-ghost use Rattle.json5_tokens.specs.ByteRuns.{ends_raw, is_ascii_blank, is_ascii_start, is_ascii_part, is_plain_ascii, IsAsciiName, is_in_line, is_no_star, lengthens_digits, SpellsFront, IsUnpadded, SpellsFewDigits, BeginsSolid};
+ghost use Rattle.json5_tokens.specs.ByteRuns.{ends_raw, is_ascii_blank, is_no_blank, is_ascii_start, is_ascii_part, is_plain_ascii, IsAsciiName, is_in_line, is_no_star, is_no_digit, lengthens_digits, SpellsFront, IsUnpadded, SpellsFewDigits, BeginsSolid};
+ghost use Rattle.json5_types.specs.DigitRuns.{SplitsDigits};
 
 use json5_types::digit_runs::is_digit;
 use memchr::{memchr, memchr3};
@@ -20,16 +21,64 @@ fn is_ascii_blank(byte: u8) -> bool
     byte == b' ' || byte >= 9 && byte <= 13
 }
 
-/// How many ASCII blanks are in front.
+/// Which of the bytes are no ASCII blank.
 #[inline(always)]
-pub(crate) fn blanks_len(bytes: &[u8]) -> usize
-    ensures { result ≡ prefix_len is_ascii_blank bytes.now }
+fn no_blanks(bytes: u8x16) -> u64
+    ensures { result ≡ mask_l (map is_no_blank bytes) }
 {
-    let mut i = 0;
+    (bytes.simd_ne(u8x16::splat(b' '))
+        & (bytes.simd_lt(u8x16::splat(9)) | bytes.simd_gt(u8x16::splat(13)))).to_bitmask()
+}
+
+/// The same as `blanks_len` from this index on, byte by byte.
+#[inline(never)]
+fn blanks_len_slowly(bytes: &[u8], from: usize) -> usize
+    requires { from ≤ length bytes.now }
+    ensures { result ≡ from + prefix_len is_ascii_blank (drop from bytes.now) }
+{
+    let mut i = from;
     while i < bytes.len() && is_ascii_blank(bytes[i]) {
         i += 1;
     }
     i
+}
+
+/// The same as `blanks_len`, for any blanks.
+#[inline(never)]
+fn many_blanks_len(bytes: &[u8]) -> usize
+    ensures { result ≡ prefix_len is_ascii_blank bytes.now }
+{
+    let mut i = 0;
+    while bytes.len() - i >= 16 {
+        let found = no_blanks(u8x16::from_slice(&bytes[i..]));
+        if found != 0 {
+            return i + found.trailing_zeros() as usize;
+        }
+        i += 16;
+    }
+    blanks_len_slowly(bytes, i)
+}
+
+/// Whether a byte past the space is at this index.
+#[inline(always)]
+fn is_past_blank(bytes: &[u8], place: usize) -> bool
+    ensures { result ≡ true → prefix_len is_ascii_blank (drop place bytes.now) ≡ 0 }
+{
+    place < bytes.len() && bytes[place] > b' '
+}
+
+/// How many ASCII blanks are in front. Mostly there is none, or one space.
+#[inline(always)]
+pub(crate) fn blanks_len(bytes: &[u8]) -> usize
+    ensures { result ≡ prefix_len is_ascii_blank bytes.now }
+{
+    if is_past_blank(bytes, 0) {
+        return 0;
+    }
+    if !bytes.is_empty() && bytes[0] == b' ' && is_past_blank(bytes, 1) {
+        return 1;
+    }
+    many_blanks_len(bytes)
 }
 
 /// Whether it is an ASCII character that may begin a name.
@@ -173,6 +222,51 @@ pub(crate) fn raw_end(quote: u8, bytes: &[u8]) -> usize
         i += 16;
     }
     raw_end_slowly(quote, bytes, i)
+}
+
+/// Which of the bytes are no digit.
+#[inline(always)]
+fn no_digits(bytes: u8x16) -> u64
+    ensures { result ≡ mask_l (map is_no_digit bytes) }
+{
+    (bytes.simd_lt(u8x16::splat(b'0')) | bytes.simd_gt(u8x16::splat(b'9'))).to_bitmask()
+}
+
+/// The same as `digits_len` from this index on, byte by byte.
+#[inline(never)]
+fn digits_len_slowly(bytes: &[u8], from: usize) -> usize
+    requires { from ≤ length bytes.now }
+    ensures { result ≡ from + prefix_len is_digit (drop from bytes.now) }
+{
+    let mut i = from;
+    while i < bytes.len() && is_digit(bytes[i]) {
+        i += 1;
+    }
+    i
+}
+
+/// How many digits are in front.
+#[inline(always)]
+fn digits_len(bytes: &[u8]) -> usize
+    ensures { result ≡ prefix_len is_digit bytes.now }
+{
+    let mut i = 0;
+    while bytes.len() - i >= 16 {
+        let found = no_digits(u8x16::from_slice(&bytes[i..]));
+        if found != 0 {
+            return i + found.trailing_zeros() as usize;
+        }
+        i += 16;
+    }
+    digits_len_slowly(bytes, i)
+}
+
+/// The digits in front, and what follows them.
+#[inline(always)]
+pub(crate) fn split_digits(text: &str) -> (&str, &str)
+    ensures { SplitsDigits text.now result.0.now result.1.now }
+{
+    text.split_at(digits_len(text.as_bytes()))
 }
 
 /// A number of at most 19 decimal digits, and how many digits these are.

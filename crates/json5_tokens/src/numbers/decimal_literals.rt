@@ -8,8 +8,9 @@ ghost use Rattle.json5_grammar.specs.Model.ReadNumbers as model;
 ghost use Rattle.json5_tokens.specs.NumberParts.{begun, run_of, split_sign, digits_of, ReadsTail, IsDecimalLiteral, ReadsDecimalLiteral};
 ghost use Rattle.json5_types.specs.DigitRuns.{Gathers};
 
+use crate::byte_runs::split_digits;
 use crate::char::front;
-use json5_types::digit_runs::split_digits;
+use crate::short_ways::is_in_front;
 use json5_types::inline_digits::InlineDigits;
 
 /// The exponent of a literal: its sign and its digits.
@@ -41,23 +42,30 @@ pub(crate) fn split_sign(text: &str) -> (bool, &str)
     ensures sign { split_sign (chars text.now) ≡ (result.0, chars result.1.now) }
     ensures text { IsUtf8 result.1.now }
 {
-    match front(text) {
-        Some(('+', rest)) => (false, rest),
-        Some(('-', rest)) => (true, rest),
-        _ => (false, text),
+    if is_in_front(b'-', text) {
+        return (true, text.split_at(1).1);
     }
+    if is_in_front(b'+', text) {
+        return (false, text.split_at(1).1);
+    }
+    (false, text)
 }
 
-/// Whether a decimal run begins or continues in front: the characters that a decimal literal may have (ECMAScript 5.1 section
-/// 7.8.3).
+/// Whether a decimal literal may have the character (ECMAScript 5.1 section 7.8.3).
+#[inline(always)]
+fn is_in_run(byte: u8) -> bool
+    ensures { result ≡ numbers.in_run byte }
+{
+    matches!(byte, b'0'..=b'9' | b'+' | b'-' | b'.' | b'e' | b'E')
+}
+
+/// Whether a decimal run begins or continues in front.
 #[inline(always)]
 fn run_goes_on(text: &str) -> bool
     ensures { result ≡ begun numbers.in_run (chars text.now) }
 {
-    matches!(
-        front(text),
-        Some(('0'..='9' | '+' | '-' | '.' | 'e' | 'E', _))
-    )
+    let bytes = text.as_bytes();
+    !bytes.is_empty() && is_in_run(bytes[0])
 }
 
 /// The tail with the exponent whose digits are in front, if the decimal run ends with them (ECMAScript 5.1 section 7.8.3).
@@ -173,9 +181,9 @@ pub(crate) fn gather_decimal_literal<'t>(
     ensures gathered { IfSome result (λ literal. Gathers digits.old digits.new (digits_of literal)) }
 {
     let (before, rest) = digits.take_digits(text)?;
-    let Some(('.', pointed)) = front(rest) else {
+    if !is_in_front(b'.', rest) {
         return read_without_point(before, rest);
-    };
-    let (after, rest) = digits.take_digits(pointed)?;
+    }
+    let (after, rest) = digits.take_digits(rest.split_at(1).1)?;
     read_with_point(before, after, rest)
 }

@@ -12,7 +12,7 @@ ghost use Rattle.json5_tokens.specs.NumberParts.{IsAtRun, is_whole_literal};
 
 use crate::blanks::skip_ascii;
 use crate::byte_runs::{begins_minus, few_digits};
-use crate::char::front;
+use crate::char::front_ascii;
 use crate::input::Input;
 use crate::numbers::decimal_literals::{gather_decimal_literal, split_sign};
 use crate::numbers::slices::few_exponent;
@@ -87,9 +87,9 @@ impl<I: Input> Scanner<I> {
 fn begins_run(text: &str) -> bool
     ensures { result ≡ true → IsAtRun (chars text.now) }
 {
-    match front(text) {
+    match front_ascii(text) {
         Some(('1'..='9' | '.', _)) => true,
-        Some(('0', rest)) => matches!(front(rest), Some(('.' | 'e' | 'E', _))),
+        Some(('0', rest)) => matches!(front_ascii(rest), Some(('.' | 'e' | 'E', _))),
         _ => false,
     }
 }
