@@ -1,12 +1,13 @@
 //! What is around an entry, which is an element of an array or a member of an object (JSON5 sections 3 and 4). A call that is
 //! refused returns None, and leaves its error in `fault`: so no error is in the frame of a loop over entries.
 
+ghost use Rattle.std.specs.Prelude.{◌≡◌, true};
 ghost use Rattle.json5_grammar.specs.Language.Blanks.{Solid};
 ghost use Rattle.json5_grammar.specs.Model.ReadBlanks.{skip, between};
 ghost use Rattle.json5_grammar.specs.Model.ReadSteps.{forget, colon_after, next_value};
 ghost use Rattle.json5_grammar.specs.Model.ReadTexts.{key};
 ghost use Rattle.json5_read.specs.Brackets.{bracket_of};
-ghost use Rattle.json5_read.specs.Entries.{next_entry};
+ghost use Rattle.json5_read.specs.Entries.{IsVisible, next_entry};
 ghost use Rattle.json5_read.specs.ModelSteps.{IsInside, Steps, answered};
 
 use crate::brackets::BracketKind;
@@ -28,6 +29,14 @@ fn skip_blank<I: Input>(scanner: &mut Scanner<I>, fault: &mut Error) -> Option<(
     leave_error(scanner.skip_blank(), fault)
 }
 
+/// Whether it is a character from `!` to `~` that is no slash.
+#[inline(always)]
+fn is_visible(c: char) -> bool
+    ensures { result ≡ true → IsVisible c }
+{
+    c > ' ' && c <= '~' && c != '/'
+}
+
 /// The same as `skip_colon`, whatever is in front.
 #[inline(never)]
 fn skip_colon_slowly<I: Input>(scanner: &mut Scanner<I>, fault: &mut Error) -> Option<()>
@@ -44,13 +53,14 @@ pub(crate) fn skip_colon<I: Input>(scanner: &mut Scanner<I>, fault: &mut Error) 
     requires { IsInside scanner.old }
     ensures { Steps (colon_after scanner.old.unread) scanner.old scanner.new (answered result fault.new) }
 {
-    if !scanner.short_sign(b':') {
+    if !scanner.eat(':') {
         return skip_colon_slowly(scanner, fault);
     }
-    // Where no comma is due, a step passes over the blanks, whatever follows them.
-    match scanner.short_step(b'}', false) {
-        ShortStep::Other => skip_blank(scanner, fault),
-        _ => Some(()),
+    // Most often one space follows, and then the value.
+    let _ = scanner.eat(' ');
+    match scanner.peek() {
+        Some(c) if is_visible(c) => Some(()),
+        _ => skip_blank(scanner, fault),
     }
 }
 
