@@ -35,10 +35,8 @@ use Rattle.json5_types.specs.NumberMeanings.{whole_in}
 use Rattle.json5_types.specs.ValueMeanings.{value_of}
 use Rattle.json5_types.specs.ValueMeanings as datum
 use Rattle.json5_tokens.specs.Cursor.{Cursor, Took}
-use Rattle.json5_tokens.specs.declared.short_ways.ShortStep.{ShortStep}
-use Rattle.json5_tokens.specs.declared.short_ways.ShortStep.TheVariants as steps
 use Rattle.json5_tokens.specs.declared.short_texts.Span.{Span}
-use Rattle.json5_tokens.specs.ShortWays.{AfterGap, StepsTo, IsStep, Stepped, TookNumber, TakesShortStep, TakesShortSign}
+use Rattle.json5_tokens.specs.ShortWays.{AfterGap, StepsTo, Stepped, TookNumber, TakesShortSign}
 use Rattle.json5_tokens.specs.ShortNumberSkips.{TakesShortNumber}
 use Rattle.json5_tokens.specs.ShortWords.{TakesShortWord}
 use Rattle.json5_tokens.specs.ShortTexts.{TakesShortKey, TakesShortString, TookShortOwned}

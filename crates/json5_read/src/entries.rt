@@ -3,9 +3,11 @@
 
 ghost use Rattle.std.specs.Prelude.{◌≡◌, true};
 ghost use Rattle.json5_grammar.specs.Language.Blanks.{Solid};
+ghost use Rattle.json5_grammar.specs.Language.Characters.{colon_sign};
 ghost use Rattle.json5_grammar.specs.Model.ReadBlanks.{skip, between};
 ghost use Rattle.json5_grammar.specs.Model.ReadSteps.{forget, colon_after, next_value};
 ghost use Rattle.json5_grammar.specs.Model.ReadTexts.{key};
+ghost use Rattle.json5_tokens.specs.ShortWays.{TakesShortSign};
 ghost use Rattle.json5_read.specs.Brackets.{bracket_of};
 ghost use Rattle.json5_read.specs.Entries.{IsVisible, next_entry};
 ghost use Rattle.json5_read.specs.ModelSteps.{IsInside, Steps, answered};
@@ -47,13 +49,24 @@ fn skip_colon_slowly<I: Input>(scanner: &mut Scanner<I>, fault: &mut Error) -> O
     skip_blank(scanner, fault)
 }
 
+/// Takes ASCII blanks and a colon, and says whether they were in front. Else takes nothing. Most colons follow a key at once.
+#[inline(always)]
+fn short_colon<I: Input>(scanner: &mut Scanner<I>) -> bool
+    ensures { TakesShortSign colon_sign scanner.old scanner.new result }
+{
+    if scanner.eat(':') {
+        return true;
+    }
+    scanner.short_sign(b':')
+}
+
 /// Passes over blanks, a colon and blanks.
 #[inline(always)]
 pub(crate) fn skip_colon<I: Input>(scanner: &mut Scanner<I>, fault: &mut Error) -> Option<()>
     requires { IsInside scanner.old }
     ensures { Steps (colon_after scanner.old.unread) scanner.old scanner.new (answered result fault.new) }
 {
-    if !scanner.eat(':') {
+    if !short_colon(scanner) {
         return skip_colon_slowly(scanner, fault);
     }
     // Most often one space follows, and then the value.
