@@ -6,7 +6,7 @@ use Rattle.json5_grammar.specs.declared.error_code.ErrorCode.TheVariants.{Traili
 use Rattle.json5_grammar.specs.Language.Trees.{Tree}
 use Rattle.json5_grammar.specs.Model.Reading.{Read, Place, got, bad}
 use Rattle.json5_grammar.specs.Model.ReadSteps.{forget}
-use Rattle.json5_grammar.specs.Model.ReadValues.{read, document}
+use Rattle.json5_grammar.specs.Model.ReadValues.{read}
 use Rattle.json5_grammar.proofs.DocumentOrFault.{document_sound}
 use Rattle.json5_types.specs.declared.error.Error.{Error}
 use Rattle.json5_types.specs.Errors.{code, kind_of}

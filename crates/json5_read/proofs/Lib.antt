@@ -7,6 +7,7 @@ pub mod UnexpectedCharacters
 pub mod FaultPositions
 pub mod EntrySteps
 pub mod EntryValues
+pub mod OpenBrackets
 pub mod Nesting
 pub mod SkipScalars
 pub mod RestsShorter

@@ -1,12 +1,13 @@
 -- What is taken at once takes what reading on lists takes.
 use Rattle.std.proofs.Common.{◌≡◌, ℕ, Bool, true, false, List, [], ◌∷◌, ◌++◌, refl, ap, sym, ◌∙◌, subst, append_assoc, arith, inl, inr, Option, Some, None, String}
-use Rattle.std.specs.Prelude.{◌==◌, Result, Ok, is_some}
+use Rattle.std.specs.Prelude.{◌==◌, Result, Ok, is_some, slice_get}
 use Rattle.std.specs.declared.alloc.Global.{Global}
 use Rattle.std.specs.Str.{all_scalars}
 use Rattle.std.proofs.lemmas.Bool.{both_ways}
+use Rattle.std.proofs.lemmas.Bool.Decides.{nat_tests}
 use Rattle.json5_grammar.specs.Language.Blanks as blanks
 use Rattle.json5_grammar.specs.Language.Blanks.{is_solid, Gap, Solid}
-use Rattle.json5_grammar.specs.Language.Characters.{NotBegun}
+use Rattle.json5_grammar.specs.Language.Characters.{NotBegun, is_in}
 use Rattle.json5_grammar.specs.Faults.Fronts.{BracketKind, of_array, of_object, closing}
 use Rattle.json5_grammar.specs.Model.Collections.{IsSign, IsEnd, ReadsKey}
 use Rattle.json5_grammar.specs.Language.Numbers.{Number}
@@ -19,7 +20,7 @@ use Rattle.json5_grammar.specs.Language.Trees as trees
 use Rattle.json5_grammar.specs.Language.Strings.{Str}
 use Rattle.json5_grammar.specs.Language.Values.{Val, Reads, is_number, is_text}
 use Rattle.json5_grammar.proofs.CommonLemmas.{same_char}
-use Rattle.json5_grammar.proofs.BlanksRead.{begins_solid}
+use Rattle.json5_grammar.proofs.BlanksRead.{begins_solid, skip_blanks, skip_rest, printable_solid}
 use Rattle.json5_grammar.proofs.BlanksSound.{gap_read, gap_before, one_gap}
 use Rattle.json5_grammar.proofs.CharacterClasses.{number_begins, quote_begins}
 use Rattle.json5_grammar.proofs.ObjectsRead.{brace_solid, colon_solid}
@@ -34,10 +35,8 @@ use Rattle.json5_types.specs.NumberMeanings.{whole_in}
 use Rattle.json5_types.specs.ValueMeanings.{value_of}
 use Rattle.json5_types.specs.ValueMeanings as datum
 use Rattle.json5_tokens.specs.Cursor.{Cursor, Took}
-use Rattle.json5_tokens.specs.declared.short_ways.ShortStep.{ShortStep}
-use Rattle.json5_tokens.specs.declared.short_ways.ShortStep.TheVariants as steps
 use Rattle.json5_tokens.specs.declared.short_texts.Span.{Span}
-use Rattle.json5_tokens.specs.ShortWays.{AfterGap, StepsTo, IsStep, Stepped, TookNumber, TakesShortStep, TakesShortSign}
+use Rattle.json5_tokens.specs.ShortWays.{AfterGap, StepsTo, Stepped, TookNumber, TakesShortSign}
 use Rattle.json5_tokens.specs.ShortNumberSkips.{TakesShortNumber}
 use Rattle.json5_tokens.specs.ShortWords.{TakesShortWord}
 use Rattle.json5_tokens.specs.ShortTexts.{TakesShortKey, TakesShortString, TookShortOwned}
@@ -47,17 +46,17 @@ use Rattle.json5_read.specs.declared.kinds.Literal.{Literal}
 use Rattle.json5_read.specs.declared.kinds.ValueKind.{ValueKind}
 use Rattle.json5_read.specs.declared.kinds.ValueKind.TheVariants as kinds
 use Rattle.json5_read.specs.Brackets.{bracket_of, brackets_of}
-use Rattle.json5_read.specs.Entries.{entry_front, entry_start, next_entry}
+use Rattle.json5_read.specs.Entries.{IsVisible, entry_front, entry_start, next_entry}
 use Rattle.json5_read.specs.Kinds.{kind_at, word_of}
 use Rattle.json5_read.specs.OwnedReads.{Keeps, IsOfTree, tree_at}
 use Rattle.json5_read.specs.Opening.{AtKind}
 use Rattle.json5_read.specs.SkipSteps.{PassesShort}
-use Rattle.json5_read.specs.ModelSteps.{Gave, Steps}
+use Rattle.json5_read.specs.ModelSteps.{IsInside, Gave, Steps}
 use Rattle.json5_read.proofs.BuildScalars.{scalar_taken, text_taken}
 use Rattle.json5_read.proofs.EntrySteps.{separator_is, front_closes, front_goes, closes_here, start_or_end}
 use Rattle.json5_read.proofs.SkipScalars.{literal_value, number_value, tests_of}
 use Rattle.json5_read.proofs.UnexpectedCharacters.{closing_is}
-use Rattle.json5_read.proofs.ModelSteps.{some_next, same_step, then_step, took_step}
+use Rattle.json5_read.proofs.ModelSteps.{some_next, same_step, then_step, took_step, took_nothing, ready_after}
 
 -- ---- a step on lists
 
@@ -105,21 +104,36 @@ colon_read x r s = ap (λ m. and_then m (λ u y. and_then (colon_at y) (λ v z. 
 pub colon_took : (old new : Cursor) → (k : TakesShortSign 58 old new true) → Took old (k.0.front ++ 58 ∷ []) new
 colon_took old new k = record { split = k.0.split ∙ sym (append_assoc k.0.front (58 ∷ []) new.unread); same = k.1 }
 
--- a step where no comma is due passes over the blanks
-blanks_read : (b : Bool) (x y : List ℕ) → IsStep 125 false b x y → (skip between x ≡ got tt y) × Taken x y
-blanks_read true x y (r, s, e) = (sign_read 125 x r brace_solid s ∙ ap (got tt) (sym e), (s.front, s.split ∙ ap (λ z. s.front ++ z) (sym e)))
-blanks_read false x y (g, n) = (ap (skip between) g.split ∙ gap_read g.is_gap g.solid, (g.gap, g.split))
-
--- the blanks after it
-pub blanks_stepped : (old new : Cursor) (step : ShortStep) → (step ≡ steps.Other → ⊥) → TakesShortStep 125 false old new step → Steps (skip between old.unread) old new (Ok tt)
-blanks_stepped old new steps.Entry other s = let (reads, (taken, split)) = blanks_read false old.unread new.unread s.step in took_step old new (skip between old.unread) tt taken reads (record { split = split; same = s.same })
-blanks_stepped old new steps.Closing other s = let (reads, (taken, split)) = blanks_read true old.unread new.unread s.step in took_step old new (skip between old.unread) tt taken reads (record { split = split; same = s.same })
-blanks_stepped old new steps.Other other s = absurd (other refl)
-
 pub colon_stepped : (old mid new : Cursor) (result : Result (Unit {0}) Error) → TakesShortSign 58 old mid true → Steps (skip between mid.unread) mid new result → Steps (colon_after old.unread) old new result
 colon_stepped old mid new result colon k =
     same_step old new (colon_after old.unread) (skip between mid.unread) result (colon_read old.unread mid.unread colon.0)
     (then_step {A = Unit {0}} old mid new (got tt mid.unread) tt (λ u y. skip between y) result (record { reads = refl; taken = colon.0.front ++ 58 ∷ []; took = colon_took old mid colon }) k)
+
+-- the colon is in front
+pub colon_at_once : (old mid : Cursor) → Took old (58 ∷ []) mid → TakesShortSign 58 old mid true
+colon_at_once old mid took = (record { front = []; split = took.split; blank = blanks.Blanks.empty }, took.same)
+
+-- a space may be among the blanks
+pub space_stepped : (old mid new : Cursor) (ate : Bool) (result : Result (Unit {0}) Error) → (ate ≡ true → Took old (32 ∷ []) mid) → (ate ≡ false → (mid ≡ old) × NotBegun (λ d. d == 32) old.unread)
+    → Steps (skip between mid.unread) mid new result → Steps (skip between old.unread) old new result
+space_stepped old mid new true result taken kept k =
+    let took = taken refl in
+    same_step old new (skip between old.unread) (skip between mid.unread) result (ap (skip between) took.split ∙ skip_blanks mid.unread (blanks.Blanks.blank refl blanks.Blanks.empty))
+    (then_step {A = Unit {0}} old mid new (got tt mid.unread) tt (λ u y. skip between y) result (record { reads = refl; taken = 32 ∷ []; took = took }) k)
+space_stepped old mid new false result taken kept k = subst (λ (s : Cursor). Steps (skip between s.unread) s new result) (kept refl).0 k
+
+-- no blanks are in front
+pub nothing_stepped : (s : Cursor) (c : ℕ) → slice_get s.unread 0 ≡ Some c → IsVisible c → Steps (skip between s.unread) s s (Ok tt)
+nothing_stepped s c first v =
+    let (r, x) = some_next s.unread c first in
+    let printable : is_in 33 126 c ≡ true = grind (arith, nat_tests, v.low, v.high) in
+    let other : (c == 47) ≡ false = grind (arith, nat_tests, v.no_slash) in
+    took_step s s (skip between s.unread) tt [] (skip_rest s.unread (subst Solid (sym x) (begins_solid c r (printable_solid c printable other)))) (took_nothing s s refl)
+
+-- after a character that may have been eaten the rest is still the end of the input
+pub ready_eaten : (old mid : Cursor) (c : ℕ) (ate : Bool) → IsInside old → (ate ≡ true → Took old (c ∷ []) mid) → (ate ≡ false → (mid ≡ old) × NotBegun (λ d. d == c) old.unread) → IsInside mid
+ready_eaten old mid c true ready taken kept = ready_after old mid (c ∷ []) ready (taken refl)
+ready_eaten old mid c false ready taken kept = subst IsInside (sym (kept refl).0) ready
 
 -- no blanks stand before a key
 pub key_spelled : (x u r : List ℕ) → Solid x → (k : ReadsKey x u true r) → x ≡ k.spelling ++ r

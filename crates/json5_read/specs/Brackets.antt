@@ -1,9 +1,11 @@
 -- The two kinds of brackets.
 -- A promise rests on this.
+use Rattle.std.specs.Prelude.{ℕ, List, [], ◌∷◌}
 use Rattle.json5_grammar.specs.declared.error_code.ErrorCode.TheVariants as codes
 use Rattle.json5_grammar.specs.Faults.Fronts.{of_array, of_object}
 use Rattle.json5_grammar.specs.Faults.Fronts as fronts
 use Rattle.json5_read.specs.declared.brackets.BracketPair.{BracketPair}
+use Rattle.json5_read.specs.declared.brackets.OpenBracket.{OpenBracket}
 use Rattle.json5_read.specs.declared.brackets.BracketKind.{BracketKind}
 use Rattle.json5_read.specs.declared.brackets.BracketKind.TheVariants as kind
 
@@ -23,3 +25,9 @@ brackets_of kind.Object = curly
 abbrev pub bracket_of : BracketKind → fronts.BracketKind
 bracket_of kind.Array = of_array
 bracket_of kind.Object = of_object
+
+-- brackets of these kinds that begin after so many bytes
+abbrev pub brackets_in : List BracketKind → List ℕ → List OpenBracket
+brackets_in [] starts = []
+brackets_in (k ∷ ks) [] = []
+brackets_in (k ∷ ks) (s ∷ ss) = record { kind = k; start = s } ∷ brackets_in ks ss

@@ -1,11 +1,17 @@
 -- Where the entries of brackets begin: the elements of an array and the members of an object.
 -- Private.
-use Rattle.std.specs.Prelude.{ℕ, Bool, true, false, cond, List, [], ◌∷◌, ◌==◌}
+use Rattle.std.specs.Prelude.{◌≡◌, ◌<◌, ◌≤◌, ℕ, Bool, true, false, cond, List, [], ◌∷◌, ◌==◌}
 use Rattle.json5_grammar.specs.Faults.Fronts.{BracketKind, closing}
 use Rattle.json5_grammar.specs.Model.Reading.{Read, got, and_then}
 use Rattle.json5_grammar.specs.Model.ReadBlanks.{skip, between}
 use Rattle.json5_grammar.specs.Model.ReadSteps.{forget, colon_after, separator}
 use Rattle.json5_grammar.specs.Model.ReadTexts.{key}
+
+-- a character from `!` to `~` that is no slash
+pub record IsVisible (c : ℕ) : Type 0 where
+  pub low : 32 < c
+  pub high : c ≤ 126
+  pub no_slash : c ≡ 47 → ⊥
 
 -- false and past the closing bracket, if that is in front; else true, with nothing taken
 abbrev pub entry_front : BracketKind → List ℕ → Read Bool

@@ -1,12 +1,15 @@
 //! What is around an entry, which is an element of an array or a member of an object (JSON5 sections 3 and 4). A call that is
 //! refused returns None, and leaves its error in `fault`: so no error is in the frame of a loop over entries.
 
+ghost use Rattle.std.specs.Prelude.{◌≡◌, true};
 ghost use Rattle.json5_grammar.specs.Language.Blanks.{Solid};
+ghost use Rattle.json5_grammar.specs.Language.Characters.{colon_sign};
 ghost use Rattle.json5_grammar.specs.Model.ReadBlanks.{skip, between};
 ghost use Rattle.json5_grammar.specs.Model.ReadSteps.{forget, colon_after, next_value};
 ghost use Rattle.json5_grammar.specs.Model.ReadTexts.{key};
+ghost use Rattle.json5_tokens.specs.ShortWays.{TakesShortSign};
 ghost use Rattle.json5_read.specs.Brackets.{bracket_of};
-ghost use Rattle.json5_read.specs.Entries.{next_entry};
+ghost use Rattle.json5_read.specs.Entries.{IsVisible, next_entry};
 ghost use Rattle.json5_read.specs.ModelSteps.{IsInside, Steps, answered};
 
 use crate::brackets::BracketKind;
@@ -28,6 +31,14 @@ fn skip_blank<I: Input>(scanner: &mut Scanner<I>, fault: &mut Error) -> Option<(
     leave_error(scanner.skip_blank(), fault)
 }
 
+/// Whether it is a character from `!` to `~` that is no slash.
+#[inline(always)]
+fn is_visible(c: char) -> bool
+    ensures { result ≡ true → IsVisible c }
+{
+    c > ' ' && c <= '~' && c != '/'
+}
+
 /// The same as `skip_colon`, whatever is in front.
 #[inline(never)]
 fn skip_colon_slowly<I: Input>(scanner: &mut Scanner<I>, fault: &mut Error) -> Option<()>
@@ -38,19 +49,31 @@ fn skip_colon_slowly<I: Input>(scanner: &mut Scanner<I>, fault: &mut Error) -> O
     skip_blank(scanner, fault)
 }
 
+/// Takes ASCII blanks and a colon, and says whether they were in front. Else takes nothing. Most colons follow a key at once.
+#[inline(always)]
+fn short_colon<I: Input>(scanner: &mut Scanner<I>) -> bool
+    ensures { TakesShortSign colon_sign scanner.old scanner.new result }
+{
+    if scanner.eat(':') {
+        return true;
+    }
+    scanner.short_sign(b':')
+}
+
 /// Passes over blanks, a colon and blanks.
 #[inline(always)]
 pub(crate) fn skip_colon<I: Input>(scanner: &mut Scanner<I>, fault: &mut Error) -> Option<()>
     requires { IsInside scanner.old }
     ensures { Steps (colon_after scanner.old.unread) scanner.old scanner.new (answered result fault.new) }
 {
-    if !scanner.short_sign(b':') {
+    if !short_colon(scanner) {
         return skip_colon_slowly(scanner, fault);
     }
-    // Where no comma is due, a step passes over the blanks, whatever follows them.
-    match scanner.short_step(b'}', false) {
-        ShortStep::Other => skip_blank(scanner, fault),
-        _ => Some(()),
+    // Most often one space follows, and then the value.
+    let _ = scanner.eat(' ');
+    match scanner.peek() {
+        Some(c) if is_visible(c) => Some(()),
+        _ => skip_blank(scanner, fault),
     }
 }
 

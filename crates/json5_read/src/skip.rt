@@ -5,18 +5,14 @@ ghost use Rattle.json5_grammar.specs.Language.Documents.{max_depth};
 ghost use Rattle.json5_read.specs.SkipSteps.{SkipsOrOpens, TakesTurn, SkipsBracket, SkipsValue};
 ghost use Rattle.json5_read.specs.ModelSteps.{IsInside, answered};
 
-use crate::brackets::{BracketKind, OpenBracket, kind_opened, open_bracket};
+use crate::brackets::{BracketKind, OpenBracket, OpenBrackets, kind_opened, open_bracket};
 use crate::entries::next_value;
 use crate::faults::{leave_code, place_fault};
 use crate::scalars::{short_scalar, skip_scalar};
-use arrayvec::ArrayVec;
 use json5_tokens::input::Input;
 use json5_tokens::scanner::Scanner;
 use json5_types::ErrorCode;
 use json5_types::error::{Error, Result};
-
-/// The open brackets, the outermost first.
-type OpenBrackets = ArrayVec<OpenBracket, 128>;
 
 /// What a turn in a bracket came to.
 #[derive(Clone, Copy)]

@@ -1,28 +1,34 @@
-use Rattle.std.proofs.Common.{sym, subst, Ok}
-use Rattle.json5_grammar.specs.Model.ReadBlanks.{skip, between}
+use Rattle.std.proofs.Common.{sym, ◌∙◌, subst, Ok}
 use Rattle.json5_grammar.specs.Model.ReadSteps.{colon_after}
 use Rattle.json5_tokens.specs.Cursor.{Cursor}
 use Rattle.json5_read.specs.ModelSteps.{IsInside, Steps, answered}
-use Rattle.json5_read.proofs.ShortEntries.{colon_took, colon_stepped, blanks_stepped}
+use Rattle.json5_read.proofs.ShortEntries.{colon_took, colon_stepped, space_stepped, nothing_stepped, ready_eaten}
 use Rattle.json5_read.proofs.ModelSteps.{ready_after}
 use Rattle.json5_read.proofs.entries.skip_colon.Goals as goal
 
 pub skip_colon_slowly-requires : goal.skip_colon_slowly-requires
-skip_colon_slowly-requires g c = subst IsInside (sym c.if-not-short_sign.ensures) c.requires
+skip_colon_slowly-requires g c = subst IsInside (sym c.if-not-short_colon.ensures) c.requires
 
-pub returns-then-not-short_sign : goal.returns-then-not-short_sign
-returns-then-not-short_sign g c =
-    subst (λ (s : Cursor). Steps (colon_after s.unread) s c.skip_colon_slowly.new.scanner (answered c.skip_colon_slowly.result c.skip_colon_slowly.new.fault)) c.if-not-short_sign.ensures c.skip_colon_slowly.ensures
+pub returns-then-not-short_colon : goal.returns-then-not-short_colon
+returns-then-not-short_colon g c =
+    subst (λ (s : Cursor). Steps (colon_after s.unread) s c.skip_colon_slowly.new.scanner (answered c.skip_colon_slowly.result c.skip_colon_slowly.new.fault)) c.if-not-short_colon.ensures c.skip_colon_slowly.ensures
+
+pub returns-in-Some : goal.returns-in-Some
+returns-in-Some g c =
+    let mid = c.short_colon.new.scanner in
+    let new = c.eat.new.self in
+    colon_stepped c.args.scanner.now mid new (Ok tt) c.if-not-short_colon.ensures
+    (space_stepped mid new new c.eat.result (Ok tt) c.eat.ensures.taken c.eat.ensures.kept (nothing_stepped new c.in-Some.c (sym c.peek.ensures ∙ c.in-Some.is) (c.is_visible.ensures c.if-is_visible.true)))
 
 pub skip_blank-requires : goal.skip_blank-requires
-skip_blank-requires g c = subst IsInside (sym c.in-Other.ensures) (ready_after c.args.scanner.now c.short_sign.new.self _ c.requires (colon_took c.args.scanner.now c.short_sign.new.self c.if-not-short_sign.ensures))
-
-pub returns-in-Other : goal.returns-in-Other
-returns-in-Other g c =
-    let result = answered c.skip_blank.result c.skip_blank.new.fault in
-    colon_stepped c.args.scanner.now c.short_sign.new.self c.skip_blank.new.scanner result c.if-not-short_sign.ensures
-    (subst (λ (s : Cursor). Steps (skip between s.unread) s c.skip_blank.new.scanner result) c.in-Other.ensures c.skip_blank.ensures)
+skip_blank-requires g c =
+    let mid = c.short_colon.new.scanner in
+    ready_eaten mid c.eat.new.self 32 c.eat.result (ready_after c.args.scanner.now mid _ c.requires (colon_took c.args.scanner.now mid c.if-not-short_colon.ensures)) c.eat.ensures.taken c.eat.ensures.kept
 
 pub returns-in_default : goal.returns-in_default
 returns-in_default g c =
-    colon_stepped c.args.scanner.now c.short_sign.new.self c.short_step.new.self (Ok tt) c.if-not-short_sign.ensures (blanks_stepped c.short_sign.new.self c.short_step.new.self c.short_step.result c.in_default.not-Other c.short_step.ensures)
+    let mid = c.short_colon.new.scanner in
+    let new = c.skip_blank.new.scanner in
+    let result = answered c.skip_blank.result c.skip_blank.new.fault in
+    colon_stepped c.args.scanner.now mid new result c.if-not-short_colon.ensures
+    (space_stepped mid c.eat.new.self new c.eat.result result c.eat.ensures.taken c.eat.ensures.kept c.skip_blank.ensures)
