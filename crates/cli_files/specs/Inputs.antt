@@ -1,8 +1,7 @@
 -- What a read gives, and why an input isn't read to its end.
 -- A promise rests on this.
-use Rattle.std.specs.Prelude.{⊤, ◌≡◌, ◌++◌, ℕ, List, Option, IfSome}
+use Rattle.std.specs.Prelude.{⊤, ℕ, List, Option, IfSome}
 use Rattle.std.specs.Str.{IsUtf8, chars}
-use Rattle.std.specs.Io.KnownBytes.{Consumes}
 use Rattle.json5_grammar.specs.Language.Documents.{Doc, max_depth}
 use Rattle.json5_grammar.specs.Language.Trees.{Tree}
 use Rattle.json5_types.specs.declared.error.Error.{Error}
@@ -16,10 +15,6 @@ abbrev pub IsReadFault : Failure → Type 0
 IsReadFault failure.Read = ⊤
 IsReadFault failure.NoMemory = ⊤
 IsReadFault _ = ⊥
-
--- a piece is read and appended to the bytes
-abbrev pub ReadsPiece : (piece old new : List ℕ) (before after : Option (List ℕ)) → Type 0
-ReadsPiece piece old new before after = (new ≡ old ++ piece) × Consumes before after piece
 
 -- why the input wasn't read as a string
 abbrev pub NoText : Option (List ℕ) → Failure → Type 0

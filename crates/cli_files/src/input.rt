@@ -1,16 +1,19 @@
 //! Reading all that a reader gives.
 
-ghost use Rattle.std.specs.Prelude.{◌≡◌, ◌<◌, IfOk, IfErr, IfSome, length, string_bytes, take, vec_len};
-ghost use Rattle.std.specs.Io.KnownBytes.{IsAtEnd};
-ghost use Rattle.cli_files.specs.Inputs.{IsReadFault, NoText, ReadsPiece};
-ghost use Rattle.cli_files.specs.declared.failure.Failure.TheVariants as failures;
+ghost use Rattle.std.specs.Prelude.{◌≡◌, ◌+◌, ◌≤◌, IfOk, IfErr, IfSome, string_bytes, take, drop, vec_len};
+ghost use Rattle.std.specs.Io.KnownBytes.{Consumes, IsAtEnd};
+ghost use Rattle.cli_files.specs.Inputs.{IsReadFault, NoText};
 
 use crate::failure::Failure;
+use simdutf8::is_utf8;
 use std::alloc::Global;
 use std::io::{ErrorKind, Read};
 
-/// How many bytes are asked for at once.
-const PIECE: usize = 64 * 1024;
+/// How many bytes are asked for at first.
+const FIRST_ROOM: usize = 16 * 1024;
+
+/// How many bytes are asked for at most at once.
+const MOST_ROOM: usize = 256 * 1024;
 
 /// Reads all that is left of the reader.
 ///
@@ -26,12 +29,15 @@ pub fn read_whole<R: Read>(alloc: Global, r: &mut R) -> Result<Vec<u8>, Failure>
     ensures read { IfOk result (λ bytes. IfSome (R.remaining r.old) (λ known. bytes.items ≡ known)) }
     ensures stopped { IfErr result IsReadFault }
 {
-    let mut piece = new_piece(alloc)?;
     let mut bytes = Vec::new(alloc);
+    let mut filled = 0;
     for _ in 0..u64::MAX {
-        if read_piece(r, piece.as_mut_slice(), &mut bytes)? == 0 {
+        let count = read_after(r, &mut bytes, filled)?;
+        if count == 0 {
+            bytes.truncate(filled);
             return Ok(bytes);
         }
+        filled += count;
     }
     Err(Failure::Read)
 }
@@ -50,37 +56,31 @@ pub fn read_text<R: Read>(alloc: Global, r: &mut R) -> Result<String, Failure>
     ensures stopped { IfErr result (NoText (R.remaining r.old)) }
 {
     let bytes = read_whole(alloc, r)?;
-    match String::from_utf8(bytes) {
-        Ok(text) => Ok(text),
-        Err(_) => Err(Failure::NotUtf8),
+    if !is_utf8(&bytes) {
+        return Err(Failure::NotUtf8);
     }
+    Ok(unsafe { String::from_utf8_unchecked(bytes) })
 }
 
-/// Room for a piece.
-fn new_piece(alloc: Global) -> Result<Vec<u8>, Failure>
-    ensures room { IfOk result (λ piece. 0 < vec_len piece) }
-    ensures memory { IfErr result (λ failure. failure ≡ failures.NoMemory) }
-{
-    let mut piece = Vec::new(alloc);
-    match piece.resize(PIECE, 0) {
-        Ok(()) => Ok(piece),
-        Err(_) => Err(Failure::NoMemory),
-    }
-}
-
-/// Reads once into the piece, appends its bytes to the others, and returns how many there were.
-fn read_piece<R: Read>(r: &mut R, piece: &mut [u8], bytes: &mut Vec<u8>) -> Result<usize, Failure>
-    ensures read { IfOk result (λ count. ReadsPiece (take count piece.new) bytes.old.items bytes.new.items (R.remaining r.old) (R.remaining r.new)) }
-    ensures end { IfOk result (λ count. count ≡ 0 → 0 < length piece.old → IsAtEnd (R.remaining r.new)) }
+/// Reads once, after so many of the bytes, and returns how many there were. What follows those is room, which is made if there
+/// is none.
+fn read_after<R: Read>(r: &mut R, bytes: &mut Vec<u8>, filled: usize) -> Result<usize, Failure>
+    requires { filled ≤ vec_len bytes.old }
+    ensures front { take filled bytes.new.items ≡ take filled bytes.old.items }
+    ensures within { IfOk result (λ count. filled + count ≤ vec_len bytes.new) }
+    ensures read { IfOk result (λ count. Consumes (R.remaining r.old) (R.remaining r.new) (take count (drop filled bytes.new.items))) }
+    ensures end { IfOk result (λ count. count ≡ 0 → IsAtEnd (R.remaining r.new)) }
     ensures stopped { IfErr result IsReadFault }
 {
-    let count = match r.read(piece) {
-        Ok(count) => count,
-        Err(e) if e.kind() == ErrorKind::OutOfMemory => return Err(Failure::NoMemory),
-        Err(_) => return Err(Failure::Read),
-    };
-    match bytes.extend_from_slice(&piece[..count]) {
-        Ok(()) => Ok(count),
-        Err(_) => Err(Failure::NoMemory),
+    if filled == bytes.len() {
+        let room = filled.clamp(FIRST_ROOM, MOST_ROOM);
+        if bytes.resize(filled.saturating_add(room), 0).is_err() {
+            return Err(Failure::NoMemory);
+        }
+    }
+    match r.read(&mut bytes[filled..]) {
+        Ok(count) => Ok(count),
+        Err(e) if e.kind() == ErrorKind::OutOfMemory => Err(Failure::NoMemory),
+        Err(_) => Err(Failure::Read),
     }
 }

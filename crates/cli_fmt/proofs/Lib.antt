@@ -3,3 +3,4 @@ pub mod LinesWritten
 pub mod Statuses
 pub mod FilesWorked
 pub mod WordsAnswered
+pub mod Refusals

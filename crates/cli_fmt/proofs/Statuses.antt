@@ -2,7 +2,6 @@
 use Rattle.std.proofs.Common.{ℕ, ◌≤◌, max, List, Option, arith}
 use Rattle.std.specs.declared.alloc.Global.{Global}
 use Rattle.std.specs.Prelude.{String}
-use Rattle.cli_files.specs.declared.failure.Failure.{Failure}
 use Rattle.cli_fmt.specs.declared.work.Work.{Work}
 use Rattle.cli_fmt.specs.ProgramRuns.{AnswersStream, formats, fails, Answers, of_stream, of_files, says_usage}
 use Rattle.cli_files.specs.Stores.{Opening}

@@ -7,7 +7,7 @@ ghost use Rattle.cli_fmt.specs.Runs.{HoldsValue, HoldsDocument, RunFailure, Writ
 ghost use Rattle.cli_files.specs.Failures.{NamesMemory};
 
 use cli_files::{Failure, read_text};
-use json5_read::read_document;
+use json5_read::{check_document, read_document};
 use json5_types::nesting::Limit;
 use json5_types::value::Value;
 use json5_write::to_writer;
@@ -49,8 +49,11 @@ pub fn check<R: Read>(alloc: Global, r: &mut R) -> Result<(), Failure>
     ensures read { OnOk result (IfSome (R.remaining r.old) HoldsDocument) }
     ensures stopped { IfErr result (ReadFailure (R.remaining r.old)) }
 {
-    read_value(alloc, r)?;
-    Ok(())
+    let text = read_text(alloc, r)?;
+    match check_document(alloc, text.as_str()) {
+        Ok(()) => Ok(()),
+        Err(e) => Err(Failure::at(e)),
+    }
 }
 
 /// The value of all that is left of the reader. The input isn't kept.

@@ -180,10 +180,10 @@ fn want_of_memory_is_no_failed_read(rt: HostRuntime) -> Result<(), Fail> {
 }
 
 #[test]
-fn reads_ask_for_64_kib(rt: HostRuntime) {
+fn reads_share_a_room_of_16_kib(rt: HostRuntime) {
     let mut input = Trickle::whole(b"null");
     assert!(rt; run(rt.alloc(), &mut input, &mut Vec::new(rt.alloc())).is_ok());
-    assert_eq!(rt; (input.room, input.calls), (64 * 1024, 5));
+    assert_eq!(rt; (input.room, input.calls), (16 * 1024 - 4, 5));
 }
 
 /// A writer that takes one byte a call, and fails once it has so many.
