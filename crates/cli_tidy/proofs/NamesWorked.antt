@@ -1,5 +1,5 @@
 -- The work on one name of the command line more.
-use Rattle.std.proofs.Common.{◌≡◌, ℕ, ◌+◌, ◌<◌, ◌≤◌, max, List, [], length, take, drop, get_or, Option, Bool, true, false, sym, subst, ◌∙◌, take-append-drop}
+use Rattle.std.proofs.Common.{◌≡◌, ◌≢◌, ◌==◌, ℕ, ◌+◌, ◌<◌, ◌≤◌, max, List, [], length, take, drop, get_or, Option, Bool, true, false, true≢false, ap, sym, subst, ◌∙◌, take-append-drop}
 use Rattle.std.specs.declared.alloc.Global.{Global}
 use Rattle.std.specs.Prelude.{String, string_bytes}
 use Rattle.std.proofs.lemmas.List.{take_all, nil_from_length}
@@ -35,12 +35,15 @@ module _ (known : Known) (request : FileRequest) (output errors : Option (List �
   goes_through after said status same h g =
       through (subst (λ l. GoesThroughNames known request output errors l after said status true) (take_all i names h ∙ same) g)
 
+pub some_file : (files : List (String Global)) (n : ℕ) → n ≡ length files → (n == 0) ≡ false → files ≢ []
+some_file files n e f is = true≢false (sym (ap (λ m. m == 0) (e ∙ ap length is)) ∙ f)
+
 module _ (known : Known) (request : FileRequest) (given : List (String Global)) (name : List ℕ) (files : List (String Global)) where
-  pub works_below : (output errors after said : Option (List ℕ)) (all : List (String Global)) (status : ℕ) (goes_on : Bool) → given ≡ request.options.endings.items → all ≡ files
+  pub works_below : (output errors after said : Option (List ℕ)) (all : List (String Global)) (status : ℕ) (goes_on : Bool) → files ≢ [] → given ≡ request.options.endings.items → all ≡ files
       → StandsFor known given name (names_of files) → WorksThrough known request output errors all after said status goes_on
       → WorksBelow known request name output errors after said status goes_on
-  works_below output errors after said all status goes_on same every stands k =
-      worked files (subst (λ l. StandsFor known l name (names_of files)) same stands) (subst (λ l. WorksThrough known request output errors l after said status goes_on) every k)
+  works_below output errors after said all status goes_on some same every stands k =
+      worked files some (subst (λ l. StandsFor known l name (names_of files)) same stands) (subst (λ l. WorksThrough known request output errors l after said status goes_on) every k)
 
   pub stands_for_none : given ≡ request.options.endings.items → length files ≡ 0 → StandsFor known given name (names_of files) → Stands known request name []
   stands_for_none same empty stands =

@@ -39,7 +39,7 @@ works_low (files.through g) = goes_low g
 works_low (files.stopped {status = status} name rest split g k a) = max_low status 2 (goes_low g) (omega arith)
 
 below_low : {known : Known} {request : FileRequest} {name : List ℕ} {output errors written said : Option (List ℕ)} {n : ℕ} {goes_on : Bool} → named.WorksBelow known request name output errors written said n goes_on → n ≤ 2
-below_low (named.worked files stands k) = works_low k
+below_low (named.worked files some stands k) = works_low k
 below_low (named.no_file stands a) = omega arith
 below_low (named.no_memory a) = omega arith
 

@@ -1,7 +1,7 @@
 -- Work on one name of the command line after another, each of a file or a folder.
 -- A promise rests on this.
 use Rattle.std.specs.declared.alloc.Global.{Global}
-use Rattle.std.specs.Prelude.{◌≡◌, ℕ, Bool, true, false, List, [], ◌∷◌, ◌++◌, max, Option, String, string_bytes}
+use Rattle.std.specs.Prelude.{◌≡◌, ◌≢◌, ℕ, Bool, true, false, List, [], ◌∷◌, ◌++◌, max, Option, String, string_bytes}
 use Rattle.json5_write.specs.Pieces.{AppendsFront}
 use Rattle.cli_files.specs.declared.failure.Failure.TheVariants as failure
 use Rattle.cli_tidy.specs.declared.requests.FileRequest.{FileRequest}
@@ -16,9 +16,9 @@ use Rattle.cli_tidy.specs.Troubles.{trouble_line}
 abbrev pub Stands : Known → FileRequest → (name : List ℕ) → (found : List (List ℕ)) → Type 0
 Stands known request = StandsFor known request.options.endings.items
 
--- the work on all files that a name stands for, and whether it goes on; or there is none, or no memory for their names
+-- the work on all files that a name stands for, and whether it goes on; or there is none, which is said, or no memory for their names
 pub data WorksBelow (known : Known) (request : FileRequest) (name : List ℕ) (output errors : Option (List ℕ)) : Option (List ℕ) → Option (List ℕ) → ℕ → Bool → Type 0 where
-  worked : {after said : Option (List ℕ)} {status : ℕ} {goes_on : Bool} (files : List (String Global)) → Stands known request name (names_of files)
+  worked : {after said : Option (List ℕ)} {status : ℕ} {goes_on : Bool} (files : List (String Global)) → files ≢ [] → Stands known request name (names_of files)
       → WorksThrough known request output errors files after said status goes_on → WorksBelow known request name output errors after said status goes_on
   no_file : {said : Option (List ℕ)} → Stands known request name [] → AppendsFront errors said (trouble_line name trouble.NoFile) → WorksBelow known request name output errors output said 2 true
   no_memory : {said : Option (List ℕ)} → AppendsFront errors said (trouble_line name (trouble.Failed failure.NoMemory)) → WorksBelow known request name output errors output said 2 true

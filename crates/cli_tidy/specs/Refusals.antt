@@ -1,14 +1,16 @@
 -- What is shown of what was read and isn't tidied.
 -- A promise rests on this.
 use Rattle.std.specs.declared.alloc.Global.{Global}
-use Rattle.std.specs.Prelude.{◌≡◌, ℕ, List, Option, IfSome, Result, Ok, Err, String, string_bytes}
+use Rattle.std.specs.Prelude.{◌≡◌, ℕ, List, Option, Some, IfSome, Result, Ok, Err, String, string_bytes}
+use Rattle.std.specs.Str.{IsUtf8}
 use Rattle.json5_types.specs.declared.error.Error.{Error}
 use Rattle.json5_types.specs.Errors.{LacksMemory}
 use Rattle.json5_tokens.specs.Cursor.{IsOutOfMemory}
 use Rattle.json5_report.specs.declared.report.Report.{Report}
 use Rattle.json5_report.specs.Reports.{IsReportOf, IsReportOfWrong, report_text}
 use Rattle.cli_files.specs.declared.failure.Failure.{Failure}
-use Rattle.cli_files.specs.Inputs.{IsReadFault, ReadFailure, RefusesInput}
+use Rattle.cli_files.specs.declared.failure.Failure.TheVariants as failure
+use Rattle.cli_files.specs.Inputs.{IsReadFault, RefusesInput}
 use Rattle.cli_tidy.specs.declared.trouble.FileTrouble.{FileTrouble}
 use Rattle.cli_tidy.specs.declared.trouble.FileTrouble.TheVariants as trouble
 
@@ -21,12 +23,24 @@ pub data ShowsFault (name bytes shown : List ℕ) : Type 0 where
   wrong : ShowsReport (IsReportOfWrong name bytes) shown → ShowsFault name bytes shown
   refused : (e : Error) → ¬ (IsOutOfMemory e) → RefusesInput e bytes → ShowsReport (IsReportOf name bytes e) shown → ShowsFault name bytes shown
 
+-- why what was read is no document
+abbrev pub IsCauseOf : (input : Option (List ℕ)) → Failure → Type 0
+IsCauseOf input failure.NotUtf8 = IfSome input (λ bytes. ¬ (IsUtf8 bytes))
+IsCauseOf input (failure.Text e) = ¬ (IsOutOfMemory e) × IfSome input (RefusesInput e)
+IsCauseOf input s = ⊥
+
 -- why what was read under this name isn't tidied; what is no document has its report, unless memory ran out for that
 abbrev pub IsTroubleOf : (name : List ℕ) (input : Option (List ℕ)) → FileTrouble → Type 0
 IsTroubleOf name input (trouble.Refused shown) = IfSome input (λ bytes. ShowsFault name bytes (string_bytes shown))
-IsTroubleOf name input (trouble.Unreported s memory) = ReadFailure input s × LacksMemory memory
+IsTroubleOf name input (trouble.Unreported s memory) = IsCauseOf input s × LacksMemory memory
 IsTroubleOf name input (trouble.Failed s) = IsReadFault s
 IsTroubleOf name input e = ⊥
+
+-- the same of bytes that were read whole: no read failed, and memory ran out only for a text
+abbrev pub IsFaultOf : (name bytes : List ℕ) → FileTrouble → Type 0
+IsFaultOf name bytes (trouble.Failed failure.NoMemory) = IsUtf8 bytes
+IsFaultOf name bytes (trouble.Failed s) = ⊥
+IsFaultOf name bytes e = IsTroubleOf name (Some bytes) e
 
 -- the trouble of a cause, of which this is shown if there is memory for it
 abbrev pub reported : Failure → Result (String Global) Error → FileTrouble

@@ -1,11 +1,11 @@
 //! What is shown of bytes that are no document.
 
-ghost use Rattle.std.specs.Prelude.{◌≡◌, MatchResult, Some, string_bytes};
+ghost use Rattle.std.specs.Prelude.{◌≡◌, MatchResult, string_bytes};
 ghost use Rattle.std.specs.Str.{IsUtf8};
 ghost use Rattle.json5_report.specs.Reports.{IsReportOf, IsReportOfWrong, report_text};
 ghost use Rattle.json5_types.specs.Errors.{LacksMemory};
 ghost use Rattle.cli_files.specs.Inputs.{RefusesInput};
-ghost use Rattle.cli_tidy.specs.Refusals.{IsTroubleOf, ShowsReport, reported};
+ghost use Rattle.cli_tidy.specs.Refusals.{IsFaultOf, ShowsReport, reported};
 
 use crate::trouble::FileTrouble;
 use cli_files::Failure;
@@ -16,7 +16,7 @@ use std::alloc::Global;
 /// The trouble with bytes that are no text.
 pub(crate) fn wrong_bytes(alloc: Global, name: &str, bytes: &[u8]) -> FileTrouble
     requires { ¬ (IsUtf8 bytes.now) }
-    ensures { IsTroubleOf name.now (Some bytes.now) result }
+    ensures { IsFaultOf name.now bytes.now result }
 {
     reported(Failure::NotUtf8, bytes_shown(alloc, name, bytes))
 }
@@ -24,7 +24,7 @@ pub(crate) fn wrong_bytes(alloc: Global, name: &str, bytes: &[u8]) -> FileTroubl
 /// The trouble with a text that is refused so: it is no document, or memory ran out.
 pub(crate) fn refused_text(alloc: Global, name: &str, text: &str, error: Error) -> FileTrouble
     requires { RefusesInput error text.now }
-    ensures { IsTroubleOf name.now (Some text.now) result }
+    ensures { IsFaultOf name.now text.now result }
 {
     match Failure::at(error) {
         Failure::Text(error) => {

@@ -1,8 +1,8 @@
 //! Reading a text and tidying it.
 
-ghost use Rattle.std.specs.Prelude.{◌≡◌, ◌≢◌, true, false, IfOk, IfErr, string_bytes};
-ghost use Rattle.cli_tidy.specs.Refusals.{IsTroubleOf};
-ghost use Rattle.cli_tidy.specs.Tidies.{HoldsText, HoldsTidied};
+ghost use Rattle.std.specs.Prelude.{◌≡◌, ◌≢◌, true, false, IfOk, IfErr, Some, string_bytes};
+ghost use Rattle.cli_tidy.specs.Refusals.{IsFaultOf, IsTroubleOf};
+ghost use Rattle.cli_tidy.specs.Tidies.{HoldsTidied};
 
 use crate::endings::style_for;
 use crate::refusals::{refused_text, wrong_bytes};
@@ -33,8 +33,8 @@ impl Tidied {
 ///
 /// # Errors
 ///
-/// - `Refused` where what was read is no text, or no document, and `Unreported` where there is no memory to show that.
-/// - `Failed` where memory ran out before, or a read failed.
+/// - `Failed` where a read failed, or memory ran out.
+/// - As [`tidied_bytes`].
 pub(crate) fn read_tidied<R: Read>(
     alloc: Global,
     name: &str,
@@ -44,24 +44,45 @@ pub(crate) fn read_tidied<R: Read>(
     ensures read { IfOk result (HoldsTidied style name.now (R.remaining r.old)) }
     ensures stopped { IfErr result (IsTroubleOf name.now (R.remaining r.old)) }
 {
-    let before = read_text(alloc, name, r)?;
-    match tidy_with(alloc, style_for(name, style), before.as_str()) {
-        Ok(after) => Ok(Tidied { before, after }),
-        Err(error) => Err(refused_text(alloc, name, before.as_str(), error)),
+    match read_whole(alloc, r) {
+        Ok(bytes) => tidied_bytes(alloc, name, style, bytes),
+        Err(failure) => Err(FileTrouble::Failed(failure)),
     }
 }
 
-/// Reads all of `r` as a string.
-fn read_text<R: Read>(alloc: Global, name: &str, r: &mut R) -> Result<String, FileTrouble>
-    ensures read { IfOk result (HoldsText (R.remaining r.old)) }
-    ensures stopped { IfErr result (IsTroubleOf name.now (R.remaining r.old)) }
+/// Tidies bytes that were read under this name.
+///
+/// # Errors
+///
+/// - `Refused` where they are no text, or no document, and `Unreported` where there is no memory to show that.
+/// - `Failed` where they are a text and memory ran out to tidy it.
+fn tidied_bytes(
+    alloc: Global,
+    name: &str,
+    style: Style,
+    bytes: Vec<u8>,
+) -> Result<Tidied, FileTrouble>
+    ensures tidied { IfOk result (HoldsTidied style name.now (Some bytes.items)) }
+    ensures refused { IfErr result (IsFaultOf name.now bytes.items) }
 {
-    let bytes = match read_whole(alloc, r) {
-        Ok(bytes) => bytes,
-        Err(failure) => return Err(FileTrouble::Failed(failure)),
-    };
     match String::from_utf8(bytes) {
-        Ok(text) => Ok(text),
+        Ok(text) => tidied_text(alloc, name, style, text),
         Err(e) => Err(wrong_bytes(alloc, name, e.as_bytes())),
+    }
+}
+
+/// Tidies a text that was read under this name.
+fn tidied_text(
+    alloc: Global,
+    name: &str,
+    style: Style,
+    before: String,
+) -> Result<Tidied, FileTrouble>
+    ensures tidied { IfOk result (HoldsTidied style name.now (Some (string_bytes before))) }
+    ensures refused { IfErr result (IsFaultOf name.now (string_bytes before)) }
+{
+    match tidy_with(alloc, style_for(name, style), before.as_str()) {
+        Ok(after) => Ok(Tidied { before, after }),
+        Err(error) => Err(refused_text(alloc, name, before.as_str(), error)),
     }
 }

@@ -1,23 +1,20 @@
 -- The text that is scanned as a number is one, and a text that isn't is none.
-use Rattle.std.proofs.Common.{◌≡◌, ℕ, ◌-◌, ◌^◌, ◌<◌, ◌≤◌, Bool, true, false, cond, ◌||◌, List, [], ◌∷◌, ◌++◌, length, refl, ap, sym, subst, ◌∙◌, arith, append-nil, Option, Some, lit<, lit≤, true≢false}
-use Rattle.std.specs.Prelude.{ℤ, pos, ◌+ℤ◌, slice_get}
+use Rattle.std.proofs.Common.{◌≡◌, ℕ, ◌-◌, ◌^◌, ◌<◌, ◌≤◌, Bool, true, false, cond, List, [], ◌∷◌, ◌++◌, length, refl, ap, sym, subst, ◌∙◌, arith, append-nil, Option, Some, lit<, lit≤, true≢false}
+use Rattle.std.specs.Bool.{Decides}
+use Rattle.std.specs.Prelude.{ℤ, pos, ◌+ℤ◌, slice_get, is_some, not, Err}
 use Rattle.std.proofs.lemmas.Int.{ints}
 use Rattle.std.proofs.lemmas.Fmt.{decimal_is_IsNumeral_wide, length-decimal-le_wide}
 use native.Mathlib.Nat.{lt_of_lt_of_le, le_trans}
 use Rattle.std.specs.Fmt.{decimal as decimal_digits}
-use Rattle.json5_grammar.specs.declared.error_code.ErrorCode.{ErrorCode}
 use Rattle.json5_grammar.specs.Language.Characters.{is_digit, Each, NotBegun}
 use Rattle.json5_grammar.specs.Language.Numbers.{Num, Number, lengthens, without_front_zeros, without_zeros, normal_exponent, is_empty, InExponents}
-use Rattle.json5_grammar.specs.Faults.Tokens.{is_sign, begins_number}
-use Rattle.json5_grammar.proofs.NumberFaultsRefused.{no_fault, one_number}
-use Rattle.json5_grammar.proofs.ValueHeads.{number_head}
+use Rattle.json5_grammar.proofs.NumberFaultsRefused.{one_number}
 use Rattle.json5_grammar.proofs.DecimalsWritten.{length-front}
 use Rattle.json5_types.specs.declared.error.Error.{Error}
 use Rattle.json5_numbers.proofs.SpelledNumbers.{each_digit}
-use Rattle.json5_types.specs.Errors.{LacksMemory, kind_of, known_code}
-use Rattle.json5_numbers.specs.NumberTexts.{is_memory}
-use Rattle.json5_tokens.specs.Cursor.{Cursor, Refused}
-use Rattle.json5_tokens.specs.TokenFaults.{FaultyNumber, faulty, no_number, number_missing}
+use Rattle.json5_numbers.specs.NumberTexts.{IsNumber}
+use Rattle.json5_tokens.specs.Cursor.{Cursor}
+use Rattle.json5_tokens.specs.TokenCalls.{PassesNumber}
 
 abbrev pub NoNumber : List ℕ → Type 0
 NoNumber text = (n : Number) → Num text n → ⊥
@@ -31,23 +28,21 @@ more_left text s rest n c r e k h stops m i =
     let q : c ∷ r ≡ [] = sym k ∙ o.2 in
     absurd (cc)
 
-no_head : (c d : ℕ) (r t : List ℕ) → c ∷ r ≡ d ∷ t → (is_sign c || begins_number c) ≡ false → (is_sign d || begins_number d) ≡ true → ⊥
-no_head c d r t e h k = let q : c ≡ d = cc in true≢false (sym k ∙ ap (λ x. is_sign x || begins_number x) (sym q) ∙ h)
-
-by_fault : {x : List ℕ} {reason : Option ErrorCode} {place : Option (List ℕ)} → FaultyNumber x reason place → NoNumber x
-by_fault {x = x} (faulty f) n h = no_fault [] f (sym (append-nil x)) h tt
-by_fault (no_number c r k) n h = let p = number_head h in no_head c p.0 r p.1 p.2 k p.3
-by_fault number_missing n h = let p = number_head h in let q : [] ≡ p.0 ∷ p.1 = p.2 in absurd (cc)
-
-pub not_memory : (e : Error) (b : Bool) → b ≡ is_memory (known_code (kind_of e)) → b ≡ false → LacksMemory e → ⊥
-not_memory e b h f m = true≢false (sym (ap (λ k. is_memory (known_code k)) m.kind) ∙ sym h ∙ f)
-
 pub first_of_rest : (xs : List ℕ) (v : ℕ) → slice_get xs 0 ≡ Some v → (c : ℕ) × (r : List ℕ) × (xs ≡ c ∷ r)
 first_of_rest [] v h = absurd (cc)
 first_of_rest (c ∷ r) v h = (c, r, refl)
 
-pub refused_none : (s : Cursor) (e : Error) → Refused FaultyNumber s e → NoNumber s.unread
-refused_none s e r = by_fault r.fault
+-- a number was passed over, and this is the first character of what is left, if there is one
+pub whole_exactly : (text s rest : List ℕ) (n : Number) (first : Option ℕ) (r : Bool) → text ≡ s ++ rest → Num s n → NotBegun (lengthens s) rest → first ≡ slice_get rest 0 → is_some first ≡ not r
+    → Decides r (IsNumber text)
+whole_exactly text s [] n first true e h stops f k = (λ _. (n, all_taken text s [] n e refl h), λ _. refl)
+whole_exactly text s [] n first false e h stops f k = absurd (true≢false (sym k ∙ ap is_some f))
+whole_exactly text s (c ∷ r) n first true e h stops f k = absurd (true≢false (sym (ap is_some f) ∙ k))
+whole_exactly text s (c ∷ r) n first false e h stops f k = (λ t. absurd (true≢false (sym t)), λ (m, i). absurd (more_left text s (c ∷ r) n c r e refl h stops m i))
+
+-- a number is always passed over
+pub refused_none : (s new : Cursor) (e : Error) → PassesNumber s new (Err e) → NoNumber s.unread
+refused_none s new e k n h = true≢false (sym (k.memory s.unread [] n (sym (append-nil s.unread)) h tt))
 
 -- ---- exponents of few digits
 

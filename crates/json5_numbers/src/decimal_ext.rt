@@ -5,7 +5,7 @@ ghost use Rattle.std.specs.Str.{chars};
 ghost use Rattle.std.specs.Float.{binary64};
 ghost use Rattle.json5_numbers.specs.Floats.{nearest_to};
 ghost use Rattle.json5_types.specs.Errors.{LacksMemory};
-ghost use Rattle.json5_numbers.specs.NumberTexts.{IsTextOf, decimal_of_whole};
+ghost use Rattle.json5_numbers.specs.NumberTexts.{IsTextOf, LacksMemoryFor, decimal_of_whole};
 ghost use Rattle.json5_numbers.specs.Orders.{decimal_cmp};
 
 use crate::order::order;
@@ -34,7 +34,7 @@ pub trait DecimalExt: Sized {
     ///
     /// # Errors
     ///
-    /// - `OutOfMemory`, without a position, where a request for memory was refused.
+    /// - `OutOfMemory`, without a position, where the text is a number and a request for memory was refused.
     fn parse(alloc: Global, text: &str) -> Result<Option<Self>>;
 
     /// Returns the decimal with the value of a whole number. Only more than 19 digits without the zeros at the end take memory.
@@ -83,7 +83,7 @@ pub trait DecimalExt: Sized {
 
 impl DecimalExt for Decimal {
     fn parse(alloc: Global, text: &str) -> Result<Option<Decimal>>
-        ensures { MatchResult result (IsTextOf (chars text.now)) LacksMemory }
+        ensures { MatchResult result (IsTextOf (chars text.now)) (LacksMemoryFor (chars text.now)) }
     {
         match whole_text(alloc, text)? {
             Some(number) => Ok(Some(decimal(alloc, number)?)),

@@ -1,10 +1,11 @@
 //! Decimals of texts and of whole numbers.
 
+ghost use Rattle.std.specs.Bool.{Decides};
 ghost use Rattle.std.specs.Prelude.{◌≡◌, MatchResult};
 ghost use Rattle.std.specs.Str.{chars};
-ghost use Rattle.json5_types.specs.Errors.{LacksMemory, kind_of, known_code};
+ghost use Rattle.json5_types.specs.Errors.{LacksMemory};
 ghost use Rattle.json5_types.specs.NumberMeanings.{number_of};
-ghost use Rattle.json5_numbers.specs.NumberTexts.{decimal_of_whole, decimal_of, is_memory, IsTextOfNumber};
+ghost use Rattle.json5_numbers.specs.NumberTexts.{decimal_of_whole, decimal_of, IsNumber, IsTextOfNumber, LacksMemoryFor};
 
 use crate::wholes::sign_and_size;
 use itoa::Buffer;
@@ -18,7 +19,7 @@ use std::alloc::Global;
 
 /// The number that the whole text is, if it is one.
 pub(crate) fn whole_text(alloc: Global, text: &str) -> Result<Option<Number>>
-    ensures { MatchResult result (IsTextOfNumber (chars text.now)) LacksMemory }
+    ensures { MatchResult result (IsTextOfNumber (chars text.now)) (LacksMemoryFor (chars text.now)) }
 {
     let mut scanner = Scanner::new(alloc, text);
     match scanner.number() {
@@ -26,20 +27,21 @@ pub(crate) fn whole_text(alloc: Global, text: &str) -> Result<Option<Number>>
             None => Ok(Some(number)),
             Some(_) => Ok(None),
         },
-        Err(fault) => {
-            if is_memory(&fault) {
-                return Err(Error::new(ErrorCode::OutOfMemory));
-            }
-            Ok(None)
-        }
+        Err(_) if is_number(alloc, text) => Err(Error::new(ErrorCode::OutOfMemory)),
+        Err(_) => Ok(None),
     }
 }
 
-/// Whether memory ran out.
-fn is_memory(fault: &Error) -> bool
-    ensures { result ≡ is_memory (known_code (kind_of fault.now)) }
+/// Whether the whole text is a number. Where it is one, this takes no memory.
+#[cold]
+fn is_number(alloc: Global, text: &str) -> bool
+    ensures { Decides result (IsNumber (chars text.now)) }
 {
-    matches!(fault.code(), Some(ErrorCode::OutOfMemory))
+    let mut scanner = Scanner::new(alloc, text);
+    match scanner.skip_number() {
+        Ok(_) => scanner.peek().is_none(),
+        Err(_) => false,
+    }
 }
 
 /// The decimal with the value of a number.

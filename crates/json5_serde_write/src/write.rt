@@ -1,12 +1,12 @@
 //! Writing a whole value.
 
-ghost use Rattle.std.specs.Prelude.{string_bytes, IfOk, OnOk};
+ghost use Rattle.std.specs.Prelude.{string_bytes, IfErr, IfOk, OnOk};
 ghost use Rattle.json5_grammar.specs.Language.Documents.{max_depth};
-ghost use Rattle.json5_serde_write.specs.WrittenTexts.{IsWrittenWithin, WritesSome};
+ghost use Rattle.json5_serde_write.specs.WrittenTexts.{IsWrittenWithin, WritesNone, WritesSome};
 
 use crate::fault::{Fault, told};
 use crate::writer::Json5;
-use json5_types::error::Result;
+use json5_types::error::{Error, Result};
 use json5_types::nesting::Limit;
 use json5_write::write_whole::write_whole;
 use serde::Serialize;
@@ -101,7 +101,8 @@ pub fn to_vec_within<T: Serialize>(alloc: Global, limit: Limit, value: &T) -> Re
 ///
 /// As [`to_writer_within`].
 pub fn to_writer<T: Serialize, W: Write>(alloc: Global, w: &mut W, value: &T) -> Result<()>
-    ensures { OnOk result (WritesSome max_depth (W.contents w.old) (W.contents w.new)) }
+    ensures written { OnOk result (WritesSome max_depth (W.contents w.old) (W.contents w.new)) }
+    ensures refused { IfErr result (WritesNone max_depth (W.contents w.old) (W.contents w.new)) }
 {
     to_writer_within(alloc, w, Limit::full(), value)
 }
@@ -123,9 +124,14 @@ pub fn to_writer_within<T: Serialize, W: Write>(
     limit: Limit,
     value: &T,
 ) -> Result<()>
-    ensures { OnOk result (WritesSome limit (W.contents w.old) (W.contents w.new)) }
+    ensures written { OnOk result (WritesSome limit (W.contents w.old) (W.contents w.new)) }
+    ensures refused { IfErr result (WritesNone limit (W.contents w.old) (W.contents w.new)) }
 {
-    let text = to_string_within(alloc, limit, value)?;
-    write_whole(w, text.as_bytes())?;
-    Ok(())
+    match to_string_within(alloc, limit, value) {
+        Ok(text) => match write_whole(w, text.as_bytes()) {
+            Ok(()) => Ok(()),
+            Err(fault) => Err(Error::from(fault)),
+        },
+        Err(error) => Err(error),
+    }
 }

@@ -1,6 +1,6 @@
 use Rattle.std.proofs.Common.{sym, eqb-true, arith}
 use Rattle.cli_tidy.specs.Names.{no_file, no_memory}
-use Rattle.cli_tidy.proofs.NamesWorked.{works_below, stands_for_none}
+use Rattle.cli_tidy.proofs.NamesWorked.{some_file, works_below, stands_for_none}
 use Rattle.cli_tidy.proofs.files.work_below.Goals as goal
 
 pub returns-in_default : goal.returns-in_default
@@ -14,4 +14,4 @@ returns-then-is_empty g c =
 
 pub returns : goal.returns
 returns g c =
-    works_below (g.S.Store.known c.args.store.now) c.args.request.now c.as_slice.result.now c.args.name.now c.in-Ok.names.items _ _ _ _ c.as_slice-2.result.now _ _ c.as_slice.ensures.value c.as_slice-2.ensures.value c.in-Ok.ensures c.work_on_each.ensures
+    works_below (g.S.Store.known c.args.store.now) c.args.request.now c.as_slice.result.now c.args.name.now c.in-Ok.names.items _ _ _ _ c.as_slice-2.result.now _ _ (some_file c.in-Ok.names.items c.in-Ok.names.len c.in-Ok.names.ok.0 (sym c.if-is_empty.ensures)) c.as_slice.ensures.value c.as_slice-2.ensures.value c.in-Ok.ensures c.work_on_each.ensures
