@@ -15,6 +15,7 @@ pub mod RunsPassed
 pub mod PlainTokens
 pub mod PlainNumbers
 pub mod PlainRuns
+pub mod PlainFronts
 pub mod PlainTakes
 pub mod PlainWords
 pub mod PlainWordsTaken

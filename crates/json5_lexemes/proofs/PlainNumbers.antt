@@ -8,9 +8,8 @@ use Rattle.std.proofs.lemmas.Bool.Decides.{nat_tests}
 use Rattle.json5_grammar.specs.Language.Characters.{is_in, is_digit, Begun, NotBegun, Each, no_char, char}
 use Rattle.json5_grammar.specs.Language.Numbers.{Integer, lone_zero, nonzero}
 use Rattle.json5_grammar.proofs.CharacterTests.{nonzero_digit, digit_nonzero, e_no_digit}
-use Rattle.json5_grammar.proofs.CommonLemmas.{not_eq}
+use Rattle.json5_grammar.proofs.CommonLemmas.{not_eq, neq_from}
 use Rattle.json5_styles.specs.Json.{JsonNumber, json_number, no_minus, minus, no_fraction, fraction, Exponent, no_exponent, exponent, no_sign, sign}
-use Rattle.json5_tokens.specs.Scan.{SkipsAll}
 use Rattle.json5_lexemes.specs.SameLexemes.{is_word_part}
 use Rattle.json5_lexemes.specs.PlainSteps.{is_exponent_letter, is_exponent_sign, is_json_part, Digits, Unsigned, unsigned, AfterDigits, after_digits, SignedDigits, signed_digits, IsEmpty, Then, GoesOn, GoesOnIf, PassesDigits}
 use Rattle.json5_lexemes.proofs.OneList.{one_run}
@@ -249,9 +248,13 @@ pub fraction_goes : (text after : List ℕ) (result : Option (Bor (List ℕ))) �
 fraction_goes text after None e n = λ r t. no_point_digits (chars after) r n (subst (λ z. Then AfterDigits z r) e t)
 fraction_goes text after (Some rest) e (b, s) = λ r. subst (λ z. Then AfterDigits z r ↔ Then Exponent (chars rest.now) r) (sym e) (point_passed (chars after) s.passed (chars rest.now) r s.split s.each s.stops b)
 
-pub integer_goes : (text after : List ℕ) (c : ℕ) (result : Option (Bor (List ℕ))) → chars text ≡ c ∷ chars after → c ≢ 48 → PassesDigits text result → GoesOnIf Unsigned AfterDigits text result
-integer_goes text after c None e nz n = λ r t. no_digits (chars text) r n t
-integer_goes text after c (Some rest) e nz (b, s) = λ r. digits_passed (chars text) s.passed (chars rest.now) r c (chars after) s.split s.each s.stops e nz b
+pub integer_goes : (text : List ℕ) (result : Option (Bor (List ℕ))) → NotBegun (λ d. d == 48) (chars text) → PassesDigits text result → GoesOnIf Unsigned AfterDigits text result
+integer_goes text None z n = λ r t. no_digits (chars text) r n t
+integer_goes text (Some rest) z (b, s) = λ r. by_front (chars text) refl r
+  where
+    by_front : (x : List ℕ) → chars text ≡ x → (r : List ℕ) → Then Unsigned (chars text) r ↔ Then AfterDigits (chars rest.now) r
+    by_front [] e r = absurd (subst (Begun is_digit) e b)
+    by_front (c ∷ y) e r = digits_passed (chars text) s.passed (chars rest.now) r c y s.split s.each s.stops e (neq_from c 48 (subst (NotBegun (λ d. d == 48)) e z)) b
 
 pub exponent_goes : (text after digits : List ℕ) (c : ℕ) (result : Option (Bor (List ℕ))) → chars text ≡ c ∷ chars after → is_exponent_letter c ≡ true → GoesOn SignedDigits Digits after digits → PassesDigits digits result → GoesOnIf Exponent IsEmpty text result
 exponent_goes text after digits c None e h o n = λ r t. no_last_digits (chars digits) r n ((o r).0 ((letter_passed c (chars after) r h).0 (subst (λ z. Then Exponent z r) e t)))
@@ -272,6 +275,6 @@ goes_nowhere P Q text rest a b = λ r t. b r ((a r).0 t)
 pub goes_far : (P Q S : List ℕ → Type 0) (text rest left : List ℕ) → GoesOn P Q text rest → GoesOn Q S rest left → GoesOn P S text left
 goes_far P Q S text rest left a b = λ r. (λ t. (b r).0 ((a r).0 t), λ t. (a r).1 ((b r).1 t))
 
--- a digit in front of those that were passed
-pub one_more_digit : (text after rest : List ℕ) (c : ℕ) → chars text ≡ c ∷ chars after → is_digit c ≡ true → SkipsAll is_digit after rest → SkipsAll is_digit text rest
-one_more_digit text after rest c e h s = record { passed = c ∷ s.passed; split = e ∙ ap (λ z. c ∷ z) s.split; each = char h s.each; stops = s.stops }
+-- what no word goes on with is no exponent
+pub no_letter : (x : List ℕ) → NotBegun is_word_part x → NotBegun is_exponent_letter x
+no_letter = stops is_exponent_letter letter_part

@@ -3,13 +3,14 @@ use denote.Ref.{Bor}
 use Rattle.std.proofs.Common.{◌≡◌, ◌≢◌, ◌<◌, ◌≤◌, ℕ, Bool, true, false, inl, inr, Option, Some, None, List, [], ◌∷◌, ◌++◌, length, length-append, refl, sym, ap, ◌∙◌, subst, append_assoc, arith}
 use Rattle.std.specs.Prelude.{◌==◌, ◌↔◌}
 use Rattle.std.specs.Str.{chars}
+use Rattle.std.proofs.lemmas.Bool.{both_ways}
 use Rattle.json5_grammar.specs.Language.Characters.{NotBegun, Each, no_char, char}
 use Rattle.json5_styles.specs.Json.{is_json_blank, quoted}
 use Rattle.json5_tokens.specs.Scan.{SkipsAll}
 use Rattle.json5_lexemes.specs.SameLexemes.{is_word_part}
 use Rattle.json5_lexemes.specs.Plain.{Plain, is_opening, is_closing, JsonWord}
 use Rattle.json5_lexemes.specs.Plain as plain
-use Rattle.json5_lexemes.specs.PlainSteps.{TakesString, TakesWord, TakesComment, LeavesWith, PassesSign, PassesComment, PassesLexeme}
+use Rattle.json5_lexemes.specs.PlainSteps.{TakesString, TakesWord, TakesComment, LeavesWith, PassesSign, PassesComment, PassesLexeme, StaysPassed}
 use Rattle.json5_lexemes.specs.declared.plain.Last.{Last}
 use Rattle.json5_lexemes.specs.declared.plain.Last.TheVariants as last
 use Rattle.json5_lexemes.proofs.PlainTokens.{Asks, asked, WordThen, CommentThen, plain_quote, plain_slash, plain_open, plain_close, plain_comma, plain_colon, no_empty_word}
@@ -31,9 +32,6 @@ skipped_plain k l x y s = subst (λ z. Plain k l z ↔ Plain k l (chars y)) (sym
 pub skipped_less : {p : ℕ → Bool} (x y : List ℕ) → SkipsAll p x y → length (chars y) ≤ length (chars x)
 skipped_less x y s = let k = ap length s.split ∙ length-append s.passed (chars y) in omega (arith, k)
 
-pub solid_front : (x : List ℕ) (c : ℕ) (y : List ℕ) → NotBegun is_json_blank x → x ≡ c ∷ y → is_json_blank c ≡ false
-solid_front x c y n e = subst (NotBegun is_json_blank) e n
-
 -- ---- what may follow each first character
 
 module _ (k : Bool) (l : Last) (text after : List ℕ) (c : ℕ) (f : chars text ≡ c ∷ chars after) where
@@ -51,6 +49,18 @@ module _ (k : Bool) (l : Last) (text after : List ℕ) (c : ℕ) (f : chars text
 
   pub comma_passed : c ≡ 44 → (Plain k l (chars text) ↔ Plain k last.Comma (chars after)) × (length (chars after) < length (chars text))
   comma_passed h = ((λ p. plain_comma (subst (λ z. Plain k l (z ∷ chars after)) h (front_plain p)), λ p. plain_front (subst (λ z. Plain k l (z ∷ chars after)) (sym h) (plain.comma p))), front_less)
+
+  pub blank_passed : is_json_blank c ≡ true → (Plain k l (chars text) ↔ Plain k l (chars after)) × (length (chars after) < length (chars text))
+  blank_passed h =
+      let a = blanks_plain {k = k} {l = l} (c ∷ []) (chars after) (char h no_char) in
+      ((λ p. a.0 (front_plain p), λ p. plain_front (a.1 p)), front_less)
+
+  pub blanks_passed : is_json_blank c ≡ true → (rest : List ℕ) → SkipsAll is_json_blank text rest → (Plain k l (chars text) ↔ Plain k l (chars rest)) × (length (chars rest) < length (chars text))
+  blanks_passed h rest s = (skipped_plain k l text rest s, shorter s.passed s.split)
+    where
+      shorter : (w : List ℕ) → chars text ≡ w ++ chars rest → length (chars rest) < length (chars text)
+      shorter [] e = absurd (both_ways (is_json_blank c) (subst (NotBegun is_json_blank) (sym e ∙ f) s.stops) h)
+      shorter (d ∷ w) e = let n = ap length e ∙ length-append (d ∷ w) (chars rest) in omega (arith, n)
 
   sign_passed : (May : Type 0) → (Plain k l (c ∷ chars after) → May × Plain k last.Sign (chars after)) → (May → Plain k last.Sign (chars after) → Plain k l (c ∷ chars after)) → (result : Option (Last × Bor (List ℕ)))
       → PassesSign May after result → PassesLexeme k l text result
@@ -148,3 +158,16 @@ module _ (k : Bool) (l : Last) (text after : List ℕ) (c : ℕ) (f : chars text
       shorter : TakesWord (chars text) (chars p.1.now) → length (chars p.1.now) < length (chars text)
       shorter ([], w, n, e) = absurd (no_empty_word w refl)
       shorter (d ∷ s, w, n, e) = let m = ap length e ∙ length-append (d ∷ s) (chars p.1.now) in omega (arith, m)
+
+-- ---- one lexeme after another
+
+pub passed_on : (k : Bool) (l m : Last) (text : List ℕ) (rest : Bor (List ℕ)) (result : Option (Last × Bor (List ℕ))) → PassesLexeme k l text (Some (m, rest)) → PassesLexeme k m rest.now result
+    → PassesLexeme k l text result
+passed_on k l m text rest None a n = λ p. n (a.0.0 p)
+passed_on k l m text rest (Some q) a b = ((λ p. b.0.0 (a.0.0 p), λ p. a.0.1 (b.0.1 p)), omega (arith, a.1, b.1))
+
+pub stays_none : (passed : Option (Last × Bor (List ℕ))) → passed ≡ None → StaysPassed passed None
+stays_none passed e = λ k l text p. subst (PassesLexeme k l text) e p
+
+pub stays_after : (m : Last) (rest : Bor (List ℕ)) (passed result : Option (Last × Bor (List ℕ))) → passed ≡ Some (m, rest) → ((k : Bool) → PassesLexeme k m rest.now result) → StaysPassed passed result
+stays_after m rest passed result e f = λ k l text p. passed_on k l m text rest result (subst (PassesLexeme k l text) e p) (f k)

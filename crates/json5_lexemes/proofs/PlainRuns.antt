@@ -1,25 +1,30 @@
 -- Characters of ASCII in front of a text that pass a test, and the lanes that are tested for them.
-use Rattle.std.proofs.Common.{◌≡◌, ℕ, Bool, true, false, not, ◌||◌, nat_lt, cond, eqb, List, ◌++◌, drop, refl, ap, sym, ◌∙◌, subst, arith}
+use Rattle.std.proofs.Common.{◌≡◌, ◌≢◌, ℕ, Bool, true, false, not, ◌||◌, nat_lt, cond, eqb, List, [], ◌∷◌, ◌++◌, length, drop, refl, ap, sym, ◌∙◌, subst, arith}
 use Rattle.std.specs.Prelude.{◌==◌}
 use Rattle.std.specs.List.{prefix_len}
 use Rattle.std.specs.Str.{chars, IsUtf8, IsCharBoundary}
 use Rattle.std.proofs.lemmas.Bool.Decides.{nat_tests}
 use lib.Bits.{bit_and, bit_or}
 use lib.Lanes.{top}
-use Rattle.json5_grammar.specs.Language.Characters.{NotBegun, is_digit}
+use Rattle.json5_grammar.specs.Language.Characters.{Begun, NotBegun, Each, char, is_digit}
 use Rattle.json5_grammar.specs.Model.ReadNumbers.{front_of, rest_of}
 use Rattle.json5_grammar.proofs.CharacterTests.{front_each, rest_stops}
+use Rattle.json5_grammar.proofs.FixedWidthLaws.{front_is}
 use Rattle.json5_styles.specs.Json.{is_json_blank}
 use Rattle.json5_styles.proofs.JsonRuns.{below}
 use Rattle.json5_tokens.specs.Scan.{SkipsAll}
 use Rattle.json5_types.proofs.AsciiRuns.{PassesAscii, counted, chars_split, rest_cut, rest_chars, front_boundary}
-use Rattle.json5_lexemes.specs.PlainSteps.{ends_blanks, ends_digits, is_json_part}
+use Rattle.json5_lexemes.specs.Plain.{is_opening, is_closing}
+use Rattle.json5_lexemes.specs.PlainSteps.{ends_blanks, ends_digits}
 
 pub blank_is_ascii : PassesAscii is_json_blank
 blank_is_ascii c h = grind (arith, nat_tests)
 
-pub part_is_ascii : PassesAscii is_json_part
-part_is_ascii c h = grind (arith, nat_tests)
+pub opening_is_ascii : PassesAscii is_opening
+opening_is_ascii c h = grind (arith, nat_tests)
+
+pub closing_is_ascii : PassesAscii is_closing
+closing_is_ascii c h = grind (arith, nat_tests)
 
 pub ascii_boundary : (p : ℕ → Bool) (s : List ℕ) (n : ℕ) → PassesAscii p → IsUtf8 s → n ≡ prefix_len p s → IsCharBoundary s n
 ascii_boundary p s n a u e = front_boundary p s n a u (counted p s n e)
@@ -33,6 +38,16 @@ ascii_skips p s r n a u e d =
       each = front_each p s;
       stops = subst (NotBegun p) (sym (c ∙ rest_chars p s a u)) (rest_stops p (chars s));
     }
+
+pub none_in_front : (p : ℕ → Bool) (s : List ℕ) (n : ℕ) → PassesAscii p → IsUtf8 s → n ≡ prefix_len p s → n ≡ 0 → NotBegun p (chars s)
+none_in_front p s n a u e z = (ascii_skips p s s 0 a u (sym z ∙ e) refl).stops
+
+pub some_in_front : (p : ℕ → Bool) (s : List ℕ) (n : ℕ) → PassesAscii p → n ≡ prefix_len p s → n ≢ 0 → Begun p (chars s)
+some_in_front p s n a e z = subst (Begun p) (sym (chars_split p s a)) (begun (front_of p s) (front_each p s) (counted p s n e ∙ ap length (sym (front_is p s))))
+  where
+    begun : (d : List ℕ) → Each p d → n ≡ length d → Begun p (d ++ chars (rest_of p s))
+    begun [] w k = absurd (z k)
+    begun (c ∷ d) (char h w) k = h
 
 -- ---- runs that are seen 16 bytes at a time
 

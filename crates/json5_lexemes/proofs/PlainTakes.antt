@@ -13,8 +13,9 @@ use Rattle.json5_grammar.specs.Language.Characters.{is_terminator, is_hex_digit,
 use Rattle.json5_styles.specs.Json.{is_unescaped, is_escape_letter, JsonChars, no_char as json_end, unescaped, letter, code}
 use Rattle.json5_tokens.specs.Scan.{SkipsAll}
 use Rattle.json5_lexemes.specs.SameLexemes.{is_line_part}
-use Rattle.json5_lexemes.specs.PlainSteps.{TakesString, TakesHex, TakesCode, TakesEscape, TakesWord, TakesLine, TakesBlock, TakesComment, Leaves}
+use Rattle.json5_lexemes.specs.PlainSteps.{TakesString, TakesHex, TakesCode, TakesEscape, TakesWord, TakesLine, TakesBlock, TakesComment, Leaves, LeavesWith, IsPast}
 use Rattle.json5_lexemes.specs.PlainSteps as steps
+use Rattle.json5_lexemes.specs.declared.plain.Last.{Last}
 use Rattle.json5_grammar.proofs.CommonLemmas.{neq_from}
 use Rattle.json5_lexemes.proofs.OneList.{one_run}
 use Rattle.json5_lexemes.proofs.PlainTokens.{heads_apart}
@@ -23,6 +24,11 @@ use Rattle.json5_lexemes.proofs.PlainTokens.{heads_apart}
 pub leaves_by : (P Q : List ℕ → List ℕ → Type 0) (x y : List ℕ) (result : Option (Bor (List ℕ))) → ((r : List ℕ) → P (chars x) r ↔ Q (chars y) r) → Leaves Q y result → Leaves P x result
 leaves_by P Q x y None o n = λ r t. n r ((o r).0 t)
 leaves_by P Q x y (Some rest) o n = λ r. (λ t. (n r).0 ((o r).0 t), λ e. (o r).1 ((n r).1 e))
+
+-- the same, with what came last
+pub leaves_with_by : (P Q : List ℕ → List ℕ → Type 0) (m : Last) (x : List ℕ) (result : Option (Last × Bor (List ℕ))) → ((r : List ℕ) → P (chars x) r ↔ Q (chars x) r) → LeavesWith Q m x result → LeavesWith P m x result
+leaves_with_by P Q m x None o n = λ r t. n r ((o r).0 t)
+leaves_with_by P Q m x (Some p) o (is, n) = (is, λ r. (λ t. (n r).0 ((o r).0 t), λ e. (o r).1 ((n r).1 e)))
 
 -- the rest of a string by its first character
 data StringView (c : ℕ) (x r : List ℕ) : Type 0 where
@@ -103,6 +109,15 @@ string_stops c x r n q b (s, k, e) = by_view (string_view c x r k e)
 pub no_string : (r : List ℕ) → TakesString [] r → ⊥
 no_string r ([], k, e) = cc
 no_string r (c ∷ s, k, e) = cc
+
+-- a string ends where no run and no escape is
+pub string_closes : (x : List ℕ) (result : Option (Bor (List ℕ))) → NotBegun is_unescaped (chars x) → NotBegun (λ d. d == 92) (chars x) → IsPast 34 x result → Leaves TakesString x result
+string_closes x None n b q = λ r t. none (chars x) n b q r t
+  where
+    none : (y : List ℕ) → NotBegun is_unescaped y → NotBegun (λ d. d == 92) y → NotBegun (λ d. d == 34) y → (r : List ℕ) → TakesString y r → ⊥
+    none [] n b q r t = no_string r t
+    none (c ∷ y) n b q r t = string_stops c y r n (neq_from c 34 q) (neq_from c 92 b) t
+string_closes x (Some rest) n b q = λ r. subst (λ z. TakesString z r ↔ (r ≡ chars rest.now)) (sym q.chars) (string_ends (chars rest.now) r)
 
 -- a run that was passed
 pub passed_run : (x y r : List ℕ) → SkipsAll is_unescaped x y → TakesString (chars x) r ↔ TakesString (chars y) r

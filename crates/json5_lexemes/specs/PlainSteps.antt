@@ -1,13 +1,12 @@
 -- Steps over a text that is asked for JSON's lexemes. Private clauses and proofs alone cite it.
 -- Private.
 use denote.Ref.{Bor}
-use Rattle.std.specs.Prelude.{◌≡◌, ◌<◌, ◌⊎◌, ◌↔◌, ◌||◌, ◌==◌, ◌≢◌, ℕ, Bool, true, not, List, [], ◌∷◌, ◌++◌, length, Option, MatchOption}
+use Rattle.std.specs.Prelude.{◌≡◌, ◌<◌, ◌⊎◌, ◌↔◌, ◌||◌, ◌==◌, ◌≢◌, ℕ, Bool, true, not, List, [], ◌∷◌, ◌++◌, length, slice_index, Option, MatchOption}
 use Rattle.std.specs.Str.{chars}
 use Rattle.json5_grammar.specs.Language.Blanks.{Inside}
 use Rattle.json5_grammar.specs.Language.Characters.{double_quote, slash_sign, star_sign, plus_sign, minus_sign, point_sign, letter_e, capital_e, letter_f, letter_n, letter_t, letter_u, is_digit, is_hex_digit, is_in, Begun, NotBegun, Each}
 use Rattle.json5_grammar.specs.Language.Numbers.{Integer}
-use Rattle.json5_grammar.specs.Language.Values.{null_text, true_text, false_text}
-use Rattle.json5_tokens.specs.Scan.{SkipsAll}
+use Rattle.json5_tokens.specs.Scan.{SkipsAll, StartsWith}
 use Rattle.json5_styles.specs.Json.{Fraction, ExponentSign, Exponent, JsonChars, is_escape_letter, is_json_blank}
 use Rattle.json5_lexemes.specs.SameLexemes.{is_word_part, is_line_part}
 use Rattle.json5_lexemes.specs.Plain.{JsonWord, Plain}
@@ -21,6 +20,21 @@ Leaves Takes text result = MatchOption result ((r : List ℕ) → Takes (chars t
 -- the rest of a string and its last quote
 abbrev pub TakesString : List ℕ → List ℕ → Type 0
 TakesString x r = (s : List ℕ) × JsonChars s × (x ≡ s ++ double_quote ∷ r)
+
+-- the byte is in front
+abbrev pub BeginsWith : (byte : ℕ) → List ℕ → Type 0
+BeginsWith byte bytes = (0 < length bytes) × (slice_index bytes 0 ≡ byte)
+
+-- the character c was passed; None where it isn't in front
+abbrev pub IsPast : (c : ℕ) → List ℕ → Option (Bor (List ℕ)) → Type 0
+IsPast c text result = MatchOption result (NotBegun (λ d. d == c) (chars text)) (λ rest. StartsWith text c rest.now)
+
+-- the same of a word
+abbrev pub IsPastAll : (word : List ℕ) → List ℕ → Option (Bor (List ℕ)) → Type 0
+IsPastAll word text result = MatchOption result ((r : List ℕ) → chars text ≡ word ++ r → ⊥) (λ rest. chars text ≡ word ++ chars rest.now)
+
+abbrev pub AreAscii : (a b c d : ℕ) → Type 0
+AreAscii a b c d = (a < 128) × ((b < 128) × ((c < 128) × (d < 128)))
 
 -- a hexadecimal digit
 abbrev pub TakesHex : List ℕ → List ℕ → Type 0
@@ -76,6 +90,10 @@ abbrev pub PassesLexeme : (comments : Bool) → Last → List ℕ → Option (La
 PassesLexeme comments l text result = MatchOption result (Plain comments l (chars text) → ⊥)
     (λ p. (Plain comments l (chars text) ↔ Plain comments p.0 (chars p.1.now)) × (length (chars p.1.now) < length (chars text)))
 
+-- whatever the text was, what was passed of it is passed, and maybe more
+abbrev pub StaysPassed : (passed result : Option (Last × Bor (List ℕ))) → Type 0
+StaysPassed passed result = (comments : Bool) (l : Last) (text : List ℕ) → PassesLexeme comments l text passed → PassesLexeme comments l text result
+
 -- ---- numbers
 
 abbrev pub is_exponent_letter : ℕ → Bool
@@ -109,6 +127,10 @@ GoesOnIf Part Other text result = MatchOption result ((r : List ℕ) → Then Pa
 abbrev pub IsEmpty : List ℕ → Type 0
 IsEmpty x = x ≡ []
 
+-- whatever the text was, what follows its number or literal is left where that ends
+abbrev pub EndsWord : (rest : Option (Bor (List ℕ))) → Option (Last × Bor (List ℕ)) → Type 0
+EndsWord rest result = (text : List ℕ) → GoesOnIf JsonWord IsEmpty text rest → LeavesWith TakesWord last.Word text result
+
 -- digits were passed, if there are any
 abbrev pub PassesDigits : (text : List ℕ) → Option (Bor (List ℕ)) → Type 0
 PassesDigits text result = MatchOption result (NotBegun is_digit (chars text)) (λ rest. Begun is_digit (chars text) × SkipsAll is_digit text rest.now)
@@ -117,12 +139,6 @@ PassesDigits text result = MatchOption result (NotBegun is_digit (chars text)) (
 
 abbrev pub begins_literal : ℕ → Bool
 begins_literal c = (c == letter_n) || ((c == letter_t) || (c == letter_f))
-
--- null, true or false
-pub data IsLiteral : List ℕ → Type 0 where
-  is_null : IsLiteral null_text
-  is_true : IsLiteral true_text
-  is_false : IsLiteral false_text
 
 -- a character of which JSON's numbers and literals are made
 abbrev pub is_json_part : ℕ → Bool

@@ -15,10 +15,10 @@ use std::simd::prelude::*;
 
 /// Whether the byte is a blank of JSON.
 #[inline(always)]
-fn is_json_blank(byte: u8) -> bool
+pub(crate) fn is_json_blank(byte: u8) -> bool
     ensures { result ≡ is_json_blank byte }
 {
-    byte <= b' ' && (byte == b' ' || byte == b'\n' || byte == b'\r' || byte == b'\t')
+    byte == b' ' || byte == b'\n' || byte == b'\r' || byte == b'\t'
 }
 
 /// Which of the bytes are no blanks of JSON.
@@ -45,9 +45,9 @@ fn blanks_end(bytes: &[u8], from: usize) -> usize
     i
 }
 
-/// How many blanks of JSON are in front, where there may be many.
+/// How many blanks of JSON are in front.
 #[inline(always)]
-fn many_blanks_len(bytes: &[u8]) -> usize
+pub(crate) fn blanks_len(bytes: &[u8]) -> usize
     ensures { result ≡ prefix_len is_json_blank bytes.now }
 {
     let mut i = 0;
@@ -59,20 +59,6 @@ fn many_blanks_len(bytes: &[u8]) -> usize
         i += 16;
     }
     blanks_end(bytes, i)
-}
-
-/// How many blanks of JSON are in front. Most tokens have no blanks between them, or one space.
-#[inline(always)]
-pub(crate) fn blanks_len(bytes: &[u8]) -> usize
-    ensures { result ≡ prefix_len is_json_blank bytes.now }
-{
-    if bytes.is_empty() || bytes[0] > b' ' {
-        return 0;
-    }
-    if bytes.len() > 1 && bytes[0] == b' ' && bytes[1] > b' ' {
-        return 1;
-    }
-    many_blanks_len(bytes)
 }
 
 /// Which of the bytes are no digits.
@@ -96,6 +82,22 @@ fn digits_end(bytes: &[u8], from: usize) -> usize
     i
 }
 
+/// How many digits are in front, where there may be many.
+#[inline(never)]
+fn many_digits_len(bytes: &[u8]) -> usize
+    ensures { result ≡ prefix_len is_digit bytes.now }
+{
+    let mut i = 0;
+    while bytes.len() - i >= 16 {
+        let found = no_digits(u8x16::from_slice(&bytes[i..]));
+        if found != 0 {
+            return i + found.trailing_zeros() as usize;
+        }
+        i += 16;
+    }
+    digits_end(bytes, i)
+}
+
 /// How many digits are in front.
 #[inline(always)]
 pub(crate) fn digits_len(bytes: &[u8]) -> usize
@@ -107,7 +109,7 @@ pub(crate) fn digits_len(bytes: &[u8]) -> usize
             return found.trailing_zeros() as usize;
         }
     }
-    digits_end(bytes, 0)
+    many_digits_len(bytes)
 }
 
 /// Which of the bytes are LF or CR or begin a character from U+2000 to U+2FFF.

@@ -1,51 +1,78 @@
 //! Numbers and literals of JSON (RFC 8259, sections 3 and 6).
 
-ghost use Rattle.std.specs.Prelude.{◌≡◌, ◌↔◌, IsTrue};
-ghost use Rattle.std.specs.List.{prefix_len};
+ghost use Rattle.std.specs.Prelude.{◌≡◌, ◌↔◌, ◌∷◌, [], true, false};
 ghost use Rattle.std.specs.Str.{chars};
-ghost use Rattle.json5_grammar.specs.Language.Characters.{Each, is_digit};
+ghost use Rattle.json5_grammar.specs.Language.Characters.{NotBegun};
 ghost use Rattle.json5_styles.specs.Json.{Exponent, JsonNumber};
-ghost use Rattle.json5_tokens.specs.Scan.{SkipsAll};
-ghost use Rattle.json5_lexemes.specs.PlainSteps.{AfterDigits, Digits, GoesOn, GoesOnIf, IsEmpty, IsLiteral, PassesDigits, SignedDigits, Unsigned, is_exponent_letter, is_exponent_sign, is_json_part};
+ghost use Rattle.json5_lexemes.specs.PlainSteps.{AfterDigits, AreAscii, Digits, GoesOn, GoesOnIf, IsEmpty, IsPastAll, Leaves, PassesDigits, SignedDigits, Then, Unsigned, is_exponent_letter, is_exponent_sign};
+ghost use Rattle.json5_lexemes.specs.SameLexemes.{is_word_part};
 
 use crate::byte_runs::digits_len;
-use crate::rest::front;
+use crate::rest::{front, past_byte};
+use crate::same::is_word_part;
 
-/// How many bytes in front are characters of which JSON's numbers and literals are made.
-pub(crate) fn json_part_len(bytes: &[u8]) -> usize
-    ensures { result ≡ prefix_len is_json_part bytes.now }
-{
-    let mut len = 0;
-    while len < bytes.len() && is_json_part(bytes[len]) {
-        len += 1;
-    }
-    len
-}
-
-/// Whether JSON's numbers and literals may hold the byte.
+/// What follows these four characters of ASCII, if they are in front.
 #[inline(always)]
-fn is_json_part(byte: u8) -> bool
-    ensures { result ≡ is_json_part byte }
+pub(crate) fn skip_four(text: &str, first: u8, second: u8, third: u8, fourth: u8) -> Option<&str>
+    requires { AreAscii first second third fourth }
+    ensures { IsPastAll (first ∷ second ∷ third ∷ fourth ∷ []) text.now result }
 {
-    matches!(byte, b'0'..=b'9' | b'a'..=b'z' | b'A'..=b'Z' | b'-' | b'+' | b'.')
+    let Some(after_first) = past_byte(text, first) else {
+        return None;
+    };
+    let Some(after_second) = past_byte(after_first, second) else {
+        return None;
+    };
+    let Some(after_third) = past_byte(after_second, third) else {
+        return None;
+    };
+    past_byte(after_third, fourth)
 }
 
-/// Whether the text is a literal.
-pub(crate) fn is_literal(text: &str) -> bool
-    ensures { IsTrue result ↔ IsLiteral text.now }
+/// Whether a part of a number, a literal or a name of JSON5 is in front.
+#[inline(always)]
+pub(crate) fn begins_word(text: &str) -> bool
+    ensures { (result ≡ false) ↔ NotBegun is_word_part (chars text.now) }
 {
-    match text {
-        "null" => true,
-        "true" => true,
-        "false" => true,
-        _ => false,
+    !ends_word(text) && front_is_part(text)
+}
+
+/// The same for any character.
+#[inline(never)]
+fn front_is_part(text: &str) -> bool
+    ensures { (result ≡ false) ↔ NotBegun is_word_part (chars text.now) }
+{
+    match front(text) {
+        Some((c, _)) => is_word_part(c),
+        None => false,
     }
 }
 
-/// What follows the number in front; None if it is none.
+/// Whether one of the characters that mostly follow a number or a literal is in front, or nothing.
+#[inline(always)]
+fn ends_word(text: &str) -> bool
+    ensures { result ≡ true → NotBegun is_word_part (chars text.now) }
+{
+    let bytes = text.as_bytes();
+    if bytes.is_empty() {
+        return true;
+    }
+    if bytes[0] == b',' {
+        return true;
+    }
+    if bytes[0] == b']' {
+        return true;
+    }
+    if bytes[0] == b'\n' {
+        return true;
+    }
+    bytes[0] == b'}'
+}
+
+/// What follows the number in front, which no part of a word may follow; None if it is none.
 #[inline(always)]
 pub(crate) fn skip_number(text: &str) -> Option<&str>
-    ensures { GoesOnIf JsonNumber IsEmpty text.now result }
+    ensures { Leaves (Then JsonNumber) text.now result }
 {
     let unsigned = skip_minus(text);
     let Some(fraction) = skip_integer(unsigned) else {
@@ -54,7 +81,23 @@ pub(crate) fn skip_number(text: &str) -> Option<&str>
     let Some(exponent) = skip_fraction(fraction) else {
         return None;
     };
-    skip_exponent(exponent)
+    if ends_word(exponent) {
+        return Some(exponent);
+    }
+    end_number(exponent)
+}
+
+/// What follows an exponent, if there is one, and no part of a word; None if it is none.
+fn end_number(text: &str) -> Option<&str>
+    ensures { Leaves (Then Exponent) text.now result }
+{
+    let Some(rest) = skip_exponent(text) else {
+        return None;
+    };
+    if front_is_part(rest) {
+        return None;
+    }
+    Some(rest)
 }
 
 /// What follows a minus, if there is one.
@@ -62,10 +105,10 @@ pub(crate) fn skip_number(text: &str) -> Option<&str>
 fn skip_minus(text: &str) -> &str
     ensures { GoesOn JsonNumber Unsigned text.now result.now }
 {
-    let Some((c, after)) = front(text) else {
-        return text;
-    };
-    if c == '-' { after } else { text }
+    match past_byte(text, b'-') {
+        Some(after) => after,
+        None => text,
+    }
 }
 
 /// What follows digits of which no zero is in front of others. A digit after such a zero is left.
@@ -73,13 +116,10 @@ fn skip_minus(text: &str) -> &str
 fn skip_integer(text: &str) -> Option<&str>
     ensures { GoesOnIf Unsigned AfterDigits text.now result }
 {
-    let Some((c, after)) = front(text) else {
-        return None;
-    };
-    if c == '0' {
-        return Some(after);
+    match past_byte(text, b'0') {
+        Some(after) => Some(after),
+        None => skip_some_digits(text),
     }
-    skip_some_digits(text)
 }
 
 /// What follows a point and digits, if there is a point.
@@ -87,17 +127,13 @@ fn skip_integer(text: &str) -> Option<&str>
 fn skip_fraction(text: &str) -> Option<&str>
     ensures { GoesOnIf AfterDigits Exponent text.now result }
 {
-    let Some((c, after)) = front(text) else {
-        return Some(text);
-    };
-    if c == '.' {
-        return skip_some_digits(after);
+    match past_byte(text, b'.') {
+        Some(after) => skip_some_digits(after),
+        None => Some(text),
     }
-    Some(text)
 }
 
 /// What follows an exponent, if there is one.
-#[inline(always)]
 fn skip_exponent(text: &str) -> Option<&str>
     ensures { GoesOnIf Exponent IsEmpty text.now result }
 {
@@ -139,26 +175,9 @@ fn is_exponent_sign(c: char) -> bool
 fn skip_some_digits(text: &str) -> Option<&str>
     ensures { PassesDigits text.now result }
 {
-    let Some((c, after)) = front(text) else {
-        return None;
-    };
-    if !is_decimal_digit(c) {
+    let len = digits_len(text.as_bytes());
+    if len == 0 {
         return None;
     }
-    Some(skip_digits(after))
-}
-
-#[inline(always)]
-fn is_decimal_digit(c: char) -> bool
-    ensures { result ≡ is_digit c }
-{
-    c >= '0' && c <= '9'
-}
-
-/// What follows the digits in front.
-#[inline(always)]
-fn skip_digits(text: &str) -> &str
-    ensures { SkipsAll is_digit text.now result.now }
-{
-    text.split_at(digits_len(text.as_bytes())).1
+    Some(text.split_at(len).1)
 }

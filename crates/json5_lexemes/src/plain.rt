@@ -1,20 +1,18 @@
 //! Whether a text is JSON but for comments, by its lexemes.
 
-ghost use Rattle.std.specs.Prelude.{◌≡◌, ◌≢◌, ◌↔◌, ◌∷◌, IsTrue, true, false, MatchOption};
+ghost use Rattle.std.specs.Prelude.{◌≡◌, ◌≢◌, ◌↔◌, ◌<◌, ◌∷◌, IsTrue, true, length, MatchOption};
 ghost use Rattle.std.specs.Str.{chars};
 ghost use Rattle.json5_grammar.specs.Language.Characters.{NotBegun, is_hex_digit};
-ghost use Rattle.json5_styles.specs.Json.{is_escape_letter, is_json_blank};
+ghost use Rattle.json5_styles.specs.Json.{JsonNumber, is_escape_letter, is_json_blank};
 ghost use Rattle.json5_tokens.specs.ByteRuns.{is_line_part as is_surely_in_line, is_no_star};
-ghost use Rattle.json5_tokens.specs.Scan.{SkipsAll, StartsWith};
+ghost use Rattle.json5_tokens.specs.Scan.{SkipsAll};
 ghost use Rattle.json5_lexemes.specs.Plain.{is_closing, is_opening, IsPlain, KeepsPlain, Plain};
-ghost use Rattle.json5_lexemes.specs.PlainSteps.{begins_literal, is_slash, IsLiteral, Leaves, LeavesWith, PassesComment, PassesLexeme, PassesSign, TakesBlock, TakesCode, TakesComment, TakesEscape, TakesHex, TakesLine, TakesString, TakesWord, Then};
-ghost use Rattle.json5_lexemes.specs.SameLexemes.{is_word_part};
+ghost use Rattle.json5_lexemes.specs.PlainSteps.{is_slash, EndsWord, Leaves, LeavesWith, PassesComment, PassesLexeme, PassesSign, StaysPassed, TakesBlock, TakesCode, TakesComment, TakesEscape, TakesHex, TakesLine, TakesString, TakesWord, Then};
 ghost use Rattle.json5_lexemes.specs.declared.plain.Last.TheVariants as last_tokens;
 
-use crate::byte_runs::{blanks_len, line_len, star_offset};
-use crate::json_words::{is_literal, json_part_len, skip_number};
-use crate::rest::front;
-use crate::same::is_word_part;
+use crate::byte_runs::{blanks_len, is_json_blank, line_len, star_offset};
+use crate::json_words::{begins_word, skip_four, skip_number};
+use crate::rest::{front, past_byte, past_first};
 use json5_styles::json_runs::skip_unescaped;
 use json5_tokens::char::is_json5_line_terminator;
 
@@ -48,17 +46,18 @@ pub fn is_plain(text: &str) -> bool
 /// ```text
 /// is_plain_with(false, "[1] // one")    // false
 /// ```
+#[inline(never)]
 pub fn is_plain_with(comments: bool, text: &str) -> bool
     ensures { IsTrue result ↔ Plain comments last_tokens.Sign (chars text.now) }
 {
-    let mut rest = skip_json_blanks(text);
+    let mut rest = text;
     let mut last = Last::Sign;
-    while let Some((c, after)) = front(rest) {
-        let Some((now, left)) = pass_lexeme(comments, last, rest, c, after) else {
+    while !rest.is_empty() {
+        let Some((now, left)) = pass_lexeme(comments, last, rest) else {
             return false;
         };
         last = now;
-        rest = skip_json_blanks(left);
+        rest = left;
     }
     true
 }
@@ -79,53 +78,92 @@ pub fn keeps_plain<'x>(text: &'x str, made: &'x str) -> bool
     !is_plain(text) || is_plain(made)
 }
 
-/// What the lexeme in front makes of what came last, and what follows it; None if it is none of JSON. It begins with
-/// the character c, and the text after that follows.
+/// What the lexeme in front makes of what came last, and what follows it; None if it is none of JSON. Blanks count as a
+/// lexeme here, and a colon or a comma after a lexeme is passed with it, and a space after that.
 #[inline(always)]
-fn pass_lexeme<'x>(
-    comments: bool,
-    last: Last,
-    text: &'x str,
-    c: char,
-    after: &'x str,
-) -> Option<(Last, &'x str)>
-    requires front { StartsWith text.now c after.now }
-    requires solid { is_json_blank c ≡ false }
+fn pass_lexeme(comments: bool, last: Last, text: &str) -> Option<(Last, &str)>
+    requires { 0 < length text.now }
     ensures { PassesLexeme comments last text.now result }
 {
-    if is_opening(c) {
-        return Some((Last::Sign, after));
+    let first = text.as_bytes()[0];
+    if first == b'"' {
+        return with_sign(pass_string(past_first(text)));
     }
-    if is_closing(c) {
-        return pass_closing(last, after);
+    if is_json_blank(first) {
+        return Some((last, skip_json_blanks(text)));
     }
-    if c == '"' {
-        return pass_string(after);
+    if is_opening(first) {
+        return Some((Last::Sign, past_first(text)));
     }
-    if c == ',' {
-        return Some((Last::Comma, after));
+    if is_closing(first) {
+        return with_comma(pass_closing(last, past_first(text)));
     }
-    if c == ':' {
-        return pass_colon(last, after);
+    if first == b',' {
+        return Some((Last::Comma, past_first(text)));
     }
-    if c == '/' {
-        return pass_comment(comments, last, after);
+    if first == b':' {
+        return pass_colon(last, past_first(text));
     }
-    pass_word(text)
+    if first == b'/' {
+        return pass_comment(comments, last, past_first(text));
+    }
+    with_comma(pass_word(text))
 }
 
 #[inline(always)]
-fn is_opening(c: char) -> bool
-    ensures { result ≡ is_opening c }
+fn is_opening(byte: u8) -> bool
+    ensures { result ≡ is_opening byte }
 {
-    c == '[' || c == '{'
+    byte == b'[' || byte == b'{'
 }
 
 #[inline(always)]
-fn is_closing(c: char) -> bool
-    ensures { result ≡ is_closing c }
+fn is_closing(byte: u8) -> bool
+    ensures { result ≡ is_closing byte }
 {
-    c == ']' || c == '}'
+    byte == b']' || byte == b'}'
+}
+
+/// The same where a colon or a comma may follow.
+#[inline(always)]
+fn with_sign<'x>(passed: Option<(Last, &'x str)>) -> Option<(Last, &'x str)>
+    ensures { StaysPassed passed.entry result }
+{
+    let Some((last, rest)) = passed else {
+        return None;
+    };
+    match past_byte(rest, b':') {
+        Some(after) => with_space(pass_colon(last, after)),
+        None => with_comma(passed),
+    }
+}
+
+/// The same where a comma may follow.
+#[inline(always)]
+fn with_comma<'x>(passed: Option<(Last, &'x str)>) -> Option<(Last, &'x str)>
+    ensures { StaysPassed passed.entry result }
+{
+    let Some((_, rest)) = passed else {
+        return None;
+    };
+    match past_byte(rest, b',') {
+        Some(after) => with_space(Some((Last::Comma, after))),
+        None => passed,
+    }
+}
+
+/// The same where a space may follow.
+#[inline(always)]
+fn with_space<'x>(passed: Option<(Last, &'x str)>) -> Option<(Last, &'x str)>
+    ensures { StaysPassed passed.entry result }
+{
+    let Some((last, rest)) = passed else {
+        return None;
+    };
+    match past_byte(rest, b' ') {
+        Some(after) => Some((last, after)),
+        None => passed,
+    }
 }
 
 /// The same after the first quote of a string.
@@ -178,9 +216,42 @@ fn pass_comment(comments: bool, last: Last, after: &str) -> Option<(Last, &str)>
 /// The same of a number or a literal in front.
 #[inline(always)]
 fn pass_word(text: &str) -> Option<(Last, &str)>
+    requires { 0 < length text.now }
     ensures { LeavesWith TakesWord last_tokens.Word text.now result }
 {
-    let Some(left) = skip_word(text) else {
+    let first = text.as_bytes()[0];
+    if first == b'n' {
+        return pass_literal(skip_four(text, b'n', b'u', b'l', b'l'));
+    }
+    if first == b't' {
+        return pass_literal(skip_four(text, b't', b'r', b'u', b'e'));
+    }
+    if first == b'f' {
+        return pass_literal(skip_four(past_first(text), b'a', b'l', b's', b'e'));
+    }
+    pass_number(text)
+}
+
+/// The same after a literal, if it was one.
+#[inline(always)]
+fn pass_literal(rest: Option<&str>) -> Option<(Last, &str)>
+    ensures { EndsWord rest.entry result }
+{
+    let Some(left) = rest else {
+        return None;
+    };
+    if begins_word(left) {
+        return None;
+    }
+    Some((Last::Word, left))
+}
+
+/// The same of a number in front.
+#[inline(always)]
+fn pass_number(text: &str) -> Option<(Last, &str)>
+    ensures { LeavesWith (Then JsonNumber) last_tokens.Word text.now result }
+{
+    let Some(left) = skip_number(text) else {
         return None;
     };
     Some((Last::Word, left))
@@ -199,19 +270,13 @@ fn skip_string(text: &str) -> Option<&str>
     ensures { Leaves TakesString text.now result }
 {
     let mut rest = skip_unescaped(text);
-    while let Some((c, after)) = front(rest) {
-        if c == '"' {
-            return Some(after);
-        }
-        if c != '\\' {
-            return None;
-        }
+    while let Some(after) = past_byte(rest, b'\\') {
         let Some(next) = skip_escape(after) else {
             return None;
         };
         rest = skip_unescaped(next);
     }
-    None
+    past_byte(rest, b'"')
 }
 
 /// After a backslash: what follows the escape; None if it is none of JSON.
@@ -269,58 +334,6 @@ fn is_hex_digit(c: char) -> bool
     ensures { result ≡ is_hex_digit c }
 {
     matches!(c, '0'..='9' | 'a'..='f' | 'A'..='F')
-}
-
-/// What follows the number or the literal in front; None if it is none of JSON.
-#[inline(always)]
-fn skip_word(text: &str) -> Option<&str>
-    ensures { Leaves TakesWord text.now result }
-{
-    let Some((c, _)) = front(text) else {
-        return None;
-    };
-    if begins_literal(c) {
-        return skip_literal(text);
-    }
-    let Some(rest) = skip_number(text) else {
-        return None;
-    };
-    if begins_word(rest) {
-        return None;
-    }
-    Some(rest)
-}
-
-#[inline(always)]
-fn begins_literal(c: char) -> bool
-    ensures { result ≡ begins_literal c }
-{
-    c == 'n' || c == 't' || c == 'f'
-}
-
-/// What follows the literal in front; None if it is none of JSON.
-fn skip_literal(text: &str) -> Option<&str>
-    ensures { Leaves (Then IsLiteral) text.now result }
-{
-    let (word, rest) = text.split_at(json_part_len(text.as_bytes()));
-    if !is_literal(word) {
-        return None;
-    }
-    if begins_word(rest) {
-        return None;
-    }
-    Some(rest)
-}
-
-/// Whether a part of a number, a literal or a name of JSON5 is in front.
-#[inline(always)]
-fn begins_word(text: &str) -> bool
-    ensures { (result ≡ false) ↔ NotBegun is_word_part (chars text.now) }
-{
-    match front(text) {
-        Some((c, _)) => is_word_part(c),
-        None => false,
-    }
 }
 
 /// After a comment's first slash: what follows the comment, which a line terminator is no part of; None if it is none.

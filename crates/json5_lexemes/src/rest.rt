@@ -1,7 +1,8 @@
 //! What is left of a text that is compared with another.
 
-ghost use Rattle.std.specs.Prelude.{◌≡◌, ◌≤◌, IsTrue, false, length, slice_get};
-ghost use Rattle.json5_tokens.specs.Scan.{IsFront};
+ghost use Rattle.std.specs.Prelude.{◌≡◌, ◌<◌, ◌≤◌, ◌↔◌, IsTrue, false, length, slice_get, slice_index};
+ghost use Rattle.json5_tokens.specs.Scan.{IsFront, StartsWith};
+ghost use Rattle.json5_lexemes.specs.PlainSteps.{BeginsWith, IsPast};
 ghost use Rattle.json5_lexemes.specs.Runs.{IsRun, IsSpaces, PassesRun, PassesSpaces, is_alphanumeric};
 ghost use Rattle.json5_lexemes.specs.SameSteps.{Takes};
 
@@ -66,6 +67,36 @@ pub(crate) fn front(text: &str) -> Option<(char, &str)>
     let mut rest = text.chars();
     let c = rest.next()?;
     Some((c, rest.as_str()))
+}
+
+/// What follows the first character, which is of ASCII.
+#[inline(always)]
+pub(crate) fn past_first(text: &str) -> &str
+    requires some { 0 < length text.now }
+    requires ascii { slice_index text.now 0 < 128 }
+    ensures { StartsWith text.now (slice_index text.now 0) result.now }
+{
+    text.split_at(1).1
+}
+
+/// Whether the byte is in front.
+#[inline(always)]
+fn begins_with(bytes: &[u8], byte: u8) -> bool
+    ensures { IsTrue result ↔ BeginsWith byte bytes.now }
+{
+    !bytes.is_empty() && bytes[0] == byte
+}
+
+/// What follows the character of ASCII, if it is in front.
+#[inline(always)]
+pub(crate) fn past_byte(text: &str, byte: u8) -> Option<&str>
+    requires { byte < 128 }
+    ensures { IsPast byte text.now result }
+{
+    if !begins_with(text.as_bytes(), byte) {
+        return None;
+    }
+    Some(past_first(text))
 }
 
 /// Passes over spaces, if any.

@@ -1,14 +1,17 @@
-use Rattle.std.proofs.Common.{sym, subst}
-use Rattle.json5_grammar.specs.Language.Characters.{is_digit, Begun}
-use Rattle.json5_lexemes.proofs.PlainNumbers.{none_begun, not_begun, one_more_digit}
+use Rattle.std.proofs.Common.{◌∙◌, ap}
+use Rattle.std.specs.List.{prefix_len}
+use Rattle.json5_grammar.specs.Language.Characters.{is_digit}
+use Rattle.json5_types.proofs.AsciiRuns.{digit_is_ascii}
+use Rattle.json5_lexemes.proofs.PlainRuns.{ascii_boundary, ascii_skips, none_in_front, some_in_front}
 use Rattle.json5_lexemes.proofs.json_words.skip_some_digits.Goals as goal
 
-pub returns-in_default : goal.returns-in_default
-returns-in_default c = none_begun is_digit _ c.in_default.ensures
+pub returns-then-len-eq0 : goal.returns-then-len-eq0
+returns-then-len-eq0 c = none_in_front is_digit _ _ digit_is_ascii c.utf8.text (c.digits_len-len.ensures ∙ ap (prefix_len is_digit) c.as_bytes.ensures.value) c.if-len-eq0.true
 
-pub returns-then-not-is_decimal_digit : goal.returns-then-not-is_decimal_digit
-returns-then-not-is_decimal_digit c = not_begun is_digit _ _ _ c.in-Some.ensures.chars (sym c.if-not-is_decimal_digit.ensures)
+pub split_at-requires : goal.split_at-requires
+split_at-requires c = ascii_boundary is_digit _ _ digit_is_ascii c.utf8.text (c.digits_len-len.ensures ∙ ap (prefix_len is_digit) c.as_bytes.ensures.value)
 
 pub returns : goal.returns
 returns c =
-    (subst (Begun is_digit) (sym c.in-Some.ensures.chars) (sym c.if-not-is_decimal_digit.ensures), one_more_digit _ _ _ _ c.in-Some.ensures.chars (sym c.if-not-is_decimal_digit.ensures) c.skip_digits.ensures)
+    let e = c.digits_len-len.ensures ∙ ap (prefix_len is_digit) c.as_bytes.ensures.value in
+    (some_in_front is_digit _ _ digit_is_ascii e c.if-len-eq0.false, ascii_skips is_digit _ _ _ digit_is_ascii c.utf8.text e c.split_at.ensures.back)

@@ -4,7 +4,7 @@ use Rattle.json5_styles.specs.Json.{is_json_blank}
 use Rattle.json5_tokens.proofs.ByteSearch.{run_through, run_stops}
 use Rattle.json5_lexemes.specs.PlainSteps.{ends_blanks}
 use Rattle.json5_lexemes.proofs.PlainRuns.{blank_or_not}
-use Rattle.json5_lexemes.proofs.byte_runs.many_blanks_len.Goals as goal
+use Rattle.json5_lexemes.proofs.byte_runs.blanks_len.Goals as goal
 
 pub returns-then-found-ne0 : goal.returns-then-found-ne0
 returns-then-found-ne0 c =
