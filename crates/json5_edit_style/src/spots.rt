@@ -6,7 +6,7 @@ use json5_types::ErrorCode;
 use json5_types::cow_str::CowStr;
 use json5_types::error::{Error, Result};
 use json5_types::nesting::Limit;
-use json5_walk::next::Next;
+use json5_walk::entry::EntryKey;
 use json5_walk::walk::Walk;
 use std::alloc::Global;
 
@@ -121,14 +121,14 @@ pub(crate) fn opened(alloc: Global, text: &str) -> Result<Walk<'_>> {
 /// The next entry and its key, or None after the closing bracket, which is taken.
 pub(crate) fn next_spot<'t>(walk: &mut Walk<'t>) -> Result<Option<(Spot, CowStr<'t>)>> {
     let from = walk.offset();
-    walk.gap()?;
-    if walk.close().is_some() {
+    let Some(key) = walk.entry()? else {
         return Ok(None);
-    }
-    let start = walk.offset();
-    let key = take_key(walk)?;
-    let key_end = walk.offset();
-    take_colon(walk)?;
+    };
+    let EntryKey {
+        text,
+        start,
+        end: key_end,
+    } = key;
     let value = walk.offset();
     walk.skip()?;
     let end = walk.offset();
@@ -143,25 +143,5 @@ pub(crate) fn next_spot<'t>(walk: &mut Walk<'t>) -> Result<Option<(Spot, CowStr<
         end,
         comma,
     };
-    Ok(Some((spot, key)))
-}
-
-/// Takes the key, if one is due.
-fn take_key<'t>(walk: &mut Walk<'t>) -> Result<CowStr<'t>> {
-    match walk.next() {
-        Next::Key => walk.key(),
-        _ => Ok(CowStr::Borrowed("")),
-    }
-}
-
-/// Takes the colon after a key, with the blanks around it.
-fn take_colon(walk: &mut Walk<'_>) -> Result<()> {
-    let Next::Colon = walk.next() else {
-        return Ok(());
-    };
-    walk.gap()?;
-    if !walk.colon() {
-        return Err(walk.fault(ErrorCode::ExpectedColon));
-    }
-    walk.gap()
+    Ok(Some((spot, text)))
 }

@@ -1,6 +1,6 @@
 -- What each token makes of where a walk is.
 -- A promise rests on this.
-use Rattle.std.specs.Prelude.{◌≡◌, ℕ, ◌≤◌, Bool, true, List, ◌∷◌, ◌++◌}
+use Rattle.std.specs.Prelude.{◌≡◌, ℕ, ◌≤◌, Bool, true, List, [], ◌∷◌, ◌++◌}
 use Rattle.std.specs.Str.{encode_utf8_all}
 use Rattle.json5_grammar.specs.Language.Trees.{Tree, depth, array, object, Trees, Members, no_more, no_member}
 use Rattle.json5_grammar.specs.Language.Values.{Val}
@@ -42,3 +42,28 @@ pub data Closes : At → At → Type 0 where
   closes_array : (ts : Trees) (t : Tree) (o : List Frame) → Closes (at_comma t (in_array ts ∷ o)) (at_comma (array (snoc ts t)) o)
   closes_members : (ps : Members) (o : List Frame) → Closes (at_key ps o) (at_comma (object ps) o)
   closes_object : (ps : Members) (u : List ℕ) (escape_free : Bool) (t : Tree) (o : List Frame) → Closes (at_comma t (in_object ps u escape_free ∷ o)) (at_comma (object (snoc_member ps u escape_free t)) o)
+
+-- ---- up to the value of an entry
+
+-- the comma after the entry before it, or nothing
+pub data TakesEntryComma : At → At → Type 0 where
+  no_comma : (a : At) → TakesEntryComma a a
+  comma : (a b : At) → TakesComma a b → TakesEntryComma a b
+
+-- its key, whose text has these bytes; an element has none
+pub data TakesEntryKey (bytes : List ℕ) : At → At → Type 0 where
+  no_key : (ts : Trees) (o : List Frame) → bytes ≡ [] → TakesEntryKey bytes (at_element ts o) (at_element ts o)
+  key : (ps : Members) (u : List ℕ) (escape_free : Bool) (o : List Frame) → bytes ≡ encode_utf8_all u → TakesEntryKey bytes (at_key ps o) (at_colon ps u escape_free o)
+
+-- the colon after its key
+pub data TakesEntryColon : At → At → Type 0 where
+  no_colon : (ts : Trees) (o : List Frame) → TakesEntryColon (at_element ts o) (at_element ts o)
+  colon : (ps : Members) (u : List ℕ) (escape_free : Bool) (o : List Frame) → TakesEntryColon (at_colon ps u escape_free o) (at_value (in_object ps u escape_free ∷ o))
+
+-- the comma, the key and the colon
+pub data TakesFront (bytes : List ℕ) : At → At → Type 0 where
+  takes_front : (a b c d : At) → TakesEntryComma a b → TakesEntryKey bytes b c → TakesEntryColon c d → TakesFront bytes a d
+
+-- the closing bracket, after a comma or without
+pub data EndsEntries : At → At → Type 0 where
+  ends_entries : (a b c : At) → TakesEntryComma a b → Closes b c → EndsEntries a c
