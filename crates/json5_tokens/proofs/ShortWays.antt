@@ -16,6 +16,7 @@ use Rattle.json5_grammar.proofs.ValueHeads.{val_head, skip_value}
 use Rattle.json5_tokens.specs.ByteRuns.{SpellsFewDigits}
 use Rattle.json5_tokens.specs.Cursor.{Cursor}
 use Rattle.json5_tokens.specs.ShortWays.{IsWholeOfFewDigits, TookNumber, TookInRange}
+use Rattle.json5_tokens.specs.TokenResults.{GivesValue}
 use Rattle.json5_tokens.proofs.WholesOfFewDigits.{few_bare, few_minus}
 use Rattle.json5_tokens.proofs.ScanNumbers.{number_taken}
 use Rattle.json5_tokens.proofs.ScanTokens.{blanks_passed}
@@ -41,6 +42,9 @@ minus_whole s t r n z m k e =
     let minus : pos 0 -ℤ to_z w128 (of_z w128 z) ≡ neg_ℤ (pos n) = ap (λ (y : ℤ). pos 0 -ℤ y) same ∙ omega (arith, ints) in
     let both : to_z w128 (of_z w128 (pos 0 -ℤ to_z w128 (of_z w128 z))) ≡ neg_ℤ (pos n) = kept _ (omega (arith, ints, minus, l)) (omega (arith, ints, minus, l)) ∙ minus in
     kept_whole s r (neg_ℤ (pos n)) _ (record { gives = few_minus s t r n (neg_ℤ (pos n)) m k refl; low = omega (arith, ints, l); high = omega (arith, ints, l) }) both
+
+pub few_given : (s r : List ℕ) (z : ℤ) → IsWholeOfFewDigits s z r → GivesValue (number (chars s)) (whole (to_z w128 (of_z w128 z))) r
+few_given s r z k = rw (kept z k.low k.high) k.gives
 
 -- ---- a number after blanks
 

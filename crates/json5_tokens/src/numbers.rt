@@ -17,10 +17,10 @@ mod short;
 mod short_skips;
 mod slices;
 
-use crate::byte_runs::{begins_minus, few_digits};
 use crate::char::front;
 use crate::numbers::decimal_literals::{read_decimal_literal, split_sign};
 use crate::numbers::hexadecimal::read_hex_integer;
+use crate::numbers::short::front_whole;
 use crate::numbers::slices::{Scanned, judge};
 use crate::refusal::Refusal;
 use crate::words::skip_word;
@@ -126,13 +126,8 @@ fn scan(text: &str) -> Result<(Scanned<'_>, &str), Refusal>
 fn whole_of_few_digits(text: &str) -> Option<(Whole, &str)>
     ensures { IfSome result (λ p. GivesValue (model.number (chars text.now)) (numbers.whole p.0) p.1.now) }
 {
-    if begins_minus(text.as_bytes()) {
-        let (magnitude, rest) = few_digits(text.split_at(1).1)?;
-        let whole = Whole::from_parts(true, u128::from(magnitude))?;
-        return Some((whole, rest));
-    }
-    let (magnitude, rest) = few_digits(text)?;
-    Some((Whole::from_u128(u128::from(magnitude)), rest))
+    let (number, rest) = front_whole(text)?;
+    Some((Whole::from_i128(number), rest))
 }
 
 /// The number in front, and what follows it (JSON5 section 6). Whole numbers, infinity and not-a-number take no memory.

@@ -29,7 +29,7 @@ struct SpacedWhole {
 
 /// The whole number in front, if it has few digits, and what follows it.
 #[inline(always)]
-fn front_whole(text: &str) -> Option<(i128, &str)>
+pub(crate) fn front_whole(text: &str) -> Option<(i128, &str)>
     ensures { IfSome result (λ p. IsWholeOfFewDigits text.now p.0 p.1.now) }
 {
     if begins_minus(text.as_bytes()) {
