@@ -18,6 +18,7 @@ mod vectors;
 use json5_types::Position;
 use json5_types::error::{Error, Result};
 pub use readers::{from_reader, read_text};
+use simdutf8::compat::from_utf8;
 pub use slices::from_slice;
 use std::alloc::Global;
 use std::str;
@@ -36,7 +37,7 @@ pub use vectors::to_vec;
 pub fn text_of_bytes(alloc: Global, bytes: &[u8]) -> Result<&str>
     ensures { ReadsText bytes.now result }
 {
-    match str::from_utf8(bytes) {
+    match from_utf8(bytes) {
         Ok(text) => Ok(text),
         Err(fault) => Err(not_utf8(alloc, bytes, fault.valid_up_to())?),
     }
