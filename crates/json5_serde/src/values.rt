@@ -36,7 +36,8 @@ pub fn from_value<T: DeserializeOwned>(alloc: Global, value: &Value) -> Result<T
     from_str_owned(alloc, Limit::full(), text.as_str())
 }
 
-/// Returns the value that a type sends: it writes the type, and reads the text. So it is what such a text means, whatever `T` does.
+/// Returns the value that a type sends: it writes the type, and reads the text. So it is what such a text means,
+/// whatever `T` does.
 ///
 /// ```text
 /// let value = json5_serde::to_value(alloc, &server)?;    // an object of two members

@@ -173,8 +173,9 @@ impl<'de, T: DeserializeOwned> Deserialize<'de> for Owned<T> {
     }
 }
 
-/// Reads all that a reader gives as one text, as [`from_str_within`] does: a `T` that borrows nothing from it. It returns Ok only
-/// where all that was left of the reader is a document.
+/// Reads all that a reader gives as one text, as [`from_str_within`] does: a `T` that borrows nothing from it.
+///
+/// It returns Ok only where all that was left of the reader is a document.
 ///
 /// ```text
 /// let server: Server = json5_serde::from_reader(alloc, Limit::full(), &mut rt.stdin())?;
