@@ -1,6 +1,6 @@
 //! Reading a whole text.
 
-ghost use Rattle.std.specs.Prelude.{◌≡◌, OnOk, IfOk};
+ghost use Rattle.std.specs.Prelude.{◌≡◌, OnOk, IfOk, IfSome};
 ghost use Rattle.json5_walk.specs.Walks.{IsDocument, IsDocumentWithin};
 
 use crate::fault::Fault;
@@ -175,6 +175,8 @@ impl<'de, T: DeserializeOwned> Deserialize<'de> for Owned<T> {
 
 /// Reads all that a reader gives as one text, as [`from_str_within`] does: a `T` that borrows nothing from it.
 ///
+/// It returns Ok only where all that was left of the reader is a document.
+///
 /// ```text
 /// let server: Server = json5_serde::from_reader(alloc, Limit::full(), &mut rt.stdin())?;
 /// ```
@@ -188,7 +190,9 @@ pub fn from_reader<T: DeserializeOwned, R: Read>(
     alloc: Global,
     limit: Limit,
     reader: &mut R,
-) -> Result<T> {
+) -> Result<T>
+    ensures { OnOk result (IfSome (R.remaining reader.old) (IsDocumentWithin limit)) }
+{
     let mut bytes = Vec::new(alloc);
     if let Err(error) = reader.read_to_end(&mut bytes) {
         return Err(match error.kind() {

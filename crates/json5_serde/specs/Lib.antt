@@ -1,0 +1,2 @@
+-- Lists what contracts say of values that a type sends.
+pub mod Values
