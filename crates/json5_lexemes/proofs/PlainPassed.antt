@@ -4,13 +4,14 @@ use Rattle.std.proofs.Common.{◌≡◌, ◌≢◌, ◌<◌, ◌≤◌, ℕ, Boo
 use Rattle.std.specs.Prelude.{◌==◌, ◌↔◌}
 use Rattle.std.specs.Str.{chars}
 use Rattle.std.proofs.lemmas.Bool.{both_ways}
+use Rattle.std.proofs.lemmas.Bool.Decides.{nat_tests}
 use Rattle.json5_grammar.specs.Language.Characters.{NotBegun, Each, no_char, char}
 use Rattle.json5_styles.specs.Json.{is_json_blank, quoted}
 use Rattle.json5_tokens.specs.Scan.{SkipsAll}
 use Rattle.json5_lexemes.specs.SameLexemes.{is_word_part}
 use Rattle.json5_lexemes.specs.Plain.{Plain, is_opening, is_closing, JsonWord}
 use Rattle.json5_lexemes.specs.Plain as plain
-use Rattle.json5_lexemes.specs.PlainSteps.{TakesString, TakesWord, TakesComment, LeavesWith, PassesSign, PassesComment, PassesLexeme, StaysPassed}
+use Rattle.json5_lexemes.specs.PlainSteps.{begins_number, TakesString, TakesWord, TakesComment, LeavesWith, PassesSign, PassesComment, PassesLexeme, StaysPassed}
 use Rattle.json5_lexemes.specs.declared.plain.Last.{Last}
 use Rattle.json5_lexemes.specs.declared.plain.Last.TheVariants as last
 use Rattle.json5_lexemes.proofs.PlainTokens.{Asks, asked, WordThen, CommentThen, plain_quote, plain_slash, plain_open, plain_close, plain_comma, plain_colon, no_empty_word}
@@ -132,6 +133,17 @@ module _ (k : Bool) (l : Last) (text after : List ℕ) (c : ℕ) (f : chars text
     pub no_colon : (c == 58) ≡ false
     pub no_slash : (c == 47) ≡ false
     pub no_quote : (c == 34) ≡ false
+
+  pub number_other : begins_number c ≡ true → IsOther
+  number_other h = record {
+    no_blank = grind (arith, nat_tests);
+    no_opening = grind (arith, nat_tests);
+    no_closing = grind (arith, nat_tests);
+    no_comma = grind (arith, nat_tests);
+    no_colon = grind (arith, nat_tests);
+    no_slash = grind (arith, nat_tests);
+    no_quote = grind (arith, nat_tests);
+  }
 
   word_then : IsOther → Plain k l (chars text) → WordThen k c (chars after)
   word_then i p = by_part (is_word_part c) refl

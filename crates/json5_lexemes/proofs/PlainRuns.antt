@@ -15,10 +15,13 @@ use Rattle.json5_styles.proofs.JsonRuns.{below}
 use Rattle.json5_tokens.specs.Scan.{SkipsAll}
 use Rattle.json5_types.proofs.AsciiRuns.{PassesAscii, counted, chars_split, rest_cut, rest_chars, front_boundary}
 use Rattle.json5_lexemes.specs.Plain.{is_opening, is_closing}
-use Rattle.json5_lexemes.specs.PlainSteps.{ends_blanks, ends_digits}
+use Rattle.json5_lexemes.specs.PlainSteps.{begins_number, ends_blanks, ends_digits}
 
 pub blank_is_ascii : PassesAscii is_json_blank
 blank_is_ascii c h = grind (arith, nat_tests)
+
+pub number_is_ascii : PassesAscii begins_number
+number_is_ascii c h = grind (arith, nat_tests)
 
 pub opening_is_ascii : PassesAscii is_opening
 opening_is_ascii c h = grind (arith, nat_tests)

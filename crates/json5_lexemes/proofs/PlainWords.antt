@@ -14,7 +14,7 @@ use Rattle.json5_styles.specs.Json.{JsonNumber, json_number, no_minus, minus}
 use Rattle.json5_lexemes.specs.SameLexemes.{is_word_part}
 use Rattle.json5_lexemes.specs.Plain.{JsonWord}
 use Rattle.json5_lexemes.specs.Plain as plain
-use Rattle.json5_lexemes.specs.PlainSteps.{begins_literal, GoesOnIf, IsEmpty, IsPast, IsPastAll, Then}
+use Rattle.json5_lexemes.specs.PlainSteps.{begins_literal, begins_number, GoesOnIf, IsEmpty, IsPast, IsPastAll, Then}
 use Rattle.json5_lexemes.proofs.PlainTokens.{no_empty_word, heads_apart, same_tail}
 
 number_begins : {s : List ℕ} (r : List ℕ) → JsonNumber s → NotBegun begins_literal (s ++ r)
@@ -27,6 +27,9 @@ number_begins r (json_number no_minus (nonzero {c = c} h d) f e) = apart c h
 
 pub no_letter_begins : (c : ℕ) → (c == 110) ≡ false → (c == 116) ≡ false → (c == 102) ≡ false → begins_literal c ≡ false
 no_letter_begins c n t f = rw (n, t, f) refl
+
+pub number_no_letter : (c : ℕ) → begins_number c ≡ true → begins_literal c ≡ false
+number_no_letter c h = grind (arith, nat_tests)
 
 -- ---- a literal in front
 

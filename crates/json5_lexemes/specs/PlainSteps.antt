@@ -96,6 +96,9 @@ StaysPassed passed result = (comments : Bool) (l : Last) (text : List ℕ) → P
 
 -- ---- numbers
 
+abbrev pub begins_number : ℕ → Bool
+begins_number c = (c == minus_sign) || is_digit c
+
 abbrev pub is_exponent_letter : ℕ → Bool
 is_exponent_letter c = (c == letter_e) || (c == capital_e)
 

@@ -88,6 +88,7 @@ pub(crate) fn skip_number(text: &str) -> Option<&str>
 }
 
 /// What follows an exponent, if there is one, and no part of a word; None if it is none.
+#[inline(always)]
 fn end_number(text: &str) -> Option<&str>
     ensures { Leaves (Then Exponent) text.now result }
 {
@@ -134,6 +135,7 @@ fn skip_fraction(text: &str) -> Option<&str>
 }
 
 /// What follows an exponent, if there is one.
+#[inline(always)]
 fn skip_exponent(text: &str) -> Option<&str>
     ensures { GoesOnIf Exponent IsEmpty text.now result }
 {

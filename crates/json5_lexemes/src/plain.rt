@@ -7,7 +7,7 @@ ghost use Rattle.json5_styles.specs.Json.{JsonNumber, is_escape_letter, is_json_
 ghost use Rattle.json5_tokens.specs.ByteRuns.{is_line_part as is_surely_in_line, is_no_star};
 ghost use Rattle.json5_tokens.specs.Scan.{SkipsAll};
 ghost use Rattle.json5_lexemes.specs.Plain.{is_closing, is_opening, IsPlain, KeepsPlain, Plain};
-ghost use Rattle.json5_lexemes.specs.PlainSteps.{is_slash, EndsWord, Leaves, LeavesWith, PassesComment, PassesLexeme, PassesSign, StaysPassed, TakesBlock, TakesCode, TakesComment, TakesEscape, TakesHex, TakesLine, TakesString, TakesWord, Then};
+ghost use Rattle.json5_lexemes.specs.PlainSteps.{begins_number, is_slash, EndsWord, Leaves, LeavesWith, PassesComment, PassesLexeme, PassesSign, StaysPassed, TakesBlock, TakesCode, TakesComment, TakesEscape, TakesHex, TakesLine, TakesString, TakesWord, Then};
 ghost use Rattle.json5_lexemes.specs.declared.plain.Last.TheVariants as last_tokens;
 
 use crate::byte_runs::{blanks_len, is_json_blank, line_len, star_offset};
@@ -15,6 +15,7 @@ use crate::json_words::{begins_word, skip_four, skip_number};
 use crate::rest::{front, past_byte, past_first};
 use json5_styles::json_runs::skip_unescaped;
 use json5_tokens::char::is_json5_line_terminator;
+use json5_types::digit_runs::is_digit;
 
 /// What the last token was.
 #[derive(Clone, Copy, Drop)]
@@ -92,6 +93,9 @@ fn pass_lexeme(comments: bool, last: Last, text: &str) -> Option<(Last, &str)>
     if is_json_blank(first) {
         return Some((last, skip_json_blanks(text)));
     }
+    if begins_number(first) {
+        return with_comma(pass_number(text));
+    }
     if is_opening(first) {
         return Some((Last::Sign, past_first(text)));
     }
@@ -108,6 +112,14 @@ fn pass_lexeme(comments: bool, last: Last, text: &str) -> Option<(Last, &str)>
         return pass_comment(comments, last, past_first(text));
     }
     with_comma(pass_word(text))
+}
+
+/// Whether a number may begin so.
+#[inline(always)]
+fn begins_number(byte: u8) -> bool
+    ensures { result ≡ begins_number byte }
+{
+    byte == b'-' || is_digit(byte)
 }
 
 #[inline(always)]

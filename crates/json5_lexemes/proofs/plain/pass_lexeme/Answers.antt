@@ -1,16 +1,30 @@
 use Rattle.std.proofs.Common.{◌≡◌, true, drop, refl, sym, subst, arith}
 use Rattle.std.specs.Prelude.{slice_index}
-use Rattle.json5_styles.specs.Json.{is_json_blank}
+use Rattle.std.specs.Str.{chars}
+use Rattle.json5_styles.specs.Json.{is_json_blank, JsonNumber}
 use Rattle.json5_lexemes.specs.Plain.{is_opening, is_closing}
 use Rattle.json5_lexemes.proofs.PlainFronts.{ascii_starts, starts, first_is, other_by, other_than}
-use Rattle.json5_lexemes.proofs.PlainPassed.{blanks_passed, opening_passed, comma_passed, closing_passed, colon_passed, string_passed, comment_passed, word_passed}
-use Rattle.json5_lexemes.proofs.PlainRuns.{blank_is_ascii, opening_is_ascii, closing_is_ascii}
+use Rattle.json5_lexemes.proofs.PlainPassed.{number_other, blanks_passed, opening_passed, comma_passed, closing_passed, colon_passed, string_passed, comment_passed, word_passed}
+use Rattle.json5_lexemes.proofs.PlainRuns.{number_is_ascii, blank_is_ascii, opening_is_ascii, closing_is_ascii}
+use Rattle.json5_lexemes.specs.PlainSteps.{begins_number, TakesWord, Then}
+use Rattle.json5_lexemes.specs.declared.plain.Last.TheVariants as last
+use Rattle.json5_lexemes.proofs.PlainTakes.{leaves_with_by}
+use Rattle.json5_lexemes.proofs.PlainWords.{number_alone, number_no_letter}
 use Rattle.json5_lexemes.proofs.plain.pass_lexeme.Goals as goal
 
 pub returns-then-first-eq34 : goal.returns-then-first-eq34
 returns-then-first-eq34 c =
     c.with_sign.ensures c.args.comments c.args.last c.args.text.now
     (string_passed c.args.comments c.args.last c.args.text.now c.past_first.result.now _ c.past_first.ensures.chars (first_is _ _ 34 c.as_bytes.ensures.value c.if-first-eq34.true) _ c.pass_string.ensures)
+
+pub returns-then-begins_number : goal.returns-then-begins_number
+returns-then-begins_number c =
+    let text = c.args.text.now in
+    let h = subst (λ z. begins_number (slice_index z 0) ≡ true) c.as_bytes.ensures.value (sym c.if-begins_number.ensures) in
+    let f = ascii_starts text (drop 1 text) c.utf8.text c.requires (number_is_ascii _ h) refl in
+    c.with_comma.ensures c.args.comments c.args.last text
+    (word_passed c.args.comments c.args.last text (drop 1 text) _ f.chars (number_other c.args.comments c.args.last text (drop 1 text) _ f.chars h) c.pass_number.result
+    (leaves_with_by TakesWord (Then JsonNumber) last.Word text c.pass_number.result (λ r. number_alone (chars text) (slice_index text 0) (chars (drop 1 text)) r f.chars (number_no_letter (slice_index text 0) h)) c.pass_number.ensures))
 
 pub returns-then-is_json_blank : goal.returns-then-is_json_blank
 returns-then-is_json_blank c =
@@ -26,7 +40,7 @@ returns-then-is_opening c =
 pub returns-then-is_closing : goal.returns-then-is_closing
 returns-then-is_closing c =
     let h = subst (λ z. is_closing (slice_index z 0) ≡ true) c.as_bytes.ensures.value (sym c.if-is_closing.ensures) in
-    c.with_comma.ensures c.args.comments c.args.last c.args.text.now
+    c.with_comma-then-is_closing.ensures c.args.comments c.args.last c.args.text.now
     (closing_passed c.args.comments c.args.last c.args.text.now c.past_first-then-is_closing.result.now _ c.past_first-then-is_closing.ensures.chars h _ c.pass_closing.ensures)
 
 pub returns-then-first-eq44 : goal.returns-then-first-eq44
