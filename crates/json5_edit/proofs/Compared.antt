@@ -11,7 +11,7 @@ use Rattle.json5_grammar.specs.Language.Values.{Val}
 use Rattle.json5_grammar.proofs.OneTree.{one_tree}
 use Rattle.json5_read.specs.declared.brackets.BracketKind.{BracketKind as Kind}
 use Rattle.json5_read.specs.declared.brackets.BracketKind.TheVariants as kind
-use Rattle.json5_walk.specs.Moves.{Closes}
+use Rattle.json5_walk.specs.Moves.{EndsEntries}
 use Rattle.json5_walk.specs.Walks.{Walked, Trail, IsAt, Moved, Ends}
 use Rattle.json5_walk.proofs.Rests.{append_nil}
 use Rattle.json5_edit.specs.Changes.{ChangesBy, Gains, GainsAt}
@@ -131,7 +131,7 @@ others_go_on {s = s} key value p a b other = record {
       );
 }
 
-pub rest_ends : {s : Step} {v w left right new_left new_right : Walked} → PassesOthers s v w left right → Moved Closes left new_left → Moved Closes right new_right → PassesRest s v w new_left new_right
+pub rest_ends : {s : Step} {v w left right new_left new_right : Walked} → PassesOthers s v w left right → Moved EndsEntries left new_left → Moved EndsEntries right new_right → PassesRest s v w new_left new_right
 rest_ends p a b = λ x y t u h k.
     let (es, both, lacks) = p.passed x y t u h k in (
       es,
@@ -189,7 +189,7 @@ removed {x = x} {y = y} s found n kd key value is_kind is_place h k front one sa
       },
     )
 
-pub added : {x y : List ℕ} {l1 r1 l2 r2 r3 l4 r4 : Walked} (k : Kind) (count : ℕ) (key value name spelled : List ℕ) → Holds x (empty_of k) l1 → Holds y (empty_of k) r1 → PassesFront count l1 r1 l2 r2 → Moved (TakesEntry key value) r2 r3 → key ≡ name → value ≡ spelled → Moved Closes l2 l4 → Moved Closes r3 r4 → ((t : Trail) → IsAt l4 t → Ends l4 t) → ((t : Trail) → IsAt r4 t → Ends r4 t) → ChangesBy (Gains k name spelled) x y
+pub added : {x y : List ℕ} {l1 r1 l2 r2 r3 l4 r4 : Walked} (k : Kind) (count : ℕ) (key value name spelled : List ℕ) → Holds x (empty_of k) l1 → Holds y (empty_of k) r1 → PassesFront count l1 r1 l2 r2 → Moved (TakesEntry key value) r2 r3 → key ≡ name → value ≡ spelled → Moved EndsEntries l2 l4 → Moved EndsEntries r3 r4 → ((t : Trail) → IsAt l4 t → Ends l4 t) → ((t : Trail) → IsAt r4 t → Ends r4 t) → ChangesBy (Gains k name spelled) x y
 added {x = x} {y = y} k count key value name spelled h g front one same same_text close_left close_right end_left end_right =
     let e = empty_of k in
     let (es, both, size) = front.passed x y e e h g in
@@ -269,7 +269,7 @@ renamed {x = x} {y = y} k n key value name other new h g front one two same same
 
 -- ---- pairs
 
-pub both_end : {v left : Walked} (w right : Walked) (found : Option Entry) → Moved Closes v left → EndsToo w right found → PassesPair v w left right found
+pub both_end : {v left : Walked} (w right : Walked) (found : Option Entry) → Moved EndsEntries v left → EndsToo w right found → PassesPair v w left right found
 both_end w right None p q = (p, q)
 both_end w right (Some e) p q = absurd q
 

@@ -1,8 +1,6 @@
 -- A walk over a document is refused nowhere but where memory was.
-use denote.Ref.{Bor}
-use Rattle.std.proofs.Common.{◌≡◌, ℕ, ◌+◌, ◌≤◌, ◌<◌, Bool, true, false, List, [], ◌∷◌, length, refl, ap, sym, ◌∙◌, subst, inl, inr, Option, Some, None, arith}
-use Rattle.std.specs.Option.{is_some}
-use Rattle.std.specs.Prelude.{IfNone, IfErr, OnErr, Result, Ok, Err}
+use Rattle.std.proofs.Common.{◌≡◌, ℕ, ◌+◌, ◌≤◌, ◌<◌, true, false, List, [], ◌∷◌, length, refl, ap, sym, ◌∙◌, subst, inl, inr, Option, Some, None, arith}
+use Rattle.std.specs.Prelude.{IfErr, OnErr, Result, Ok, Err}
 use Rattle.std.specs.Str.{chars, IsUtf8}
 use Rattle.std.proofs.lemmas.List.{length-append}
 use Rattle.std.proofs.lemmas.Str.{length-le-encodes}
@@ -15,39 +13,27 @@ use Rattle.json5_grammar.proofs.ArraysPartlyRead.{element_shorter, sign_shorter}
 use Rattle.json5_grammar.proofs.ObjectsRead.{key_shorter, key_value_shorter}
 use Rattle.json5_types.specs.declared.error.Error.{Error}
 use Rattle.json5_types.specs.Errors.{LacksMemory}
-use Rattle.json5_read.specs.declared.brackets.OpenBracket.{OpenBracket}
+use Rattle.json5_read.specs.declared.brackets.BracketKind.{BracketKind as Kind}
 use Rattle.json5_read.specs.declared.brackets.BracketKind.TheVariants as kind
-use Rattle.json5_walk.specs.declared.next.Next.TheVariants as next
+use Rattle.json5_walk.specs.declared.entry.EntryKey.{EntryKey}
 use Rattle.json5_walk.specs.Nexts.{takes_value}
-use Rattle.json5_walk.specs.Frames.{Frame, in_array, in_object, frame_kinds, text_end, At, at_value, at_element, at_key, at_colon, at_comma, value_frames}
-use Rattle.json5_walk.specs.Moves.{Stays, Opens, TakesKeyOf, takes_key, TakesColon, takes_colon}
-use Rattle.json5_walk.specs.Walks.{Walked, at_start, Trail, IsAt, Live, Moved, Unmarked, may_close, IsDocument, IsDocumentWithin, IsHopeless, AwaitsValue, AwaitsKey, AwaitsColon, HasEnded, NotClosed, NotParted}
+use Rattle.json5_walk.specs.Entries.{is_inside, AwaitsEntry, BeginsEntry}
+use Rattle.json5_walk.specs.Frames.{Frame, in_array, in_object, text_end, At, at_value, at_element, at_key, at_colon, at_comma, value_frames, CompletesTo}
+use Rattle.json5_walk.specs.Moves.{Stays, Opens}
+use Rattle.json5_walk.specs.Walks.{Walked, at_start, Trail, IsAt, Live, Moved, Unmarked, IsDocument, IsDocumentWithin, IsHopeless, NeedsMemory, AwaitsValue, HasEnded}
 use Rattle.json5_walk.proofs.Calls.{utf8_len, starts_at}
-use Rattle.json5_walk.proofs.Refusals.{within_hopeless}
+use Rattle.json5_walk.proofs.Entries.{there, stayed, needs_as, hopeless_needs, awaits_value, front_moves}
+use Rattle.json5_edit.specs.Comparing.{step_kind}
+use Rattle.json5_edit.specs.Entries.{read_in, around}
 use Rattle.json5_edit.specs.Parts.{part, count, count_members, positions}
-use Rattle.json5_edit.specs.Seeks.{Seeks, Named, NeedsMemory, Spares, SparesFrom, Stands, IsAfterEntry}
+use Rattle.json5_edit.specs.Seeks.{Seeks, Spares, SparesFrom, opened}
 use Rattle.json5_edit.specs.declared.paths.Step.{Step}
+use Rattle.json5_edit.proofs.Fronts.{opened_at}
+use Rattle.json5_edit.proofs.PartsFound.{count_snoc, count_snoc_member}
 use Rattle.json5_edit.proofs.Placed.{closes_part}
-use Rattle.json5_edit.proofs.Seeks.{Elements, ElementsAnd, MembersOf, MembersAnd, stayed, array_opened, object_opened, there, name_gives}
+use Rattle.json5_edit.proofs.Seeks.{size_of, Passed}
 
--- ---- what is needed in one walk is needed in another over the same text
-
-pub needs_as : (v w : Walked) {e : Error} → w.text ≡ v.text → w.limit ≡ v.limit → NeedsMemory w e → NeedsMemory v e
-needs_as v w {e = e} t l k = subst (λ n. IsDocumentWithin n v.text → LacksMemory e) l (subst (λ x. IsDocumentWithin w.limit x → LacksMemory e) t k)
-
-pub hopeless_needs : (v : Walked) {e : Error} → IsHopeless v → NeedsMemory v e
-hopeless_needs v h d = absurd (h d)
-
--- ---- what must come
-
-pub awaits_element : {v : Walked} {ts : Trees} {o : List Frame} {m : Option (List Frame)} → IsAt v (record { now = at_element ts o; marked = m }) → Stands v → AwaitsValue v
-awaits_element {o = o} f (solid, closed) = record { due = ap takes_value f.is_next; solid = solid; unclosed = λ h. closed kind.Array (frame_kinds o) (sym f.is_kinds) (ap (may_close kind.Array) f.is_next) }
-
-pub awaits_key : {v : Walked} {ps : Members} {o : List Frame} {m : Option (List Frame)} → IsAt v (record { now = at_key ps o; marked = m }) → Stands v → AwaitsKey v
-awaits_key {o = o} f (solid, closed) = record { due = sym f.is_next; solid = solid; unclosed = closed kind.Object (frame_kinds o) (sym f.is_kinds) (ap (may_close kind.Object) f.is_next) }
-
-pub awaits_value : {v : Walked} {o : List Frame} {m : Option (List Frame)} → IsAt v (record { now = at_value o; marked = m }) → Solid v.unread → AwaitsValue v
-awaits_value f solid = record { due = ap takes_value f.is_next; solid = solid; unclosed = λ h. let k : next.Value ≡ next.Element = f.is_next ∙ h in absurd (cc) }
+-- ---- a value
 
 pub unmarked_awaits : {v w : Walked} → Unmarked v w → AwaitsValue v → AwaitsValue w
 unmarked_awaits {v = v} {w = w} p a = record {
@@ -56,25 +42,18 @@ unmarked_awaits {v = v} {w = w} p a = record {
   unclosed = λ h. subst (NotBegun _) (sym p.same_unread) (a.unclosed (sym p.same_next ∙ h));
 }
 
--- ---- a value
-
 pub mark_spares : {v w : Walked} {e : Error} → Unmarked v w → (AwaitsValue w → IsHopeless w) → Spares v e
 mark_spares {v = v} {w = w} p h = λ s f a. needs_as v w p.text p.limit (hopeless_needs w (h (unmarked_awaits p a)))
 
 pub skip_spares : {v w x : Walked} {e : Error} → Unmarked v w → x ≡ w → (AwaitsValue x → IsHopeless x) → Spares v e
 skip_spares {v = v} {w = w} p same h = λ s f a. needs_as v w p.text p.limit (hopeless_needs w (subst (λ z. AwaitsValue z → IsHopeless z) same h (unmarked_awaits p a)))
 
-pub array_spares : {v w x : Walked} {e : Error} → Unmarked v w → Moved (Opens kind.Array) w x → SparesFrom (at_element no_more) x e → Spares v e
-array_spares {v = v} {x = x} p q k = λ s f a.
-    let (b, is, g) = q.leads (record { now = s.now; marked = None }) (p.leads s f) in
-    needs_as v x (q.text ∙ p.text) (q.limit ∙ p.limit) (k (value_frames s.now) (there (array_opened is) g))
+pub opened_spares : {v w x : Walked} {k : Kind} {e : Error} (s : Step) → k ≡ step_kind s → Unmarked v w → Moved (Opens k) w x → SparesFrom s x e → Spares v e
+opened_spares {v = v} {x = x} s is p q k = λ t f a.
+    let (b, opens, g) = q.leads (record { now = t.now; marked = None }) (p.leads t f) in
+    needs_as v x (q.text ∙ p.text) (q.limit ∙ p.limit) (k (value_frames t.now) (there (opened_at opens ∙ ap (λ z. opened z (value_frames t.now)) is) g))
 
-pub object_spares : {v w x : Walked} {e : Error} → Unmarked v w → Moved (Opens kind.Object) w x → SparesFrom (at_key no_member) x e → Spares v e
-object_spares {v = v} {x = x} p q k = λ s f a.
-    let (b, is, g) = q.leads (record { now = s.now; marked = None }) (p.leads s f) in
-    needs_as v x (q.text ∙ p.text) (q.limit ∙ p.limit) (k (value_frames s.now) (there (object_opened is) g))
-
--- ---- elements
+-- ---- entries
 
 joined_count : (ts us : Trees) → count (joined_trees ts us) ≡ count ts + count us
 joined_count no_more us = omega arith
@@ -83,12 +62,6 @@ joined_count (more t ts) us = let k = joined_count ts us in omega (arith, k)
 joined_members_count : (ps qs : Members) → count_members (joined_members ps qs) ≡ count_members ps + count_members qs
 joined_members_count no_member qs = omega arith
 joined_members_count (member u e t ps) qs = let k = joined_members_count ps qs in omega (arith, k)
-
-same_elements : {ts us : Trees} → Some (array ts) ≡ Some (array us) → ts ≡ us
-same_elements e = cc
-
-same_members : {ps qs : Members} → Some (object ps) ≡ Some (object qs) → ps ≡ qs
-same_members e = cc
 
 -- what is unread is no longer than the text
 unread_short : {v : Walked} {s : Trail} → IsAt v s → length v.unread ≤ length v.text
@@ -117,135 +90,52 @@ fewer_members (member u e t ps) x r (y, z, k, v, tl) = let n = after ps z r tl i
     after no_member y r (inr (z, a, b)) = let k = sign_shorter 44 y z a in omega (arith, k)
     after (member s d w qs) y r (z, q, k, v, tl) = let n = after qs q r tl in let h = key_shorter true y z s d k in let i = key_value_shorter z q w v in omega (arith, n, h, i)
 
--- so many elements can't be passed
-pub too_many : {i n : ℕ} {path : List Step} {first now : Walked} {e : Error} → Elements i path first now n → length first.text ≤ n → SparesFrom (at_element no_more) first e
-too_many {n = n} {first = first} {now = now} {e = e} p l = λ o f. needs_as first now p.text p.limit (none o f)
+-- the collection that is open, in the tree of the whole
+part_of : (limit : ℕ) (a : At) (x : List ℕ) (w : Tree) → is_inside a ≡ true → CompletesTo limit a x w → (u : Tree) × (part (positions (around a) []) w ≡ Some u) × (size_of (read_in a) ≤ size_of u)
+part_of limit (at_element ts o) x w i (us, r, tl, fit, h) = let n = joined_count ts us in (array (joined_trees ts us), closes_part limit o [] r (array (joined_trees ts us)) w h, omega (arith, n))
+part_of limit (at_key ps o) x w i (qs, r, tl, fit, h) = let n = joined_members_count ps qs in (object (joined_members ps qs), closes_part limit o [] r (object (joined_members ps qs)) w h, omega (arith, n))
+part_of limit (at_comma t (in_array ts ∷ o)) x w i (us, r, tl, fit, h) = let n = joined_count ts (more t us) in let m = count_snoc ts t in (array (joined_trees ts (more t us)), closes_part limit o [] r (array (joined_trees ts (more t us))) w h, omega (arith, n, m))
+part_of limit (at_comma t (in_object ps u b ∷ o)) x w i (qs, r, tl, fit, h) = let n = joined_members_count ps (member u b t qs) in let m = count_snoc_member ps u b t in (object (joined_members ps (member u b t qs)), closes_part limit o [] r (object (joined_members ps (member u b t qs))) w h, omega (arith, n, m))
+part_of limit (at_comma t []) x w i c = absurd (cc)
+part_of limit (at_value o) x w i c = absurd (cc)
+part_of limit (at_colon ps u b o) x w i c = absurd (cc)
+
+-- the one that was just opened has fewer entries than there are characters
+first_few : (limit : ℕ) (k : Kind) (o : List Frame) (x : List ℕ) (w : Tree) → CompletesTo limit (opened k o) x w → (u : Tree) × (part (positions o []) w ≡ Some u) × (size_of u < length x)
+first_few limit kind.Array o x w (us, r, tl, fit, h) = (array us, closes_part limit o [] r (array us) w h, fewer us x r tl)
+first_few limit kind.Object o x w (qs, r, tl, fit, h) = (object qs, closes_part limit o [] r (object qs) w h, fewer_members qs x r tl)
+
+same_part : {t u : Tree} → Some t ≡ Some u → t ≡ u
+same_part e = cc
+
+-- so many entries can't be passed
+pub too_many : {s : Step} {path : List Step} {first now : Walked} {n : ℕ} {e : Error} → Passed s path first now n → length first.text ≤ n → SparesFrom s first e
+too_many {s = s} {first = first} {now = now} {n = n} {e = e} p l = λ o f. needs_as first now p.text p.limit (none o f)
   where
-    none : (o : List Frame) → IsAt first (record { now = at_element no_more o; marked = None }) → NeedsMemory now e
+    none : (o : List Frame) → IsAt first (record { now = opened (step_kind s) o; marked = None }) → NeedsMemory now e
     none o f d =
         let w : Tree = d.0 in
         let whole : Doc first.limit (chars first.text) w = subst (λ x. Doc first.limit (chars x) w) p.text (subst (λ k. Doc k (chars now.text) w) p.limit d.1) in
-        let (ts, m, g, c, k) = p.leads o f in
-        let (us, r, tl, fit, h) = f.back text_end w whole in
-        let (vs, q, tail, fits, closes) = g.back text_end w d.1 in
-        let a : part (positions o []) w ≡ Some (array us) = closes_part first.limit o [] r (array us) w h in
-        let b : part (positions o []) w ≡ Some (array (joined_trees ts vs)) = closes_part now.limit o [] q (array (joined_trees ts vs)) w closes in
-        let j : count us ≡ count ts + count vs = ap count (same_elements (sym a ∙ b)) ∙ joined_count ts vs in
-        let few = fewer us first.unread r tl in
+        let (a, m, g, i, frames, k, size, finds) = p.leads o f in
+        let (u, is_u, few) = first_few first.limit (step_kind s) o first.unread w (f.back text_end w whole) in
+        let (v, is_v, many) = part_of now.limit a now.unread w i (g.back text_end w d.1) in
+        let same : u ≡ v = same_part (sym is_u ∙ ap (λ z. part (positions z []) w) (sym frames) ∙ is_v) in
+        let sizes = ap size_of same in
         let short = unread_short f in
-        absurd (omega (arith, j, few, short, c, l))
+        absurd (omega (arith, few, many, sizes, short, size, l))
 
-pub elements_end_spare : {i n : ℕ} {path : List Step} {first now : Walked} {e : Error} → Elements i path first now n → (Live now.next → IsHopeless now) → SparesFrom (at_element no_more) first e
-elements_end_spare {first = first} {now = now} p h = λ o f. let (ts, m, g, c, k) = p.leads o f in needs_as first now p.text p.limit (hopeless_needs now (h (subst Live g.is_next tt)))
+pub entry_spares : {s : Step} {path : List Step} {first now : Walked} {n : ℕ} {e : Error} → Passed s path first now n → (AwaitsEntry now → NeedsMemory now e) → SparesFrom s first e
+entry_spares {first = first} {now = now} p h = λ o f.
+    let (a, m, g, i, frames, k, size, finds) = p.leads o f in
+    needs_as first now p.text p.limit (h (record { trail = record { now = a; marked = m }; is_at = g; inside = i }))
 
-pub element_spares : {i n : ℕ} {path : List Step} {first now mid : Walked} {e : Error} → Elements i path first now n → Moved Stays now mid → Stands mid → Spares mid e → SparesFrom (at_element no_more) first e
-element_spares {first = first} {mid = mid} p gap stands sp = λ o f.
-    let (ts, m, g, c, k) = p.leads o f in
-    let (a, still, h) = gap.leads (record { now = at_element ts o; marked = m }) g in
-    let is = stayed still h in
-    needs_as first mid (gap.text ∙ p.text) (gap.limit ∙ p.limit) (sp (record { now = at_element ts o; marked = m }) is (awaits_element is stands))
-
-pub elements_on_spare : {i n : ℕ} {path : List Step} {first now : Walked} {e : Error} → ElementsAnd i path first now n → ((s : Trail) → IsAt now s → IsAfterEntry s.now → IsHopeless now) → SparesFrom (at_element no_more) first e
-elements_on_spare {first = first} {now = now} p h = λ o f. let (ts, t, m, g, c, k) = p.leads o f in needs_as first now p.text p.limit (hopeless_needs now (h (record { now = at_comma t (in_array ts ∷ o); marked = m }) g tt))
-
--- ---- members
-
-pub too_many_members : {n : ℕ} {key : Bor (List ℕ)} {path : List Step} {first now : Walked} {e : Error} → MembersOf key path first now n → length first.text ≤ n → SparesFrom (at_key no_member) first e
-too_many_members {n = n} {first = first} {now = now} {e = e} p l = λ o f. needs_as first now p.text p.limit (none o f)
-  where
-    none : (o : List Frame) → IsAt first (record { now = at_key no_member o; marked = None }) → NeedsMemory now e
-    none o f d =
-        let w : Tree = d.0 in
-        let whole : Doc first.limit (chars first.text) w = subst (λ x. Doc first.limit (chars x) w) p.text (subst (λ k. Doc k (chars now.text) w) p.limit d.1) in
-        let (ps, m, g, c, k) = p.leads o f in
-        let (us, r, tl, fit, h) = f.back text_end w whole in
-        let (vs, q, tail, fits, closes) = g.back text_end w d.1 in
-        let a : part (positions o []) w ≡ Some (object us) = closes_part first.limit o [] r (object us) w h in
-        let b : part (positions o []) w ≡ Some (object (joined_members ps vs)) = closes_part now.limit o [] q (object (joined_members ps vs)) w closes in
-        let j : count_members us ≡ count_members ps + count_members vs = ap count_members (same_members (sym a ∙ b)) ∙ joined_members_count ps vs in
-        let few = fewer_members us first.unread r tl in
-        let short = unread_short f in
-        absurd (omega (arith, j, few, short, c, l))
-
-pub members_end_spare : {n : ℕ} {key : Bor (List ℕ)} {path : List Step} {first now : Walked} {e : Error} → MembersOf key path first now n → (Live now.next → IsHopeless now) → SparesFrom (at_key no_member) first e
-members_end_spare {first = first} {now = now} p h = λ o f. let (ps, m, g, c, k) = p.leads o f in needs_as first now p.text p.limit (hopeless_needs now (h (subst Live g.is_next tt)))
-
-pub name_spares : {n : ℕ} {key : Bor (List ℕ)} {path : List Step} {first now mid : Walked} {e : Error} → MembersOf key path first now n → Moved Stays now mid → Stands mid → ((s : Trail) → IsAt mid s → AwaitsKey mid → NeedsMemory mid e) → SparesFrom (at_key no_member) first e
-name_spares {first = first} {mid = mid} p gap stands sp = λ o f.
-    let (ps, m, g, c, k) = p.leads o f in
-    let (a, still, h) = gap.leads (record { now = at_key ps o; marked = m }) g in
-    let is = stayed still h in
-    needs_as first mid (gap.text ∙ p.text) (gap.limit ∙ p.limit) (sp (record { now = at_key ps o; marked = m }) is (awaits_key is stands))
-
-pub member_spares : {n : ℕ} {key : Bor (List ℕ)} {bytes : List ℕ} {path : List Step} {first now mid named : Walked} {same : Bool} {e : Error} → MembersOf key path first now n → Moved Stays now mid → Named bytes same mid named → Solid named.unread → Spares named e → SparesFrom (at_key no_member) first e
-member_spares {first = first} {named = named} p gap q solid sp = λ o f.
-    let (ps, m, g, c, k) = p.leads o f in
-    let (a, still, h) = gap.leads (record { now = at_key ps o; marked = m }) g in
-    let (b, is, i) = q.leads (record { now = at_key ps o; marked = m }) (stayed still h) in
-    let (u, d, at, eq) = name_gives is in
-    let j = there at i in
-    needs_as first named (q.text ∙ gap.text ∙ p.text) (q.limit ∙ gap.limit ∙ p.limit) (sp (record { now = at_value (in_object ps u d ∷ o); marked = m }) j (awaits_value j solid))
-
-pub members_on_spare : {n : ℕ} {key : Bor (List ℕ)} {path : List Step} {first now : Walked} {e : Error} → MembersAnd key path first now n → ((s : Trail) → IsAt now s → IsAfterEntry s.now → IsHopeless now) → SparesFrom (at_key no_member) first e
-members_on_spare {first = first} {now = now} p h = λ o f. let (ps, u, d, t, m, g, c, k) = p.leads o f in needs_as first now p.text p.limit (hopeless_needs now (h (record { now = at_comma t (in_object ps u d ∷ o); marked = m }) g tt))
-
--- ---- the tokens of an entry
-
-key_is : {bytes : List ℕ} {a b : At} → TakesKeyOf bytes a b → (ps : Members) × (u : List ℕ) × (d : Bool) × (o : List Frame) × (b ≡ at_colon ps u d o)
-key_is (takes_key ps u d o is) = (ps, u, d, o, refl)
-
-colon_is : {a b : At} → TakesColon a b → (o : List Frame) × (b ≡ at_value o)
-colon_is (takes_colon ps u d o) = (in_object ps u d ∷ o, refl)
-
-pub gap_spares_name : {v w : Walked} {bytes : List ℕ} {e : Error} → Moved (TakesKeyOf bytes) v w → (Live w.next → IsHopeless w) → (s : Trail) → IsAt v s → AwaitsKey v → NeedsMemory v e
-gap_spares_name {v = v} {w = w} p h s f a =
-    let (b, is, g) = p.leads s f in
-    let (ps, u, d, o, at) = key_is is in
-    let k = there at g in
-    needs_as v w p.text p.limit (hopeless_needs w (h (subst Live k.is_next tt)))
-
-pub colon_spares_name : {v w x : Walked} {bytes : List ℕ} {e : Error} → Moved (TakesKeyOf bytes) v w → Moved Stays w x → Solid x.unread → (AwaitsColon x → IsHopeless x) → (s : Trail) → IsAt v s → AwaitsKey v → NeedsMemory v e
-colon_spares_name {v = v} {x = x} p gap solid h s f a =
-    let (b, is, g) = p.leads s f in
-    let (c, still, k) = gap.leads (record { now = b; marked = s.marked }) g in
-    let (ps, u, d, o, at) = key_is is in
-    let j = there at (stayed still k) in
-    needs_as v x (gap.text ∙ p.text) (gap.limit ∙ p.limit) (hopeless_needs x (h (record { due = sym j.is_next; solid = solid })))
-
-pub end_spares_name : {v w x y : Walked} {bytes : List ℕ} {e : Error} → Moved (TakesKeyOf bytes) v w → Moved Stays w x → Moved TakesColon x y → (Live y.next → IsHopeless y) → (s : Trail) → IsAt v s → AwaitsKey v → NeedsMemory v e
-end_spares_name {v = v} {y = y} p gap q h s f a =
-    let (b, is, g) = p.leads s f in
-    let (c, still, k) = gap.leads (record { now = b; marked = s.marked }) g in
-    let (d, taken, j) = q.leads (record { now = b; marked = s.marked }) (stayed still k) in
-    let (o, at) = colon_is taken in
-    let i = there at j in
-    needs_as v y (q.text ∙ gap.text ∙ p.text) (q.limit ∙ gap.limit ∙ p.limit) (hopeless_needs y (h (subst Live i.is_next tt)))
-
-after_is : (a : At) → IsAfterEntry a → (t : Tree) × (f : Frame) × (o : List Frame) × (a ≡ at_comma t (f ∷ o))
-after_is (at_comma t (f ∷ o)) k = (t, f, o, refl)
-after_is (at_comma t []) k = absurd k
-after_is (at_value o) k = absurd k
-after_is (at_element ts o) k = absurd k
-after_is (at_key ps o) k = absurd k
-after_is (at_colon ps u d o) k = absurd k
-
-pub gap_after : {v : Walked} → (Live v.next → IsHopeless v) → (s : Trail) → IsAt v s → IsAfterEntry s.now → IsHopeless v
-gap_after h s f k = let (t, g, o, at) = after_is s.now k in let i = there at f in h (subst Live i.is_next tt)
-
-pub part_after : {v w x : Walked} → Moved Stays v w → Solid w.unread → NotParted w → x ≡ w → NotClosed x → (s : Trail) → IsAt v s → IsAfterEntry s.now → IsHopeless v
-part_after {v = v} {w = w} gap solid parted same closed s f k d =
-    let (a, still, g) = gap.leads s f in
-    let (t, fr, o, at) = after_is s.now k in
-    let i = there at (stayed still g) in
-    within_hopeless i solid parted (subst NotClosed same closed) (subst (λ n. IsDocumentWithin n w.text) (sym gap.limit) (subst (λ x. IsDocumentWithin v.limit x) (sym gap.text) d))
-
-pub option_stands : (mid new : Walked) (closed : Option OpenBracket) (done : Bool) → done ≡ is_some closed → Solid mid.unread → IfNone closed (NotClosed mid) → IfNone closed (new ≡ mid) → done ≡ false → Stands new
-option_stands mid new None done e solid n same h = subst Stands (sym same) (solid, n)
-option_stands mid new (Some b) done e solid n same h = let k : true ≡ false = sym e ∙ h in absurd (cc)
-
-pub none_closed : {A : Type 0} (closed : Option OpenBracket) (done : Bool) → done ≡ is_some closed → IfNone closed A → done ≡ false → A
-none_closed None done e a h = a
-none_closed (Some b) done e a h = let k : true ≡ false = sym e ∙ h in absurd (cc)
+pub value_spares : {s : Step} {path : List Step} {first now mid : Walked} {n : ℕ} {key : EntryKey} {e : Error} → Passed s path first now n → BeginsEntry now mid key → Spares mid e → SparesFrom s first e
+value_spares {first = first} {now = now} {mid = mid} p entry h = λ o f.
+    let (a, m, g, i, frames, k, size, finds) = p.leads o f in
+    let front = front_moves entry in
+    let (b, is, j) = front.leads (record { now = a; marked = m }) g in
+    let awaits = entry.keyed.awaits (entry.stands (record { trail = record { now = a; marked = m }; is_at = g; inside = i })) in
+    needs_as first mid (front.text ∙ p.text) (front.limit ∙ p.limit) (h (record { now = b; marked = m }) j awaits)
 
 -- ---- the whole text
 

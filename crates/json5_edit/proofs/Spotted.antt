@@ -12,11 +12,12 @@ use Rattle.json5_tokens.specs.Outcome.{bytes_in}
 use Rattle.json5_read.specs.declared.brackets.BracketKind.{BracketKind as Kind}
 use Rattle.json5_read.specs.declared.brackets.BracketKind.TheVariants as kind
 use Rattle.json5_walk.specs.Frames.{Frame, in_array, in_object, value_end, Spells, At, at_value, at_element, at_key, at_colon, at_comma, CompletesUntil, is_inner}
+use Rattle.json5_walk.specs.Entries.{is_inside}
 use Rattle.json5_walk.specs.Seams.{WholeTokens, is_unended}
 use Rattle.json5_walk.specs.Walks.{Walked, IsAt}
 use Rattle.json5_walk.proofs.Rests.{append_nil}
 use Rattle.json5_walk.proofs.Calls.{bytes_before}
-use Rattle.json5_edit.specs.Entries.{elements, members, entries, kind_of, is_inside, read_in, around}
+use Rattle.json5_edit.specs.Entries.{elements, members, entries, kind_of, read_in, around}
 use Rattle.json5_edit.specs.Spots.{Goes, joined, Spot, awaits_comma, Inside}
 
 -- ---- values

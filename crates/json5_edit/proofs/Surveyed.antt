@@ -1,5 +1,6 @@
 -- The entries of a collection that a survey passes.
 use Rattle.std.proofs.Common.{◌≡◌, ℕ, zero, suc, ◌+◌, ◌≤◌, ◌<◌, ◌-◌, Bool, true, false, List, [], ◌∷◌, ◌++◌, length, refl, ap, sym, ◌∙◌, append_assoc, subst, inl, inr, ◌⊎◌, Option, Some, None, nat_eq, arith}
+use Rattle.std.specs.Option.{is_some}
 use Rattle.std.specs.Prelude.{◌≢◌, ◌==◌, MatchOption}
 use Rattle.std.specs.Cmp.Lexicographic.{pointwise, bytes_decides}
 use Rattle.std.specs.Str.{chars, IsUtf8, encode_utf8_all}
@@ -20,28 +21,32 @@ use Rattle.json5_types.specs.Errors.{LacksMemory}
 use Rattle.json5_read.specs.declared.brackets.BracketKind.{BracketKind as Kind}
 use Rattle.json5_read.specs.declared.brackets.BracketKind.TheVariants as kind
 use Rattle.json5_read.specs.Brackets.{brackets_of}
+use Rattle.json5_types.specs.Cows.{cow_bytes}
+use Rattle.json5_walk.specs.declared.entry.EntryKey.{EntryKey}
 use Rattle.json5_walk.specs.Nexts.{takes_value}
 use Rattle.json5_walk.specs.Seams.{WholeTokens, is_unended}
-use Rattle.json5_walk.specs.Frames.{Frame, in_object, value_end, Spells, At, at_value, at_element, at_key, at_colon, at_comma, next_of, value_frames}
-use Rattle.json5_walk.specs.Moves.{Stays, Opens, opens_array, opens_object, TakesComma, after_element, after_member, Closes}
-use Rattle.json5_walk.specs.Walks.{Walked, at_start, Trail, IsAt, Live, Moved, PassesValue, NotOpened, IsDocumentWithin, IsHopeless, AwaitsValue}
+use Rattle.json5_walk.specs.Entries.{is_inside, AwaitsEntry, BeginsEntry}
+use Rattle.json5_walk.specs.Frames.{Frame, in_object, value_end, Spells, At, at_value, at_element, at_comma, value_frames}
+use Rattle.json5_walk.specs.Moves.{Opens, opens_array, opens_object, TakesEntryKey, no_key, key as member_key, EndsEntries}
+use Rattle.json5_walk.specs.Walks.{Walked, at_start, IsAt, Moved, PassesValue, NotOpened, IsDocumentWithin, IsHopeless, NeedsMemory, offset_in, AwaitsValue}
 use Rattle.json5_walk.proofs.Calls.{starts_at, utf8_len}
+use Rattle.json5_walk.proofs.Entries.{there, front_moves}
 use Rattle.json5_edit.specs.Comparing.{GoesTo, step_kind, step_key}
-use Rattle.json5_edit.specs.Entries.{elements, members, entries, kind_of, empty_of, is_inside, read_in, around}
+use Rattle.json5_edit.specs.Entries.{elements, members, entries, kind_of, empty_of, read_in, around}
 use Rattle.json5_edit.specs.Parts.{count, count_members}
 use Rattle.json5_edit.specs.Places.{IsValue}
 use Rattle.json5_edit.specs.Refusals.{BeginsNo}
-use Rattle.json5_edit.specs.Seeks.{Named, Stands, IsAfterEntry}
-use Rattle.json5_edit.specs.Spots.{Spot, awaits_comma, Inside, Names, NamesSpare, latest, Misses, EndsWithValue, LastEnds, IsFound, Surveys}
+use Rattle.json5_edit.specs.Seeks.{is_sought}
+use Rattle.json5_edit.specs.Spots.{Spot, awaits_comma, Inside, latest, Misses, EndsWithValue, LastEnds, IsFound, Surveys}
 use Rattle.json5_edit.specs.declared.paths.Step.{Step}
 use Rattle.json5_edit.specs.declared.paths.Step.TheVariants as step
 use Rattle.json5_edit.specs.declared.survey.Found.{Found}
 use Rattle.json5_edit.specs.declared.survey.Survey.{Survey}
 use Rattle.json5_edit.proofs.Compared.{alone, lacks_key_more}
-use Rattle.json5_edit.proofs.EntriesPassed.{elements_snoc, members_snoc, same_collection, opened_in, closed_in}
+use Rattle.json5_edit.proofs.EntriesPassed.{elements_snoc, members_snoc, opened_in}
+use Rattle.json5_edit.proofs.Fronts.{value_taken, still_read, Fronted, element, member, fronted, ended_at}
 use Rattle.json5_edit.proofs.Refused.{begins_with}
-use Rattle.json5_edit.proofs.Seeks.{there, stayed, value_taken, name_gives}
-use Rattle.json5_edit.proofs.Spared.{fewer, fewer_members, awaits_element, awaits_key, awaits_value}
+use Rattle.json5_edit.proofs.Spared.{fewer, fewer_members}
 use Rattle.json5_tokens.specs.Outcome.{bytes_in}
 use Rattle.json5_edit.proofs.Spotted.{spells_value, value_document, spot, entries_joined, joined_kind}
 
@@ -107,26 +112,11 @@ is_within : {limit : ℕ} {bytes : List ℕ} (v : Walked) → IsValue limit (cha
 is_within {limit = limit} {bytes = bytes} v (t, val, d) same_text same_limit =
     subst (λ l. IsDocumentWithin l v.text) (sym same_limit) (subst (λ x. IsDocumentWithin limit x) (sym same_text) (t, value_document limit (chars bytes) t val d))
 
-pub stays_inside : {limit : ℕ} {bytes : List ℕ} {t : Tree} {due : Bool} {v w : Walked} → Inside limit bytes t due v → Moved Stays v w → Inside limit bytes t due w
-stays_inside {w = w} h p =
-    let (a, is, g) = p.leads (record { now = h.now; marked = h.marked }) h.is_at in
-    record { same_text = p.text ∙ h.same_text; same_limit = p.limit ∙ h.same_limit; now = h.now; marked = h.marked; is_at = stayed is g; inside = h.inside; read = h.read; outermost = h.outermost; is_due = h.is_due }
-
-comma_taken : {a b : At} → TakesComma a b → awaits_comma b ≡ false
-comma_taken (after_element ts t o) = refl
-comma_taken (after_member ps u e t o) = refl
-
-pub comma_inside : {limit : ℕ} {bytes : List ℕ} {t : Tree} {due : Bool} {v w : Walked} → Inside limit bytes t due v → Moved TakesComma v w → Inside limit bytes t false w
-comma_inside h p =
-    let (b, is, g) = p.leads (record { now = h.now; marked = h.marked }) h.is_at in
-    let (i, r, o) = same_collection is in
-    record { same_text = p.text ∙ h.same_text; same_limit = p.limit ∙ h.same_limit; now = b; marked = h.marked; is_at = g; inside = i; read = r ∙ h.read; outermost = o ∙ h.outermost; is_due = comma_taken is }
-
 -- the collection that was closed is the whole
-pub closes_whole : {limit : ℕ} {bytes : List ℕ} {t : Tree} {due : Bool} {v w : Walked} → Inside limit bytes t due v → Moved Closes v w → (value : IsValue limit (chars bytes)) → value.0 ≡ t
+pub closes_whole : {limit : ℕ} {bytes : List ℕ} {t : Tree} {due : Bool} {v w : Walked} → Inside limit bytes t due v → Moved EndsEntries v w → (value : IsValue limit (chars bytes)) → value.0 ≡ t
 closes_whole {limit = limit} {bytes = bytes} {t = t} {w = w} h p value =
     let (b, is, g) = p.leads (record { now = h.now; marked = h.marked }) h.is_at in
-    let f : IsAt w (record { now = at_comma t []; marked = h.marked }) = there (closed_in is h.outermost ∙ ap (λ z. at_comma z []) h.read) g in
+    let f : IsAt w (record { now = at_comma t []; marked = h.marked }) = there (ended_at is ∙ ap (at_comma (read_in h.now)) h.outermost ∙ ap (λ z. at_comma z []) h.read) g in
     let same_text : w.text ≡ bytes = p.text ∙ h.same_text in
     let same_limit : w.limit ≡ limit = p.limit ∙ h.same_limit in
     let s : Spells value_end w.limit (chars w.text) value.0 = subst (λ x. Spells value_end w.limit (chars x) value.0) (sym same_text) (subst (λ l. Spells value_end l (chars bytes) value.0) (sym same_limit) (whole limit bytes value)) in
@@ -144,11 +134,12 @@ pub record Before (limit : ℕ) (bytes : List ℕ) (t : Tree) (key : List ℕ) (
   pub ended : is_unended now ≡ false
   pub inside : (w : Tree) → is_inside (at_comma w (value_frames now)) ≡ true
   pub outermost : (w : Tree) → around (at_comma w (value_frames now)) ≡ []
+  pub in_array : kind_of t ≡ Some kind.Array → key ≡ []
   pub same_kind : (w : Tree) → kind_of (read_in (at_comma w (value_frames now))) ≡ kind_of t
   pub one_more : (w : Tree) → entries (read_in (at_comma w (value_frames now))) ≡ entries t ++ ((key, w) ∷ [])
 
-before_element : {limit : ℕ} {bytes : List ℕ} {t : Tree} {v : Walked} {m : Option (List Frame)} (a : At) → v.text ≡ bytes → v.limit ≡ limit → IsAt v (record { now = a; marked = m }) → is_inside a ≡ true → read_in a ≡ t → around a ≡ [] → awaits_comma a ≡ false → kind_of t ≡ Some kind.Array → Before limit bytes t [] v
-before_element {t = t} {v = v} {m = m} (at_element ts o) same_text same_limit f i r e n k = record {
+at_front : {limit : ℕ} {bytes key : List ℕ} {t : Tree} {b : At} {v : Walked} {m : Option (List Frame)} → Fronted key t [] b → v.text ≡ bytes → v.limit ≡ limit → IsAt v (record { now = b; marked = m }) → Before limit bytes t key v
+at_front {key = key} {m = m} (element ts o none) same_text same_limit f = record {
   same_text = same_text;
   same_limit = same_limit;
   now = at_element ts o;
@@ -156,87 +147,66 @@ before_element {t = t} {v = v} {m = m} (at_element ts o) same_text same_limit f 
   is_at = f;
   ended = refl;
   inside = λ w. refl;
-  outermost = λ w. e;
-  same_kind = λ w. ap kind_of r;
-  one_more = λ w. elements_snoc ts w ∙ ap (λ z. entries z ++ (([], w) ∷ [])) r;
+  outermost = λ w. refl;
+  in_array = λ k. none;
+  same_kind = λ w. refl;
+  one_more = λ w. elements_snoc ts w ∙ ap (λ (k : List ℕ). elements ts ++ ((k, w) ∷ [])) (sym none);
 }
-before_element (at_key ps o) same_text same_limit f i r e n k = let h : Some kind.Object ≡ Some kind.Array = ap kind_of r ∙ k in absurd (cc)
-before_element (at_comma s o) same_text same_limit f i r e n k = absurd (cc)
-before_element (at_value o) same_text same_limit f i r e n k = absurd (cc)
-before_element (at_colon ps u b o) same_text same_limit f i r e n k = absurd (cc)
+at_front {key = key} {m = m} (member ps u e o is) same_text same_limit f = record {
+  same_text = same_text;
+  same_limit = same_limit;
+  now = at_value (in_object ps u e ∷ o);
+  marked = m;
+  is_at = f;
+  ended = refl;
+  inside = λ w. refl;
+  outermost = λ w. refl;
+  in_array = λ k. absurd (cc);
+  same_kind = λ w. refl;
+  one_more = λ w. members_snoc ps u e w ∙ ap (λ (k : List ℕ). members ps ++ ((k, w) ∷ [])) (sym is);
+}
 
-element_awaits : {t : Tree} {v : Walked} {m : Option (List Frame)} (a : At) → IsAt v (record { now = a; marked = m }) → is_inside a ≡ true → read_in a ≡ t → awaits_comma a ≡ false → kind_of t ≡ Some kind.Array → Stands v → AwaitsValue v
-element_awaits (at_element ts o) f i r n k stands = awaits_element f stands
-element_awaits (at_key ps o) f i r n k stands = let h : Some kind.Object ≡ Some kind.Array = ap kind_of r ∙ k in absurd (cc)
-element_awaits (at_comma s o) f i r n k stands = absurd (cc)
-element_awaits (at_value o) f i r n k stands = absurd (cc)
-element_awaits (at_colon ps u b o) f i r n k stands = absurd (cc)
+-- an entry was begun after those of t
+pub entry_before : {limit : ℕ} {bytes : List ℕ} {t : Tree} {due : Bool} {v w : Walked} {key : EntryKey} → Inside limit bytes t due v → BeginsEntry v w key → Before limit bytes t (cow_bytes key.text) w
+entry_before {key = key} h entry =
+    let front = front_moves entry in
+    let (b, is, g) = front.leads (record { now = h.now; marked = h.marked }) h.is_at in
+    at_front (subst (λ z. Fronted (cow_bytes key.text) z [] b) h.read (subst (λ o. Fronted (cow_bytes key.text) (read_in h.now) o b) h.outermost (fronted is))) (front.text ∙ h.same_text) (front.limit ∙ h.same_limit) g
 
-pub in_array_before : {limit : ℕ} {bytes : List ℕ} {t : Tree} {v : Walked} → Inside limit bytes t false v → kind_of t ≡ Some kind.Array → Before limit bytes t [] v
-in_array_before h k = before_element h.now h.same_text h.same_limit h.is_at h.inside h.read h.outermost h.is_due k
+key_due : {key : List ℕ} {a b : At} → TakesEntryKey key a b → (awaits_comma a ≡ false) × (is_inside a ≡ true)
+key_due (no_key ts o e) = (refl, refl)
+key_due (member_key ps u e o is) = (refl, refl)
 
--- where a key is due
-pub record BeforeKey (t : Tree) (v : Walked) : Type 0 where
-  pub ps : Members
-  pub frames : List Frame
-  pub marked : Option (List Frame)
-  pub is_at : IsAt v (record { now = at_key ps frames; marked = marked })
-  pub read : object ps ≡ t
-  pub outermost : frames ≡ []
+-- where its key stands
+pub entry_inside : {limit : ℕ} {bytes : List ℕ} {t : Tree} {due : Bool} {v w : Walked} {key : EntryKey} → Inside limit bytes t due v → (entry : BeginsEntry v w key) → Inside limit bytes t false entry.first
+entry_inside h entry =
+    let (b, is, g) = entry.parted.leads (record { now = h.now; marked = h.marked }) h.is_at in
+    let (c, name, i) = entry.keyed.name.leads (record { now = b; marked = h.marked }) g in
+    let (due, inner) = key_due name in
+    let (read, frames) = still_read is in
+    record { same_text = entry.parted.text ∙ h.same_text; same_limit = entry.parted.limit ∙ h.same_limit; now = b; marked = h.marked; is_at = g; inside = inner; read = read ∙ h.read; outermost = frames ∙ h.outermost; is_due = due }
 
-key_due : {t : Tree} {v : Walked} {m : Option (List Frame)} (a : At) → IsAt v (record { now = a; marked = m }) → is_inside a ≡ true → read_in a ≡ t → around a ≡ [] → awaits_comma a ≡ false → kind_of t ≡ Some kind.Object → BeforeKey t v
-key_due {m = m} (at_key ps o) f i r e n k = record { ps = ps; frames = o; marked = m; is_at = f; read = r; outermost = e }
-key_due (at_element ts o) f i r e n k = let h : Some kind.Array ≡ Some kind.Object = ap kind_of r ∙ k in absurd (cc)
-key_due (at_comma s o) f i r e n k = absurd (cc)
-key_due (at_value o) f i r e n k = absurd (cc)
-key_due (at_colon ps u b o) f i r e n k = absurd (cc)
-
-in_object_due : {limit : ℕ} {bytes : List ℕ} {t : Tree} {v : Walked} → Inside limit bytes t false v → kind_of t ≡ Some kind.Object → BeforeKey t v
-in_object_due h k = key_due h.now h.is_at h.inside h.read h.outermost h.is_due k
-
-in_object_before : {limit : ℕ} {bytes : List ℕ} {t : Tree} {v w : Walked} (key : List ℕ) (same : Bool) → Inside limit bytes t false v → kind_of t ≡ Some kind.Object → Named key same v w → (name : List ℕ) × Before limit bytes t name w × (same ≡ pointwise nat_eq name key) × (Solid w.unread → AwaitsValue w)
-in_object_before {w = w} key same h k p =
-    let q = in_object_due h k in
-    let (b, is, g) = p.leads (record { now = at_key q.ps q.frames; marked = q.marked }) q.is_at in
-    let (u, e, at, eq) = name_gives is in
-    let f : IsAt w (record { now = at_value (in_object q.ps u e ∷ q.frames); marked = q.marked }) = there at g in (
-      encode_utf8_all u,
-      record {
-        same_text = p.text ∙ h.same_text;
-        same_limit = p.limit ∙ h.same_limit;
-        now = at_value (in_object q.ps u e ∷ q.frames);
-        marked = q.marked;
-        is_at = f;
-        ended = refl;
-        inside = λ w. refl;
-        outermost = λ w. q.outermost;
-        same_kind = λ w. ap kind_of q.read;
-        one_more = λ w. members_snoc q.ps u e w ∙ ap (λ z. entries z ++ ((encode_utf8_all u, w) ∷ [])) q.read;
-      },
-      eq,
-      λ solid. awaits_value f solid,
-    )
+awaits : {limit : ℕ} {bytes : List ℕ} {t : Tree} {due : Bool} {v : Walked} → Inside limit bytes t due v → AwaitsEntry v
+awaits h = record { trail = record { now = h.now; marked = h.marked }; is_at = h.is_at; inside = h.inside }
 
 -- ---- an entry
 
 -- so many entries were passed
-pub record Passing (s : Step) (first now : Walked) (n : ℕ) (found : Option Found) (end : Option ℕ) : Type 0 where
+pub record Passing (s : Step) (first now : Walked) (n : ℕ) (found : Option Found) (before : Option ℕ) (end : ℕ) : Type 0 where
   pub tree : Tree
-  pub inside : Inside first.limit first.text tree false now
+  pub inside : Inside first.limit first.text tree (is_some before) now
   pub kind : kind_of tree ≡ Some (step_kind s)
   pub size : length (entries tree) ≡ n
   pub entry : MatchOption found (Misses s (entries tree)) (IsFound s first.limit first.text tree)
-  pub last : MatchOption end (entries tree ≡ []) (LastEnds first.limit first.text tree)
+  pub last : MatchOption before (entries tree ≡ []) (LastEnds first.limit first.text tree)
+  pub at_end : end ≡ offset_in now
 
-pub starts_passing : (s : Step) (v : Walked) → Inside v.limit v.text (empty_of (step_kind s)) false v → Passing s v v 0 None None
-starts_passing (step.Index i) v h = record { tree = array no_more; inside = h; kind = refl; size = refl; entry = omega arith; last = refl }
-starts_passing (step.Key k) v h = record { tree = object no_member; inside = h; kind = refl; size = refl; entry = tt; last = refl }
+pub starts_passing : (s : Step) (v : Walked) (end : ℕ) → Inside v.limit v.text (empty_of (step_kind s)) false v → end ≡ offset_in v → Passing s v v 0 None None end
+starts_passing (step.Index i) v end h e = record { tree = array no_more; inside = h; kind = refl; size = refl; entry = omega arith; last = refl; at_end = e }
+starts_passing (step.Key k) v end h e = record { tree = object no_member; inside = h; kind = refl; size = refl; entry = tt; last = refl; at_end = e }
 
 -- with its key, where it has one, and whether the step goes to it
-pub record Sought (s : Step) (limit : ℕ) (bytes : List ℕ) (t : Tree) (same : Bool) (v w : Walked) : Type 0 where
-  pub key : List ℕ
-  pub before : Before limit bytes t key w
-  pub awaits : Stands v → (Solid v.unread → Solid w.unread) → AwaitsValue w
+pub record Sought (s : Step) (t : Tree) (same : Bool) (key : List ℕ) : Type 0 where
   pub is_so : same ≡ true → (key ≡ step_key s) × GoesTo s (entries t) []
   pub is_other : same ≡ false → Misses s (entries t) → (w : Tree) → Misses s (entries t ++ ((key, w) ∷ []))
   pub stays : same ≡ false → (es before : List (List ℕ × Tree)) (w : Tree) → GoesTo s before es → GoesTo s before (es ++ ((key, w) ∷ []))
@@ -257,37 +227,20 @@ strictly zero (suc i) l n = omega arith
 strictly (suc k) zero l n = absurd (omega (arith, l))
 strictly (suc k) (suc i) l n = let h = strictly k i (omega (arith, l)) (λ e. n (ap suc e)) in omega (arith, h)
 
-pub sought : {s : Step} {limit : ℕ} {bytes : List ℕ} {t : Tree} {v w : Walked} (n : ℕ) (same : Bool) → Inside limit bytes t false v → kind_of t ≡ Some (step_kind s) → length (entries t) ≡ n → Names s n same v w → Sought s limit bytes t same v w
-sought {s = step.Index i} {limit = limit} {bytes = bytes} {t = t} n same h k size (is, eq) = record {
-  key = [];
-  before = subst (Before limit bytes t []) (sym is) (in_array_before h k);
-  awaits = λ stands solid. subst AwaitsValue (sym is) (element_awaits h.now h.is_at h.inside h.read h.is_due k stands);
-  is_so = λ e. (refl, size ∙ eqb-true n i (sym eq ∙ e));
-  is_other = λ e few w. let other = eqb-false n i (sym eq ∙ e) in let l = one_longer (entries t) [] w in at_most few other l;
+pub sought : {s : Step} {limit : ℕ} {bytes key : List ℕ} {t : Tree} {v : Walked} (n : ℕ) (same : Bool) → Before limit bytes t key v → kind_of t ≡ Some (step_kind s) → length (entries t) ≡ n → same ≡ is_sought s n key → Sought s t same key
+sought {s = step.Index i} {key = key} {t = t} n same b k size eq = record {
+  is_so = λ e. (b.in_array k, size ∙ eqb-true n i (sym eq ∙ e));
+  is_other = λ e few w. let other = eqb-false n i (sym eq ∙ e) in let l = one_longer (entries t) key w in at_most few other l;
   stays = λ e es before w g. g;
 }
   where
     at_most : {m : ℕ} → length (entries t) ≤ i → (n ≡ i → ⊥) → m ≡ length (entries t) + 1 → m ≤ i
     at_most few other l = let h = strictly n i (omega (arith, few, size)) other in omega (arith, h, l, size)
-sought {s = step.Key key} {t = t} n same h k size p =
-    let (name, before, eq, awaits) = in_object_before key.now same h k p in
-    record {
-      key = name;
-      before = before;
-      awaits = λ stands solid. awaits (solid stands.0);
-      is_so = λ e. (names_same name key.now same eq e, tt);
-      is_other = λ e lacks w. lacks_key_more key.now (entries t) name w lacks (names_differ name key.now same eq e);
-      stays = λ e es before w g. lacks_key_more key.now es name w g (names_differ name key.now same eq e);
-    }
-
--- an entry was passed: where a comma is due
-pub record Entered (s : Step) (first now : Walked) (n : ℕ) (found : Option Found) (end : ℕ) : Type 0 where
-  pub tree : Tree
-  pub inside : Inside first.limit first.text tree true now
-  pub kind : kind_of tree ≡ Some (step_kind s)
-  pub size : length (entries tree) ≡ n + 1
-  pub entry : MatchOption found (Misses s (entries tree)) (IsFound s first.limit first.text tree)
-  pub last : LastEnds first.limit first.text tree end
+sought {s = step.Key name} {key = key} {t = t} n same b k size eq = record {
+  is_so = λ e. (names_same key name.now same eq e, tt);
+  is_other = λ e lacks w. lacks_key_more name.now (entries t) key w lacks (names_differ key name.now same eq e);
+  stays = λ e es before w g. lacks_key_more name.now es key w g (names_differ key name.now same eq e);
+}
 
 -- the value that was passed
 pub record Valued (limit : ℕ) (bytes : List ℕ) (t : Tree) (key : List ℕ) (v : Walked) : Type 0 where
@@ -338,16 +291,16 @@ found_stays {s = s} key value k e more_there m =
       before = m.before;
     }
 
-latest_entry : {s : Step} {limit : ℕ} {bytes : List ℕ} {t : Tree} {same : Bool} {v w x : Walked} (b : Bool) (n : Found) (found : Option Found) → same ≡ b → MatchOption found (Misses s (entries t)) (IsFound s limit bytes t) → MatchOption n.before (entries t ≡ []) (LastEnds limit bytes t) → (q : Sought s limit bytes t same v w) → (p : Valued limit bytes t q.key x) → (here : Spot limit bytes t false n.start) → Solid here.rest → MatchOption (latest b n found) (Misses s (entries p.tree)) (IsFound s limit bytes p.tree)
+latest_entry : {s : Step} {limit : ℕ} {bytes : List ℕ} {t : Tree} {same : Bool} {key : List ℕ} {x : Walked} (b : Bool) (n : Found) (found : Option Found) → same ≡ b → MatchOption found (Misses s (entries t)) (IsFound s limit bytes t) → MatchOption n.before (entries t ≡ []) (LastEnds limit bytes t) → Sought s t same key → (p : Valued limit bytes t key x) → (here : Spot limit bytes t false n.start) → Solid here.rest → MatchOption (latest b n found) (Misses s (entries p.tree)) (IsFound s limit bytes p.tree)
 latest_entry {t = t} true n found e m last q p here solid =
-    let (key, goes) = q.is_so e in
+    let (key_is, goes) = q.is_so e in
     record {
       entry = record {
         before = t;
         gone = p.value;
         after = [];
         same_kind = sym p.same_kind;
-        all = p.one_more ∙ ap (λ k. entries t ++ ((k, p.value) ∷ [])) key;
+        all = p.one_more ∙ ap (λ k. entries t ++ ((k, p.value) ∷ [])) key_is;
         there = goes;
         spot = here;
         solid = solid;
@@ -355,27 +308,25 @@ latest_entry {t = t} true n found e m last q p here solid =
       before = last;
     }
 latest_entry {s = s} false n None e m last q p here solid = subst (Misses s) (sym p.one_more) (q.is_other e m p.value)
-latest_entry false n (Some k) e m last q p here solid = found_stays q.key p.value p.same_kind p.one_more (q.stays e) m
+latest_entry false n (Some k) e m last q p here solid = found_stays _ p.value p.same_kind p.one_more (q.stays e) m
 
-pub entered : {s : Step} {first now mid named new : Walked} {n start end : ℕ} {found after : Option Found} {before : Option ℕ} (same : Bool) → Passing s first now n found before → Moved Stays now mid → Solid mid.unread → IsValue first.limit (chars first.text) → start ≡ length mid.text - bytes_in mid.unread → Names s n same mid named → after ≡ latest same (record { start = start; before = before }) found → Moved (PassesValue named new) named new → end ≡ length new.text - bytes_in new.unread → Entered s first new n after end
-entered {s = s} {first = first} {new = new} {n = n} {start = start} {end = end} {found = found} {before = before} same p gap solid value at names is skip at_end =
-    let here = stays_inside p.inside gap in
-    let q = sought n same here p.kind p.size names in
-    let v = valued q.before skip in
+pub passed_one : {s : Step} {first now mid new : Walked} {n last end : ℕ} {found after : Option Found} {before : Option ℕ} (key : EntryKey) (same : Bool) → Passing s first now n found before last → BeginsEntry now mid key → IsValue first.limit (chars first.text) → same ≡ is_sought s n (cow_bytes key.text) → after ≡ latest same (record { start = key.start; before = before }) found → Moved (PassesValue mid new) mid new → end ≡ offset_in new → Passing s first new (n + 1) after (Some end) end
+passed_one {s = s} {first = first} {n = n} {end = end} {found = found} {before = before} key same p entry value names is skip at_end =
+    let b = entry_before p.inside entry in
+    let q = sought n same b p.kind p.size names in
+    let v = valued b skip in
     let all = whole first.limit first.text value in
-    let (place, rest_is) = spot value.0 start here all at in
+    let (place, rest_is) = spot value.0 key.start (entry_inside p.inside entry) all entry.keyed.start in
     let (after_value, left) = spot value.0 end v.inside all at_end in
     record {
       tree = v.tree;
       inside = v.inside;
       kind = v.same_kind ∙ p.kind;
-      size = ap length v.one_more ∙ one_longer (entries p.tree) q.key v.value ∙ ap (λ z. z + 1) p.size;
-      entry = subst (λ z. MatchOption z (Misses s (entries v.tree)) (IsFound s first.limit first.text v.tree)) (sym is) (latest_entry same (record { start = start; before = before }) found refl p.entry p.last q v place (subst Solid (sym rest_is) solid));
+      size = ap length v.one_more ∙ one_longer (entries p.tree) (cow_bytes key.text) v.value ∙ ap (λ z. z + 1) p.size;
+      entry = subst (λ z. MatchOption z (Misses s (entries v.tree)) (IsFound s first.limit first.text v.tree)) (sym is) (latest_entry same (record { start = key.start; before = before }) found refl p.entry p.last q v place (subst Solid (sym rest_is) entry.solid));
       last = record { spot = after_value; ends = v.ends after_value.front (after_value.split ∙ ap (λ z. after_value.front ++ z) left) };
+      at_end = at_end;
     }
-
-pub goes_on_passing : {s : Step} {first now new : Walked} {n end : ℕ} {found : Option Found} → Entered s first now n found end → Moved TakesComma now new → Passing s first new (n + 1) found (Some end)
-goes_on_passing p q = record { tree = p.tree; inside = comma_inside p.inside q; kind = p.kind; size = p.size; entry = p.entry; last = p.last }
 
 -- ---- the end
 
@@ -389,51 +340,23 @@ surveyed {limit = limit} {bytes = bytes} t found (w, v, d) is k e p = record {
   end = p;
 }
 
-pub passing_ends : {s : Step} {first now new : Walked} {n end : ℕ} {found : Option Found} {before : Option ℕ} → Passing s first now n found before → (value : IsValue first.limit (chars first.text)) → end ≡ length now.text - bytes_in now.unread → Moved Closes now new → Surveys s first.limit first.text (record { entry = found; end = end; comma = false })
-passing_ends {first = first} {end = end} {found = found} p value at closes = surveyed p.tree (record { entry = found; end = end; comma = false }) value (closes_whole p.inside closes value) p.kind p.entry (spot value.0 end p.inside (whole first.limit first.text value) at).0
-
-pub entered_ends : {s : Step} {first now new : Walked} {n end : ℕ} {found : Option Found} → Entered s first now n found end → (value : IsValue first.limit (chars first.text)) → end ≡ length now.text - bytes_in now.unread → Moved Closes now new → Surveys s first.limit first.text (record { entry = found; end = end; comma = true })
-entered_ends {first = first} {end = end} {found = found} p value at closes = surveyed p.tree (record { entry = found; end = end; comma = true }) value (closes_whole p.inside closes value) p.kind p.entry (spot value.0 end p.inside (whole first.limit first.text value) at).0
+pub passing_ends : {s : Step} {first now new : Walked} {n end : ℕ} {found : Option Found} {before : Option ℕ} (comma : Bool) → comma ≡ is_some before → Passing s first now n found before end → IsValue first.limit (chars first.text) → Moved EndsEntries now new → Surveys s first.limit first.text (record { entry = found; end = end; comma = comma })
+passing_ends {s = s} {first = first} {end = end} {found = found} {before = before} comma is p value closes =
+    let last = surveyed p.tree (record { entry = found; end = end; comma = is_some before }) value (closes_whole p.inside closes value) p.kind p.entry (spot value.0 end p.inside (whole first.limit first.text value) p.at_end).0 in
+    subst (λ c. Surveys s first.limit first.text (record { entry = found; end = end; comma = c })) (sym is) last
 
 -- ---- refusals
-
-live_at : (a : At) → Live (next_of a)
-live_at (at_value o) = tt
-live_at (at_element ts o) = tt
-live_at (at_key ps o) = tt
-live_at (at_colon ps u b o) = tt
-live_at (at_comma t o) = tt
 
 within : {limit : ℕ} {bytes : List ℕ} {t : Tree} {due : Bool} {v : Walked} → Inside limit bytes t due v → IsValue limit (chars bytes) → IsDocumentWithin v.limit v.text
 within {v = v} h value = is_within v value h.same_text h.same_limit
 
-pub end_spares : {limit : ℕ} {bytes : List ℕ} {t : Tree} {due : Bool} {v : Walked} {e : Error} → Inside limit bytes t due v → IsValue limit (chars bytes) → (Live v.next → IsHopeless v) → LacksMemory e
-end_spares h value k = absurd (k (subst Live h.is_at.is_next (live_at h.now)) (within h value))
+pub entry_spares : {s : Step} {first now : Walked} {n end : ℕ} {found : Option Found} {before : Option ℕ} {e : Error} → Passing s first now n found before end → IsValue first.limit (chars first.text) → (AwaitsEntry now → NeedsMemory now e) → LacksMemory e
+entry_spares p value k = k (awaits p.inside) (within p.inside value)
 
-after_entry : (a : At) → is_inside a ≡ true → awaits_comma a ≡ true → IsAfterEntry a
-after_entry (at_comma t (f ∷ o)) i e = tt
-after_entry (at_comma t []) i e = absurd (cc)
-after_entry (at_value o) i e = absurd (cc)
-after_entry (at_element ts o) i e = absurd (cc)
-after_entry (at_key ps o) i e = absurd (cc)
-after_entry (at_colon ps u b o) i e = absurd (cc)
-
-pub comma_spares : {s : Step} {first now : Walked} {n end : ℕ} {found : Option Found} {e : Error} → Entered s first now n found end → IsValue first.limit (chars first.text) → ((t : Trail) → IsAt now t → IsAfterEntry t.now → IsHopeless now) → LacksMemory e
-comma_spares p value k =
-    let h = p.inside in
-    absurd (k (record { now = h.now; marked = h.marked }) h.is_at (after_entry h.now h.inside h.is_due) (within h value))
-
-pub sought_spares : {s : Step} {first now mid : Walked} {n : ℕ} {found : Option Found} {before : Option ℕ} {e : Error} → Passing s first now n found before → Moved Stays now mid → Stands mid → IsValue first.limit (chars first.text) → NamesSpare s mid e → LacksMemory e
-sought_spares {s = step.Index i} p gap stands value k = absurd k
-sought_spares {s = step.Key key} p gap stands value k =
-    let h = stays_inside p.inside gap in
-    let q = in_object_due h p.kind in
-    k (record { now = at_key q.ps q.frames; marked = q.marked }) q.is_at (awaits_key q.is_at stands) (within h value)
-
-pub skip_spares : {s : Step} {first now mid named : Walked} {n : ℕ} {found : Option Found} {before : Option ℕ} {e : Error} (same : Bool) → Passing s first now n found before → Moved Stays now mid → Stands mid → IsValue first.limit (chars first.text) → Names s n same mid named → (Solid mid.unread → Solid named.unread) → (AwaitsValue named → IsHopeless named) → LacksMemory e
-skip_spares {named = named} {n = n} same p gap stands value names solid k =
-    let q = sought n same (stays_inside p.inside gap) p.kind p.size names in
-    absurd (k (q.awaits stands solid) (is_within named value q.before.same_text q.before.same_limit))
+pub skip_spares : {s : Step} {first now mid : Walked} {n end : ℕ} {found : Option Found} {before : Option ℕ} {key : EntryKey} {e : Error} → Passing s first now n found before end → BeginsEntry now mid key → IsValue first.limit (chars first.text) → (AwaitsValue mid → IsHopeless mid) → LacksMemory e
+skip_spares {mid = mid} p entry value k =
+    let b = entry_before p.inside entry in
+    absurd (k (entry.keyed.awaits (entry.stands (awaits p.inside))) (is_within mid value b.same_text b.same_limit))
 
 -- so many entries can't be passed
 count_elements : (ts : Trees) → length (elements ts) ≡ count ts
@@ -464,7 +387,7 @@ few_entries k x (boolean b) v e = absurd (cc)
 few_entries k x (number q) v e = absurd (cc)
 few_entries k x (text u b) v e = absurd (cc)
 
-pub too_many_entries : {s : Step} {first now : Walked} {n : ℕ} {found : Option Found} {before : Option ℕ} {e : Error} → Passing s first now n found before → IsUtf8 first.text → (value : IsValue first.limit (chars first.text)) → length first.text ≤ n → LacksMemory e
+pub too_many_entries : {s : Step} {first now : Walked} {n end : ℕ} {found : Option Found} {before : Option ℕ} {e : Error} → Passing s first now n found before end → IsUtf8 first.text → (value : IsValue first.limit (chars first.text)) → length first.text ≤ n → LacksMemory e
 too_many_entries {s = s} {first = first} {now = now} {n = n} p utf8 value l =
     let (place, rest_is) = spot value.0 (length now.text - bytes_in now.unread) p.inside (whole first.limit first.text value) refl in
     let (u, k, g, d, is) = place.back value.0 (whole first.limit first.text value) in

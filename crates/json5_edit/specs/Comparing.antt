@@ -5,7 +5,7 @@ use Rattle.json5_grammar.specs.Language.Trees.{Tree}
 use Rattle.json5_types.specs.Cows.{cow_bytes}
 use Rattle.json5_read.specs.declared.brackets.BracketKind.{BracketKind as Kind}
 use Rattle.json5_read.specs.declared.brackets.BracketKind.TheVariants as kind
-use Rattle.json5_walk.specs.Moves.{Closes}
+use Rattle.json5_walk.specs.Moves.{EndsEntries}
 use Rattle.json5_walk.specs.Walks.{Walked, Moved}
 use Rattle.json5_edit.specs.Entries.{entries, kind_of, TakesEntry, Holds, Closed}
 use Rattle.json5_edit.specs.declared.paths.Step.{Step}
@@ -28,12 +28,12 @@ pub record BothPass (x y : List ℕ) (t u : Tree) (v w : Walked) (es : List (Lis
 
 -- both walks passed an entry with this key and this spelling of its value, or a closing bracket
 abbrev pub PassesPair : Walked → Walked → Walked → Walked → Option Entry → Type 0
-PassesPair v w left right None = Moved Closes v left × Moved Closes w right
+PassesPair v w left right None = Moved EndsEntries v left × Moved EndsEntries w right
 PassesPair v w left right (Some e) = Moved (TakesEntry (cow_bytes e.key) e.value.now) v left × Moved (TakesEntry (cow_bytes e.key) e.value.now) w right
 
 -- the walk passed a closing bracket
 abbrev pub EndsToo : Walked → Walked → Option Entry → Type 0
-EndsToo old new None = Moved Closes old new
+EndsToo old new None = Moved EndsEntries old new
 EndsToo old new (Some e) = ⊥
 
 -- both walks passed so many entries, the same ones

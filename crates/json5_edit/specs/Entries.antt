@@ -11,7 +11,8 @@ use Rattle.json5_read.specs.declared.brackets.BracketKind.{BracketKind as Kind}
 use Rattle.json5_read.specs.declared.brackets.BracketKind.TheVariants as kind
 use Rattle.json5_walk.specs.Nexts.{takes_value}
 use Rattle.json5_walk.specs.Frames.{Frame, in_array, in_object, At, at_value, at_element, at_key, at_colon, at_comma, next_of, value_frames}
-use Rattle.json5_walk.specs.Moves.{Closes}
+use Rattle.json5_walk.specs.Entries.{is_inside}
+use Rattle.json5_walk.specs.Moves.{EndsEntries}
 use Rattle.json5_walk.specs.Walks.{Walked, IsAt, Moved}
 use Rattle.json5_edit.specs.declared.entries.Entry.{Entry}
 
@@ -53,20 +54,6 @@ empty_of kind.Object = object no_member
 pub data TakesText (bytes : List ℕ) : At → At → Type 0 where
   takes_text : (a : At) (t : Tree) → true ≡ takes_value (next_of a) → Val (chars bytes) t → TakesText bytes a (at_comma t (value_frames a))
 
--- a key with these bytes and the colon after it, or nothing in an array
-pub data TakesKey (bytes : List ℕ) : At → At → Type 0 where
-  of_element : (ts : Trees) (o : List Frame) → bytes ≡ [] → TakesKey bytes (at_element ts o) (at_element ts o)
-  of_member : (ps : Members) (u : List ℕ) (escape_free : Bool) (o : List Frame) → bytes ≡ encode_utf8_all u → TakesKey bytes (at_key ps o) (at_value (in_object ps u escape_free ∷ o))
-
--- within a collection, where its closing bracket may come
-abbrev pub is_inside : At → Bool
-is_inside (at_value o) = false
-is_inside (at_element ts o) = true
-is_inside (at_key ps o) = true
-is_inside (at_colon ps u escape_free o) = false
-is_inside (at_comma t []) = false
-is_inside (at_comma t (f ∷ o)) = true
-
 -- the innermost collection as it would be, closed here
 abbrev pub read_in : At → Tree
 read_in (at_value o) = null
@@ -86,7 +73,7 @@ around (at_colon ps u escape_free o) = o
 around (at_comma t []) = []
 around (at_comma t (f ∷ o)) = o
 
--- an entry with this key and this spelling of its value, and the comma after it, if there is one
+-- an entry with this key and this spelling of its value, and the comma before it, if there is one
 pub record TakesEntry (key value : List ℕ) (a b : At) : Type 0 where
   pub tree : Tree
   pub is_value : Val (chars value) tree
@@ -97,7 +84,7 @@ pub record TakesEntry (key value : List ℕ) (a b : At) : Type 0 where
 
 -- the entry that was passed, or the closing bracket
 abbrev pub PassesEntry : Walked → Walked → Option Entry → Type 0
-PassesEntry old new None = Moved Closes old new
+PassesEntry old new None = Moved EndsEntries old new
 PassesEntry old new (Some e) = Moved (TakesEntry (cow_bytes e.key) e.value.now) old new
 
 -- the walk over the text x is within the outermost collection, which would be t, closed here

@@ -1,16 +1,14 @@
 -- How the part of a value is found that a path leads to.
 -- Private.
-use denote.Ref.{Bor}
-use Rattle.std.specs.Prelude.{◌≡◌, ℕ, Bool, true, false, nat_eq, List, [], ◌∷◌, Option, None, option_map, ⊤}
+use Rattle.std.specs.Prelude.{◌≡◌, ℕ, Bool, true, false, nat_eq, List, [], ◌∷◌, Option, None, option_map}
 use Rattle.std.specs.Cmp.Lexicographic.{pointwise}
-use Rattle.std.specs.Str.{encode_utf8_all}
-use Rattle.json5_grammar.specs.Language.Trees.{Tree, Members, no_more, no_member}
-use Rattle.json5_grammar.specs.Language.Blanks.{Solid}
+use Rattle.json5_grammar.specs.Language.Trees.{Tree, no_more, no_member}
 use Rattle.json5_types.specs.declared.error.Error.{Error}
-use Rattle.json5_types.specs.Errors.{LacksMemory}
-use Rattle.json5_walk.specs.Frames.{Frame, in_object, At, at_value, at_element, at_key, at_colon, at_comma, value_frames}
-use Rattle.json5_walk.specs.Moves.{Stays, TakesComma, Closes}
-use Rattle.json5_walk.specs.Walks.{Walked, Trail, IsAt, Moved, PassesValue, IsDocumentWithin, AwaitsValue, NotClosed}
+use Rattle.json5_read.specs.declared.brackets.BracketKind.{BracketKind as Kind}
+use Rattle.json5_read.specs.declared.brackets.BracketKind.TheVariants as kind
+use Rattle.json5_walk.specs.Frames.{Frame, At, at_element, at_key, at_comma, value_frames}
+use Rattle.json5_walk.specs.Walks.{Walked, Trail, IsAt, Moved, PassesValue, NeedsMemory, AwaitsValue}
+use Rattle.json5_edit.specs.Comparing.{step_kind}
 use Rattle.json5_edit.specs.Parts.{positions, positions_of}
 use Rattle.json5_edit.specs.declared.paths.Step.{Step}
 use Rattle.json5_edit.specs.declared.paths.Step.TheVariants as step
@@ -25,64 +23,32 @@ pub record Seeks (path : List Step) (old new : Walked) : Type 0 where
   pub limit : new.limit ≡ old.limit
   pub leads : (s : Trail) → IsAt old s → (t : Tree) × (m : Option (List Frame)) × IsAt new (record { now = at_comma t (value_frames s.now); marked = m }) × Finds (value_frames s.now) path t m
 
--- the same of a value whose bracket was just opened
-pub record SeeksFrom (opened : List Frame → At) (path : List Step) (old new : Walked) : Type 0 where
+-- where a collection of this kind was just opened, within these frames
+abbrev pub opened : Kind → List Frame → At
+opened kind.Array o = at_element no_more o
+opened kind.Object o = at_key no_member o
+
+-- a collection that was just opened was passed, and what the path after the step leads to in it is marked
+pub record SeeksEntry (s : Step) (path : List Step) (old new : Walked) : Type 0 where
   pub text : new.text ≡ old.text
   pub limit : new.limit ≡ old.limit
-  pub leads : (o : List Frame) → IsAt old (record { now = opened o; marked = None }) → (t : Tree) × (m : Option (List Frame)) × IsAt new (record { now = at_comma t o; marked = m }) × Finds o path t m
-
--- the same of an object and a key with these bytes
-abbrev pub SeeksMember : List ℕ → List Step → Walked → Walked → Type 0
-SeeksMember bytes path old new = (k : Bor (List ℕ)) → k.now ≡ bytes → SeeksFrom (at_key no_member) (step.Key k ∷ path) old new
-
--- the same of an array and an index
-abbrev pub SeeksElement : ℕ → List Step → Walked → Walked → Type 0
-SeeksElement i path old new = SeeksFrom (at_element no_more) (step.Index i ∷ path) old new
+  pub leads : (o : List Frame) → IsAt old (record { now = opened (step_kind s) o; marked = None }) → (t : Tree) × (m : Option (List Frame)) × IsAt new (record { now = at_comma t o; marked = m }) × Finds o (s ∷ path) t m
 
 abbrev pub SeeksOrSkips : Bool → List Step → Walked → Walked → Type 0
 SeeksOrSkips true path old new = Seeks path old new
 SeeksOrSkips false path old new = Moved (PassesValue old new) old new
 
--- the closing bracket was taken, or blanks alone
-abbrev pub Ended : Bool → Walked → Walked → Type 0
-Ended true old new = Moved Closes old new
-Ended false old new = Moved Stays old new
-
--- a comma was taken, or the closing bracket
-abbrev pub WentOn : Bool → Walked → Walked → Type 0
-WentOn true old new = Moved TakesComma old new
-WentOn false old new = Moved Closes old new
-
--- a key, and whether these are its bytes
-pub data TakesName (key : List ℕ) (same : Bool) : At → At → Type 0 where
-  takes_name : (ps : Members) (u : List ℕ) (escape_free : Bool) (o : List Frame) → same ≡ pointwise nat_eq (encode_utf8_all u) key → TakesName key same (at_key ps o) (at_value (in_object ps u escape_free ∷ o))
-
-abbrev pub Named : List ℕ → Bool → Walked → Walked → Type 0
-Named key same old new = Moved (TakesName key same) old new
+-- whether the step goes to the entry with this key that so many come before
+abbrev pub is_sought : Step → ℕ → List ℕ → Bool
+is_sought (step.Index i) n key = nat_eq n i
+is_sought (step.Key k) n key = pointwise nat_eq key k.now
 
 -- ---- refusals
 
--- in a document this is answered only where memory was refused
-abbrev pub NeedsMemory : Walked → Error → Type 0
-NeedsMemory v e = IsDocumentWithin v.limit v.text → LacksMemory e
-
--- the same where a value must come
+-- where a value must come, in a document, this is answered only where memory was refused
 abbrev pub Spares : Walked → Error → Type 0
 Spares v e = (s : Trail) → IsAt v s → AwaitsValue v → NeedsMemory v e
 
--- the same after a bracket that was just opened
-abbrev pub SparesFrom : (List Frame → At) → Walked → Error → Type 0
-SparesFrom opened v e = (o : List Frame) → IsAt v (record { now = opened o; marked = None }) → NeedsMemory v e
-
--- blanks were taken, and no closing bracket
-abbrev pub Stands : Walked → Type 0
-Stands v = Solid v.unread × NotClosed v
-
--- an element or a member has ended
-abbrev pub IsAfterEntry : At → Type 0
-IsAfterEntry (at_value o) = ⊥
-IsAfterEntry (at_element ts o) = ⊥
-IsAfterEntry (at_key ps o) = ⊥
-IsAfterEntry (at_colon ps u escape_free o) = ⊥
-IsAfterEntry (at_comma t []) = ⊥
-IsAfterEntry (at_comma t (f ∷ o)) = ⊤
+-- the same after a bracket of the step's kind that was just opened
+abbrev pub SparesFrom : Step → Walked → Error → Type 0
+SparesFrom s v e = (o : List Frame) → IsAt v (record { now = opened (step_kind s) o; marked = None }) → NeedsMemory v e

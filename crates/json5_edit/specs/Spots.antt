@@ -10,18 +10,17 @@ use Rattle.json5_grammar.specs.Model.Collections.{IsKeyValue, Tail, MembersTail,
 use Rattle.json5_lexemes.specs.Plain.{KeepsPlain, StaysPlain}
 use Rattle.json5_tokens.specs.Cursor.{Cursor, Took}
 use Rattle.json5_tokens.specs.Outcome.{bytes_in}
-use Rattle.json5_types.specs.declared.error.Error.{Error}
 use Rattle.json5_read.specs.declared.brackets.BracketKind.{BracketKind as Kind}
 use Rattle.json5_read.specs.declared.brackets.BracketKind.TheVariants as kind
 use Rattle.json5_walk.specs.Frames.{Frame, value_end, Spells, At, at_value, at_element, at_key, at_colon, at_comma}
+use Rattle.json5_walk.specs.Entries.{is_inside}
 use Rattle.json5_walk.specs.Seams.{WholeTokens}
-use Rattle.json5_walk.specs.Walks.{Walked, Trail, IsAt, AwaitsKey}
+use Rattle.json5_walk.specs.Walks.{Walked, IsAt}
 use Rattle.json5_edit.specs.Changes.{ChangesBy}
 use Rattle.json5_edit.specs.Comparing.{LacksKey, GoesTo, IsWithout, IsWithLast, step_kind, step_key}
-use Rattle.json5_edit.specs.Entries.{entries, kind_of, is_inside, read_in, around}
+use Rattle.json5_edit.specs.Entries.{entries, kind_of, read_in, around}
 use Rattle.json5_edit.specs.Pieces.{Cuts, Grows, IsEnd, IsEntryText, IsName}
 use Rattle.json5_edit.specs.Places.{IsValue}
-use Rattle.json5_edit.specs.Seeks.{Named, NeedsMemory}
 use Rattle.json5_edit.specs.declared.paths.Step.{Step}
 use Rattle.json5_edit.specs.declared.paths.Step.TheVariants as step
 use Rattle.json5_edit.specs.declared.plain.CommaSpan.{CommaSpan}
@@ -78,16 +77,6 @@ pub record Inside (limit : ℕ) (bytes : List ℕ) (t : Tree) (due : Bool) (v : 
   pub read : read_in now ≡ t
   pub outermost : around now ≡ []
   pub is_due : awaits_comma now ≡ due
-
--- a key was taken in an object, and whether the step goes to this entry
-abbrev pub Names : Step → ℕ → Bool → Walked → Walked → Type 0
-Names (step.Index i) n same old new = (new ≡ old) × (same ≡ nat_eq n i)
-Names (step.Key k) n same old new = Named k.now same old new
-
--- where a key must come, in a document, this is answered only where memory was refused
-abbrev pub NamesSpare : Step → Walked → Error → Type 0
-NamesSpare (step.Index i) v e = ⊥
-NamesSpare (step.Key k) v e = (s : Trail) → IsAt v s → AwaitsKey v → NeedsMemory v e
 
 abbrev pub latest : Bool → Found → Option Found → Option Found
 latest true n before = Some n

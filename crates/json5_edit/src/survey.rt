@@ -1,20 +1,19 @@
 //! Where an entry stands in a collection, and where one more may stand.
 
-ghost use Rattle.std.specs.Prelude.{◌≡◌, ◌≤◌, false, IfOk, IfErr, OnOk, MatchOption};
+ghost use Rattle.std.specs.Prelude.{◌≡◌, ◌≤◌, false, IfOk, IfErr, MatchOption};
 ghost use Rattle.std.specs.Str.{chars};
-ghost use Rattle.json5_grammar.specs.Language.Blanks.{Solid};
 ghost use Rattle.json5_grammar.specs.Language.Documents.{max_depth};
 ghost use Rattle.json5_types.specs.Errors.{LacksMemory};
 ghost use Rattle.json5_edit.specs.Comparing.{step_kind};
 ghost use Rattle.json5_edit.specs.Entries.{empty_of};
 ghost use Rattle.json5_edit.specs.Places.{IsValue};
 ghost use Rattle.json5_edit.specs.Refusals.{BeginsNo};
-ghost use Rattle.json5_edit.specs.Spots.{Inside, Surveys, Names, NamesSpare, latest};
+ghost use Rattle.json5_edit.specs.Spots.{Inside, Surveys, latest};
 
 use crate::comparing::kind;
 use crate::entries::failed;
 use crate::paths::Step;
-use crate::places::{ends, goes_on, is_named};
+use crate::places::is_sought;
 use json5_types::error::Result;
 use json5_types::nesting::Limit;
 use json5_walk::walk::Walk;
@@ -66,42 +65,23 @@ fn survey_entries(walk: &mut Walk<'_>, step: Step<'_>) -> Result<Survey>
 {
     let mut entry = None;
     let mut before = None;
+    let mut end = walk.offset();
     for count in 0..walk.text().len() {
-        let end = walk.offset();
-        if ends(walk)? {
+        let Some(key) = walk.entry()? else {
             return Ok(Survey {
                 entry,
                 end,
-                comma: false,
+                comma: before.is_some(),
             });
-        }
-        let start = walk.offset();
-        let same = is_sought(walk, step, count)?;
+        };
+        let same = is_sought(step, count, key.text.as_str());
+        let start = key.start;
         entry = latest(same, Found { start, before }, entry);
         walk.skip()?;
-        let end = walk.offset();
+        end = walk.offset();
         before = Some(end);
-        if !goes_on(walk)? {
-            return Ok(Survey {
-                entry,
-                end,
-                comma: true,
-            });
-        }
     }
     Err(failed())
-}
-
-/// Takes the key of a member, and says whether the step goes to this entry, the one that so many come before.
-fn is_sought(walk: &mut Walk<'_>, step: Step<'_>, count: usize) -> Result<bool>
-    ensures named { IfOk result (λ same. Names step.entry count same walk.old walk.new) }
-    ensures solid { OnOk result (Solid walk.old.unread → Solid walk.new.unread) }
-    ensures refused { IfErr result (NamesSpare step.entry walk.old) }
-{
-    match step {
-        Step::Index(index) => Ok(count == index),
-        Step::Key(key) => is_named(walk, key),
-    }
 }
 
 /// This entry, if it is the one that was sought, or the one found before.

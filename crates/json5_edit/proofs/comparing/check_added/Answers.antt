@@ -1,7 +1,7 @@
 use Rattle.std.proofs.Common.{refl}
 use Rattle.json5_edit.proofs.EntriesPassed.{opens}
 use Rattle.json5_edit.proofs.Compared.{added}
-use Rattle.json5_edit.proofs.Seeks.{on_then}
+use Rattle.json5_walk.proofs.Entries.{on_then}
 use Rattle.json5_edit.proofs.comparing.check_added.Goals as goal
 
 pub returns : goal.returns

@@ -3,7 +3,7 @@ use Rattle.json5_read.specs.declared.brackets.BracketKind.TheVariants as kind
 use Rattle.json5_edit.specs.declared.paths.Step.TheVariants as step
 use Rattle.json5_edit.proofs.EntriesPassed.{opens}
 use Rattle.json5_edit.proofs.Compared.{put_in}
-use Rattle.json5_edit.proofs.Seeks.{on_then}
+use Rattle.json5_walk.proofs.Entries.{on_then}
 use Rattle.json5_edit.proofs.comparing.check_put_in.Goals as goal
 
 pub returns : goal.returns

@@ -2,7 +2,7 @@ use Rattle.std.proofs.Common.{refl}
 use Rattle.json5_read.specs.declared.brackets.BracketKind.TheVariants as kind
 use Rattle.json5_edit.proofs.EntriesPassed.{opens}
 use Rattle.json5_edit.proofs.Compared.{renamed}
-use Rattle.json5_edit.proofs.Seeks.{on_then}
+use Rattle.json5_walk.proofs.Entries.{on_then}
 use Rattle.json5_edit.proofs.comparing.check_renamed.Goals as goal
 
 pub returns : goal.returns

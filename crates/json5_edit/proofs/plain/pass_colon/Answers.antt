@@ -2,7 +2,7 @@ use Rattle.std.proofs.Common.{refl}
 use Rattle.std.proofs.lemmas.Result.{err_from_is_err_and}
 use Rattle.json5_edit.proofs.Measured.{colon_before, colon_past_blanks, value_past_blanks, colon_left, colon_spares, no_colon, value_spares}
 use Rattle.json5_edit.proofs.Refused.{err_then}
-use Rattle.json5_edit.proofs.Seeks.{on_then}
+use Rattle.json5_walk.proofs.Entries.{on_then}
 use Rattle.json5_edit.proofs.plain.pass_colon.Goals as goal
 
 pub returns-clause-passed : goal.returns-clause-passed

@@ -1,7 +1,7 @@
 use Rattle.std.proofs.lemmas.Result.{err_from_is_err_and}
 use Rattle.json5_edit.proofs.Measured.{no_name, name_before, element_first, key_first, key_left}
 use Rattle.json5_edit.proofs.Refused.{err_then}
-use Rattle.json5_edit.proofs.Seeks.{on_then}
+use Rattle.json5_walk.proofs.Entries.{on_then}
 use Rattle.json5_edit.proofs.plain.pass_name.Goals as goal
 
 pub returns-in-Array-clause-passed : goal.returns-in-Array-clause-passed
