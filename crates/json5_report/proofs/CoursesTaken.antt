@@ -13,15 +13,16 @@ use Rattle.json5_grammar.specs.Model.ReadSteps.{forget}
 use Rattle.json5_grammar.specs.Model.ReadValues.{read}
 use Rattle.json5_tokens.specs.Cursor.{Cursor, Took, Refused, offset_of}
 use Rattle.json5_tokens.specs.Outcome.{bytes_in}
-use Rattle.json5_report.specs.declared.due.Due.{Due}
-use Rattle.json5_report.specs.declared.due.Due.TheVariants as due
+use Rattle.json5_walk.specs.declared.next.Next.{Next}
+use Rattle.json5_walk.specs.declared.next.Next.TheVariants as next
+use Rattle.json5_walk.specs.Nexts.{takes_value}
 use Rattle.json5_types.specs.declared.cow_str.CowStr.{CowStr}
 use Rattle.json5_types.specs.Cows.{cow_bytes}
+use Rattle.json5_report.specs.declared.course.Crumb.TheVariants as kept
 use Rattle.json5_report.specs.declared.course.Open.{Open}
-use Rattle.json5_report.specs.declared.course.Open.TheVariants as kept
 use Rattle.json5_report.specs.declared.course.Course.{Course}
-use Rattle.json5_report.specs.Paths.{Crumb, whole, element, member, takes_value, after, closing, Step, value, array, object, key, colon, next_element, next_member, closes, Leads, here, further, start_of}
-use Rattle.json5_report.specs.Courses.{crumb_of, crumbs_onto, open_in, Advances, Rests, Turned, NotClosed, AtMost}
+use Rattle.json5_report.specs.Paths.{Crumb, whole, element, member, closing, Step, value, array, object, key, colon, next_element, next_member, closes, Leads, here, further, start_of}
+use Rattle.json5_report.specs.Courses.{crumb_of, shown_crumb, crumbs_onto, open_in, Advances, Rests, Turned, NotClosed, AtMost}
 use Rattle.json5_grammar.proofs.ArraysRead.{comma_solid}
 use Rattle.json5_grammar.proofs.ObjectsRead.{colon_solid, one_reads_key}
 use Rattle.json5_grammar.proofs.ValuesSound.{read_sound}
@@ -29,7 +30,7 @@ use Rattle.json5_types.specs.declared.error.Error.{Error}
 use Rattle.json5_types.specs.Errors.{LacksMemory}
 use Rattle.json5_read.specs.ModelSteps.{Gave, RefusesRead, value_at}
 use Rattle.json5_tokens.specs.TokenFaults.{FaultyBlanks}
-use Rattle.json5_report.proofs.TokensTaken.{step_takes, bytes_joined, fewer_bytes, step_after, step_found, past_first, none_in_blanks, key_split, unsigned, only_value, only_key, only_colon, only_comma, none_at_end, nothing_else}
+use Rattle.json5_report.proofs.TokensTaken.{step_takes, bytes_joined, fewer_bytes, step_after, step_found, past_first, none_in_blanks, key_split, unsigned, only_value, only_key, only_colon, only_comma, none_at_failed, nothing_else}
 
 -- ---- brackets
 
@@ -38,7 +39,7 @@ onto_push o [] c = refl
 onto_push o (a ∷ cs) c = onto_push (crumb_of a ∷ o) cs c
 
 -- an object has a key or none
-pub object_crumb : (k : Option CowStr) → (name : Option (List ℕ)) × (crumb_of (kept.Object k) ≡ member name)
+pub object_crumb : (k : Option CowStr) → (name : Option (List ℕ)) × (shown_crumb (kept.Object k) ≡ member name)
 object_crumb None = (None, refl)
 object_crumb (Some k) = (Some (cow_bytes k), refl)
 
@@ -97,7 +98,7 @@ below_rest k whole o b = b
 below_rest k (element n) o (h, b) = b
 below_rest k (member u) o b = b
 
-step_below : {d e : Due} {o p : List Crumb} {x y : List ℕ} (j k : ℕ) → j < k → Step d o x e p y → Below j o → Below k p
+step_below : {d e : Next} {o p : List Crumb} {x y : List ℕ} (j k : ℕ) → j < k → Step d o x e p y → Below j o → Below k p
 step_below {o = o} j k l (value t v r) b = below_more j k o (omega (arith, l)) b
 step_below {o = o} j k l (array v a) b = (omega arith, below_more j k o (omega (arith, l)) b)
 step_below {o = o} j k l (object v a) b = below_more j k o (omega (arith, l)) b
@@ -115,9 +116,9 @@ pub record IsOn (text : List ℕ) (offset : ℕ) (s : Cursor) (c : Course) : Typ
   pub room : bytes_in s.unread ≤ bytes_in s.input
   pub below : Below (offset_of s) (open_in c)
 
-pub starts_on : (offset : ℕ) (c : Course) (text : List ℕ) (s : Cursor) → s.input ≡ text → s.unread ≡ text → c.due ≡ due.Value → open_in c ≡ whole ∷ [] → IsOn text offset s c
+pub starts_on : (offset : ℕ) (c : Course) (text : List ℕ) (s : Cursor) → s.input ≡ text → s.unread ≡ text → c.due ≡ next.Value → open_in c ≡ whole ∷ [] → IsOn text offset s c
 starts_on offset c text s i u d o = record {
-  leads = subst (λ z. Leads text z (open_in c) s.unread) (sym d) (subst (λ z. Leads text due.Value z s.unread) (sym o) (subst (λ z. Leads text due.Value (whole ∷ []) z) (sym u) here));
+  leads = subst (λ z. Leads text z (open_in c) s.unread) (sym d) (subst (λ z. Leads text next.Value z s.unread) (sym o) (subst (λ z. Leads text next.Value (whole ∷ []) z) (sym u) here));
   input = i;
   by = let a : bytes_in s.input ≡ bytes_in text = ap bytes_in i in let b : bytes_in s.unread ≡ bytes_in text = ap bytes_in u in omega (arith, a, b);
   room = let a : bytes_in s.input ≡ bytes_in text = ap bytes_in i in let b : bytes_in s.unread ≡ bytes_in text = ap bytes_in u in omega (arith, a, b);
@@ -148,11 +149,11 @@ rests_in_blanks offset s c r = record { same_due = refl; same_open = refl; last 
 
 -- no token leads further
 abbrev pub NoStep : Cursor → Course → Type 0
-NoStep s c = (e : Due) (p : List Crumb) (y : List ℕ) → Step c.due (open_in c) s.unread e p y → ⊥
+NoStep s c = (e : Next) (p : List Crumb) (y : List ℕ) → Step c.due (open_in c) s.unread e p y → ⊥
 
 -- a token leaves no more than r
 abbrev pub AllPast : Cursor → Course → List ℕ → Type 0
-AllPast s c r = (e : Due) (p : List Crumb) (y : List ℕ) → Step c.due (open_in c) s.unread e p y → bytes_in y ≤ bytes_in r
+AllPast s c r = (e : Next) (p : List Crumb) (y : List ℕ) → Step c.due (open_in c) s.unread e p y → bytes_in y ≤ bytes_in r
 
 -- nothing was taken, since no token is there
 pub rests : (offset : ℕ) (s : Cursor) (c : Course) → NoStep s c → Rests offset s c c
@@ -172,14 +173,14 @@ past_sign s t c k took e p y h = past_first k t.unread took.split h
 
 module _ (offset : ℕ) (s t : Cursor) (c d : Course) where
   -- a token was taken, which leads here
-  pub advances : (e : Due) (o : List Crumb) → Step c.due (open_in c) s.unread e o t.unread → d.due ≡ e → open_in d ≡ o → offset_of t ≤ offset → t.input ≡ s.input → Advances offset s c t d
+  pub advances : (e : Next) (o : List Crumb) → Step c.due (open_in c) s.unread e o t.unread → d.due ≡ e → open_in d ≡ o → offset_of t ≤ offset → t.input ≡ s.input → Advances offset s c t d
   advances e o k a b l i = record {
     step = subst (λ z. Step c.due (open_in c) s.unread z (open_in d) t.unread) (sym a) (subst (λ z. Step c.due (open_in c) s.unread e z t.unread) (sym b) k);
     by = l;
     same = i;
   }
 
-  pub opened : {X : Type 0} (e : Due) (k : Crumb) (r : Result Bool X) → Step c.due (open_in c) s.unread e (k ∷ open_in c) t.unread → offset_of t ≤ offset → t.input ≡ s.input
+  pub opened : {X : Type 0} (e : Next) (k : Crumb) (r : Result Bool X) → Step c.due (open_in c) s.unread e (k ∷ open_in c) t.unread → offset_of t ≤ offset → t.input ≡ s.input
       → IfOk r (λ b. (b ≡ true) × (d.due ≡ e) × (open_in d ≡ k ∷ open_in c)) → IfOk r (Turned offset s c t d)
   opened e k (Ok true) h l i (b, x, y) = advances e (k ∷ open_in c) h x y l i
   opened e k (Ok false) h l i (b, x, y) = absurd (cc)
@@ -191,14 +192,14 @@ eaten s t k took = record { front = []; split = took.split; blank = Blanks.empty
 
 -- ---- closing brackets
 
-same_sign : (d : Due) (b : Crumb) (k s : ℕ) → closing d b ≡ Some s → closing d b ≡ Some k → s ≡ k
+same_sign : (d : Next) (b : Crumb) (k s : ℕ) → closing d b ≡ Some s → closing d b ≡ Some k → s ≡ k
 same_sign d b k s e f = let h : Some s ≡ Some k = sym e ∙ f in cc
 
 pub closed : (offset : ℕ) (s t : Cursor) (c d : Course) (inner : Open) (left : List Open) (k : ℕ) → closing c.due (crumb_of c.inner) ≡ Some k → Took s (k ∷ []) t → offset_of t ≤ offset
-    → c.outer.items ≡ left ++ inner ∷ [] → d.due ≡ after (crumb_of inner) → open_in d ≡ crumb_of inner ∷ crumbs_onto [] left → Advances offset s c t d
+    → c.outer.items ≡ left ++ inner ∷ [] → d.due ≡ next.Comma → open_in d ≡ crumb_of inner ∷ crumbs_onto [] left → Advances offset s c t d
 closed offset s t c d inner left k e took l o a b =
     let was : open_in c ≡ crumb_of c.inner ∷ crumb_of inner ∷ crumbs_onto [] left = ap (λ z. crumb_of c.inner ∷ z) (ap (crumbs_onto []) o ∙ onto_push [] left inner) in
-    advances offset s t c d (after (crumb_of inner)) (crumb_of inner ∷ crumbs_onto [] left) (subst (λ z. Step c.due z s.unread (after (crumb_of inner)) (crumb_of inner ∷ crumbs_onto [] left) t.unread) (sym was) (closes k e (eaten s t k took))) a b l took.same
+    advances offset s t c d next.Comma (crumb_of inner ∷ crumbs_onto [] left) (subst (λ z. Step c.due z s.unread next.Comma (crumb_of inner ∷ crumbs_onto [] left) t.unread) (sym was) (closes k e (eaten s t k took))) a b l took.same
 
 pub none_popped : (old left : List Open) (r : Option Open) (n : ℕ) → r ≡ None → old ≡ left ++ option_to_list r → left ≡ take (n - 1) old → n ≡ 0 → (old ≡ []) × (left ≡ [])
 none_popped old left r n none items rest zero =
@@ -232,26 +233,26 @@ module _ (s : Cursor) (c : Course) (solid : Solid s.unread) (shut : NotClosed s 
   pub value_left : (t : Cursor) → takes_value c.due ≡ true → NotBegun (λ h. h == 91) s.unread → NotBegun (λ h. h == 123) s.unread → Gave (value_at 128 s) tt s t → AllPast s c t.unread
   value_left t v a b g e p y k = let (w, is) = only_value v solid a b shut k in same_rest (read 128 s.unread) w t.unread y g.reads is
 
-  pub no_key : {r : Error} → c.due ≡ due.Key → ((k u z : List ℕ) (f : Bool) → s.unread ≡ k ++ z → Key k z u f → LacksMemory r) → (LacksMemory r → ⊥) → NoStep s c
+  pub no_key : {r : Error} → c.due ≡ next.Key → ((k u z : List ℕ) (f : Bool) → s.unread ≡ k ++ z → Key k z u f → LacksMemory r) → (LacksMemory r → ⊥) → NoStep s c
   no_key is complete fits e p y k =
       let (u, f, there) = only_key is solid shut k in
       let found = key_split s.unread y u f solid there in
       fits (complete found.0 u y f found.1 found.2)
 
-  pub key_left : (t : Cursor) (u : List ℕ) (f : Bool) → c.due ≡ due.Key → ReadsKey s.unread u f t.unread → AllPast s c t.unread
+  pub key_left : (t : Cursor) (u : List ℕ) (f : Bool) → c.due ≡ next.Key → ReadsKey s.unread u f t.unread → AllPast s c t.unread
   key_left t u f is there e p y k =
       let (v, g, other) = only_key is solid shut k in
       let same = one_reads_key s.unread t.unread y u v f g there other in
       omega (arith, ap bytes_in same.2)
 
-  pub no_comma : c.due ≡ due.Comma → NotBegun (λ h. h == 44) s.unread → NoStep s c
+  pub no_comma : c.due ≡ next.Comma → NotBegun (λ h. h == 44) s.unread → NoStep s c
   no_comma is n e p y k = unsigned 44 s.unread y comma_solid solid n (only_comma is solid shut k).0
 
-pub no_colon : (s : Cursor) (c : Course) → Solid s.unread → c.due ≡ due.Colon → NotBegun (λ h. h == 58) s.unread → NoStep s c
+pub no_colon : (s : Cursor) (c : Course) → Solid s.unread → c.due ≡ next.Colon → NotBegun (λ h. h == 58) s.unread → NoStep s c
 no_colon s c solid is n e p y k = unsigned 58 s.unread y colon_solid solid n (only_colon is k)
 
-pub none_left : (s : Cursor) (c : Course) → c.due ≡ due.End → NoStep s c
-none_left s c is e p y k = none_at_end is k
+pub none_left : (s : Cursor) (c : Course) → c.due ≡ next.Failed → NoStep s c
+none_left s c is e p y k = none_at_failed is k
 
 pub key_read : (s t : Cursor) (u : List ℕ) (f : Bool) (k : List ℕ) → Took s k t → Key k t.unread u f → ReadsKey s.unread u f t.unread
 key_read s t u f k took is = record { front = []; spelling = k; split = took.split; blank = Blanks.empty; key = is }

@@ -26,9 +26,10 @@ use Rattle.json5_grammar.proofs.ValuesRead.{read_complete}
 use Rattle.json5_grammar.proofs.ValuesSound.{sign_gap}
 use Rattle.json5_tokens.specs.Outcome.{bytes_in}
 use Rattle.json5_tokens.specs.TokenFaults.{FaultyBlanks}
-use Rattle.json5_report.specs.declared.due.Due.{Due}
-use Rattle.json5_report.specs.declared.due.Due.TheVariants as due
-use Rattle.json5_report.specs.Paths.{Crumb, whole, element, member, takes_value, closing, Step, value, array, object, key, colon, next_element, next_member, closes}
+use Rattle.json5_walk.specs.declared.next.Next.{Next}
+use Rattle.json5_walk.specs.declared.next.Next.TheVariants as next
+use Rattle.json5_walk.specs.Nexts.{takes_value}
+use Rattle.json5_report.specs.Paths.{Crumb, whole, element, member, closing, Step, value, array, object, key, colon, next_element, next_member, closes}
 
 -- ---- a token has characters
 
@@ -51,7 +52,7 @@ reads_takes x y t p = let h = val_head p.value in takes_after p.front h.char h.m
 key_takes : (x y u : List ℕ) (e : Bool) → ReadsKey x u e y → Takes x y
 key_takes x y u e p = let h = key_head p.key in takes_after p.front h.char h.more x y (p.split ∙ ap (λ z. p.front ++ (z ++ y)) h.is)
 
-pub step_takes : {d e : Due} {o p : List Crumb} {x y : List ℕ} → Step d o x e p y → Takes x y
+pub step_takes : {d e : Next} {o p : List Crumb} {x y : List ℕ} → Step d o x e p y → Takes x y
 step_takes {x = x} {y = y} (value t v r) = reads_takes x y t r
 step_takes {x = x} {y = y} (array v s) = sign_takes 91 x y s
 step_takes {x = x} {y = y} (object v s) = sign_takes 123 x y s
@@ -103,27 +104,32 @@ key_split y r u e s k = (k.spelling, (one_gap k.front (k.spelling ++ r) [] y (Ga
 sign_only : (s : ℕ) (y r : List ℕ) → y ≡ s ∷ r → IsSign s y r
 sign_only s y r e = record { front = []; split = e; blank = Blanks.empty }
 
-closing_solid : (d : Due) (b : Crumb) (s : ℕ) → closing d b ≡ Some s → (s ≡ 93) ⊎ (s ≡ 125)
-closing_solid d whole s e = absurd (cc)
-closing_solid due.Element (element n) s e = inl (cc)
-closing_solid due.Comma (element n) s e = inl (cc)
-closing_solid due.Value (element n) s e = absurd (cc)
-closing_solid due.Key (element n) s e = absurd (cc)
-closing_solid due.Colon (element n) s e = absurd (cc)
-closing_solid due.End (element n) s e = absurd (cc)
-closing_solid due.Key (member k) s e = inr (cc)
-closing_solid due.Comma (member k) s e = inr (cc)
-closing_solid due.Value (member k) s e = absurd (cc)
-closing_solid due.Element (member k) s e = absurd (cc)
-closing_solid due.Colon (member k) s e = absurd (cc)
-closing_solid due.End (member k) s e = absurd (cc)
+closing_solid : (d : Next) (b : Crumb) (s : ℕ) → closing d b ≡ Some s → (s ≡ 93) ⊎ (s ≡ 125)
+closing_solid next.Value whole s e = absurd (cc)
+closing_solid next.Element whole s e = absurd (cc)
+closing_solid next.Key whole s e = absurd (cc)
+closing_solid next.Colon whole s e = absurd (cc)
+closing_solid next.Comma whole s e = absurd (cc)
+closing_solid next.Failed whole s e = absurd (cc)
+closing_solid next.Element (element n) s e = inl (cc)
+closing_solid next.Comma (element n) s e = inl (cc)
+closing_solid next.Value (element n) s e = absurd (cc)
+closing_solid next.Key (element n) s e = absurd (cc)
+closing_solid next.Colon (element n) s e = absurd (cc)
+closing_solid next.Failed (element n) s e = absurd (cc)
+closing_solid next.Key (member k) s e = inr (cc)
+closing_solid next.Comma (member k) s e = inr (cc)
+closing_solid next.Value (member k) s e = absurd (cc)
+closing_solid next.Element (member k) s e = absurd (cc)
+closing_solid next.Colon (member k) s e = absurd (cc)
+closing_solid next.Failed (member k) s e = absurd (cc)
 
 solid_sign : (s : ℕ) → (s ≡ 93) ⊎ (s ≡ 125) → is_solid s ≡ true
 solid_sign s (inl e) = ap is_solid e ∙ bracket_solid
 solid_sign s (inr e) = ap is_solid e ∙ brace_solid
 
 -- a token after a gap is one with the gap
-pub step_after : {d e : Due} {o p : List Crumb} {x y z : List ℕ} (w : List ℕ) → x ≡ w ++ y → Gap w y → Step d o y e p z → Step d o x e p z
+pub step_after : {d e : Next} {o p : List Crumb} {x y z : List ℕ} (w : List ℕ) → x ≡ w ++ y → Gap w y → Step d o y e p z → Step d o x e p z
 step_after {x = x} {y = y} {z = z} w split g (value t v r) = value t v (reads_here x w y z t split g r)
 step_after {x = x} {y = y} {z = z} w split g (array v a) = array v (sign_gap 91 w x y z split g a)
 step_after {x = x} {y = y} {z = z} w split g (object v a) = object v (sign_gap 123 w x y z split g a)
@@ -134,7 +140,7 @@ step_after {x = x} {y = y} {z = z} w split g (next_member a) = next_member (sign
 step_after {x = x} {y = y} {z = z} w split g (closes s e a) = closes s e (sign_gap s w x y z split g a)
 
 -- and the other way round
-pub step_found : {d e : Due} {o p : List Crumb} {x y z : List ℕ} (w : List ℕ) → x ≡ w ++ y → Gap w y → Solid y → Step d o x e p z → Step d o y e p z
+pub step_found : {d e : Next} {o p : List Crumb} {x y z : List ℕ} (w : List ℕ) → x ≡ w ++ y → Gap w y → Solid y → Step d o x e p z → Step d o y e p z
 step_found {x = x} {y = y} {z = z} w split g s (value t v r) = value t v (reads_found x w y z t split g s r)
 step_found {x = x} {y = y} {z = z} w split g s (array v a) = array v (sign_only 91 y z (sign_found 91 x w y z opening_solid split g s a))
 step_found {x = x} {y = y} {z = z} w split g s (object v a) = object v (sign_only 123 y z (sign_found 123 x w y z opening_brace_solid split g s a))
@@ -145,7 +151,7 @@ step_found {x = x} {y = y} {z = z} w split g s (next_member a) = next_member (si
 step_found {x = x} {y = y} {z = z} w split g s (closes {d = d} {b = b} c e a) = closes c e (sign_only c y z (sign_found c x w y z (solid_sign c (closing_solid d b c e)) split g s a))
 
 -- where a comment is at fault there is no token
-pub none_in_blanks : {d e : Due} {o p : List Crumb} {x y : List ℕ} {reason : Option ErrorCode} {place : Option (List ℕ)} → FaultyBlanks x reason place → Step d o x e p y → ⊥
+pub none_in_blanks : {d e : Next} {o p : List Crumb} {x y : List ℕ} {reason : Option ErrorCode} {place : Option (List ℕ)} → FaultyBlanks x reason place → Step d o x e p y → ⊥
 none_in_blanks {x = x} {y = y} {reason = code} {place = at} (b, q, how, f) (value t v r) = no_reads_in_blanks x b q y t code at how f r
 none_in_blanks {x = x} {y = y} {reason = code} {place = at} (b, q, how, f) (array v a) = no_sign_in_blanks 91 x b q y code at how opening_solid f a
 none_in_blanks {x = x} {y = y} {reason = code} {place = at} (b, q, how, f) (object v a) = no_sign_in_blanks 123 x b q y code at how opening_brace_solid f a
@@ -158,7 +164,7 @@ none_in_blanks {x = x} {y = y} {reason = code} {place = at} (b, q, how, f) (clos
 -- ---- which token it is
 
 -- any token is as long as the first character
-pub past_first : {d e : Due} {o p : List Crumb} {y z : List ℕ} (c : ℕ) (r : List ℕ) → y ≡ (c ∷ []) ++ r → Step d o y e p z → bytes_in z ≤ bytes_in r
+pub past_first : {d e : Next} {o p : List Crumb} {y z : List ℕ} (c : ℕ) (r : List ℕ) → y ≡ (c ∷ []) ++ r → Step d o y e p z → bytes_in z ≤ bytes_in r
 past_first {z = z} c r e s =
     let t = step_takes s in
     let rest : t.more ++ z ≡ r = rest_same t.first c (t.more ++ z) r (sym t.split ∙ e) in
@@ -189,7 +195,7 @@ reads_flat y z t solid a b r =
     ap (read 128) split ∙ read_complete r.value z r.stops 128 (omega (arith, n))
 
 -- where a value is due and no bracket is in front, it is the value that is read
-pub only_value : {d e : Due} {b : Crumb} {o p : List Crumb} {y z : List ℕ} → takes_value d ≡ true → Solid y → NotBegun (λ h. h == 91) y → NotBegun (λ h. h == 123) y
+pub only_value : {d e : Next} {b : Crumb} {o p : List Crumb} {y z : List ℕ} → takes_value d ≡ true → Solid y → NotBegun (λ h. h == 91) y → NotBegun (λ h. h == 123) y
     → ((k : ℕ) → closing d b ≡ Some k → NotBegun (λ h. h == k) y) → Step d (b ∷ o) y e p z → (t : Tree) × (read 128 y ≡ got t z)
 only_value {y = y} {z = z} v solid m n shut (value t w r) = (t, reads_flat y z t solid m n r)
 only_value {y = y} {z = z} v solid m n shut (array w a) = absurd (unsigned 91 y z opening_solid solid m a)
@@ -201,18 +207,18 @@ only_value v solid m n shut (next_member a) = absurd (cc)
 only_value {y = y} {z = z} v solid m n shut (closes {d = d} {b = b} s e a) = absurd (unsigned s y z (solid_sign s (closing_solid d b s e)) solid (shut s e) a)
 
 -- where something else is due than a value
-no_value_at : (d c : Due) → d ≡ c → takes_value c ≡ false → takes_value d ≡ true → ⊥
+no_value_at : (d c : Next) → d ≡ c → takes_value c ≡ false → takes_value d ≡ true → ⊥
 no_value_at d c e f w = let k : takes_value d ≡ false = ap takes_value e ∙ f in absurd (cc)
 
-closed_only : (d : Due) (b : Crumb) (s : ℕ) (y z : List ℕ) → Solid y → ((k : ℕ) → closing d b ≡ Some k → NotBegun (λ h. h == k) y) → closing d b ≡ Some s → IsSign s y z → ⊥
+closed_only : (d : Next) (b : Crumb) (s : ℕ) (y z : List ℕ) → Solid y → ((k : ℕ) → closing d b ≡ Some k → NotBegun (λ h. h == k) y) → closing d b ≡ Some s → IsSign s y z → ⊥
 closed_only d b s y z solid shut e a = unsigned s y z (solid_sign s (closing_solid d b s e)) solid (shut s e) a
 
 -- where a key is due, it is the key
-pub only_key : {d e : Due} {b : Crumb} {o p : List Crumb} {y z : List ℕ} → d ≡ due.Key → Solid y
+pub only_key : {d e : Next} {b : Crumb} {o p : List Crumb} {y z : List ℕ} → d ≡ next.Key → Solid y
     → ((k : ℕ) → closing d b ≡ Some k → NotBegun (λ h. h == k) y) → Step d (b ∷ o) y e p z → (u : List ℕ) × (f : Bool) × ReadsKey y u f z
-only_key {d = d} is solid shut (value t w r) = absurd (no_value_at d due.Key is refl w)
-only_key {d = d} is solid shut (array w a) = absurd (no_value_at d due.Key is refl w)
-only_key {d = d} is solid shut (object w a) = absurd (no_value_at d due.Key is refl w)
+only_key {d = d} is solid shut (value t w r) = absurd (no_value_at d next.Key is refl w)
+only_key {d = d} is solid shut (array w a) = absurd (no_value_at d next.Key is refl w)
+only_key {d = d} is solid shut (object w a) = absurd (no_value_at d next.Key is refl w)
 only_key is solid shut (key u f k) = (u, f, k)
 only_key is solid shut (colon a) = absurd (cc)
 only_key is solid shut (next_element a) = absurd (cc)
@@ -220,57 +226,57 @@ only_key is solid shut (next_member a) = absurd (cc)
 only_key {y = y} {z = z} is solid shut (closes {d = d} {b = b} s e a) = absurd (closed_only d b s y z solid shut e a)
 
 -- where a colon is due, it is the colon
-pub only_colon : {d e : Due} {b : Crumb} {o p : List Crumb} {y z : List ℕ} → d ≡ due.Colon → Step d (b ∷ o) y e p z → IsSign 58 y z
-only_colon {d = d} is (value t w r) = absurd (no_value_at d due.Colon is refl w)
-only_colon {d = d} is (array w a) = absurd (no_value_at d due.Colon is refl w)
-only_colon {d = d} is (object w a) = absurd (no_value_at d due.Colon is refl w)
+pub only_colon : {d e : Next} {b : Crumb} {o p : List Crumb} {y z : List ℕ} → d ≡ next.Colon → Step d (b ∷ o) y e p z → IsSign 58 y z
+only_colon {d = d} is (value t w r) = absurd (no_value_at d next.Colon is refl w)
+only_colon {d = d} is (array w a) = absurd (no_value_at d next.Colon is refl w)
+only_colon {d = d} is (object w a) = absurd (no_value_at d next.Colon is refl w)
 only_colon is (key u f k) = absurd (cc)
 only_colon is (colon a) = a
 only_colon is (next_element a) = absurd (cc)
 only_colon is (next_member a) = absurd (cc)
 only_colon is (closes {d = d} {b = b} s e a) = absurd (never d b s is e)
   where
-    never : (d : Due) (b : Crumb) (s : ℕ) → d ≡ due.Colon → closing d b ≡ Some s → ⊥
+    never : (d : Next) (b : Crumb) (s : ℕ) → d ≡ next.Colon → closing d b ≡ Some s → ⊥
     never d whole s is e = absurd (cc)
-    never d (element n) s is e = let k : closing due.Colon (element n) ≡ Some s = sym (ap (λ c. closing c (element n)) is) ∙ e in absurd (cc)
-    never d (member u) s is e = let k : closing due.Colon (member u) ≡ Some s = sym (ap (λ c. closing c (member u)) is) ∙ e in absurd (cc)
+    never d (element n) s is e = let k : closing next.Colon (element n) ≡ Some s = sym (ap (λ c. closing c (element n)) is) ∙ e in absurd (cc)
+    never d (member u) s is e = let k : closing next.Colon (member u) ≡ Some s = sym (ap (λ c. closing c (member u)) is) ∙ e in absurd (cc)
 
 -- where a comma is due, it is the comma, and a bracket is open
-pub only_comma : {d e : Due} {b : Crumb} {o p : List Crumb} {y z : List ℕ} → d ≡ due.Comma → Solid y
+pub only_comma : {d e : Next} {b : Crumb} {o p : List Crumb} {y z : List ℕ} → d ≡ next.Comma → Solid y
     → ((k : ℕ) → closing d b ≡ Some k → NotBegun (λ h. h == k) y) → Step d (b ∷ o) y e p z → IsSign 44 y z × (b ≡ whole → ⊥)
-only_comma {d = d} is solid shut (value t w r) = absurd (no_value_at d due.Comma is refl w)
-only_comma {d = d} is solid shut (array w a) = absurd (no_value_at d due.Comma is refl w)
-only_comma {d = d} is solid shut (object w a) = absurd (no_value_at d due.Comma is refl w)
+only_comma {d = d} is solid shut (value t w r) = absurd (no_value_at d next.Comma is refl w)
+only_comma {d = d} is solid shut (array w a) = absurd (no_value_at d next.Comma is refl w)
+only_comma {d = d} is solid shut (object w a) = absurd (no_value_at d next.Comma is refl w)
 only_comma is solid shut (key u f k) = absurd (cc)
 only_comma is solid shut (colon a) = absurd (cc)
 only_comma is solid shut (next_element a) = (a, λ h. cc)
 only_comma is solid shut (next_member a) = (a, λ h. cc)
 only_comma {y = y} {z = z} is solid shut (closes {d = d} {b = b} s e a) = absurd (closed_only d b s y z solid shut e a)
 
--- where the end is due, there is none
-pub none_at_end : {d e : Due} {b : Crumb} {o p : List Crumb} {y z : List ℕ} → d ≡ due.End → Step d (b ∷ o) y e p z → ⊥
-none_at_end {d = d} is (value t w r) = no_value_at d due.End is refl w
-none_at_end {d = d} is (array w a) = no_value_at d due.End is refl w
-none_at_end {d = d} is (object w a) = no_value_at d due.End is refl w
-none_at_end is (key u f k) = absurd (cc)
-none_at_end is (colon a) = absurd (cc)
-none_at_end is (next_element a) = absurd (cc)
-none_at_end is (next_member a) = absurd (cc)
-none_at_end is (closes {d = d} {b = b} s e a) = never d b s is e
+-- where nothing is due, there is none
+pub none_at_failed : {d e : Next} {b : Crumb} {o p : List Crumb} {y z : List ℕ} → d ≡ next.Failed → Step d (b ∷ o) y e p z → ⊥
+none_at_failed {d = d} is (value t w r) = no_value_at d next.Failed is refl w
+none_at_failed {d = d} is (array w a) = no_value_at d next.Failed is refl w
+none_at_failed {d = d} is (object w a) = no_value_at d next.Failed is refl w
+none_at_failed is (key u f k) = absurd (cc)
+none_at_failed is (colon a) = absurd (cc)
+none_at_failed is (next_element a) = absurd (cc)
+none_at_failed is (next_member a) = absurd (cc)
+none_at_failed is (closes {d = d} {b = b} s e a) = never d b s is e
   where
-    never : (d : Due) (b : Crumb) (s : ℕ) → d ≡ due.End → closing d b ≡ Some s → ⊥
+    never : (d : Next) (b : Crumb) (s : ℕ) → d ≡ next.Failed → closing d b ≡ Some s → ⊥
     never d whole s is e = absurd (cc)
-    never d (element n) s is e = let k : closing due.End (element n) ≡ Some s = sym (ap (λ c. closing c (element n)) is) ∙ e in absurd (cc)
-    never d (member u) s is e = let k : closing due.End (member u) ≡ Some s = sym (ap (λ c. closing c (member u)) is) ∙ e in absurd (cc)
+    never d (element n) s is e = let k : closing next.Failed (element n) ≡ Some s = sym (ap (λ c. closing c (element n)) is) ∙ e in absurd (cc)
+    never d (member u) s is e = let k : closing next.Failed (member u) ≡ Some s = sym (ap (λ c. closing c (member u)) is) ∙ e in absurd (cc)
 
 -- ---- a closing bracket where no bracket is open around it
 
-key_closed : (b : Crumb) (s : ℕ) → closing due.Key b ≡ Some s → s ≡ 125
+key_closed : (b : Crumb) (s : ℕ) → closing next.Key b ≡ Some s → s ≡ 125
 key_closed whole s e = absurd (cc)
 key_closed (element n) s e = absurd (cc)
 key_closed (member k) s e = cc
 
-colon_unclosed : (b : Crumb) (s : ℕ) → closing due.Colon b ≡ Some s → ⊥
+colon_unclosed : (b : Crumb) (s : ℕ) → closing next.Colon b ≡ Some s → ⊥
 colon_unclosed whole s e = absurd (cc)
 colon_unclosed (element n) s e = absurd (cc)
 colon_unclosed (member k) s e = absurd (cc)
@@ -291,7 +297,7 @@ differs_44 : {s : ℕ} → (s ≡ 93) ⊎ (s ≡ 125) → 44 ≡ s → ⊥
 differs_44 (inl e) h = omega (arith, e, h)
 differs_44 (inr e) h = omega (arith, e, h)
 
-pub nothing_else : {d e : Due} {b : Crumb} {o p : List Crumb} {y z r : List ℕ} (s : ℕ) → closing d b ≡ Some s → o ≡ b ∷ [] → IsSign s y r → Step d o y e p z → ⊥
+pub nothing_else : {d e : Next} {b : Crumb} {o p : List Crumb} {y z r : List ℕ} (s : ℕ) → closing d b ≡ Some s → o ≡ b ∷ [] → IsSign s y r → Step d o y e p z → ⊥
 nothing_else {d = d} {b = b} {y = y} {z = z} {r = r} s e o a (value t v k) =
     let is = closing_solid d b s e in sign_no_value s y z r t (solid_sign s is) (no_value_sign s is) a k
 nothing_else {d = d} {b = b} {y = y} {z = z} {r = r} s e o a (array v f) =
@@ -301,7 +307,7 @@ nothing_else {d = d} {b = b} {y = y} {z = z} {r = r} s e o a (object v f) =
 nothing_else {b = b} {y = y} {z = z} {r = r} s e o a (key u f k) = brace_no_key y z r u f (subst (λ c. IsSign c y r) (key_closed b s e) a) k
 nothing_else {b = b} s e o a (colon f) = colon_unclosed b s e
 nothing_else {b = b} {y = y} {z = z} {r = r} s e o a (next_element f) =
-    let is = closing_solid due.Comma b s e in differs_44 is (one_sign 44 s y z r comma_solid (solid_sign s is) f a).0
+    let is = closing_solid next.Comma b s e in differs_44 is (one_sign 44 s y z r comma_solid (solid_sign s is) f a).0
 nothing_else {b = b} {y = y} {z = z} {r = r} s e o a (next_member f) =
-    let is = closing_solid due.Comma b s e in differs_44 is (one_sign 44 s y z r comma_solid (solid_sign s is) f a).0
+    let is = closing_solid next.Comma b s e in differs_44 is (one_sign 44 s y z r comma_solid (solid_sign s is) f a).0
 nothing_else s e o a (closes t f g) = absurd (cc)

@@ -4,17 +4,21 @@ use Rattle.std.specs.Prelude.{◌≡◌, ◌≤◌, ◌<◌, ◌==◌, ℕ, Bool
 use Rattle.json5_grammar.specs.Language.Characters.{NotBegun}
 use Rattle.json5_tokens.specs.Cursor.{Cursor, offset_of}
 use Rattle.json5_types.specs.Cows.{cow_bytes}
-use Rattle.json5_report.specs.declared.due.Due.{Due}
+use Rattle.json5_report.specs.declared.course.Crumb.{Crumb as Kept}
+use Rattle.json5_report.specs.declared.course.Crumb.TheVariants as kept
 use Rattle.json5_report.specs.declared.course.Open.{Open}
-use Rattle.json5_report.specs.declared.course.Open.TheVariants as kept
 use Rattle.json5_report.specs.declared.course.Course.{Course}
+use Rattle.json5_walk.specs.declared.next.Next.{Next}
 use Rattle.json5_report.specs.Paths.{Crumb, whole, element, member, Step, closing, start_of}
 
+abbrev pub shown_crumb : Kept → Crumb
+shown_crumb kept.Document = whole
+shown_crumb (kept.Array n) = element n
+shown_crumb (kept.Object None) = member None
+shown_crumb (kept.Object (Some name)) = member (Some (cow_bytes name))
+
 abbrev pub crumb_of : Open → Crumb
-crumb_of kept.Document = whole
-crumb_of (kept.Array n) = element n
-crumb_of (kept.Object None) = member None
-crumb_of (kept.Object (Some name)) = member (Some (cow_bytes name))
+crumb_of o = shown_crumb o.crumb
 
 -- the crumbs of brackets, the outermost first, before those of o
 abbrev pub crumbs_onto : List Crumb → List Open → List Crumb
@@ -35,7 +39,7 @@ pub record Advances (offset : ℕ) (s : Cursor) (c : Course) (t : Cursor) (d : C
 pub record Rests (offset : ℕ) (s : Cursor) (c d : Course) : Type 0 where
   pub same_due : d.due ≡ c.due
   pub same_open : open_in d ≡ open_in c
-  pub last : (e : Due) (p : List Crumb) (y : List ℕ) → Step c.due (open_in c) s.unread e p y → offset < start_of s.input y
+  pub last : (e : Next) (p : List Crumb) (y : List ℕ) → Step c.due (open_in c) s.unread e p y → offset < start_of s.input y
 
 abbrev pub Turned : ℕ → Cursor → Course → Cursor → Course → Bool → Type 0
 Turned offset s c t d true = Advances offset s c t d

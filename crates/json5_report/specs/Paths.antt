@@ -7,8 +7,9 @@ use Rattle.json5_grammar.specs.Language.Trees.{Tree}
 use Rattle.json5_grammar.specs.Language.Values.{Reads}
 use Rattle.json5_grammar.specs.Model.Collections.{IsSign, ReadsKey}
 use Rattle.json5_grammar.specs.Written.Quoting.{is_name}
-use Rattle.json5_report.specs.declared.due.Due.{Due}
-use Rattle.json5_report.specs.declared.due.Due.TheVariants as due
+use Rattle.json5_walk.specs.declared.next.Next.{Next}
+use Rattle.json5_walk.specs.declared.next.Next.TheVariants as next
+use Rattle.json5_walk.specs.Nexts.{takes_value}
 
 -- what is open: the document; an array, with the index of the element that is due or was begun; an object, with the
 -- key that was read after its brace or its last comma, if one was
@@ -17,58 +18,36 @@ pub data Crumb : Type 0 where
   element : ℕ → Crumb
   member : Option (List ℕ) → Crumb
 
-abbrev pub takes_value : Due → Bool
-takes_value due.Value = true
-takes_value due.Element = true
-takes_value due.Key = false
-takes_value due.Colon = false
-takes_value due.Comma = false
-takes_value due.End = false
-
--- after a value
-abbrev pub after : Crumb → Due
-after whole = due.End
-after (element n) = due.Comma
-after (member k) = due.Comma
-
 -- the closing bracket that may come
-abbrev pub closing : Due → Crumb → Option ℕ
-closing d whole = None
-closing due.Element (element n) = Some right_bracket
-closing due.Comma (element n) = Some right_bracket
-closing due.Value (element n) = None
-closing due.Key (element n) = None
-closing due.Colon (element n) = None
-closing due.End (element n) = None
-closing due.Key (member k) = Some right_brace
-closing due.Comma (member k) = Some right_brace
-closing due.Value (member k) = None
-closing due.Element (member k) = None
-closing due.Colon (member k) = None
-closing due.End (member k) = None
+abbrev pub closing : Next → Crumb → Option ℕ
+closing next.Element (element n) = Some right_bracket
+closing next.Comma (element n) = Some right_bracket
+closing next.Key (member k) = Some right_brace
+closing next.Comma (member k) = Some right_brace
+closing _ _ = None
 
 -- what is due and what is open, the innermost first, before the front of x; and after a token of x, which leaves y
-pub data Step : Due → List Crumb → List ℕ → Due → List Crumb → List ℕ → Type 0 where
-  value : {d : Due} {c : Crumb} {o : List Crumb} {x y : List ℕ} (t : Tree) → takes_value d ≡ true → Reads x t y
-      → Step d (c ∷ o) x (after c) (c ∷ o) y
-  array : {d : Due} {o : List Crumb} {x y : List ℕ} → takes_value d ≡ true → IsSign left_bracket x y
-      → Step d o x due.Element (element 0 ∷ o) y
-  object : {d : Due} {o : List Crumb} {x y : List ℕ} → takes_value d ≡ true → IsSign left_brace x y
-      → Step d o x due.Key (member None ∷ o) y
+pub data Step : Next → List Crumb → List ℕ → Next → List Crumb → List ℕ → Type 0 where
+  value : {d : Next} {c : Crumb} {o : List Crumb} {x y : List ℕ} (t : Tree) → takes_value d ≡ true → Reads x t y
+      → Step d (c ∷ o) x next.Comma (c ∷ o) y
+  array : {d : Next} {o : List Crumb} {x y : List ℕ} → takes_value d ≡ true → IsSign left_bracket x y
+      → Step d o x next.Element (element 0 ∷ o) y
+  object : {d : Next} {o : List Crumb} {x y : List ℕ} → takes_value d ≡ true → IsSign left_brace x y
+      → Step d o x next.Key (member None ∷ o) y
   key : {c : Crumb} {o : List Crumb} {x y : List ℕ} (u : List ℕ) (escape_free : Bool) → ReadsKey x u escape_free y
-      → Step due.Key (c ∷ o) x due.Colon (member (Some (encode_utf8_all u)) ∷ o) y
-  colon : {o : List Crumb} {x y : List ℕ} → IsSign colon_sign x y → Step due.Colon o x due.Value o y
+      → Step next.Key (c ∷ o) x next.Colon (member (Some (encode_utf8_all u)) ∷ o) y
+  colon : {o : List Crumb} {x y : List ℕ} → IsSign colon_sign x y → Step next.Colon o x next.Value o y
   next_element : {n : ℕ} {o : List Crumb} {x y : List ℕ} → IsSign comma_sign x y
-      → Step due.Comma (element n ∷ o) x due.Element (element (n + 1) ∷ o) y
+      → Step next.Comma (element n ∷ o) x next.Element (element (n + 1) ∷ o) y
   next_member : {k : Option (List ℕ)} {o : List Crumb} {x y : List ℕ} → IsSign comma_sign x y
-      → Step due.Comma (member k ∷ o) x due.Key (member None ∷ o) y
-  closes : {d : Due} {b c : Crumb} {o : List Crumb} {x y : List ℕ} (s : ℕ) → closing d b ≡ Some s → IsSign s x y
-      → Step d (b ∷ c ∷ o) x (after c) (c ∷ o) y
+      → Step next.Comma (member k ∷ o) x next.Key (member None ∷ o) y
+  closes : {d : Next} {b c : Crumb} {o : List Crumb} {x y : List ℕ} (s : ℕ) → closing d b ≡ Some s → IsSign s x y
+      → Step d (b ∷ c ∷ o) x next.Comma (c ∷ o) y
 
 -- tokens lead from the start of x to y
-pub data Leads (x : List ℕ) : Due → List Crumb → List ℕ → Type 0 where
-  here : Leads x due.Value (whole ∷ []) x
-  further : {d e : Due} {o p : List Crumb} {y z : List ℕ} → Leads x d o y → Step d o y e p z → Leads x e p z
+pub data Leads (x : List ℕ) : Next → List Crumb → List ℕ → Type 0 where
+  here : Leads x next.Value (whole ∷ []) x
+  further : {d e : Next} {o p : List Crumb} {y z : List ℕ} → Leads x d o y → Step d o y e p z → Leads x e p z
 
 -- where the rest of a text begins, in bytes
 abbrev pub start_of : List ℕ → List ℕ → ℕ
@@ -76,11 +55,11 @@ start_of text rest = length (encode_utf8_all text) - length (encode_utf8_all res
 
 -- this is open at the offset: the tokens that end by it lead there, and no other token ends by it
 pub record IsOpenAt (text : List ℕ) (offset : ℕ) (o : List Crumb) : Type 0 where
-  pub due : Due
+  pub due : Next
   pub rest : List ℕ
   pub leads : Leads text due o rest
   pub by : start_of text rest ≤ offset
-  pub last : (e : Due) (p : List Crumb) (y : List ℕ) → Step due o rest e p y → offset < start_of text y
+  pub last : (e : Next) (p : List Crumb) (y : List ℕ) → Step due o rest e p y → offset < start_of text y
 
 -- a key of these bytes: bare if it is a name, else in quotes
 abbrev pub shown_key : List ℕ → List ℕ

@@ -9,7 +9,7 @@ use Rattle.json5_types.specs.declared.error.Error.{Error}
 use Rattle.json5_types.specs.Errors.{error_position}
 use Rattle.json5_report.specs.declared.report.Report.{Report}
 use Rattle.json5_report.specs.Places.{IsOffsetOf, place_text, shown_position}
-use Rattle.json5_report.specs.Paths.{IsPathAt}
+use Rattle.json5_report.specs.Paths.{Crumb, IsPathAt, path_text}
 use Rattle.json5_report.specs.Painted.{painted_text}
 use Rattle.json5_report.specs.Excerpts.{excerpt_text, coloured_excerpt_text}
 
@@ -29,12 +29,12 @@ pub record AreReportsOf (name text : List ℕ) (error : Error) (reports : List R
   pub some : reports ≢ []
   pub each : All (IsReportOf name text error) reports
 
--- the report has this name, this place, and the path of what is open there
-pub record IsReportAt (name text : List ℕ) (p : Position) (offset : ℕ) (report : Report) : Type 0 where
+-- the report has this name, this place, and the path of what is open
+pub record IsReportAt (name : List ℕ) (p : Position) (offset : ℕ) (o : List Crumb) (report : Report) : Type 0 where
   pub named : string_bytes report.name ≡ name
   pub placed : report.position ≡ p
   pub at : report.offset ≡ offset
-  pub path : IsPathAt (chars text) offset (string_bytes report.path)
+  pub path : string_bytes report.path ≡ path_text o
 
 -- the bytes aren't UTF-8, and the report has this name and the place of the first that is in no character; its path is
 -- that in the text which has U+FFFD for what is none

@@ -12,7 +12,7 @@ pub(crate) enum Advice<'t> {
     AddField(&'t str),
     AddValue,
     /// The bracket that is closed before this one, and its line.
-    CloseFirst(&'t str, u128),
+    CloseFirst(char, u128),
     CloseQuote,
     CommentSign,
     DropBracket,

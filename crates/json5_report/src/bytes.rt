@@ -4,6 +4,7 @@ ghost use Rattle.std.specs.Prelude.{MatchResult};
 ghost use Rattle.json5_types.specs.Errors.{LacksMemory};
 
 use crate::advice::Advice;
+use crate::course::Course;
 use crate::fault::Remark;
 use crate::report::{Report, Spot, WIDTH};
 use crate::widths::is_seen;
@@ -46,8 +47,9 @@ impl Report {
             position: Position::after(before),
             offset,
         };
+        let course = Course::before(alloc, text.as_str(), offset)?;
         let message = format!(in alloc; "expected UTF-8, found byte 0x{byte:02X}")?;
-        let report = spot.report(alloc, message, byte_remark(bytes, offset, byte))?;
+        let report = spot.report(alloc, &course, message, byte_remark(bytes, offset, byte))?;
         Ok(Some(report))
     }
 }

@@ -5,25 +5,27 @@ ghost use Rattle.std.specs.Str.{chars};
 ghost use Rattle.json5_grammar.specs.Language.Blanks.{Solid};
 ghost use Rattle.json5_tokens.specs.Cursor.{offset_of};
 ghost use Rattle.json5_types.specs.Errors.{LacksMemory};
-ghost use Rattle.json5_report.specs.Paths.{IsOpenAt, takes_value, after, closing};
-ghost use Rattle.json5_report.specs.declared.due.Due.TheVariants as due;
-ghost use Rattle.json5_report.specs.Courses.{AtMost, NotClosed, Turned, Unclosed, crumb_of, open_in};
+ghost use Rattle.json5_walk.specs.Nexts.{takes_value};
+ghost use Rattle.json5_walk.specs.declared.next.Next.TheVariants as next;
+ghost use Rattle.json5_report.specs.Paths.{IsOpenAt, closing};
+ghost use Rattle.json5_report.specs.Courses.{AtMost, NotClosed, Turned, Unclosed, crumb_of, open_in, shown_crumb};
 
-use crate::due::Due;
+use json5_read::brackets::{BracketKind, OpenBracket};
 use json5_read::skip::skip_value;
 use json5_tokens::scanner::Scanner;
 use json5_types::ErrorCode;
 use json5_types::cow_str::CowStr;
 use json5_types::error::Error;
+use json5_walk::next::Next;
 use std::alloc::{AllocError, Global};
 use std::mem;
 
 /// How many brackets a value may open.
 const DEPTH: usize = 128;
 
-/// What is open.
+/// What a path shows of what is open.
 #[derive(Debug, Drop)]
-pub(crate) enum Open<'t> {
+pub(crate) enum Crumb<'t> {
     Document,
     /// With the index of the element that is due or was begun.
     Array(usize),
@@ -31,10 +33,17 @@ pub(crate) enum Open<'t> {
     Object(Option<CowStr<'t>>),
 }
 
+/// What is open, and the offset where its bracket stands.
+#[derive(Debug, Drop)]
+pub(crate) struct Open<'t> {
+    pub(crate) crumb: Crumb<'t>,
+    pub(crate) start: usize,
+}
+
 /// What is due in a text, and what is open there.
 #[derive(Drop)]
 pub(crate) struct Course<'t> {
-    pub(crate) due: Due,
+    pub(crate) due: Next,
     pub(crate) inner: Open<'t>,
     /// What is around it, the outermost first.
     pub(crate) outer: Vec<Open<'t>>,
@@ -51,8 +60,11 @@ impl<'t> Course<'t> {
     {
         let mut scanner = Scanner::new(alloc, text);
         let mut course = Course {
-            due: Due::Value,
-            inner: Open::Document,
+            due: Next::Value,
+            inner: Open {
+                crumb: Crumb::Document,
+                start: 0,
+            },
             outer: Vec::new(alloc),
         };
         loop {
@@ -60,6 +72,17 @@ impl<'t> Course<'t> {
                 return Ok(course);
             }
         }
+    }
+
+    /// The innermost open bracket.
+    pub(crate) fn bracket(&self) -> Option<OpenBracket> {
+        let kind = match &self.inner.crumb {
+            Crumb::Document => return None,
+            Crumb::Array(_) => BracketKind::Array,
+            Crumb::Object(_) => BracketKind::Object,
+        };
+        let start = self.inner.start;
+        Some(OpenBracket { kind, start })
     }
 }
 
@@ -97,7 +120,7 @@ fn close<'t>(scanner: &mut Scanner<&'t str>, course: &mut Course<'t>, offset: us
     let Some(inner) = course.outer.pop() else {
         return Some(false);
     };
-    course.due = after(&inner);
+    course.due = Next::Comma;
     course.inner = inner;
     Some(true)
 }
@@ -114,11 +137,11 @@ fn enter<'t>(
     ensures { IfOk result (Turned offset scanner.old course.old scanner.new course.new) }
 {
     match course.due {
-        Due::Value | Due::Element => take_value(scanner, course, offset),
-        Due::Key => take_key(scanner, course, offset),
-        Due::Colon => Ok(take_colon(scanner, course, offset)),
-        Due::Comma => Ok(take_comma(scanner, course, offset)),
-        Due::End => Ok(false),
+        Next::Value | Next::Element => take_value(scanner, course, offset),
+        Next::Key => take_key(scanner, course, offset),
+        Next::Colon => Ok(take_colon(scanner, course, offset)),
+        Next::Comma => Ok(take_comma(scanner, course, offset)),
+        Next::Failed => Ok(false),
     }
 }
 
@@ -133,17 +156,18 @@ fn take_value<'t>(
     requires not_closed { NotClosed scanner.old course.old }
     ensures { IfOk result (Turned offset scanner.old course.old scanner.new course.new) }
 {
+    let start = scanner.offset();
     if scanner.eat('[') {
         if scanner.offset() > offset {
             return Ok(false);
         }
-        return open_bracket(course, Due::Element, Open::Array(0));
+        return open_bracket(course, Next::Element, start, Crumb::Array(0));
     }
     if scanner.eat('{') {
         if scanner.offset() > offset {
             return Ok(false);
         }
-        return open_bracket(course, Due::Key, Open::Object(None));
+        return open_bracket(course, Next::Key, start, Crumb::Object(None));
     }
     match skip_value(scanner, DEPTH) {
         Ok(()) => {}
@@ -152,15 +176,20 @@ fn take_value<'t>(
     if scanner.offset() > offset {
         return Ok(false);
     }
-    course.due = after(&course.inner);
+    course.due = Next::Comma;
     Ok(true)
 }
 
 /// Opens a bracket.
-fn open_bracket<'t>(course: &mut Course<'t>, due: Due, inner: Open<'t>) -> Result<bool, AllocError>
-    ensures { IfOk result (λ taken. (taken ≡ true) × (course.new.due ≡ due) × (open_in course.new ≡ crumb_of inner.entry ∷ open_in course.old)) }
+fn open_bracket<'t>(
+    course: &mut Course<'t>,
+    due: Next,
+    start: usize,
+    crumb: Crumb<'t>,
+) -> Result<bool, AllocError>
+    ensures { IfOk result (λ taken. (taken ≡ true) × (course.new.due ≡ due) × (open_in course.new ≡ shown_crumb crumb.entry ∷ open_in course.old)) }
 {
-    let outer = mem::replace(&mut course.inner, inner);
+    let outer = mem::replace(&mut course.inner, Open { crumb, start });
     course.outer.push(outer)?;
     course.due = due;
     Ok(true)
@@ -172,7 +201,7 @@ fn take_key<'t>(
     course: &mut Course<'t>,
     offset: usize,
 ) -> Result<bool, AllocError>
-    requires due { course.old.due ≡ due.Key }
+    requires due { course.old.due ≡ next.Key }
     requires solid { Solid scanner.old.unread }
     requires not_closed { NotClosed scanner.old course.old }
     ensures { IfOk result (Turned offset scanner.old course.old scanner.new course.new) }
@@ -184,8 +213,8 @@ fn take_key<'t>(
     if scanner.offset() > offset {
         return Ok(false);
     }
-    course.inner = Open::Object(Some(scanner.borrowed_text_of(key)));
-    course.due = Due::Colon;
+    course.inner.crumb = Crumb::Object(Some(scanner.borrowed_text_of(key)));
+    course.due = Next::Colon;
     Ok(true)
 }
 
@@ -201,7 +230,7 @@ fn refused_key(error: &Error) -> Result<bool, AllocError>
 
 /// Takes a colon.
 fn take_colon<'t>(scanner: &mut Scanner<&'t str>, course: &mut Course<'t>, offset: usize) -> bool
-    requires due { course.old.due ≡ due.Colon }
+    requires due { course.old.due ≡ next.Colon }
     requires solid { Solid scanner.old.unread }
     ensures { Turned offset scanner.old course.old scanner.new course.new result }
 {
@@ -211,13 +240,13 @@ fn take_colon<'t>(scanner: &mut Scanner<&'t str>, course: &mut Course<'t>, offse
     if scanner.offset() > offset {
         return false;
     }
-    course.due = Due::Value;
+    course.due = Next::Value;
     true
 }
 
 /// Takes a comma.
 fn take_comma<'t>(scanner: &mut Scanner<&'t str>, course: &mut Course<'t>, offset: usize) -> bool
-    requires due { course.old.due ≡ due.Comma }
+    requires due { course.old.due ≡ next.Comma }
     requires solid { Solid scanner.old.unread }
     requires not_closed { NotClosed scanner.old course.old }
     requires counted { AtMost (offset_of scanner.old) (crumb_of course.old.inner) }
@@ -229,37 +258,27 @@ fn take_comma<'t>(scanner: &mut Scanner<&'t str>, course: &mut Course<'t>, offse
     if scanner.offset() > offset {
         return false;
     }
-    match &course.inner {
-        Open::Document => return false,
-        Open::Array(index) => {
-            course.inner = Open::Array(*index + 1);
-            course.due = Due::Element;
+    match &course.inner.crumb {
+        Crumb::Document => return false,
+        Crumb::Array(index) => {
+            course.inner.crumb = Crumb::Array(*index + 1);
+            course.due = Next::Element;
         }
-        Open::Object(_) => {
-            course.inner = Open::Object(None);
-            course.due = Due::Key;
+        Crumb::Object(_) => {
+            course.inner.crumb = Crumb::Object(None);
+            course.due = Next::Key;
         }
     }
     true
 }
 
 /// The closing bracket that may come.
-fn closing(due: Due, inner: &Open<'_>) -> Option<char>
+fn closing(due: Next, inner: &Open<'_>) -> Option<char>
     ensures { result ≡ closing due (crumb_of inner.now) }
 {
-    match (due, inner) {
-        (Due::Element | Due::Comma, Open::Array(_)) => Some(']'),
-        (Due::Key | Due::Comma, Open::Object(_)) => Some('}'),
+    match (due, &inner.crumb) {
+        (Next::Element | Next::Comma, Crumb::Array(_)) => Some(']'),
+        (Next::Key | Next::Comma, Crumb::Object(_)) => Some('}'),
         _ => None,
-    }
-}
-
-/// What is due after a value.
-fn after(inner: &Open<'_>) -> Due
-    ensures { result ≡ after (crumb_of inner.now) }
-{
-    match inner {
-        Open::Document => Due::End,
-        Open::Array(_) | Open::Object(_) => Due::Comma,
     }
 }

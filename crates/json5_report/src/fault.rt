@@ -3,9 +3,10 @@
 //! Plain code, of which no promise is made but that it is safe and ends: change it by the rows of reports, which judge it.
 
 use crate::advice::Advice;
+use crate::around::Around;
 use crate::found::Found;
 use crate::lexemes::{Kind, Lexeme, lexeme_at};
-use crate::trail::Trail;
+use json5_read::brackets::{BracketKind, OpenBracket};
 use json5_types::{ErrorCode, Position};
 
 /// A fault, and what is around it.
@@ -16,7 +17,9 @@ pub(crate) struct Fault<'t> {
     pub(crate) code: Option<ErrorCode>,
     pub(crate) message: &'t str,
     pub(crate) found: Found<'t>,
-    pub(crate) trail: &'t Trail,
+    pub(crate) around: Around,
+    /// The innermost open bracket.
+    pub(crate) open: Option<OpenBracket>,
 }
 
 /// The part of a text that is underlined, and a hint.
@@ -48,10 +51,10 @@ impl<'t> Fault<'t> {
 
     /// The token in which the offset lies.
     pub(crate) fn token(&self) -> Option<Lexeme> {
-        match self.trail.last {
+        match self.around.last {
             Some(last) if last.holds(self.offset) => Some(last),
-            _ if self.trail.next.start == self.offset && self.trail.next.kind != Kind::End => {
-                Some(self.trail.next)
+            _ if self.around.next.start == self.offset && self.around.next.kind != Kind::End => {
+                Some(self.around.next)
             }
             _ => None,
         }
@@ -73,10 +76,23 @@ impl<'t> Fault<'t> {
 
     /// Where the object begins whose field is at fault: at the offset itself, or it is the innermost one that is open there.
     pub(crate) fn object_start(&self) -> usize {
-        match (self.token(), self.trail.brackets.last()) {
+        match (self.token(), self.open) {
             (Some(token), _) if token.kind == Kind::Open => self.offset,
             (_, Some(bracket)) => bracket.start,
             _ => self.offset,
+        }
+    }
+
+    /// What is said of a member right in an array; None where the innermost open bracket is no array's.
+    pub(crate) fn array_advice(&self) -> Option<Advice<'t>> {
+        match self.open {
+            Some(
+                OpenBracket {
+                    kind: BracketKind::Array,
+                    start,
+                },
+            ) => Some(Advice::UseBracesInArray(self.line_of(start))),
+            _ => None,
         }
     }
 
@@ -110,9 +126,17 @@ impl<'t> Fault<'t> {
         }
     }
 
+    /// The token at the fault, with the hint if there is one.
+    pub(crate) fn advised(&self, advice: Option<Advice<'t>>) -> Remark<'t> {
+        match advice {
+            Some(advice) => self.remark(advice),
+            None => self.plain(),
+        }
+    }
+
     /// The place after the last token before the fault.
     pub(crate) fn after_last(&self, advice: Advice<'t>) -> Remark<'t> {
-        let end = match self.trail.last {
+        let end = match self.around.last {
             Some(last) => last.end,
             None => self.offset,
         };

@@ -3,11 +3,11 @@
 //! Plain code, of which no promise is made but that it is safe and ends: change it by the rows of reports, which judge it.
 
 use crate::advice::Advice;
+use crate::around::Around;
 use crate::custom::custom_remark;
 use crate::fault::{Fault, Remark};
 use crate::found::Found;
-use crate::lexemes::{Kind, Lexeme, last_lexeme};
-use crate::trail::Trail;
+use crate::lexemes::{Kind, Lexeme};
 use crate::values::value_advice;
 use json5_types::ErrorCode;
 use std::alloc::{AllocError, Global};
@@ -16,37 +16,36 @@ use std::alloc::{AllocError, Global};
 pub(crate) fn remark_of<'t>(alloc: Global, fault: &Fault<'t>) -> Result<Remark<'t>, AllocError> {
     match fault.code {
         None => custom_remark(alloc, fault),
-        Some(_) if fault.is_end() => end_remark(alloc, fault),
+        Some(_) if fault.is_end() => Ok(end_remark(fault)),
         Some(code) => Ok(code_remark(fault, code)),
     }
 }
 
 /// The same where the text ends too early: what isn't closed.
-fn end_remark<'t>(alloc: Global, fault: &Fault<'t>) -> Result<Remark<'t>, AllocError> {
+fn end_remark<'t>(fault: &Fault<'t>) -> Remark<'t> {
+    let around = Around::of(fault.text, fault.text.len());
     if fault.code == Some(ErrorCode::EofParsingComment) {
-        return Ok(open_comment(fault));
+        return open_comment(fault, around.comment);
     }
-    let trail = Trail::before(alloc, fault.text, fault.text.len())?;
-    let Some(last) = trail.last else {
-        return Ok(fault.remark(Advice::NoValue));
+    let Some(last) = around.last else {
+        return fault.remark(Advice::NoValue);
     };
     match fault.code {
         Some(ErrorCode::EofParsingString | ErrorCode::EofParsingEscapeSequence)
-            if last.kind == Kind::Text => { Ok(Remark::of(last, Advice::CloseQuote)) }
-        _ => Ok(open_bracket(fault)),
+            if last.kind == Kind::Text => { Remark::of(last, Advice::CloseQuote) }
+        _ => open_bracket(fault),
     }
 }
 
-/// The comment that isn't closed, which is the last lexeme of the text.
-fn open_comment<'t>(fault: &Fault<'t>) -> Remark<'t> {
-    let last = last_lexeme(fault.text);
-    if last.kind != Kind::Comment {
-        return open_bracket(fault);
-    }
-    Remark {
-        start: last.start,
-        end: last.start.saturating_add(2),
-        advice: Some(Advice::EndComment),
+/// The comment that isn't closed, which the text ends with.
+fn open_comment<'t>(fault: &Fault<'t>, comment: Option<Lexeme>) -> Remark<'t> {
+    match comment {
+        Some(comment) => Remark {
+            start: comment.start,
+            end: comment.start.saturating_add(2),
+            advice: Some(Advice::EndComment),
+        },
+        None => open_bracket(fault),
     }
 }
 
@@ -72,10 +71,7 @@ fn code_remark<'t>(fault: &Fault<'t>, code: ErrorCode) -> Remark<'t> {
         ErrorCode::LineTerminatorInString => quote_remark(fault),
         ErrorCode::TrailingCharacters => trailing_remark(fault),
         ErrorCode::InvalidEscapeSequence => escape_remark(fault),
-        _ => match value_advice(fault, code) {
-            Some(advice) => fault.remark(advice),
-            None => fault.plain(),
-        },
+        _ => fault.advised(value_advice(fault, code)),
     }
 }
 
@@ -104,19 +100,20 @@ fn sign_advice<'t>(fault: &Fault<'t>) -> Option<Advice<'t>> {
 
 /// What is said of a closing bracket.
 fn bracket_advice<'t>(fault: &Fault<'t>, closing: &str) -> Option<Advice<'t>> {
-    let Some(open) = fault.trail.brackets.last() else {
+    let Some(open) = fault.open else {
         return Some(Advice::DropBracket);
     };
-    if (closing == "}") == open.is_object {
+    let brackets = open.kind.brackets();
+    if closing.starts_with(brackets.closing) {
         return None;
     }
-    let bracket = if open.is_object { "{" } else { "[" };
-    Some(Advice::CloseFirst(bracket, fault.line_of(open.start)))
+    let opening = brackets.opening;
+    Some(Advice::CloseFirst(opening, fault.line_of(open.start)))
 }
 
 /// Whether a byte order mark is right before the fault, between two tokens.
 fn is_after_byte_order_mark(fault: &Fault<'_>) -> bool {
-    match fault.trail.last {
+    match fault.around.last {
         Some(last) => fault
             .text
             .get(last.end..fault.offset)
@@ -143,19 +140,9 @@ fn comma_remark<'t>(fault: &Fault<'t>) -> Remark<'t> {
     }
     match fault.found {
         Found::Character(';') => fault.remark(Advice::UseComma),
-        Found::Character(':') => array_remark(fault),
+        Found::Character(':') => fault.advised(fault.array_advice()),
         Found::Character(_) => fault.plain(),
         _ => fault.after_last(Advice::AddComma),
-    }
-}
-
-/// What is said of a colon: in an array it belongs to a member.
-fn array_remark<'t>(fault: &Fault<'t>) -> Remark<'t> {
-    match fault.trail.brackets.last() {
-        Some(open) if !open.is_object => {
-            fault.remark(Advice::UseBracesInArray(fault.line_of(open.start)))
-        }
-        _ => fault.plain(),
     }
 }
 
@@ -219,7 +206,7 @@ fn key_remark<'t>(fault: &Fault<'t>) -> Remark<'t> {
 
 /// The string that a line ends in.
 fn quote_remark<'t>(fault: &Fault<'t>) -> Remark<'t> {
-    match fault.trail.last {
+    match fault.around.last {
         Some(last) => Remark::of(last, Advice::CloseQuote),
         None => fault.plain(),
     }

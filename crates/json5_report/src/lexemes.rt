@@ -56,19 +56,6 @@ pub(crate) fn lexeme_at(text: &str, from: usize) -> Lexeme {
     }
 }
 
-/// The last lexeme of the text.
-pub(crate) fn last_lexeme(text: &str) -> Lexeme {
-    let mut last = lexeme_at(text, 0);
-    for _ in 0..text.len() {
-        let next = lexeme_at(text, last.end);
-        if next.kind == Kind::End {
-            break;
-        }
-        last = next;
-    }
-    last
-}
-
 /// The kind and the length of the lexeme that the text begins with.
 fn kind_and_len(text: &str) -> (Kind, usize) {
     match text.chars().next() {
@@ -86,22 +73,12 @@ fn kind_and_len(text: &str) -> (Kind, usize) {
 
 /// How long the blanks in front are.
 fn blanks_len(text: &str) -> usize {
-    for (index, c) in text.char_indices() {
-        if !is_json5_whitespace(c) {
-            return index;
-        }
-    }
-    text.len()
+    text.find(|c| !is_json5_whitespace(c)).unwrap_or(text.len())
 }
 
 /// How long the line in front is, without its end.
 pub(crate) fn line_len(text: &str) -> usize {
-    for (index, c) in text.char_indices() {
-        if is_json5_line_terminator(c) {
-            return index;
-        }
-    }
-    text.len()
+    text.find(is_json5_line_terminator).unwrap_or(text.len())
 }
 
 /// How long the string is that the text begins with; up to the end of its line if it isn't closed.

@@ -4,10 +4,10 @@
 #![tactic(auto)]
 
 mod advice;
+mod around;
 mod bytes;
 mod course;
 mod custom;
-mod due;
 mod excerpt;
 mod fault;
 mod field_messages;
@@ -22,7 +22,6 @@ mod painted;
 mod path;
 mod place;
 mod report;
-mod trail;
 mod values;
 mod widths;
 

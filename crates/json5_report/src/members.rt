@@ -4,7 +4,6 @@
 
 use crate::lexemes::{Kind, Lexeme, lexeme_at};
 use crate::path::is_named;
-use crate::trail::Trail;
 use std::alloc::{AllocError, Global};
 
 /// The keys of the object that begins at the offset.
@@ -14,18 +13,25 @@ pub(crate) fn member_keys(
     from: usize,
 ) -> Result<Vec<Lexeme>, AllocError> {
     let mut keys = Vec::new(alloc);
-    let mut trail = Trail::new(alloc);
-    let mut at = from;
+    let mut next = lexeme_at(text, from);
+    let is_object = next.of(text) == "{";
+    let mut is_key_due = is_object;
+    let mut depth: usize = 0;
     for _ in from..text.len() {
-        let lexeme = lexeme_at(text, at);
-        if trail.brackets.len() == 1 && trail.expects_key(lexeme) {
-            keys.push(lexeme)?;
+        match next.kind {
+            Kind::Open => depth = depth.saturating_add(1),
+            Kind::Close => depth = depth.saturating_sub(1),
+            Kind::Comma if depth == 1 => is_key_due = is_object,
+            Kind::Text | Kind::Word if depth == 1 && is_key_due => {
+                keys.push(next)?;
+                is_key_due = false;
+            }
+            _ => {}
         }
-        trail.take(text, lexeme)?;
-        if trail.brackets.is_empty() || lexeme.kind == Kind::End {
+        if depth == 0 || next.kind == Kind::End {
             break;
         }
-        at = lexeme.end;
+        next = lexeme_at(text, next.end);
     }
     Ok(keys)
 }

@@ -8,7 +8,7 @@ ghost use Rattle.json5_grammar.specs.Written.Quoting.{is_name};
 ghost use Rattle.json5_report.specs.Courses.{crumb_of, open_in};
 ghost use Rattle.json5_report.specs.Paths.{crumb_text, path_text, point_after, shown_key};
 
-use crate::course::{Course, Open};
+use crate::course::{Course, Crumb, Open};
 use crate::lexemes::Lexeme;
 use json5_tokens::char::{is_json5_identifier, is_json5_identifier_start};
 use std::alloc::{AllocError, Global};
@@ -29,10 +29,10 @@ pub(crate) fn path_of(alloc: Global, course: &Course<'_>) -> Result<String, Allo
 fn push_step(path: &mut String, part: &Open<'_>) -> Result<(), AllocError>
     ensures { OnOk result (string_bytes path.new ≡ string_bytes path.old ++ crumb_text (string_bytes path.old) (crumb_of part.now)) }
 {
-    match part {
-        Open::Array(index) => write!(path, "[{index}]"),
-        Open::Object(Some(key)) => push_key(path, key.as_str()),
-        Open::Document | Open::Object(None) => Ok(()),
+    match &part.crumb {
+        Crumb::Array(index) => write!(path, "[{index}]"),
+        Crumb::Object(Some(key)) => push_key(path, key.as_str()),
+        Crumb::Document | Crumb::Object(None) => Ok(()),
     }
 }
 
@@ -89,10 +89,5 @@ pub(crate) fn is_named(text: &str, token: Lexeme, name: &str) -> bool {
 
 /// How long the name is that the text begins with.
 pub(crate) fn name_len(text: &str) -> usize {
-    for (index, c) in text.char_indices() {
-        if !is_json5_identifier(c) {
-            return index;
-        }
-    }
-    text.len()
+    text.find(|c| !is_json5_identifier(c)).unwrap_or(text.len())
 }

@@ -32,13 +32,9 @@ pub(crate) fn offset_of(text: &str, wanted: Position) -> usize
 /// Where the line begins that the offset is in.
 pub(crate) fn line_start(text: &str, offset: usize) -> usize {
     let before = text.get(..offset).unwrap_or(text);
-    let mut start = 0;
-    for (index, c) in before.char_indices() {
-        if is_json5_line_terminator(c) {
-            start = index.saturating_add(c.len_utf8());
-        }
-    }
-    start
+    before
+        .trim_end_matches(|c| !is_json5_line_terminator(c))
+        .len()
 }
 
 /// How many units of UTF-16 are in the line before the offset.

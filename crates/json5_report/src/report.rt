@@ -3,6 +3,7 @@
 ghost use Rattle.std.specs.Prelude.{◌≡◌, Some, MatchResult, string_bytes};
 ghost use Rattle.json5_types.specs.Errors.{LacksMemory};
 
+use crate::around::Around;
 use crate::course::Course;
 use crate::excerpt::{ColouredExcerpt, Excerpt};
 use crate::fault::{Fault, Remark};
@@ -12,7 +13,6 @@ use crate::message::message_of;
 use crate::painted::{BOLD, Painted};
 use crate::path::path_of;
 use crate::place::{offset_of, position_of, utf16_column};
-use crate::trail::Trail;
 use json5_types::Position;
 use json5_types::error::{Error, Result};
 use std::alloc::Global;
@@ -93,15 +93,17 @@ impl Report {
     {
         let position = position_of(text, error);
         let offset = offset_of(text, position);
-        let trail = Trail::before(alloc, text, offset)?;
-        let found = found_at(text, offset, &trail);
+        let course = Course::before(alloc, text, offset)?;
+        let around = Around::of(text, offset);
+        let found = found_at(text, offset, around);
         let fault = Fault {
             text,
             offset,
             code: error.code(),
             message: error.message(),
             found,
-            trail: &trail,
+            around,
+            open: course.bracket(),
         };
         let spot = Spot {
             name,
@@ -111,7 +113,7 @@ impl Report {
             offset,
         };
         let remark = remark_of(alloc, &fault)?;
-        spot.report(alloc, message_of(alloc, error, found)?, remark)
+        spot.report(alloc, &course, message_of(alloc, error, found)?, remark)
     }
 
     /// The same report in colours, for a terminal. The place has none, so that it can be found.
@@ -137,13 +139,19 @@ pub(crate) struct Spot<'t> {
 }
 
 impl Spot<'_> {
+    ghost use Rattle.json5_report.specs.Courses.{open_in};
     ghost use Rattle.json5_report.specs.Reports.{IsReportAt};
 
-    /// The report that says this of the place, and underlines this part.
-    pub(crate) fn report(self, alloc: Global, message: String, remark: Remark<'_>) -> Result<Report>
-        ensures { MatchResult result (IsReportAt self.entry.name.now self.entry.text.now self.entry.position self.entry.offset) LacksMemory }
+    /// The report that says this of the place, shows the path of what is open there, and underlines this part.
+    pub(crate) fn report(
+        self,
+        alloc: Global,
+        course: &Course<'_>,
+        message: String,
+        remark: Remark<'_>,
+    ) -> Result<Report>
+        ensures { MatchResult result (IsReportAt self.entry.name.now self.entry.position self.entry.offset (open_in course.now)) LacksMemory }
     {
-        let course = Course::before(alloc, self.text, self.offset)?;
         let hint = match remark.advice {
             Some(advice) => Some(format!(in alloc; "{advice}")?),
             None => None,
@@ -153,7 +161,7 @@ impl Spot<'_> {
             offset: self.offset,
             position: self.position,
             utf16_column: utf16_column(self.text, self.offset),
-            path: path_of(alloc, &course)?,
+            path: path_of(alloc, course)?,
             message,
             excerpt: Excerpt::of(
                 alloc,
@@ -169,8 +177,8 @@ impl Spot<'_> {
 }
 
 /// What is found at the offset.
-fn found_at<'t>(text: &'t str, offset: usize, trail: &Trail) -> Found<'t> {
-    let is_inside = match trail.last {
+fn found_at<'t>(text: &'t str, offset: usize, around: Around) -> Found<'t> {
+    let is_inside = match around.last {
         Some(last) => last.holds(offset),
         None => false,
     };

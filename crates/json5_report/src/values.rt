@@ -55,12 +55,9 @@ fn member_advice<'t>(fault: &Fault<'t>) -> Option<Advice<'t>> {
     if !fault.is_key(fault.token()?) {
         return None;
     }
-    match fault.trail.brackets.last() {
+    match fault.open {
         None => Some(Advice::UseBracesOfFile),
-        Some(open) if !open.is_object => {
-            Some(Advice::UseBracesInArray(fault.line_of(open.start)))
-        }
-        Some(_) => None,
+        Some(_) => fault.array_advice(),
     }
 }
 

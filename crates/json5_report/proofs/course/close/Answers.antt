@@ -18,4 +18,4 @@ returns-in_default c =
 pub returns : goal.returns
 returns c =
     closed _ c.args.scanner.now c.eat.new.self c.args.course.now _ c.in-Some.inner c.pop.new.self.items c.in_ok-sign.sign (sym c.in_ok-sign.ensures) (c.if-not-eat.ensures.taken refl)
-    (subst (λ n. n ≤ c.args.offset) c.offset.ensures.counted c.if-offset.false) c.in-Some.ensures.items c.after-course.ensures refl
+    (subst (λ n. n ≤ c.args.offset) c.offset.ensures.counted c.if-offset.false) c.in-Some.ensures.items refl refl

@@ -1,5 +1,5 @@
 use Rattle.std.proofs.Common.{◌≤◌, refl, sym, subst}
-use Rattle.json5_report.specs.declared.due.Due.TheVariants as due
+use Rattle.json5_walk.specs.declared.next.Next.TheVariants as next
 use Rattle.json5_report.specs.Paths.{Step, colon}
 use Rattle.json5_report.specs.Courses.{open_in}
 use Rattle.json5_report.proofs.CoursesTaken.{rests, no_colon, advances, eaten}
@@ -12,6 +12,6 @@ pub returns : goal.returns
 returns c =
     let took = c.if-not-eat.ensures.taken refl in
     let old = open_in c.args.course.now in
-    advances c.args.offset c.args.scanner.now c.eat.new.self c.args.course.now _ due.Value old
-    (subst (λ z. Step z old c.args.scanner.now.unread due.Value old c.eat.new.self.unread) (sym c.requires.due) (colon (eaten c.args.scanner.now c.eat.new.self 58 took)))
+    advances c.args.offset c.args.scanner.now c.eat.new.self c.args.course.now _ next.Value old
+    (subst (λ z. Step z old c.args.scanner.now.unread next.Value old c.eat.new.self.unread) (sym c.requires.due) (colon (eaten c.args.scanner.now c.eat.new.self 58 took)))
     refl refl (subst (λ n. n ≤ c.args.offset) c.offset.ensures.counted c.if-offset.false) took.same

@@ -3,8 +3,8 @@ use Rattle.std.specs.Prelude.{◌==◌}
 use Rattle.json5_grammar.specs.Language.Characters.{NotBegun}
 use Rattle.json5_tokens.specs.Cursor.{Took}
 use Rattle.json5_read.specs.ModelSteps.{Gave, RefusesRead, value_at}
-use Rattle.json5_report.specs.declared.due.Due.TheVariants as due
-use Rattle.json5_report.specs.Paths.{element, member, value, array, object, after}
+use Rattle.json5_walk.specs.declared.next.Next.TheVariants as next
+use Rattle.json5_report.specs.Paths.{element, member, value, array, object}
 use Rattle.json5_report.specs.Courses.{crumb_of, open_in}
 use Rattle.json5_report.proofs.CoursesTaken.{rests, rests_later, past_sign, opened, eaten, advances, no_value, value_left, passed}
 use Rattle.json5_report.proofs.course.take_value.Goals as goal
@@ -18,7 +18,7 @@ returns-then-offset c =
 pub returns-then-eat : goal.returns-then-eat
 returns-then-eat c =
     let took = c.if-eat.ensures.taken refl in
-    opened c.args.offset c.args.scanner.now c.eat.new.self c.args.course.now c.open_bracket.new.course due.Element (element 0) c.open_bracket.result
+    opened c.args.offset c.args.scanner.now c.eat.new.self c.args.course.now c.open_bracket.new.course next.Element (element 0) c.open_bracket.result
     (array c.requires.due (eaten c.args.scanner.now c.eat.new.self 91 took)) (subst (λ n. n ≤ c.args.offset) c.offset.ensures.counted c.if-offset.false) took.same c.open_bracket.ensures
 
 pub returns-then-offset-2 : goal.returns-then-offset-2
@@ -30,7 +30,7 @@ returns-then-offset-2 c =
 pub returns-then-eat-2 : goal.returns-then-eat-2
 returns-then-eat-2 c =
     let took = subst (λ s. Took s (123 ∷ []) c.eat-2.new.self) (c.if-eat.ensures.kept refl).0 (c.if-eat-2.ensures.taken refl) in
-    opened c.args.offset c.args.scanner.now c.eat-2.new.self c.args.course.now c.open_bracket-then-eat-2.new.course due.Key (member None) c.open_bracket-then-eat-2.result
+    opened c.args.offset c.args.scanner.now c.eat-2.new.self c.args.course.now c.open_bracket-then-eat-2.new.course next.Key (member None) c.open_bracket-then-eat-2.result
     (object c.requires.due (eaten c.args.scanner.now c.eat-2.new.self 123 took)) (subst (λ n. n ≤ c.args.offset) c.offset-then-eat-2.ensures.counted c.if-offset-2.false) took.same c.open_bracket-then-eat-2.ensures
 
 pub returns-in-Err : goal.returns-in-Err
@@ -55,5 +55,5 @@ returns c =
     let b = c.if-eat-2.ensures.kept refl in
     let gave = subst (λ s. Gave (value_at 128 s) tt s c.skip_value.new.scanner) (b.0 ∙ a.0) c.in-Ok.ensures.given in
     let (tree, reads) = passed c.args.scanner.now c.skip_value.new.scanner gave in
-    advances c.args.offset c.args.scanner.now c.skip_value.new.scanner c.args.course.now _ (after (crumb_of c.args.course.now.inner)) (open_in c.args.course.now)
-    (value tree c.requires.due reads) c.after-course.ensures refl (subst (λ n. n ≤ c.args.offset) c.offset-2.ensures.counted c.if-offset-3.false) gave.took.same
+    advances c.args.offset c.args.scanner.now c.skip_value.new.scanner c.args.course.now _ next.Comma (open_in c.args.course.now)
+    (value tree c.requires.due reads) refl refl (subst (λ n. n ≤ c.args.offset) c.offset-2.ensures.counted c.if-offset-3.false) gave.took.same
