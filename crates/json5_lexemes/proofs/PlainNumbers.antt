@@ -278,3 +278,18 @@ goes_far P Q S text rest left a b = λ r. (λ t. (b r).0 ((a r).0 t), λ t. (a r
 -- what no word goes on with is no exponent
 pub no_letter : (x : List ℕ) → NotBegun is_word_part x → NotBegun is_exponent_letter x
 no_letter = stops is_exponent_letter letter_part
+
+-- where the text ends no word, what is left after its number is the text after it
+pub ends_there : (x y r : List ℕ) {P : List ℕ → Type 0} → NotBegun is_word_part y → (Then P x r ↔ Then IsEmpty y r) → Then P x r ↔ (r ≡ y)
+ends_there x y r n b = (λ t. (empty_ends (b.0 t)), λ e. b.1 ([], refl, subst (λ z. NotBegun is_word_part z) (sym e) n, sym e))
+  where
+    empty_ends : Then IsEmpty y r → r ≡ y
+    empty_ends (s, e, m, g) = sym (g ∙ ap (λ z. z ++ r) e)
+
+-- a comma ends a number
+pub ends_at_comma : (text left after : List ℕ) → GoesOn JsonNumber Exponent text left → chars left ≡ 44 ∷ chars after → (r : List ℕ) → Then JsonNumber (chars text) r ↔ (r ≡ chars left)
+ends_at_comma text left after o e r =
+    let n : NotBegun is_word_part (chars left) = subst (NotBegun is_word_part) (sym e) refl in
+    let a = o r in
+    let b = no_letter_passed (chars left) r (no_letter (chars left) n) in
+    ends_there (chars text) (chars left) r n (λ t. b.0 (a.0 t), λ t. a.1 (b.1 t))

@@ -6,14 +6,16 @@ use Rattle.std.specs.Str.{chars}
 use Rattle.std.proofs.lemmas.Bool.{both_ways}
 use Rattle.std.proofs.lemmas.Bool.Decides.{nat_tests}
 use Rattle.json5_grammar.specs.Language.Characters.{NotBegun, Each, no_char, char}
-use Rattle.json5_styles.specs.Json.{is_json_blank, quoted}
+use Rattle.json5_styles.specs.Json.{is_json_blank, quoted, JsonNumber}
 use Rattle.json5_tokens.specs.Scan.{SkipsAll}
 use Rattle.json5_lexemes.specs.SameLexemes.{is_word_part}
 use Rattle.json5_lexemes.specs.Plain.{Plain, is_opening, is_closing, JsonWord}
 use Rattle.json5_lexemes.specs.Plain as plain
-use Rattle.json5_lexemes.specs.PlainSteps.{begins_number, TakesString, TakesWord, TakesComment, LeavesWith, PassesSign, PassesComment, PassesLexeme, StaysPassed}
+use Rattle.json5_lexemes.specs.PlainSteps.{begins_number, TakesString, TakesWord, TakesComment, LeavesWith, PassesSign, PassesComment, PassesLexeme, StaysPassed, Then}
 use Rattle.json5_lexemes.specs.declared.plain.Last.{Last}
 use Rattle.json5_lexemes.specs.declared.plain.Last.TheVariants as last
+use Rattle.json5_lexemes.proofs.PlainTakes.{leaves_with_by}
+use Rattle.json5_lexemes.proofs.PlainWords.{number_alone, number_no_letter}
 use Rattle.json5_lexemes.proofs.PlainTokens.{Asks, asked, WordThen, CommentThen, plain_quote, plain_slash, plain_open, plain_close, plain_comma, plain_colon, no_empty_word}
 
 -- ---- blanks
@@ -170,6 +172,10 @@ module _ (k : Bool) (l : Last) (text after : List ℕ) (c : ℕ) (f : chars text
       shorter : TakesWord (chars text) (chars p.1.now) → length (chars p.1.now) < length (chars text)
       shorter ([], w, n, e) = absurd (no_empty_word w refl)
       shorter (d ∷ s, w, n, e) = let m = ap length e ∙ length-append (d ∷ s) (chars p.1.now) in omega (arith, m)
+
+  -- a number is a word
+  pub number_passed : begins_number c ≡ true → (result : Option (Last × Bor (List ℕ))) → LeavesWith (Then JsonNumber) last.Word text result → PassesLexeme k l text result
+  number_passed h result n = word_passed (number_other h) result (leaves_with_by TakesWord (Then JsonNumber) last.Word text result (λ r. number_alone (chars text) c (chars after) r f (number_no_letter c h)) n)
 
 -- ---- one lexeme after another
 

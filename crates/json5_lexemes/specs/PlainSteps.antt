@@ -94,10 +94,14 @@ PassesLexeme comments l text result = MatchOption result (Plain comments l (char
 abbrev pub StaysPassed : (passed result : Option (Last × Bor (List ℕ))) → Type 0
 StaysPassed passed result = (comments : Bool) (l : Last) (text : List ℕ) → PassesLexeme comments l text passed → PassesLexeme comments l text result
 
--- ---- numbers
-
 abbrev pub begins_number : ℕ → Bool
 begins_number c = (c == minus_sign) || is_digit c
+
+-- a number that begins the text was passed, and maybe more
+abbrev pub PassesNumber : (text : List ℕ) → Option (Last × Bor (List ℕ)) → Type 0
+PassesNumber text result = (comments : Bool) (l : Last) (c : ℕ) (after : List ℕ) → chars text ≡ c ∷ chars after → begins_number c ≡ true → PassesLexeme comments l text result
+
+-- ---- numbers
 
 abbrev pub is_exponent_letter : ℕ → Bool
 is_exponent_letter c = (c == letter_e) || (c == capital_e)

@@ -74,24 +74,31 @@ fn ends_word(text: &str) -> bool
 pub(crate) fn skip_number(text: &str) -> Option<&str>
     ensures { Leaves (Then JsonNumber) text.now result }
 {
-    let unsigned = skip_minus(text);
-    let Some(fraction) = skip_integer(unsigned) else {
+    let Some(exponent) = skip_decimal(text) else {
         return None;
     };
-    let Some(exponent) = skip_fraction(fraction) else {
-        return None;
-    };
-    if ends_word(exponent) {
-        return Some(exponent);
-    }
     end_number(exponent)
+}
+
+/// What follows the number in front, but for its exponent; None if it is none.
+#[inline(always)]
+pub(crate) fn skip_decimal(text: &str) -> Option<&str>
+    ensures { GoesOnIf JsonNumber Exponent text.now result }
+{
+    let Some(fraction) = skip_integer(skip_minus(text)) else {
+        return None;
+    };
+    skip_fraction(fraction)
 }
 
 /// What follows an exponent, if there is one, and no part of a word; None if it is none.
 #[inline(always)]
-fn end_number(text: &str) -> Option<&str>
+pub(crate) fn end_number(text: &str) -> Option<&str>
     ensures { Leaves (Then Exponent) text.now result }
 {
+    if ends_word(text) {
+        return Some(text);
+    }
     let Some(rest) = skip_exponent(text) else {
         return None;
     };

@@ -7,13 +7,13 @@ ghost use Rattle.json5_styles.specs.Json.{JsonNumber, is_escape_letter, is_json_
 ghost use Rattle.json5_tokens.specs.ByteRuns.{is_line_part as is_surely_in_line, is_no_star};
 ghost use Rattle.json5_tokens.specs.Scan.{SkipsAll};
 ghost use Rattle.json5_lexemes.specs.Plain.{is_closing, is_opening, IsPlain, KeepsPlain, Plain};
-ghost use Rattle.json5_lexemes.specs.PlainSteps.{begins_number, is_slash, EndsWord, Leaves, LeavesWith, PassesComment, PassesLexeme, PassesSign, StaysPassed, TakesBlock, TakesCode, TakesComment, TakesEscape, TakesHex, TakesLine, TakesString, TakesWord, Then};
+ghost use Rattle.json5_lexemes.specs.PlainSteps.{begins_number, is_slash, EndsWord, Leaves, LeavesWith, PassesComment, PassesLexeme, PassesNumber, PassesSign, StaysPassed, TakesBlock, TakesCode, TakesComment, TakesEscape, TakesHex, TakesLine, TakesString, TakesWord, Then};
 ghost use Rattle.json5_lexemes.specs.declared.plain.Last.TheVariants as last_tokens;
 
 use crate::byte_runs::{blanks_len, is_json_blank, line_len, star_offset};
-use crate::json_words::{begins_word, skip_four, skip_number};
+use crate::json_words::{begins_word, end_number, skip_decimal, skip_four, skip_number};
 use crate::rest::{front, past_byte, past_first};
-use json5_styles::json_runs::skip_unescaped;
+use json5_styles::json_runs::skip_unescaped_within;
 use json5_tokens::char::is_json5_line_terminator;
 use json5_types::digit_runs::is_digit;
 
@@ -94,7 +94,7 @@ fn pass_lexeme(comments: bool, last: Last, text: &str) -> Option<(Last, &str)>
         return Some((last, skip_json_blanks(text)));
     }
     if begins_number(first) {
-        return with_comma(pass_number(text));
+        return pass_number_within(text);
     }
     if is_opening(first) {
         return Some((Last::Sign, past_first(text)));
@@ -258,6 +258,23 @@ fn pass_literal(rest: Option<&str>) -> Option<(Last, &str)>
     Some((Last::Word, left))
 }
 
+/// The same of a number in front, where a comma may follow.
+#[inline(always)]
+fn pass_number_within(text: &str) -> Option<(Last, &str)>
+    ensures { PassesNumber text.now result }
+{
+    let Some(left) = skip_decimal(text) else {
+        return None;
+    };
+    if let Some(after) = past_byte(left, b',') {
+        return with_space(Some((Last::Comma, after)));
+    }
+    let Some(end) = end_number(left) else {
+        return None;
+    };
+    Some((Last::Word, end))
+}
+
 /// The same of a number in front.
 #[inline(always)]
 fn pass_number(text: &str) -> Option<(Last, &str)>
@@ -281,12 +298,12 @@ fn skip_json_blanks(text: &str) -> &str
 fn skip_string(text: &str) -> Option<&str>
     ensures { Leaves TakesString text.now result }
 {
-    let mut rest = skip_unescaped(text);
+    let mut rest = skip_unescaped_within(text);
     while let Some(after) = past_byte(rest, b'\\') {
         let Some(next) = skip_escape(after) else {
             return None;
         };
-        rest = skip_unescaped(next);
+        rest = skip_unescaped_within(next);
     }
     past_byte(rest, b'"')
 }

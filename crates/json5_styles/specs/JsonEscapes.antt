@@ -4,6 +4,7 @@ use Rattle.std.specs.Prelude.{◌≡◌, ◌<◌, ℕ, List, ◌++◌, Bool, tru
 use Rattle.std.specs.Char.{encode_utf8, IsScalar}
 use Rattle.std.specs.Str.{chars, encode_utf8_all, all_scalars, IsUtf8}
 use Rattle.json5_grammar.specs.Language.Characters.{space, double_quote, backslash}
+use Rattle.json5_tokens.specs.Scan.{SkipsAll}
 use Rattle.json5_styles.specs.Json.{is_unescaped}
 use Rattle.json5_styles.specs.JsonTexts.{json_escaped, json_escaped_all}
 
@@ -31,3 +32,8 @@ pub record StandsBefore (t rest : List ℕ) : Type 0 where
   pub bytes : t ≡ encode_utf8_all before ++ rest
   pub same : json_escaped_all before ≡ before
   pub utf8 : IsUtf8 rest
+
+-- the run of t is passed: rest is what follows it
+pub record IsPastRun (t rest : List ℕ) : Type 0 where
+  pub stands : StandsBefore t rest
+  pub run : SkipsAll is_unescaped t rest

@@ -3,9 +3,8 @@
 ghost use Rattle.std.specs.Prelude.{◌≡◌, ◌+◌, ◌≤◌, length, map};
 ghost use Rattle.std.specs.List.{prefix_len};
 ghost use Rattle.std.specs.Simd.Lanes.{mask_l};
-ghost use Rattle.json5_tokens.specs.Scan.{SkipsAll};
 ghost use Rattle.json5_styles.specs.Json.{is_unescaped};
-ghost use Rattle.json5_styles.specs.JsonEscapes.{ends_unescaped, StandsBefore};
+ghost use Rattle.json5_styles.specs.JsonEscapes.{ends_unescaped, IsPastRun};
 
 use std::simd::prelude::*;
 
@@ -88,6 +87,29 @@ fn unescaped_len(bytes: &[u8]) -> usize
     }
 }
 
+/// The same, faster where the run is short and a longer text follows.
+#[inline(always)]
+fn len_within(bytes: &[u8]) -> usize
+    ensures { result ≡ prefix_len is_unescaped bytes.now }
+{
+    if bytes.len() >= 16 {
+        let found = stops(u8x16::from_slice(bytes));
+        if found != 0 {
+            return found.trailing_zeros() as usize;
+        }
+    }
+    unescaped_len(bytes)
+}
+
+/// What follows the run in front, which is this long.
+#[inline(always)]
+fn past_run(text: &str, len: usize) -> &str
+    requires { len ≡ prefix_len is_unescaped text.now }
+    ensures { IsPastRun text.now result.now }
+{
+    text.split_at(len).1
+}
+
 /// Returns what follows the characters in front that JSON has as they are in a string (RFC 8259 section 7).
 ///
 /// ```text
@@ -95,9 +117,19 @@ fn unescaped_len(bytes: &[u8]) -> usize
 /// ```
 #[inline(always)]
 pub fn skip_unescaped(text: &str) -> &str
-    ensures stands { StandsBefore text.now result.now }
-    ensures run { SkipsAll is_unescaped text.now result.now }
+    ensures { IsPastRun text.now result.now }
 {
-    let end = unescaped_len(text.as_bytes());
-    text.split_at(end).1
+    past_run(text, unescaped_len(text.as_bytes()))
+}
+
+/// The same, faster where the run is short and a longer text follows.
+///
+/// ```text
+/// skip_unescaped_within("a\", \"b\"]")    // what follows the `a`
+/// ```
+#[inline(always)]
+pub fn skip_unescaped_within(text: &str) -> &str
+    ensures { IsPastRun text.now result.now }
+{
+    past_run(text, len_within(text.as_bytes()))
 }

@@ -1,8 +1,12 @@
-use Rattle.std.proofs.Common.{◌≡◌, [], true, false, refl, sym, subst}
-use Rattle.json5_grammar.specs.Language.Characters.{NotBegun}
-use Rattle.json5_lexemes.specs.SameLexemes.{is_word_part}
+use Rattle.std.proofs.Common.{◌≡◌, true, false, refl}
+use Rattle.json5_lexemes.proofs.PlainNumbers.{no_letter, no_letter_passed, ends_there}
 use Rattle.json5_lexemes.proofs.PlainWords.{number_ends}
 use Rattle.json5_lexemes.proofs.json_words.end_number.Goals as goal
+
+pub returns-then-ends_word : goal.returns-then-ends_word
+returns-then-ends_word c =
+    let n = c.if-ends_word.ensures refl in
+    λ r. ends_there _ _ r n (no_letter_passed _ r (no_letter _ n))
 
 pub returns-then-front_is_part : goal.returns-then-front_is_part
 returns-then-front_is_part c = λ r t.
@@ -10,6 +14,4 @@ returns-then-front_is_part c = λ r t.
     let is : true ≡ false = c.if-front_is_part.ensures.1 (number_ends _ r k).0 in cc
 
 pub returns : goal.returns
-returns c = λ r.
-    let b = c.in-Some.ensures r in
-    (λ t. (number_ends _ r (b.0 t)).1, λ e. b.1 ([], refl, subst (λ z. NotBegun is_word_part z) (sym e) (c.if-front_is_part.ensures.0 refl), sym e))
+returns c = λ r. ends_there _ _ r (c.if-front_is_part.ensures.0 refl) (c.in-Some.ensures r)

@@ -22,9 +22,7 @@ returns-then-begins_number c =
     let text = c.args.text.now in
     let h = subst (λ z. begins_number (slice_index z 0) ≡ true) c.as_bytes.ensures.value (sym c.if-begins_number.ensures) in
     let f = ascii_starts text (drop 1 text) c.utf8.text c.requires (number_is_ascii _ h) refl in
-    c.with_comma.ensures c.args.comments c.args.last text
-    (word_passed c.args.comments c.args.last text (drop 1 text) _ f.chars (number_other c.args.comments c.args.last text (drop 1 text) _ f.chars h) c.pass_number.result
-    (leaves_with_by TakesWord (Then JsonNumber) last.Word text c.pass_number.result (λ r. number_alone (chars text) (slice_index text 0) (chars (drop 1 text)) r f.chars (number_no_letter (slice_index text 0) h)) c.pass_number.ensures))
+    c.pass_number_within.ensures c.args.comments c.args.last _ (drop 1 text) f.chars h
 
 pub returns-then-is_json_blank : goal.returns-then-is_json_blank
 returns-then-is_json_blank c =
@@ -40,7 +38,7 @@ returns-then-is_opening c =
 pub returns-then-is_closing : goal.returns-then-is_closing
 returns-then-is_closing c =
     let h = subst (λ z. is_closing (slice_index z 0) ≡ true) c.as_bytes.ensures.value (sym c.if-is_closing.ensures) in
-    c.with_comma-then-is_closing.ensures c.args.comments c.args.last c.args.text.now
+    c.with_comma.ensures c.args.comments c.args.last c.args.text.now
     (closing_passed c.args.comments c.args.last c.args.text.now c.past_first-then-is_closing.result.now _ c.past_first-then-is_closing.ensures.chars h _ c.pass_closing.ensures)
 
 pub returns-then-first-eq44 : goal.returns-then-first-eq44
