@@ -40,10 +40,7 @@ pub fn by_code(alloc: Global, answer: Answer) -> Printed<String> {
 fn code_and_place(alloc: Global, error: &Error) -> Printed<String> {
     let cause = cause(alloc, error)?;
     match error.position() {
-        Some(position) => {
-            let place = place(alloc, position)?;
-            format!(in alloc; "{cause} at {place}")
-        }
+        Some(Position { line, column }) => format!(in alloc; "{cause} at {line}:{column}"),
         None => format!(in alloc; "{cause} no place"),
     }
 }

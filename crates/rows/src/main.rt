@@ -15,6 +15,7 @@ mod rows;
 mod scans;
 mod spelling;
 mod writer_calls;
+mod writers;
 mod writes;
 
 use std::io::{self, BufRead, BufReader, BufWriter, Write};

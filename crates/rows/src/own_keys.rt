@@ -1,5 +1,6 @@
 //! Keys that are read and written by calls that no key type of the library makes.
 
+use crate::call_spelling::by_name;
 use json5::de::MapKey;
 use json5::{Borrows, ByteBuf, CowStr, DeserializeKey, Input, Result, SerializeKey, ser};
 use std::io::Write;
@@ -90,7 +91,7 @@ impl<I: Input> DeserializeKey<I> for ByBytes {
 /// A key that is written by a call for what is no key, the one of this name.
 #[derive(Drop)]
 pub struct NoKey<'a> {
-    /// `none`, `seq`, `struct_variant`
+    /// `key:none`, `key:seq`, `key:struct_variant`
     pub call: &'a str,
 }
 
@@ -100,17 +101,17 @@ impl SerializeKey for NoKey<'_> {
     ghost as_key = { λ _. bad };
 
     fn serialize_key<W: Write + Drop>(&self, key: ser::MapKey<'_, W>) -> Result<()> {
-        match self.call {
-            "seq" => key.serialize_seq(None),
-            "tuple" => key.serialize_tuple(2),
-            "tuple_struct" => key.serialize_tuple_struct("Name", 2),
-            "newtype_variant" => key.serialize_newtype_variant("Name", 0, "Variant"),
-            "tuple_variant" => key.serialize_tuple_variant("Name", 0, "Variant", 2),
-            "map" => key.serialize_map(None),
-            "struct" => key.serialize_struct("Name", 2),
-            "struct_variant" => key.serialize_struct_variant("Name", 0, "Variant", 2),
-            _ => key.serialize_none(),
-        }
+        by_name!(self.call;
+            0 "key:seq" => key.serialize_seq(None),
+            1 "key:tuple" => key.serialize_tuple(2),
+            2 "key:tuple_struct" => key.serialize_tuple_struct("Name", 2),
+            3 "key:newtype_variant" => key.serialize_newtype_variant("Name", 0, "Variant"),
+            4 "key:tuple_variant" => key.serialize_tuple_variant("Name", 0, "Variant", 2),
+            5 "key:map" => key.serialize_map(None),
+            6 "key:struct" => key.serialize_struct("Name", 2),
+            7 "key:struct_variant" => key.serialize_struct_variant("Name", 0, "Variant", 2);
+            key.serialize_none()
+        )
     }
 }
 

@@ -1,6 +1,7 @@
 //! Calls of one scanner, one after another: `scan blank eat[ number skip_string peek|TEXT`.
 
 use crate::call_results::{Answer, Any, place, push_answer, shown, unknown};
+use crate::call_spelling::by_name;
 use json5::{ErrorCode, Result, Value};
 use json5_tokens::scanner::Scanner;
 use json5_types::number::Number;
@@ -19,41 +20,31 @@ pub fn scan(alloc: Global, names: &str, text: &str) -> Answer {
 
 fn call(scanner: &mut Scanner<&str>, name: &str) -> Answer {
     let alloc = scanner.allocator();
-    match name {
-        "blank" => shown(alloc, scanner.skip_blank()),
-        "null" => shown(alloc, null(scanner)),
-        "number" => shown(alloc, scanner.number().map(any)),
-        "string" => shown(alloc, scanner.string()),
-        "string_owned" => shown(alloc, scanner.string_owned()),
-        "identifier" => shown(alloc, scanner.identifier()),
-        "key" => key(scanner),
-        "key_borrowed" => key_borrowed(scanner),
-        _ => skip(scanner, name),
-    }
+    by_name!(name;
+        0 "blank" => shown(alloc, scanner.skip_blank()),
+        1 "null" => shown(alloc, null(scanner)),
+        2 "number" => shown(alloc, scanner.number().map(any)),
+        3 "string" => shown(alloc, scanner.string()),
+        4 "string_owned" => shown(alloc, scanner.string_owned()),
+        5 "identifier" => shown(alloc, scanner.identifier()),
+        6 "key" => key(scanner),
+        7 "key_borrowed" => key_borrowed(scanner),
+        8 "skip_string" => shown(alloc, scanner.skip_string()),
+        9 "skip_identifier" => shown(alloc, scanner.skip_identifier()),
+        10 "skip_number" => shown(alloc, scanner.skip_number().map(any_whole)),
+        11 "peek" => shown(alloc, Ok(scanner.peek())),
+        12 "offset" => shown(alloc, Ok(scanner.offset())),
+        13 "place" => Ok(place(alloc, scanner.position_of(scanner.offset()))?);
+        eat_named(scanner, name)
+    )
 }
 
-/// Calls that pass over a token.
-fn skip(scanner: &mut Scanner<&str>, name: &str) -> Answer {
+/// `eat[` takes a bracket if it is next.
+fn eat_named(scanner: &mut Scanner<&str>, name: &str) -> Answer {
     let alloc = scanner.allocator();
-    match name {
-        "skip_string" => shown(alloc, scanner.skip_string()),
-        "skip_identifier" => shown(alloc, scanner.skip_identifier()),
-        "skip_number" => shown(alloc, scanner.skip_number().map(any_whole)),
-        _ => look(scanner, name),
-    }
-}
-
-/// Calls that can't be refused.
-fn look(scanner: &mut Scanner<&str>, name: &str) -> Answer {
-    let alloc = scanner.allocator();
-    match name {
-        "peek" => shown(alloc, Ok(scanner.peek())),
-        "offset" => shown(alloc, Ok(scanner.offset())),
-        "place" => Ok(place(alloc, scanner.position_of(scanner.offset()))?),
-        _ => match name.strip_prefix("eat") {
-            Some(c) => shown(alloc, Ok(eat(scanner, c))),
-            None => unknown(alloc),
-        },
+    match name.strip_prefix("eat") {
+        Some(c) => shown(alloc, Ok(eat(scanner, c))),
+        None => unknown(alloc),
     }
 }
 

@@ -10,10 +10,8 @@ enum Escape {
     Outside,
     /// The backslash.
     Begun,
-    /// The `u` after it, and the number so far.
-    Code(u32),
-    /// The character after it that is repeated, and the count so far.
-    Run(char, u32),
+    /// `u` and the number of a character so far, or a character that is repeated and the count so far.
+    Number(char, u32),
 }
 
 /// The text that the row spells.
@@ -22,11 +20,10 @@ pub fn unescaped(alloc: Global, spelled: &str) -> Result<String, AllocError> {
     let mut escape = Escape::Outside;
     for c in spelled.chars() {
         escape = match escape {
-            Escape::Outside => outside(c, &mut text)?,
-            Escape::Begun => begun(c, &mut text)?,
-            Escape::Code(code) => in_code(code, c, &mut text)?,
-            Escape::Run(repeated, count) => in_run(repeated, count, c, &mut text)?,
-        };
+            Escape::Outside => outside(c, &mut text),
+            Escape::Begun => begun(c, &mut text),
+            Escape::Number(of, number) => in_number(of, number, c, &mut text),
+        }?;
     }
     Ok(text)
 }
@@ -40,36 +37,40 @@ fn outside(c: char, text: &mut String) -> Result<Escape, AllocError> {
 }
 
 fn begun(c: char, text: &mut String) -> Result<Escape, AllocError> {
-    match c {
-        'u' => return Ok(Escape::Code(0)),
-        _ if is_repeated(c) => return Ok(Escape::Run(c, 0)),
-        'n' => text.push('\n')?,
-        'r' => text.push('\r')?,
-        't' => text.push('\t')?,
-        _ => text.push(c)?,
+    if c == 'u' || is_repeated(c) {
+        return Ok(Escape::Number(c, 0));
+    }
+    text.push(match c {
+        'n' => '\n',
+        'r' => '\r',
+        't' => '\t',
+        _ => c,
+    })?;
+    Ok(Escape::Outside)
+}
+
+fn in_number(of: char, number: u32, c: char, text: &mut String) -> Result<Escape, AllocError> {
+    if c == '{' {
+        return Ok(Escape::Number(of, number));
+    }
+    if let Some(number) = lengthened(of, number, c) {
+        return Ok(Escape::Number(of, number));
+    }
+    if of == 'u' {
+        text.push(char::from_u32(number).unwrap_or(char::REPLACEMENT_CHARACTER))?;
+    } else {
+        push_all(of, number, text)?;
     }
     Ok(Escape::Outside)
 }
 
-fn in_code(code: u32, c: char, text: &mut String) -> Result<Escape, AllocError> {
-    match c.to_digit(16) {
-        Some(digit) => return Ok(Escape::Code(code.saturating_mul(16).saturating_add(digit))),
-        None if c == '{' => return Ok(Escape::Code(code)),
-        None => text.push(char::from_u32(code).unwrap_or(char::REPLACEMENT_CHARACTER))?,
+/// The number with one more digit, hexadecimal after `u`.
+fn lengthened(of: char, number: u32, c: char) -> Option<u32> {
+    if of == 'u' {
+        Some(number.saturating_mul(16).saturating_add(c.to_digit(16)?))
+    } else {
+        Some(number.saturating_mul(10).saturating_add(c.to_digit(10)?))
     }
-    Ok(Escape::Outside)
-}
-
-fn in_run(repeated: char, count: u32, c: char, text: &mut String) -> Result<Escape, AllocError> {
-    match c.to_digit(10) {
-        Some(digit) => {
-            let count = count.saturating_mul(10).saturating_add(digit);
-            return Ok(Escape::Run(repeated, count));
-        }
-        None if c == '{' => return Ok(Escape::Run(repeated, count)),
-        None => push_all(repeated, count, text)?,
-    }
-    Ok(Escape::Outside)
 }
 
 fn push_all(c: char, count: u32, text: &mut String) -> Result<(), AllocError> {

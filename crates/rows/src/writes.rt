@@ -1,45 +1,37 @@
 //! Writing what was read.
 
-use crate::call_results::{Answer, unknown};
-use crate::call_spelling::by_type;
-use crate::own_enums::{E, F};
-use crate::own_structs::Config;
-use indexmap::IndexMap;
+use crate::call_results::{Answer, push_answer, shown, unknown};
+use crate::own_enums::F;
+use crate::writers::Given;
 use json5::{
-    ByteBuf, CowStr, Decimal, Deserialize, Serialize, SerializeKey, Value, from_str, to_string,
+    Decimal, Deserialize, Limit, Serialize, SerializeKey, from_str, to_string, to_string_within,
+    to_writer, to_writer_within,
 };
 use std::alloc::Global;
 use std::collections::BTreeMap;
 
-fn write_value<'de, T: Deserialize<&'de str> + Serialize>(alloc: Global, text: &'de str) -> Answer {
-    let value = from_str::<T>(alloc, text)?;
-    to_string(alloc, &value)
-}
-
-/// What is written of the text's value, read as the type with this name.
-pub fn write(alloc: Global, name: &str, text: &str) -> Answer {
-    by_type!(name, write_value(alloc, text);
-        "u8" => u8, "u16" => u16, "u32" => u32, "u64" => u64, "u128" => u128,
-        "i8" => i8, "i16" => i16, "i32" => i32, "i64" => i64, "i128" => i128,
-        "usize" => usize, "isize" => isize, "BTreeMap<usize, isize>" => BTreeMap<usize, isize>,
-        "()" => (), "bool" => bool, "char" => char, "&str" => &str, "CowStr" => CowStr,
-        "String" => String, "ByteBuf" => ByteBuf, "Decimal" => Decimal, "Value" => Value;
-        write_other(alloc, name, text)
-    )
-}
-
-fn write_other(alloc: Global, name: &str, text: &str) -> Answer {
-    by_type!(name, write_value(alloc, text);
-        "Vec<Vec<i32>>" => Vec<Vec<i32>>, "Vec<Option<&str>>" => Vec<Option<&str>>,
-        "Vec<(u8, u8, u8, u8)>" => Vec<(u8, u8, u8, u8)>, "[i32; 3]" => [i32; 3],
-        "(i32,)" => (i32,), "(i32, i32)" => (i32, i32), "(char, i32, &str)" => (char, i32, &str),
-        "BTreeMap<String, u8>" => BTreeMap<String, u8>, "BTreeMap<bool, u8>" => BTreeMap<bool, u8>,
-        "BTreeMap<u8, String>" => BTreeMap<u8, String>, "BTreeMap<char, u8>" => BTreeMap<char, u8>,
-        "IndexMap<String, u8>" => IndexMap<String, u8>, "BTreeMap<F, i32>" => BTreeMap<F, i32>,
-        "IndexMap<Decimal, u8>" => IndexMap<Decimal, u8>, "Config" => Config, "E" => E,
-        "BTreeMap<ByteBuf, u8>" => BTreeMap<ByteBuf, u8>, "F" => F;
+/// What is written of the value, to a text; unknown where a writer is given anything else.
+pub fn write<T: Serialize>(alloc: Global, value: &T) -> Answer {
+    let text = to_string(alloc, value)?;
+    let mut writer = Given::new(alloc);
+    to_writer(&mut writer, value)?;
+    if writer.bytes.as_slice() == text.as_bytes() {
+        Ok(text)
+    } else {
         unknown(alloc)
-    )
+    }
+}
+
+/// What `to_string_within` and `to_writer_within` return, and then what the writer holds.
+pub fn write_within<T: Serialize>(alloc: Global, limit: Limit, value: &T) -> Answer {
+    let mut answers = String::new(alloc);
+    let text = to_string_within(alloc, limit, value);
+    push_answer(alloc, shown(alloc, text), &mut answers)?;
+    let mut writer = Given::new(alloc);
+    let written = to_writer_within(&mut writer, limit, value);
+    push_answer(alloc, shown(alloc, written), &mut answers)?;
+    push_answer(alloc, writer.held(alloc), &mut answers)?;
+    Ok(answers)
 }
 
 /// What is written of a map from the text's value, read as the type with this name, to 0.

@@ -30,6 +30,9 @@ fn answer_of(alloc: Global, row: &str, call: &str, text: &str) -> Result<String,
             by_message(alloc, fields::answer(alloc, call, text))
         }
         "distinct" => by_message(alloc, distinct::answer(alloc, text)),
-        _ => by_code(alloc, values::answer(alloc, row)),
+        _ => match call.strip_prefix("own ") {
+            Some(name) => by_message(alloc, fields::own(alloc, name, text)),
+            None => by_code(alloc, values::answer(alloc, row)),
+        },
     }
 }

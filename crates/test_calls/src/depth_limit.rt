@@ -3,7 +3,7 @@
 use json5::{
     Deserialize, Deserializer, Error, ErrorCode, IgnoredAny, Input, Position, Result, from_str,
 };
-use std::alloc::{AllocError, Global};
+use std::alloc::Global;
 use std::test::Fail;
 
 /// A value within four brackets.
@@ -33,39 +33,31 @@ impl<I: Input, T: Deserialize<I>> Deserialize<I> for Eight<T> {
 
 type Within32<T> = Eight<Eight<Eight<Eight<T>>>>;
 
-type Within128<T> = Within32<Within32<Within32<Within32<T>>>>;
+/// A value within 127 brackets.
+type Within127<T> = Within32<Within32<Within32<Eight<Eight<Eight<Four<(((T,),),)>>>>>>>;
 
-/// `null` within so many brackets.
-fn brackets(alloc: Global, count: u32) -> std::result::Result<String, AllocError> {
-    let mut text = String::new(alloc);
-    for _ in 0..count {
-        text.push('[')?;
-    }
-    text.push_str("null")?;
-    for _ in 0..count {
-        text.push(']')?;
-    }
+/// So many brackets, one in the other.
+fn brackets(alloc: Global, count: usize) -> Result<String> {
+    let mut text = "[".repeat(alloc, count)?;
+    text.push_str("]".repeat(alloc, count)?.as_str())?;
     Ok(text)
 }
 
-fn read<'de, T: Deserialize<&'de str>>(alloc: Global, text: &'de str) -> Result<()> {
-    from_str::<T>(alloc, text)?;
-    Ok(())
+/// What is refused of so many brackets, read as a list in a list within 127 brackets.
+fn refusal(alloc: Global, count: usize) -> Result<Option<Error>> {
+    let text = brackets(alloc, count)?;
+    Ok(from_str::<Within127<Vec<Vec<()>>>>(alloc, text.as_str()).err())
 }
 
 #[test]
 fn one_bracket_too_many_is_refused(rt: HostRuntime) -> std::result::Result<(), Fail> {
-    let most = brackets(rt.alloc(), 128)?;
-    assert!(rt; read::<Within128<()>>(rt.alloc(), most.as_str()).is_ok());
-    let more = brackets(rt.alloc(), 129)?;
-    let fault = Error::new_at(
-        Position {
-            line: 0,
-            column: 128,
-        },
-        ErrorCode::TooDeep,
-    );
-    assert!(rt; read::<(Within128<()>,)>(rt.alloc(), more.as_str()) == Err(fault));
+    assert!(rt; refusal(rt.alloc(), 128)?.is_none());
+    let place = Position {
+        line: 0,
+        column: 128,
+    };
+    let fault = Error::new_at(place, ErrorCode::TooDeep);
+    assert!(rt; refusal(rt.alloc(), 129)? == Some(fault));
     Ok(())
 }
 

@@ -44,42 +44,46 @@ fn stops_anywhere<T: Serialize>(alloc: Global, value: &T, text: &str) -> bool {
     to_writer(&mut slow, value).is_ok() && slow.was_given(text, text.len())
 }
 
+/// What is written of a list of all kinds, of an object, of bytes as keys, which are bare where they begin with a letter, and of a
+/// value of any kind.
+const ALL_KINDS: &str = "\
+[
+  [
+    null,
+    [
+      'a\"\\n',
+      \"b'\",
+    ],
+    {
+      weekly: [
+        1,
+        7,
+      ],
+    },
+    \"00ff\",
+  ],
+  {
+    \"7\": \"c\",
+    \"16\": null,
+  },
+  {
+    ab0c: 1,
+    \"0c\": 2,
+    \"\": 3,
+  },
+  {
+    a: -7,
+  },
+]";
+
 #[test]
-fn a_list_of_all_kinds_stops_anywhere(rt: HostRuntime) -> std::result::Result<(), Fail> {
+fn a_value_of_all_kinds_stops_anywhere(rt: HostRuntime) -> std::result::Result<(), Fail> {
     let bytes = ByteBuf::from_vec(vec![in rt.alloc(); 0u8, 255]?);
-    let value = ((), ["a\"\n", "b'"], Reminder::Weekly(1, 7), bytes);
-    let text =
-        "[\n  null,\n  [\n    'a\"\\n',\n    \"b'\",\n  ],\n  {\n    weekly: [\n      1,\n      7,\n    ],\n  },\n  \"00ff\",\n]";
-    assert!(rt; stops_anywhere(rt.alloc(), &value, text));
-    Ok(())
-}
-
-#[test]
-fn an_object_stops_anywhere(rt: HostRuntime) -> std::result::Result<(), Fail> {
-    let value: IndexMap<Option<Id>, Option<char>> = from_str(rt.alloc(), "{'7':'c','16':null}")?;
-    assert!(rt; stops_anywhere(rt.alloc(), &value, "{\n  \"7\": \"c\",\n  \"16\": null,\n}"));
-    Ok(())
-}
-
-#[test]
-fn bytes_as_keys_are_bare_where_they_begin_with_a_letter(
-    rt: HostRuntime,
-) -> std::result::Result<(), Fail> {
-    let value: IndexMap<ByteBuf, u8> = from_str(rt.alloc(), "{ab0c:1,'0C':2,'':3}")?;
-    assert!(rt;
-        stops_anywhere(
-            rt.alloc(),
-            &value,
-            "{\n  ab0c: 1,\n  \"0c\": 2,\n  \"\": 3,\n}"
-        )
-    );
-    Ok(())
-}
-
-#[test]
-fn a_value_of_any_kind_stops_anywhere(rt: HostRuntime) -> std::result::Result<(), Fail> {
-    let value: Value = from_str(rt.alloc(), "{a:1}")?;
-    assert!(rt; stops_anywhere(rt.alloc(), &value, "{\n  a: 1,\n}"));
+    let list = ((), ["a\"\n", "b'"], Reminder::Weekly(1, 7), bytes);
+    let ids: IndexMap<Option<Id>, Option<char>> = from_str(rt.alloc(), "{'7':'c','16':null}")?;
+    let bytes: IndexMap<ByteBuf, u8> = from_str(rt.alloc(), "{ab0c:1,'0C':2,'':3}")?;
+    let value: Value = from_str(rt.alloc(), "{a:-7}")?;
+    assert!(rt; stops_anywhere(rt.alloc(), &(&list, ids, bytes, value), ALL_KINDS));
     Ok(())
 }
 

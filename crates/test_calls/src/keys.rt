@@ -4,83 +4,58 @@ use json5::{Decimal, Result, SerializeKey, Serializer, from_str};
 use std::alloc::Global;
 use std::test::Fail;
 
-/// An object of one member with the key.
-fn object<K: SerializeKey>(alloc: Global, key: &K) -> Result<Vec<u8>> {
+/// Whether an object that has a member for each of the keys is written so.
+fn are_written<A: SerializeKey, B: SerializeKey, C: SerializeKey, D: SerializeKey, E: SerializeKey>(
+    alloc: Global,
+    keys: (&A, &B, &C, &D, &E),
+    wanted: &[u8],
+) -> Result<bool> {
     let mut ser = Serializer::new(Vec::new(alloc));
-    let mut object = ser.serialize_map(Some(1))?;
-    object.serialize_entry(key, &0u8)?;
+    let mut object = ser.serialize_map(Some(5))?;
+    object.serialize_entry(keys.0, &0u8)?;
+    object.serialize_entry(keys.1, &0u8)?;
+    object.serialize_entry(keys.2, &0u8)?;
+    object.serialize_entry(keys.3, &0u8)?;
+    object.serialize_entry(keys.4, &0u8)?;
     object.end()?;
-    Ok(ser.into_inner())
+    Ok(ser.into_inner().as_slice() == wanted)
 }
 
-/// Whether the key is written so.
-fn is_written<K: SerializeKey>(alloc: Global, key: &K, wanted: &str) -> Result<bool> {
-    let wanted = format!(in alloc; "{{\n  {wanted}: 0,\n}}")?;
-    Ok(object(alloc, key)?.as_slice() == wanted.as_str().as_bytes())
-}
+const SIGNED: &[u8] = b"{\n  \"-1\": 0,\n  \"-1\": 0,\n  \"-1\": 0,\n  \"-1\": 0,\n  \"-1\": 0,\n}";
+
+const UNSIGNED: &[u8] = b"{\n  \"7\": 0,\n  \"7\": 0,\n  \"7\": 0,\n  \"7\": 0,\n  \"7\": 0,\n}";
 
 fn integers_are_texts(alloc: Global) -> Result<bool> {
-    Ok(
-        is_written(alloc, &-1i8, "\"-1\"")?
-            && is_written(alloc, &-1i16, "\"-1\"")?
-            && is_written(alloc, &-1i32, "\"-1\"")?
-            && is_written(alloc, &-1i64, "\"-1\"")?
-            && is_written(alloc, &-1i128, "\"-1\"")?,
-    )
+    let signed = (&-1i8, &-1i16, &-1i32, &-1i64, &-1i128);
+    let unsigned = (&7u8, &7u16, &7u32, &7u64, &7u128);
+    Ok(are_written(alloc, signed, SIGNED)? && are_written(alloc, unsigned, UNSIGNED)?)
 }
 
-fn naturals_are_texts(alloc: Global) -> Result<bool> {
-    Ok(
-        is_written(alloc, &7u8, "\"7\"")?
-            && is_written(alloc, &7u16, "\"7\"")?
-            && is_written(alloc, &7u32, "\"7\"")?
-            && is_written(alloc, &7u64, "\"7\"")?
-            && is_written(alloc, &7u128, "\"7\"")?,
-    )
-}
+const DECIMALS: &[u8] =
+    b"{\n  \"1.5\": 0,\n  Infinity: 0,\n  \"-Infinity\": 0,\n  NaN: 0,\n  null: 0,\n}";
 
 fn decimals_are_written(alloc: Global) -> Result<bool> {
-    Ok(
-        is_written(alloc, &from_str::<Decimal>(alloc, "1.5")?, "\"1.5\"")?
-            && is_written(alloc, &Decimal::infinity(false), "Infinity")?
-            && is_written(alloc, &Decimal::infinity(true), "\"-Infinity\"")?
-            && is_written(alloc, &Decimal::nan(false), "NaN")?,
-    )
+    let finite = from_str::<Decimal>(alloc, "1.5")?;
+    let (positive, negative) = (Decimal::infinity(false), Decimal::infinity(true));
+    let nan = Decimal::nan(false);
+    are_written(alloc, (&finite, &positive, &negative, &nan, &()), DECIMALS)
 }
+
+const NAMES: &str = "{\n  true: 0,\n  τ: 0,\n  \"∞\": 0,\n  '\"': 0,\n  a_1: 0,\n}";
+
+const TEXTS: &[u8] =
+    b"{\n  \"\": 0,\n  \"it's \\\"x\\\"\": 0,\n  \"5\": 0,\n  \"5\": 0,\n  \"a b\": 0,\n}";
 
 fn names_are_bare(alloc: Global) -> Result<bool> {
-    Ok(
-        is_written(alloc, &(), "null")?
-            && is_written(alloc, &true, "true")?
-            && is_written(alloc, &'τ', "τ")?
-            && is_written(alloc, &'∞', "\"∞\"")?
-            && is_written(alloc, &'"', "'\"'")?,
-    )
-}
-
-fn texts_are_quoted(alloc: Global) -> Result<bool> {
-    Ok(
-        is_written(alloc, &"", "\"\"")?
-            && is_written(alloc, &&"a_1", "a_1")?
-            && is_written(alloc, &"it's \"x\"", "\"it's \\\"x\\\"\"")?,
-    )
-}
-
-fn options_keep_their_key(alloc: Global) -> Result<bool> {
-    Ok(
-        is_written(alloc, &Some(5), "\"5\"")?
-            && is_written(alloc, &Some(Some(5)), "\"5\"")?
-            && is_written(alloc, &Some("a b"), "\"a b\"")?,
-    )
+    let names = (&true, &'τ', &'∞', &'"', &&"a_1");
+    let texts = (&"", &"it's \"x\"", &Some(5), &Some(Some(5)), &Some("a b"));
+    Ok(are_written(alloc, names, NAMES.as_bytes())? && are_written(alloc, texts, TEXTS)?)
 }
 
 #[test]
 fn keys_of_every_type_are_written(rt: HostRuntime) -> std::result::Result<(), Fail> {
     assert!(rt; integers_are_texts(rt.alloc())?);
-    assert!(rt; naturals_are_texts(rt.alloc())?);
     assert!(rt; decimals_are_written(rt.alloc())?);
     assert!(rt; names_are_bare(rt.alloc())?);
-    assert!(rt; texts_are_quoted(rt.alloc())?);
-    assert!(rt; options_keep_their_key(rt.alloc())?);
     Ok(())
 }

@@ -14,8 +14,6 @@ mod long_inputs;
 #[cfg(test)]
 mod maps;
 #[cfg(test)]
-mod own_types;
-#[cfg(test)]
 mod readers;
 #[cfg(test)]
 mod readme;
@@ -23,7 +21,5 @@ mod readme;
 mod refused_writes;
 #[cfg(test)]
 mod values;
-#[cfg(test)]
-mod writer_calls;
 #[cfg(test)]
 mod writers;

@@ -1,6 +1,6 @@
 //! Readers: what outlives them, and what they return once an access was dropped.
 
-use json5::{CowStr, Deserializer, Error, ErrorCode, Result};
+use json5::{CowStr, Deserializer, Error, ErrorCode, Result, Spanned, from_str};
 use json5_tokens::scanner::Scanner;
 use std::alloc::Global;
 use std::test::Fail;
@@ -37,5 +37,17 @@ fn a_dropped_access_leaves_its_reader_failed(rt: HostRuntime) -> std::result::Re
     assert!(rt; de.deserialize_bool() == Err(Error::new(ErrorCode::Failed)));
     let text = String::from_str(de.allocator(), "given")?;
     assert!(rt; text.as_str() == "given");
+    Ok(())
+}
+
+/// A value is counted in bytes from its first character to what follows it.
+#[test]
+fn spans_count_bytes(rt: HostRuntime) -> std::result::Result<(), Fail> {
+    let (name, number) = from_str::<(Spanned<String>, Spanned<u8>)>(
+        rt.alloc(),
+        "['\u{e9}'/* \u{e9} */, 80\n]",
+    )?;
+    assert!(rt; name.start == 1 && name.end == 5);
+    assert!(rt; number.start == 15 && number.end == 17 && number.value == 80);
     Ok(())
 }

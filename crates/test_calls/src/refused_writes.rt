@@ -1,6 +1,5 @@
-//! Where writing stops before its end: at the 129th bracket, and at what can't be a key.
+//! Where writing stops before its end: at the 129th bracket.
 
-use indexmap::IndexMap;
 use json5::{Error, ErrorCode, Result, Value, from_str, to_string, to_writer};
 use std::alloc::Global;
 use std::test::Fail;
@@ -66,17 +65,5 @@ fn the_128th_bracket_is_written(rt: HostRuntime) -> std::result::Result<(), Fail
     let mut bytes = Vec::new(alloc);
     to_writer(&mut bytes, &arrays)?;
     assert!(rt; arrays.fits() && arrays.clone(alloc)? == arrays);
-    Ok(())
-}
-
-/// A value that can't be a key is refused without a position, after the line feed and the blanks before it.
-#[test]
-fn no_key_is_not_written(rt: HostRuntime) -> std::result::Result<(), Fail> {
-    let mut map: IndexMap<Option<i32>, u8> = IndexMap::new(rt.alloc());
-    map.insert(None, 0)?;
-    let mut bytes = Vec::new(rt.alloc());
-    let written = to_writer(&mut bytes, &map);
-    assert!(rt; written == Err(Error::new(ErrorCode::InvalidKey)));
-    assert!(rt; bytes.as_slice() == b"{\n  ".as_slice());
     Ok(())
 }

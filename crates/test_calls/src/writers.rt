@@ -1,13 +1,10 @@
 //! Writing: the methods of a serializer, and writers that fail or take a part of what they are given.
 
-use json5::{
-    Decimal, Error, ErrorCode, Result, Serialize, Serializer, from_str, to_string, to_writer,
-};
+use json5::{Decimal, Error, ErrorCode, Result, Serialize, Serializer, from_str, to_writer};
 use json5_ser::write_whole::write_whole;
 use std::alloc::Global;
 use std::io::{self, ErrorKind, Write};
 use std::test::Fail;
-use test_own_types::OpenPort;
 
 /// How a write fails.
 #[derive(Clone, Copy, Drop)]
@@ -17,7 +14,7 @@ pub(crate) enum Failure {
 }
 
 /// Takes `step` bytes a call. When so many calls were made, the next one fails, and later ones take bytes again. It counts the
-/// calls, those with no bytes among them, and the flushes.
+/// calls, and refuses a flush.
 #[derive(Drop)]
 pub(crate) struct Slow {
     bytes: Vec<u8>,
@@ -25,8 +22,6 @@ pub(crate) struct Slow {
     fails_after: usize,
     failure: Failure,
     calls: usize,
-    empty: usize,
-    flushes: usize,
 }
 
 impl Failure {
@@ -59,14 +54,7 @@ impl Slow {
             fails_after,
             failure,
             calls: 0,
-            empty: 0,
-            flushes: 0,
         }
-    }
-
-    /// Whether no call was without bytes, and none was a flush.
-    pub(crate) fn was_only_given_bytes(&self) -> bool {
-        self.empty == 0 && self.flushes == 0
     }
 
     pub(crate) fn was_given(&self, bytes: &[u8], calls: usize) -> bool {
@@ -78,9 +66,6 @@ impl Write for Slow {
     fn write(&mut self, buf: &[u8]) -> io::Result<usize> {
         let before = self.calls;
         self.calls = before.saturating_add(1);
-        if buf.is_empty() {
-            self.empty = self.empty.saturating_add(1);
-        }
         if before == self.fails_after {
             return self.failure.answer();
         }
@@ -90,8 +75,7 @@ impl Write for Slow {
     }
 
     fn flush(&mut self) -> io::Result<()> {
-        self.flushes = self.flushes.saturating_add(1);
-        Ok(())
+        Err(io::Error::from(ErrorKind::Interrupted))
     }
 }
 
@@ -123,22 +107,6 @@ fn each_method_writes_its_value(rt: HostRuntime) -> std::result::Result<(), Fail
     write_others(&mut ser)?;
     let wanted = "12345-1-2-3-4-5nulltrue\"a\"\"b\"-Infinity";
     assert!(rt; ser.into_inner().as_slice() == wanted.as_bytes());
-    Ok(())
-}
-
-/// Whether this is what is written of the value, to a text and to a writer.
-fn writes<T: Serialize>(alloc: Global, value: &T, wanted: &str) -> Result<bool> {
-    let text = to_string(alloc, value)?;
-    let mut bytes = Vec::new(alloc);
-    to_writer(&mut bytes, value)?;
-    Ok(text.as_str() == wanted && bytes.as_slice() == wanted.as_bytes())
-}
-
-#[test]
-fn a_writer_gets_the_text(rt: HostRuntime) -> std::result::Result<(), Fail> {
-    assert!(rt; writes(rt.alloc(), &"a\"", "'a\"'")?);
-    assert!(rt; writes(rt.alloc(), &&-7i8, "-7")?);
-    assert!(rt; writes(rt.alloc(), &OpenPort { number: 8080 }, "8080")?);
     Ok(())
 }
 
