@@ -12,6 +12,7 @@
 //! do with its text isn't. [`json5`] proves that too, of types that are described by their fields.
 #![tactic(auto)]
 
+pub mod array;
 pub mod value;
 mod values;
 

@@ -1,6 +1,7 @@
 //! Why a step failed. Places are offsets here, so that a try of an untagged enum that fails costs no walk of the text.
 
 use json5_grammar::error_code::ErrorCode;
+use json5_tokens::positions::InText;
 use json5_types::error::Error;
 use std::alloc::Global;
 
@@ -9,11 +10,12 @@ use std::alloc::Global;
 pub(crate) enum Wanted {
     Null,
     Integer,
-    NotNegative,
-    In64Bits,
-    In128Bits,
+    /// An integer in the range of its type.
+    InRange,
     Character,
     BorrowedText,
+    /// The only key of its object.
+    Alone,
     /// A type says no more than that the value doesn't fit.
     Another,
 }
@@ -25,6 +27,8 @@ pub(crate) enum Fault {
     Bare(ErrorCode),
     /// A code, and its offset.
     Code(ErrorCode, usize),
+    /// A code for the text of the string or the key at the offset, which itself is whole.
+    Text(ErrorCode, usize),
     /// A step was called out of its place.
     Misplaced(usize),
     /// The type left its value unread, or read on after it.
@@ -59,7 +63,11 @@ pub(crate) enum Saying {
     Missing,
     /// The key is the second one of the field of this name.
     Duplicate,
-    /// The words of a type.
+    /// The integer isn't in this range.
+    OutOfRange,
+    /// The string names a variant that holds a value.
+    HoldsValue,
+    /// These words.
     Custom,
 }
 
@@ -97,6 +105,37 @@ impl Fault {
         }
     }
 
+    /// The code and its offset in the text, where it has one of its own.
+    pub(crate) fn code_in(&self, text: &str) -> Option<(ErrorCode, usize)> {
+        let Fault::Long(long) = self else {
+            return self.code(usize::MAX);
+        };
+        let Long::Scanned(error, base) = long.as_ref() else {
+            return None;
+        };
+        let after = error.position()?.offset_in(text.get(*base..)?)?;
+        Some((error.code()?, base.saturating_add(after)))
+    }
+
+    /// Whether it has one of two codes.
+    pub(crate) fn is_of(&self, ends: ErrorCode, differs: ErrorCode) -> bool {
+        match self.code(0) {
+            Some((code, _)) => code == ends || code == differs,
+            None => false,
+        }
+    }
+
+    /// The fault of the second reading, if null alone is read at its place.
+    pub(crate) fn or_null(self, again: Option<Fault>) -> Fault {
+        match again {
+            Some(again) => {
+                let is_of_null = again.is_of(ErrorCode::EofParsingNull, ErrorCode::ExpectedNull);
+                if is_of_null { again } else { self }
+            }
+            None => self,
+        }
+    }
+
     /// What it says with words, the offset, and the words.
     pub(crate) fn said(&self) -> Option<(Saying, usize, &str)> {
         match self {
@@ -130,7 +169,10 @@ impl Fault {
     /// Whether the value alone is refused, so that another type may read it.
     pub(crate) fn is_of_type(&self) -> bool {
         match self {
-            Fault::Misfit(_, _) | Fault::BorrowedBytes(_) | Fault::WrongLength(_) => true,
+            Fault::Text(_, _)
+            | Fault::Misfit(_, _)
+            | Fault::BorrowedBytes(_)
+            | Fault::WrongLength(_) => true,
             _ => self.said().is_some(),
         }
     }

@@ -4,6 +4,7 @@ use crate::fault::{Fault, Saying, Wanted};
 use crate::floats::nearest;
 use crate::raw::is_raw_text;
 use crate::reader::{Json5, Saved, Step};
+use crate::texts::{literal_in, truth_in};
 use fast_float::FastFloat;
 use json5_grammar::error_code::ErrorCode;
 use json5_read::brackets::BracketKind;
@@ -21,20 +22,18 @@ impl<'t> Json5<'t> {
                 return Ok(n);
             }
         }
-        Err(Fault::Misfit(Wanted::In64Bits, self.last))
+        Err(Fault::Misfit(Wanted::InRange, self.last))
     }
 
     /// An integer that has no short way.
     #[inline(never)]
     fn long_u64(&mut self) -> Step<u64> {
-        let whole = self.whole()?;
-        let Some(n) = whole.as_u128() else {
-            return Err(Fault::Misfit(Wanted::NotNegative, self.last));
-        };
-        match u64::try_from(n) {
-            Ok(n) => Ok(n),
-            Err(_) => Err(Fault::Misfit(Wanted::In64Bits, self.last)),
+        if let Some(n) = self.whole()?.as_u128() {
+            if let Ok(n) = u64::try_from(n) {
+                return Ok(n);
+            }
         }
+        Err(Fault::Misfit(Wanted::InRange, self.last))
     }
 
     fn float<F: FastFloat>(&mut self) -> Step<F> {
@@ -72,10 +71,9 @@ impl<'t> Format for Json5<'t> {
     fn bool(&mut self, _input: &[u8]) -> Step<bool> {
         if self.at_key {
             let key = self.key()?;
-            return match key.as_str() {
-                "true" => Ok(true),
-                "false" => Ok(false),
-                _ => Err(Fault::Code(ErrorCode::ExpectedBool, self.last)),
+            return match truth_in(self.alloc, key.as_str()) {
+                Ok(truth) => Ok(truth),
+                Err(error) => Err(self.no_text(error)),
             };
         }
         self.begin()?;
@@ -105,14 +103,14 @@ impl<'t> Format for Json5<'t> {
     fn i128(&mut self, _input: &[u8]) -> Step<i128> {
         match self.whole()?.as_i128() {
             Some(n) => Ok(n),
-            None => Err(Fault::Misfit(Wanted::In128Bits, self.last)),
+            None => Err(Fault::Misfit(Wanted::InRange, self.last)),
         }
     }
 
     fn u128(&mut self, _input: &[u8]) -> Step<u128> {
         match self.whole()?.as_u128() {
             Some(n) => Ok(n),
-            None => Err(Fault::Misfit(Wanted::NotNegative, self.last)),
+            None => Err(Fault::Misfit(Wanted::InRange, self.last)),
         }
     }
 
@@ -173,7 +171,7 @@ impl<'t> Format for Json5<'t> {
         match hex::decode(alloc, text.as_str()) {
             Ok(bytes) => Ok(bytes),
             Err(hex::FromHexError::OutOfMemory) => Err(self.no_memory()),
-            Err(_) => Err(Fault::Code(ErrorCode::InvalidBytes, self.last)),
+            Err(_) => Err(Fault::Text(ErrorCode::InvalidBytes, self.last)),
         }
     }
 
@@ -185,6 +183,7 @@ impl<'t> Format for Json5<'t> {
         match self.begins(self.last) {
             Some(Kind::Float) => Ok(self.kind_of_number()),
             Some(kind) => Ok(kind),
+            None if self.asked == self.last => Ok(Kind::Unit),
             None => Err(self.ends_or(ErrorCode::EofParsingValue, ErrorCode::ExpectedValue)),
         }
     }
@@ -192,17 +191,18 @@ impl<'t> Format for Json5<'t> {
     fn take_unit(&mut self, _input: &[u8]) -> Step<bool> {
         if self.at_key {
             let before = self.walk.fork();
-            if self.key()?.as_str() == "null" {
+            let key = self.key()?;
+            if literal_in(self.alloc, key.as_str(), Literal::Null).is_ok() {
                 return Ok(true);
             }
             self.walk = before;
             self.at_key = true;
-            return Ok(false);
-        }
-        self.begin()?;
-        if self.walk.peek() == Some('n') {
-            self.word(Literal::Null)?;
-            return Ok(true);
+        } else {
+            self.begin()?;
+            if self.walk.peek() == Some('n') {
+                self.word(Literal::Null)?;
+                return Ok(true);
+            }
         }
         self.wanted = Wanted::Null;
         Ok(false)
@@ -375,7 +375,15 @@ impl<'t> Format for Json5<'t> {
     }
 
     fn invalid(&self) -> Fault {
-        Fault::Misfit(self.wanted, self.past_blanks(self.last))
+        if self.lacks_content() {
+            return self.missing("");
+        }
+        let at = self.past_blanks(self.last);
+        match self.wanted {
+            Wanted::Null if self.at_key => Fault::Text(ErrorCode::ExpectedNull, at),
+            Wanted::Null => self.ends_or(ErrorCode::EofParsingNull, ErrorCode::ExpectedNull),
+            wanted => Fault::Misfit(wanted, at),
+        }
     }
 
     fn no_memory(&self) -> Fault {

@@ -8,6 +8,7 @@
 //! ```
 #![tactic(auto)]
 
+mod asking;
 mod fault;
 mod floats;
 mod format;
@@ -15,6 +16,7 @@ mod messages;
 mod raw;
 mod read;
 mod reader;
+mod texts;
 
 pub use raw::raw_text;
 pub use read::{

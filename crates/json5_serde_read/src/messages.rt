@@ -1,6 +1,7 @@
 //! The errors that a caller gets, with their words. Where memory for the words is refused, that is the error.
 
 use crate::fault::{Fault, Long, Saying, Wanted, words};
+use crate::texts::is_of_digits;
 use json5_grammar::error_code::ErrorCode;
 use json5_grammar::position::Position;
 use json5_tokens::scanner::Scanner;
@@ -12,7 +13,9 @@ use std::alloc::Global;
 pub(crate) fn told(alloc: Global, text: &str, fault: Fault) -> Error {
     let (at, message) = match fault {
         Fault::Bare(code) => return Error::new(code),
-        Fault::Code(code, at) => return Error::new_at(position(text, at), code),
+        Fault::Code(code, at) | Fault::Text(code, at) => {
+            return Error::new_at(position(text, at), code);
+        }
         Fault::Misfit(wanted, at) => return either(misfit(alloc, text, at, wanted)),
         Fault::Long(long) => match Box::into_inner(long) {
             Long::Scanned(error, base) => return scanned(text, error, base),
@@ -49,11 +52,27 @@ fn said(alloc: Global, text: &str, saying: Saying, at: usize, known: &str) -> Re
     match saying {
         Saying::UnknownVariant => unknown(alloc, text, at, "variant", known),
         Saying::UnknownKey => unknown(alloc, text, at, "field", known),
+        Saying::Missing if known.is_empty() => misfit(alloc, text, at, Wanted::Another),
         Saying::Missing => Ok(custom(alloc, text, at, &["missing field `", known, "`"])),
         Saying::Duplicate => match given(named(alloc, text, at))? {
             Some(key) => Ok(custom(alloc, text, at, &["duplicate field `", key.as_str(), "`"])),
             None => Ok(custom(alloc, text, at, &["duplicate field `", known, "`"])),
         },
+        Saying::OutOfRange => {
+            let found = shown(alloc, text, at)?;
+            let words = [
+                "invalid value: ",
+                found.as_str(),
+                ", expected a whole number from ",
+                known,
+            ];
+            Ok(custom(alloc, text, at, &words))
+        }
+        Saying::HoldsValue => {
+            let name = named(alloc, text, at)?;
+            let words = ["`", name.as_str(), "` holds a value: { ", known, " .. }"];
+            Ok(custom(alloc, text, at, &words))
+        }
         Saying::Custom => Ok(custom(alloc, text, at, &[known])),
     }
 }
@@ -86,6 +105,14 @@ fn after(base: Position, then: Position) -> Position {
 /// A value, or else a key, at the offset that isn't what was wanted.
 fn misfit(alloc: Global, text: &str, at: usize, wanted: Wanted) -> Result<Error> {
     let after = expected(wanted);
+    if let (Wanted::Alone, Ok(key)) = (wanted, named(alloc, text, at)) {
+        let words = [
+            "expected one key alone: `",
+            key.as_str(),
+            "` is one too many",
+        ];
+        return Ok(custom(alloc, text, at, &words));
+    }
     if let Some(value) = given(shown(alloc, text, at))? {
         return Ok(custom(alloc, text, at, &["invalid value: ", value.as_str(), after]));
     }
@@ -103,12 +130,9 @@ fn expected(wanted: Wanted) -> &'static str {
     match wanted {
         Wanted::Null => ", expected null",
         Wanted::Integer => ", expected an integer",
-        Wanted::NotNegative => ", expected an integer that is not negative",
-        Wanted::In64Bits => ", expected an integer of 64 bits",
-        Wanted::In128Bits => ", expected an integer of 128 bits",
         Wanted::Character => ", expected a character",
         Wanted::BorrowedText => ", expected a text without an escape",
-        Wanted::Another => "",
+        Wanted::InRange | Wanted::Alone | Wanted::Another => "",
     }
 }
 
@@ -118,7 +142,20 @@ fn unknown(alloc: Global, text: &str, at: usize, what: &str, expected: &str) -> 
         return Ok(custom(alloc, text, at, &["unknown ", what]));
     };
     let comma = if expected.is_empty() { "" } else { ", " };
-    let words = ["unknown ", what, " `", found.as_str(), "`", comma, expected];
+    let has_none = expected.ends_with(' ');
+    let kind = if has_none { what } else { "" };
+    let more = if has_none { "s" } else { "" };
+    let words = [
+        "unknown ",
+        what,
+        " `",
+        found.as_str(),
+        "`",
+        comma,
+        expected,
+        kind,
+        more,
+    ];
     Ok(custom(alloc, text, at, &words))
 }
 
@@ -142,10 +179,15 @@ fn shown(alloc: Global, text: &str, offset: usize) -> Result<String> {
         Some('t' | 'f') => String::from_str(alloc, "boolean"),
         Some('[') => String::from_str(alloc, "array"),
         Some('{') => String::from_str(alloc, "object"),
-        _ => match scanner.number()? {
-            Number::Whole(whole) => format!(in alloc; "integer `{whole}`"),
-            Number::Decimal(decimal) => format!(in alloc; "decimal `{decimal}`"),
-        },
+        _ => {
+            let number = scanner.number()?;
+            let written = scanner.input().get(..scanner.offset()).unwrap_or("");
+            match number {
+                Number::Whole(whole) => format!(in alloc; "integer `{whole}`"),
+                _ if is_of_digits(written) => format!(in alloc; "integer `{written}`"),
+                _ => format!(in alloc; "decimal `{written}`"),
+            }
+        }
     };
     Ok(shown?)
 }

@@ -3,6 +3,7 @@
 ghost use Rattle.std.specs.Prelude.{◌≡◌, OnOk, IfOk, IfSome};
 ghost use Rattle.json5_walk.specs.Walks.{IsDocument, IsDocumentWithin};
 
+use crate::asking::explained;
 use crate::fault::Fault;
 use crate::messages::{custom, told};
 use crate::reader::Json5;
@@ -54,12 +55,12 @@ pub fn from_str_within<'de, T: Deserialize<'de>>(
     let mut format = Json5::new(alloc, limit, text);
     match read_one::<T>(limit, text, &mut format) {
         Ok(value) => Ok(value),
-        Err(fault) => Err(refused::<T>(limit, text, &format, fault)),
+        Err(fault) => Err(refused::<T>(limit, text, &mut format, fault)),
     }
 }
 
 /// Reads a `T` to the end of the text.
-fn read_one<'de, T: Deserialize<'de>>(
+pub(crate) fn read_one<'de, T: Deserialize<'de>>(
     limit: Limit,
     text: &'de str,
     format: &mut Json5<'_>,
@@ -72,22 +73,18 @@ fn read_one<'de, T: Deserialize<'de>>(
     Ok(value)
 }
 
-/// The fault of a text. Where it is one of names, the text is read once more for the names that were expected. Where a
-/// mark wasn't kept since memory ran out, that is the cause of any fault that came after.
+/// The fault of a text. Where a mark wasn't kept since memory ran out, that is the cause of any fault that came after.
 #[cold]
 fn refused<'de, T: Deserialize<'de>>(
     limit: Limit,
     text: &'de str,
-    format: &Json5<'_>,
+    format: &mut Json5<'_>,
     fault: Fault,
 ) -> Error {
     if format.is_full {
         return Error::new(ErrorCode::OutOfMemory);
     }
-    let fault = match Json5::asking(limit, text, format, &fault) {
-        Some(mut second) => fault.or(read_one::<T>(limit, text, &mut second).err()),
-        None => fault,
-    };
+    let fault = explained::<T>(limit, text, format, fault);
     told(format.alloc, text, fault)
 }
 

@@ -4,9 +4,11 @@ ghost use Rattle.std.specs.Prelude.{OnOk};
 ghost use Rattle.json5_walk.specs.Walks.{IsDocumentWithin};
 
 use crate::fault::{Fault, Long, Saying, Wanted};
+use crate::texts::{is_of_digits, number_in};
 use json5_grammar::error_code::ErrorCode;
 use json5_read::brackets::BracketKind;
 use json5_read::kinds::Literal;
+use json5_read::skip::skip_value;
 use json5_tokens::scanner::Scanner;
 use json5_types::cow_str::CowStr;
 use json5_types::error::{Error, Result};
@@ -45,7 +47,7 @@ pub(crate) struct Json5<'t> {
     no_variant: usize,
     /// Where an unknown name stands, or a bracket without a field, of which the fault is to tell more. Only a text that
     /// was refused is read for that; else it is `usize::MAX`.
-    asked: usize,
+    pub(crate) asked: usize,
     /// The name of the field that is missing there, as it stands in Rust or is renamed.
     field: Option<String>,
     /// The names that were expected there, or the key of that field.
@@ -86,8 +88,7 @@ impl<'t> Json5<'t> {
         fault: &Fault,
     ) -> Option<Json5<'t>> {
         let (asked, field) = match fault.said()? {
-            (Saying::UnknownVariant, _, _) => (first.unknown_variant_at(), None),
-            (Saying::UnknownKey, _, _) => (first.unknown, None),
+            (Saying::UnknownVariant | Saying::UnknownKey, at, _) => (at, None),
             (Saying::Missing, at, name) => (at, first.kept(name)),
             _ => return None,
         };
@@ -243,6 +244,14 @@ impl<'t> Json5<'t> {
         }
     }
 
+    /// How many bytes the value at the offset has, if it is one.
+    #[cold]
+    pub(crate) fn length_of(&self, offset: usize) -> Option<usize> {
+        let mut ahead = self.ahead(offset);
+        skip_value(&mut ahead, 128).ok()?;
+        Some(ahead.offset())
+    }
+
     /// A scanner over the text from an offset on.
     fn ahead(&self, offset: usize) -> Scanner<&'t str> {
         let text: &'t str = self.walk.text();
@@ -321,7 +330,15 @@ impl<'t> Json5<'t> {
         };
         match number {
             Number::Whole(whole) => Ok(whole),
-            Number::Decimal(_) => Err(Fault::Misfit(Wanted::Integer, self.last)),
+            Number::Decimal(_) => {
+                let is_whole = is_of_digits(self.digits());
+                let wanted = if is_whole {
+                    Wanted::InRange
+                } else {
+                    Wanted::Integer
+                };
+                Err(Fault::Misfit(wanted, self.last))
+            }
         }
     }
 
@@ -341,10 +358,16 @@ impl<'t> Json5<'t> {
         let key = self.key()?;
         match number_in(self.alloc, key.as_str()) {
             Ok(number) => Ok((number, key)),
-            Err(error) => Err(Fault::Code(
-                error.code().unwrap_or(ErrorCode::ExpectedNumber),
-                self.last,
-            )),
+            Err(error) => Err(self.no_text(error)),
+        }
+    }
+
+    /// The fault of the text of the last key.
+    #[cold]
+    pub(crate) fn no_text(&self, error: Error) -> Fault {
+        match error.code().unwrap_or(ErrorCode::ExpectedNumber) {
+            ErrorCode::OutOfMemory => Fault::Bare(ErrorCode::OutOfMemory),
+            code => Fault::Text(code, self.last),
         }
     }
 
@@ -409,7 +432,7 @@ impl<'t> Json5<'t> {
     #[inline(never)]
     fn open_slowly(&mut self, kind: BracketKind) -> Step<()> {
         if self.at_key {
-            return Err(Fault::Code(ErrorCode::ExpectedIdentifier, self.walk.offset()));
+            return Err(Fault::Text(ErrorCode::ExpectedIdentifier, self.walk.offset()));
         }
         self.begin()?;
         if self.walk.open(kind) {
@@ -504,8 +527,7 @@ impl<'t> Json5<'t> {
             ErrorCode::ExpectedString
             | ErrorCode::ExpectedOpeningBracket
             | ErrorCode::ExpectedOpeningBrace
-            | ErrorCode::ExpectedClosingBracket
-            | ErrorCode::InvalidBytes => true,
+            | ErrorCode::ExpectedClosingBracket => true,
             _ => false,
         }
     }
@@ -520,11 +542,21 @@ impl<'t> Json5<'t> {
         let found = serde::find(names, key);
         if found == usize::MAX {
             self.unknown = self.last;
-            if self.asked == self.last {
-                self.expected = list_of(self.alloc, names);
+            if self.asked != usize::MAX {
+                self.note_names(names);
+            } else if names.is_empty() {
+                self.wanted = Wanted::Alone;
             }
         }
         found
+    }
+
+    #[cold]
+    #[inline(never)]
+    fn note_names(&mut self, names: &[Name<'_>]) {
+        if self.asked == self.past_blanks(self.last) {
+            self.expected = list_of(self.alloc, names);
+        }
     }
 
     /// The same out of line: one search in line in each type is enough, and makes more searches fast.
@@ -563,14 +595,25 @@ impl<'t> Json5<'t> {
     #[cold]
     #[inline(never)]
     fn note_key(&mut self, names: &[Name<'_>]) {
+        let is_alone = names.len() == 1 && self.is_asked("");
         for name in names {
-            if self.is_asked(name.name) {
+            if is_alone || self.is_asked(name.name) {
                 self.expected = key_of(self.alloc, name);
             }
         }
     }
 
-    /// Whether the key of this field was asked for.
+    /// Whether the last object, from which a mark leads back, ended just now: an enum looked for its content there.
+    #[cold]
+    pub(crate) fn lacks_content(&self) -> bool {
+        let before = self.walk.offset().saturating_sub(1);
+        match (self.walk.text().as_bytes().get(before), self.marks.last()) {
+            (Some(b'}'), Some(saved)) => self.past_blanks(saved.walk.offset()) == self.closed,
+            _ => false,
+        }
+    }
+
+    /// Whether the key of this field was asked for, or that of the content, which has no name.
     fn is_asked(&self, name: &str) -> bool {
         match &self.field {
             Some(field) => field.as_str() == name,
@@ -634,7 +677,7 @@ impl<'t> Json5<'t> {
 fn list_of(alloc: Global, names: &[Name<'_>]) -> Option<String> {
     let count = count_of(names);
     let (lead, mark) = match count {
-        0 => return None,
+        0 => ("there are no ", ""),
         1 | 2 => ("expected `", "` or `"),
         _ => ("expected one of `", "`, `"),
     };
@@ -666,16 +709,4 @@ fn count_of(names: &[Name<'_>]) -> usize {
         }
     }
     count
-}
-
-/// A number that stands alone in a text.
-fn number_in(alloc: Global, text: &str) -> Result<Number> {
-    let mut scanner = Scanner::new(alloc, text);
-    scanner.skip_blank()?;
-    let number = scanner.number()?;
-    scanner.skip_blank()?;
-    if scanner.peek().is_some() {
-        return Err(Error::new(ErrorCode::TrailingCharacters));
-    }
-    Ok(number)
 }
