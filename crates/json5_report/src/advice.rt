@@ -2,77 +2,204 @@
 //!
 //! Plain code, of which no promise is made but that it is safe and ends: change it by the rows of reports, which judge it.
 
+use json5_read::brackets::BracketKind;
 use std::fmt;
 
 /// A hint.
-#[derive(Clone, Copy, Debug)]
+#[derive(Clone, Copy)]
 pub(crate) enum Advice<'t> {
-    AddColon,
-    AddComma,
     AddField(&'t str),
-    AddValue,
+    /// The key.
+    AddValueOf(&'t str),
+    /// The brackets of which the closing one is written here, and the line of the other.
+    CloseAs(BracketKind, u128),
     /// The bracket that is closed before this one, and its line.
-    CloseFirst(char, u128),
+    CloseFirst(BracketKind, u128),
     CloseQuote,
+    /// The line of the quote.
+    CloseQuoteOf(u128),
+    /// The brackets of which the closing one is before the place, and the line of the other.
+    Closes(BracketKind, u128),
     CommentSign,
+    CutCharacter,
+    DidYouMean(&'t str),
+    DiffMark,
     DropBracket,
     DropByteOrderMark,
+    DropByteOrderMarkBehind,
+    DropClosing,
+    DropColon,
+    DropComma,
+    DropCommentEnd,
     DropLeadingZero,
+    DropQuotesAndUnit,
     DropQuotesOfBool,
     DropQuotesOfNumber,
     DropUnderscore,
     DropUnit(&'t str),
-    DidYouMean(&'t str),
-    EndComment,
+    DropUnseen(char),
+    /// The line of the comment.
+    EndComment(u128),
     EscapeBackslash,
     EscapeFourDigits,
+    EscapeLineEnd,
+    EscapeQuote(char),
     EscapeTwoDigits,
+    Foreign(&'static str),
+    /// The digits, with commas or blanks between them.
+    JoinDigits(&'t str),
     /// The byte.
     Latin1(u8),
+    MergeMarks,
+    /// The text that a quote is missing behind.
+    MissingQuote(&'t str),
+    /// What is missing before the place.
+    Missing(&'static str),
+    /// The name, which holds a value.
+    NameHolds(&'t str),
+    Ndjson,
+    /// The name of a section, and that of its field.
+    Nest(&'t str, &'t str),
     /// The bracket.
     NeverClosed(&'t str),
+    NoExpressions,
+    NoFraction,
+    NoHexDigit(char),
+    NoNumber(&'t str),
     NoValue,
+    NoVariables,
+    OneQuote,
     OneValue,
     PlainQuotes,
     QuoteKey(&'t str),
     QuoteText(&'t str),
+    QuoteTexts,
+    RemoveOrMove,
     /// The name of the field, and the line of the first.
     Repeated(&'t str, u128),
     SaveAsUtf8,
+    /// The bracket, and its line.
+    StillOpen(BracketKind, u128),
+    /// The same, and the line that it is to be closed before.
+    StillOpenBefore(BracketKind, u128, u128),
+    Surrogate,
+    TooDeep,
+    /// By how much, and the least that is taken.
+    TooSmall(u128, &'t str),
+    /// By how much, or 0 if that is too much to say, and the most that is taken.
+    TooLarge(u128, &'t str),
     UseBraces,
     /// The line of the array's bracket.
     UseBracesInArray(u128),
     UseBracesOfFile,
     UseBrackets,
+    /// The line of the object's bracket.
+    UseBracketsInObject(u128),
     UseColon,
     UseComma,
+    /// The digits, with a comma between them.
+    UsePoint(&'t str),
     Utf16,
     Write(&'static str),
+    /// The number, its sign, and its digits.
+    WrittenAs(&'t str, &'static str, u128),
 }
 
 impl fmt::Display for Advice<'_> {
     fn fmt<W: fmt::Write>(&self, f: &mut fmt::Formatter<W>) -> fmt::Result {
         match self {
-            Advice::CloseFirst(bracket, line) => {
-                write!(f, "the `{bracket}` of line {line} is to be closed first")
-            }
             Advice::AddField(name) => write!(f, "add `{name}: ..` to this object"),
-            Advice::DropUnit(word) => {
-                write!(f, "a number has no unit, and a text needs quotes: '{word}'")
+            Advice::AddValueOf(key) => write!(f, "write `{key}: ..`"),
+            Advice::CloseAs(kind, line) => {
+                let (opening, closing) = (kind.brackets().opening, kind.brackets().closing);
+                write!(
+                    f,
+                    "write `{closing}`: this closes the `{opening}` of line {line}"
+                )
+            }
+            Advice::CloseFirst(kind, line) => {
+                let opening = kind.brackets().opening;
+                write!(f, "the `{opening}` of line {line} is to be closed first")
+            }
+            Advice::CloseQuoteOf(line) => write!(f, "the quote of line {line} is not closed"),
+            Advice::Closes(kind, line) => {
+                let (opening, closing) = (kind.brackets().opening, kind.brackets().closing);
+                write!(
+                    f,
+                    "the `{closing}` before this closes the `{opening}` of line {line}"
+                )
             }
             Advice::DidYouMean(name) => write!(f, "did you mean `{name}`?"),
+            Advice::DropUnit(word) => {
+                let text = Quoted(word);
+                write!(f, "a number has no unit, and a text needs quotes: {text}")
+            }
+            Advice::DropUnseen(c) => {
+                write!(
+                    f,
+                    "this character (U+{:04X}) can't be seen: remove it",
+                    *c as u32
+                )
+            }
+            Advice::EndComment(line) => write!(f, "the comment of line {line} is never closed"),
+            Advice::EscapeQuote(quote) => write!(
+                f,
+                "a `{quote}` within a text is written `\\{quote}`"
+            ),
+            Advice::Foreign(kind) => write!(f, "this looks like {kind}: JSON5 begins with {{ or ["),
+            Advice::JoinDigits(digits) => {
+                let part = match digits.chars().find(|c| !c.is_ascii_digit()) {
+                    Some(',') => "commas",
+                    Some('\'') => "quotes",
+                    _ => "blanks",
+                };
+                write!(f, "a number has no {part} in it: ")?;
+                write_digits(f, digits, None)
+            }
             Advice::Latin1(byte) => {
                 let c = char::from(*byte);
                 write!(f, "0x{byte:02X} is {c} in Latin-1: save the file as UTF-8")
             }
+            Advice::Missing(part) => write!(f, "{part} is missing before this"),
+            Advice::MissingQuote(text) => write!(f, "a quote is missing behind `{text}`"),
+            Advice::NameHolds(name) => write!(f, "`{name}` holds a value: {{ {name}: .. }}"),
+            Advice::Nest(section, name) => write!(f, "write {section}: {{ {name}: .. }}"),
             Advice::NeverClosed(bracket) => write!(f, "this `{bracket}` is never closed"),
+            Advice::NoHexDigit(c) => write!(f, "`{c}` is no hexadecimal digit"),
+            Advice::NoNumber(word) => {
+                let text = Quoted(word);
+                write!(f, "this is no number, and a text needs quotes: {text}")
+            }
             Advice::QuoteKey(key) => write!(f, "this key needs quotes: '{key}'"),
-            Advice::QuoteText(text) => write!(f, "a text needs quotes: '{text}'"),
+            Advice::QuoteText(text) => write!(f, "a text needs quotes: {}", Quoted(text)),
             Advice::Repeated(name, line) => write!(f, "`{name}` stands on line {line} already"),
+            Advice::StillOpen(kind, line) => {
+                let (opening, closing) = (kind.brackets().opening, kind.brackets().closing);
+                write!(f, "the `{opening}` of line {line} is still open: ")?;
+                write!(f, "a `{closing}` is missing before this")
+            }
+            Advice::StillOpenBefore(kind, line, other) => {
+                let (opening, closing) = (kind.brackets().opening, kind.brackets().closing);
+                write!(f, "the `{opening}` of line {line} is still open: ")?;
+                write!(f, "a `{closing}` is missing before line {other}")
+            }
+            Advice::TooLarge(0, most) => write!(f, "too large: at most {most}"),
+            Advice::TooLarge(by, most) => write!(f, "too large by {by}: at most {most}"),
+            Advice::TooSmall(by, least) => write!(f, "too small by {by}: at least {least}"),
             Advice::UseBracesInArray(line) => {
                 write!(f, "members need braces, and line {line} opens an array")
             }
+            Advice::UseBracketsInObject(line) => {
+                write!(f, "elements need brackets, and line {line} opens an object")
+            }
+            Advice::UsePoint(digits) => {
+                write!(f, "a number has a point, and no comma: ")?;
+                write_digits(f, digits, Some('.'))
+            }
             Advice::Write(word) => write!(f, "write {word}"),
+            Advice::WrittenAs(word, sign, digits) => {
+                write!(f, "{word} is written as {sign}{digits} here")
+            }
             _ => f.write_str(self.words()),
         }
     }
@@ -82,29 +209,45 @@ impl Advice<'_> {
     /// The words of a hint that names nothing of the text.
     fn words(self) -> &'static str {
         match self {
-            Advice::AddColon => "a colon is missing here",
-            Advice::AddComma => "a comma is missing here",
-            Advice::AddValue => "a value is missing before this",
             Advice::CloseQuote => "this quote is not closed on its line",
             Advice::CommentSign => "a comment begins with `//`",
+            Advice::CutCharacter => "a character is cut off here",
+            Advice::DiffMark => "this is a mark of a diff: remove it",
             Advice::DropBracket => "no bracket is open here",
             Advice::DropByteOrderMark => "a byte order mark (U+FEFF) stands before this",
+            Advice::DropByteOrderMarkBehind => "a byte order mark (U+FEFF) stands after this",
+            Advice::DropClosing => "a bracket too many",
+            Advice::DropColon => "a colon too many",
+            Advice::DropComma => "a comma too many",
+            Advice::DropCommentEnd => "no comment is open here",
             Advice::DropLeadingZero => "a number does not begin with 0",
+            Advice::DropQuotesAndUnit => "a number has no quotes and no unit",
             Advice::DropQuotesOfBool => "true and false are written without quotes",
             Advice::DropQuotesOfNumber => "numbers are written without quotes",
             Advice::DropUnderscore => "a number has no `_` in it",
-            Advice::EndComment => "this comment is never closed",
             Advice::EscapeBackslash => "there is no such escape; a backslash itself is `\\\\`",
             Advice::EscapeFourDigits => {
                 "`\\u` takes four hexadecimal digits; a backslash itself is `\\\\`"
             }
+            Advice::EscapeLineEnd => "a text goes on in the next line after a backslash",
             Advice::EscapeTwoDigits => {
                 "`\\x` takes two hexadecimal digits; a backslash itself is `\\\\`"
             }
+            Advice::MergeMarks =>
+                "this is a mark of a merge: keep one of its two sides, without the marks",
+            Advice::Ndjson => "this looks like NDJSON: a JSON5 file holds one value",
+            Advice::NoExpressions => "a file has no expressions: write the value itself",
+            Advice::NoFraction => "a whole number has no fraction",
             Advice::NoValue => "the file holds no value",
+            Advice::NoVariables => "a file has no variables: write the value itself",
+            Advice::OneQuote => "a text has one quote on each side",
             Advice::OneValue => "a file holds one value, and this comes after it",
             Advice::PlainQuotes => "quotes are ' or \"",
+            Advice::QuoteTexts => "a text needs quotes",
+            Advice::RemoveOrMove => "remove it, or move it to where it belongs",
             Advice::SaveAsUtf8 => "save the file as UTF-8",
+            Advice::Surrogate => "this is half of a character, and its other half is missing",
+            Advice::TooDeep => "128 brackets are open here, and no more may be",
             Advice::UseBraces => "an object is written in braces: { .. }",
             Advice::UseBracesOfFile => "members need braces around them: { .. }",
             Advice::UseBrackets => "an array is written in brackets: [ .. ]",
@@ -114,4 +257,39 @@ impl Advice<'_> {
             _ => "",
         }
     }
+}
+
+/// A text in quotes.
+#[derive(Clone, Copy)]
+struct Quoted<'t>(&'t str);
+
+/// Prints the text in quotes that aren't in it, if it has but one kind of them, and with each backslash twice.
+impl fmt::Display for Quoted<'_> {
+    fn fmt<W: fmt::Write>(&self, f: &mut fmt::Formatter<W>) -> fmt::Result {
+        let Quoted(text) = self;
+        let quote = if text.contains('\'') { '"' } else { '\'' };
+        f.write_char(quote)?;
+        for c in text.chars() {
+            if c == '\\' {
+                f.write_char(c)?;
+            }
+            f.write_char(c)?;
+        }
+        f.write_char(quote)
+    }
+}
+
+/// The digits alone, with this between them if it is something.
+fn write_digits<W: fmt::Write>(
+    f: &mut fmt::Formatter<W>,
+    digits: &str,
+    point: Option<char>,
+) -> fmt::Result {
+    for c in digits.chars() {
+        let kept = if c.is_ascii_digit() { Some(c) } else { point };
+        if let Some(c) = kept {
+            f.write_char(c)?;
+        }
+    }
+    Ok(())
 }

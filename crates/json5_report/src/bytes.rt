@@ -40,35 +40,41 @@ impl Report {
         };
         let byte = bytes[offset];
         let text = String::from_utf8_lossy(alloc, bytes)?;
+        let advice = byte_advice(bytes, offset, error.error_len());
         let spot = Spot {
             name,
-            text: text.as_str(),
+            text: if matches!(advice, Advice::Utf16) {
+                ""
+            } else {
+                text.as_str()
+            },
             width: WIDTH,
             position: Position::after(before),
             offset,
         };
         let course = Course::before(alloc, text.as_str(), offset)?;
         let message = format!(in alloc; "expected UTF-8, found byte 0x{byte:02X}")?;
-        let report = spot.report(alloc, &course, message, byte_remark(bytes, offset, byte))?;
+        let report = spot.report(alloc, &course, message, byte_remark(offset, advice))?;
         Ok(Some(report))
     }
 }
 
 /// The character that is shown for the byte, and what is to be done.
-fn byte_remark(bytes: &[u8], offset: usize, byte: u8) -> Remark<'static> {
+fn byte_remark(offset: usize, advice: Advice<'static>) -> Remark<'static> {
     Remark {
         start: offset,
         end: offset.saturating_add('\u{fffd}'.len_utf8()),
-        advice: Some(byte_advice(bytes, byte)),
+        advice: Some(advice),
     }
 }
 
-fn byte_advice(bytes: &[u8], byte: u8) -> Advice<'static> {
-    if bytes.starts_with(&[0xff, 0xfe]) || bytes.starts_with(&[0xfe, 0xff]) {
-        return Advice::Utf16;
+/// What is to be done with bytes that are no character. So many belong together, or the file ends within them.
+fn byte_advice(bytes: &[u8], offset: usize, len: Option<usize>) -> Advice<'static> {
+    match (bytes.get(offset..).unwrap_or(&[]), len) {
+        _ if bytes.starts_with(&[0xff, 0xfe]) || bytes.starts_with(&[0xfe, 0xff]) => Advice::Utf16,
+        ([0xed, 0xa0..=0xbf, ..], _) => Advice::Surrogate,
+        (_, None | Some(2..)) => Advice::CutCharacter,
+        ([byte, ..], _) if is_seen(char::from(*byte)) => Advice::Latin1(*byte),
+        _ => Advice::SaveAsUtf8,
     }
-    if is_seen(char::from(byte)) {
-        return Advice::Latin1(byte);
-    }
-    Advice::SaveAsUtf8
 }

@@ -8,6 +8,7 @@ use crate::found::Found;
 use crate::lexemes::{Kind, Lexeme, lexeme_at};
 use json5_read::brackets::{BracketKind, OpenBracket};
 use json5_types::{ErrorCode, Position};
+use json5_walk::next::Next;
 
 /// A fault, and what is around it.
 #[derive(Clone, Copy)]
@@ -20,10 +21,14 @@ pub(crate) struct Fault<'t> {
     pub(crate) around: Around,
     /// The innermost open bracket.
     pub(crate) open: Option<OpenBracket>,
+    /// What is due.
+    pub(crate) due: Next,
+    /// How many brackets are open.
+    pub(crate) depth: usize,
 }
 
 /// The part of a text that is underlined, and a hint.
-#[derive(Clone, Copy, Debug)]
+#[derive(Clone, Copy)]
 pub(crate) struct Remark<'t> {
     pub(crate) start: usize,
     pub(crate) end: usize,
@@ -60,6 +65,14 @@ impl<'t> Fault<'t> {
         }
     }
 
+    /// The characters of the token at the fault; nothing if none is there.
+    pub(crate) fn word(&self) -> &'t str {
+        match self.token() {
+            Some(token) => token.of(self.text),
+            None => "",
+        }
+    }
+
     /// The word in which the offset lies, past its first character.
     pub(crate) fn word_inside(&self) -> Option<Lexeme> {
         let token = self.token()?;
@@ -69,9 +82,53 @@ impl<'t> Fault<'t> {
         None
     }
 
-    /// Whether a colon follows the token.
+    /// Whether a colon follows the token, and no slash or backslash right after it: that is an address or a path.
     pub(crate) fn is_key(&self, token: Lexeme) -> bool {
-        lexeme_at(self.text, token.end).kind == Kind::Colon
+        let colon = lexeme_at(self.text, token.end);
+        let next = self.text.as_bytes().get(colon.end).copied();
+        colon.kind == Kind::Colon && !matches!(next, Some(b'/' | b'\\'))
+    }
+
+    /// The key of a member that is right in an array, if the fault is at the key or at the colon after it.
+    pub(crate) fn member(&self) -> Option<Lexeme> {
+        self.array_line()?;
+        let token = self.token()?;
+        let key = if token.kind == Kind::Colon {
+            self.around.last?
+        } else {
+            token
+        };
+        let is_word = matches!(key.kind, Kind::Word | Kind::Text);
+        if is_word && self.is_key(key) {
+            Some(key)
+        } else {
+            None
+        }
+    }
+
+    /// The line of the innermost open bracket, if that is an array's.
+    pub(crate) fn array_line(&self) -> Option<u128> {
+        let open = self.open?;
+        match open.kind {
+            BracketKind::Array => Some(self.line_of(open.start)),
+            BracketKind::Object => None,
+        }
+    }
+
+    /// Whether the last token before the fault is of this kind.
+    pub(crate) fn is_after(&self, kind: Kind) -> bool {
+        match self.around.last {
+            Some(last) => last.kind == kind,
+            None => false,
+        }
+    }
+
+    /// The text between the last token and the fault.
+    pub(crate) fn gap(&self) -> &'t str {
+        match self.around.last {
+            Some(last) => self.text.get(last.end..self.offset).unwrap_or(""),
+            None => "",
+        }
     }
 
     /// Where the object begins whose field is at fault: at the offset itself, or it is the innermost one that is open there.
@@ -80,19 +137,6 @@ impl<'t> Fault<'t> {
             (Some(token), _) if token.kind == Kind::Open => self.offset,
             (_, Some(bracket)) => bracket.start,
             _ => self.offset,
-        }
-    }
-
-    /// What is said of a member right in an array; None where the innermost open bracket is no array's.
-    pub(crate) fn array_advice(&self) -> Option<Advice<'t>> {
-        match self.open {
-            Some(
-                OpenBracket {
-                    kind: BracketKind::Array,
-                    start,
-                },
-            ) => Some(Advice::UseBracesInArray(self.line_of(start))),
-            _ => None,
         }
     }
 
@@ -131,19 +175,6 @@ impl<'t> Fault<'t> {
         match advice {
             Some(advice) => self.remark(advice),
             None => self.plain(),
-        }
-    }
-
-    /// The place after the last token before the fault.
-    pub(crate) fn after_last(&self, advice: Advice<'t>) -> Remark<'t> {
-        let end = match self.around.last {
-            Some(last) => last.end,
-            None => self.offset,
-        };
-        Remark {
-            start: end,
-            end,
-            advice: Some(advice),
         }
     }
 }

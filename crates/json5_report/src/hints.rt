@@ -6,14 +6,29 @@ use crate::advice::Advice;
 use crate::around::Around;
 use crate::custom::custom_remark;
 use crate::fault::{Fault, Remark};
+use crate::foreign::foreign_remark;
 use crate::found::Found;
-use crate::lexemes::{Kind, Lexeme};
-use crate::values::value_advice;
+use crate::keys::{colon_remark, key_remark};
+use crate::lexemes::{Kind, Lexeme, first_token, lexeme_at, line_len};
+use crate::numbers::{number_remark, parts_remark};
+use crate::place::line_start;
+use crate::unclosed::{closed_after, left_open};
+use crate::values::{bare_remark, member_advice, value_remark};
+use crate::widths::is_seen;
+use json5_read::brackets::BracketKind;
+use json5_tokens::char::{is_json5_line_terminator, is_json5_whitespace};
 use json5_types::ErrorCode;
+use json5_walk::next::Next;
 use std::alloc::{AllocError, Global};
 
 /// The part at fault, and a hint if one is certain.
 pub(crate) fn remark_of<'t>(alloc: Global, fault: &Fault<'t>) -> Result<Remark<'t>, AllocError> {
+    if let Some(remark) = foreign_remark(fault) {
+        return Ok(remark);
+    }
+    if let Some(remark) = open_remark(alloc, fault)? {
+        return Ok(remark);
+    }
     match fault.code {
         None => custom_remark(alloc, fault),
         Some(_) if fault.is_end() => Ok(end_remark(fault)),
@@ -21,46 +36,63 @@ pub(crate) fn remark_of<'t>(alloc: Global, fault: &Fault<'t>) -> Result<Remark<'
     }
 }
 
-/// The same where the text ends too early: what isn't closed.
+/// What is said of a bracket that is left open before the fault, or of which the fault is a member that an array doesn't
+/// have.
+fn open_remark<'t>(alloc: Global, fault: &Fault<'t>) -> Result<Option<Remark<'t>>, AllocError> {
+    let Some(left) = left_open(alloc, fault.text)? else {
+        return Ok(None);
+    };
+    let is_array = fault.text.get(left.open..).unwrap_or("").starts_with('[');
+    let kind = if is_array {
+        BracketKind::Array
+    } else {
+        BracketKind::Object
+    };
+    let line = fault.line_of(left.open);
+    let key = match (fault.open, fault.member()) {
+        (Some(open), Some(key)) if open.start == left.open => Some(key.start),
+        _ => None,
+    };
+    if key.is_some() || left.before == fault.offset && !fault.is_end() {
+        let start = key.unwrap_or(fault.offset);
+        return Ok(Some(Remark {
+            start,
+            ..fault.remark(Advice::StillOpen(kind, line))
+        }));
+    }
+    if left.before == fault.text.len() || left.before > fault.offset && !fault.is_end() {
+        return Ok(None);
+    }
+    let before = fault.line_of(left.before);
+    Ok(Some(fault.remark(Advice::StillOpenBefore(kind, line, before))))
+}
+
+/// What is said where the text ends too early: which comment, string or bracket isn't closed.
 fn end_remark<'t>(fault: &Fault<'t>) -> Remark<'t> {
     let around = Around::of(fault.text, fault.text.len());
-    if fault.code == Some(ErrorCode::EofParsingComment) {
-        return open_comment(fault, around.comment);
-    }
-    let Some(last) = around.last else {
-        return fault.remark(Advice::NoValue);
-    };
-    match fault.code {
-        Some(ErrorCode::EofParsingString | ErrorCode::EofParsingEscapeSequence)
-            if last.kind == Kind::Text => { Remark::of(last, Advice::CloseQuote) }
-        _ => open_bracket(fault),
-    }
-}
-
-/// The comment that isn't closed, which the text ends with.
-fn open_comment<'t>(fault: &Fault<'t>, comment: Option<Lexeme>) -> Remark<'t> {
-    match comment {
-        Some(comment) => Remark {
-            start: comment.start,
-            end: comment.start.saturating_add(2),
-            advice: Some(Advice::EndComment),
-        },
-        None => open_bracket(fault),
-    }
-}
-
-/// The bracket at the place of the fault, which isn't closed.
-fn open_bracket<'t>(fault: &Fault<'t>) -> Remark<'t> {
-    match fault.token() {
-        Some(token) if token.kind == Kind::Open => {
-            Remark::of(token, Advice::NeverClosed(token.of(fault.text)))
+    match (fault.code, around.comment, around.last) {
+        (Some(ErrorCode::EofParsingComment), Some(comment), _) => {
+            fault.remark(Advice::EndComment(fault.line_of(comment.start)))
         }
-        _ => fault.plain(),
+        (_, _, None) => fault.remark(Advice::NoValue),
+        (Some(ErrorCode::EofParsingString | ErrorCode::EofParsingEscapeSequence), _, Some(last))
+            if last.kind == Kind::Text => {
+            fault.remark(Advice::CloseQuoteOf(fault.line_of(last.start)))
+        }
+        _ => match fault.token() {
+            Some(token) if token.kind == Kind::Open => {
+                Remark::of(token, Advice::NeverClosed(token.of(fault.text)))
+            }
+            _ => fault.plain(),
+        },
     }
 }
 
 /// The part at fault of a text that doesn't end too early, by the fault's code.
 fn code_remark<'t>(fault: &Fault<'t>, code: ErrorCode) -> Remark<'t> {
+    if let Some(remark) = unseen_remark(fault) {
+        return remark;
+    }
     if let Some(advice) = sign_advice(fault) {
         return fault.remark(advice);
     }
@@ -71,29 +103,55 @@ fn code_remark<'t>(fault: &Fault<'t>, code: ErrorCode) -> Remark<'t> {
         ErrorCode::LineTerminatorInString => quote_remark(fault),
         ErrorCode::TrailingCharacters => trailing_remark(fault),
         ErrorCode::InvalidEscapeSequence => escape_remark(fault),
-        _ => fault.advised(value_advice(fault, code)),
+        _ => value_remark(fault, code),
     }
 }
 
-/// What is said of some signs wherever they are found: those of other languages' comments and quotes, a byte order
-/// mark, and a bracket that closes another.
+/// What is said of a character that can't be seen.
+fn unseen_remark<'t>(fault: &Fault<'t>) -> Option<Remark<'t>> {
+    let c = fault.text.get(fault.offset..)?.chars().next()?;
+    if is_seen(c) || is_json5_whitespace(c) {
+        return None;
+    }
+    Some(Remark {
+        start: fault.offset,
+        end: fault.offset.saturating_add(c.len_utf8()),
+        advice: Some(Advice::DropUnseen(c)),
+    })
+}
+
+/// What is said of some signs wherever they are found: those of other languages' comments, quotes and templates, a byte
+/// order mark, and a bracket that closes another.
 fn sign_advice<'t>(fault: &Fault<'t>) -> Option<Advice<'t>> {
     let token = fault.token()?;
     let text = token.of(fault.text);
     if token.kind == Kind::Close {
         return bracket_advice(fault, text);
     }
-    if is_after_byte_order_mark(fault) {
+    if fault.gap().ends_with('\u{feff}') {
         return Some(Advice::DropByteOrderMark);
+    }
+    if fault
+        .text
+        .get(fault.offset..)
+        .unwrap_or("")
+        .starts_with("{{")
+    {
+        return Some(Advice::NoVariables);
     }
     if token.kind != Kind::Word {
         return None;
     }
-    if text.starts_with('#') || text.starts_with("--") {
+    let is_note = text.starts_with(';') && !matches!(fault.due, Next::Comma | Next::Colon);
+    if is_note || text.starts_with('#') || text.starts_with("--") || text.starts_with("<!--") {
         return Some(Advice::CommentSign);
     }
     match text.chars().next() {
         Some('\u{2018}'..='\u{201f}' | '«' | '»' | '`' | '´') => Some(Advice::PlainQuotes),
+        Some('\u{ff0c}' | '\u{ff1b}') => Some(Advice::UseComma),
+        Some('\u{ff1a}') => Some(Advice::UseColon),
+        Some('\u{2212}' | '\u{2013}') => Some(Advice::Write("a minus as -")),
+        Some('*') if text.starts_with("*/") => Some(Advice::DropCommentEnd),
         _ => None,
     }
 }
@@ -103,46 +161,81 @@ fn bracket_advice<'t>(fault: &Fault<'t>, closing: &str) -> Option<Advice<'t>> {
     let Some(open) = fault.open else {
         return Some(Advice::DropBracket);
     };
-    let brackets = open.kind.brackets();
-    if closing.starts_with(brackets.closing) {
+    if closing.starts_with(open.kind.brackets().closing) {
         return None;
     }
-    let opening = brackets.opening;
-    Some(Advice::CloseFirst(opening, fault.line_of(open.start)))
-}
-
-/// Whether a byte order mark is right before the fault, between two tokens.
-fn is_after_byte_order_mark(fault: &Fault<'_>) -> bool {
-    match fault.around.last {
-        Some(last) => fault
-            .text
-            .get(last.end..fault.offset)
-            .unwrap_or("")
-            .ends_with('\u{feff}'),
-        None => false,
+    let line = fault.line_of(open.start);
+    let closed = closed_after(fault.text, fault.offset);
+    if closed > fault.depth {
+        return Some(Advice::DropClosing);
     }
-}
-
-fn colon_remark<'t>(fault: &Fault<'t>) -> Remark<'t> {
-    if let Some(word) = fault.word_inside() {
-        return Remark::of(word, Advice::QuoteKey(word.of(fault.text)));
-    }
-    match fault.found {
-        Found::Character('=') => fault.remark(Advice::UseColon),
-        Found::Character(_) => fault.plain(),
-        _ => fault.after_last(Advice::AddColon),
-    }
+    Some(if closed == fault.depth {
+        Advice::CloseAs(open.kind, line)
+    } else {
+        Advice::CloseFirst(open.kind, line)
+    })
 }
 
 fn comma_remark<'t>(fault: &Fault<'t>) -> Remark<'t> {
     if let Some(word) = fault.word_inside() {
         return word_remark(fault, word);
     }
+    if let Some(remark) = parts_remark(fault).or(adjacent_remark(fault)) {
+        return remark;
+    }
     match fault.found {
         Found::Character(';') => fault.remark(Advice::UseComma),
-        Found::Character(':') => fault.advised(fault.array_advice()),
+        Found::Character(':') if fault.member().is_some() => fault.advised(member_advice(fault)),
+        Found::Character(':') if fault.is_after(Kind::Word) => match fault.around.last {
+            Some(last) => bare_remark(fault, last.start, Advice::QuoteText("")),
+            None => fault.plain(),
+        },
+        Found::Character('+' | '-' | '*' | '|' | '&' | '?' | '<' | '>' | '.' | '(') => {
+            fault.remark(Advice::NoExpressions)
+        }
         Found::Character(_) => fault.plain(),
-        _ => fault.after_last(Advice::AddComma),
+        _ => entry_remark(fault),
+    }
+}
+
+/// What is said of a value or a key after a value: a comma is missing, or the value goes on with it.
+fn entry_remark<'t>(fault: &Fault<'t>) -> Remark<'t> {
+    let (Some(token), Some(last)) = (fault.token(), fault.around.last) else {
+        return fault.plain();
+    };
+    let is_apart = fault.is_key(token) || fault.gap().contains(is_json5_line_terminator);
+    if last.kind == Kind::Word && matches!(fault.found, Found::Name(_)) && !is_apart {
+        return word_remark(fault, last);
+    }
+    if is_apart || fault.array_line().is_some() {
+        return fault.remark(Advice::Missing("a comma"));
+    }
+    fault.plain()
+}
+
+/// What is said of a string that something is right after: a quote within the text, or two or three on each side.
+pub(crate) fn adjacent_advice<'t>(text: &'t str) -> Option<Advice<'t>> {
+    if text.len() == 2 {
+        return Some(Advice::OneQuote);
+    }
+    let quote = text.chars().next()?;
+    let other = if quote == '"' { '\'' } else { '"' };
+    let end = text.find(|c| c == ',' || c == other).or(text.find(": "));
+    match end {
+        Some(end) => Some(Advice::MissingQuote(text.get(1..end)?)),
+        None => Some(Advice::EscapeQuote(quote)),
+    }
+}
+
+/// The same, where the comma after the string is due.
+fn adjacent_remark<'t>(fault: &Fault<'t>) -> Option<Remark<'t>> {
+    let last = fault.around.last?;
+    if last.kind != Kind::Text || last.end != fault.offset {
+        return None;
+    }
+    match fault.found {
+        Found::Character(',' | ':' | ';' | '+' | '}' | ']' | '.') => None,
+        _ => Some(fault.remark(adjacent_advice(last.of(fault.text))?)),
     }
 }
 
@@ -152,6 +245,14 @@ fn escape_remark<'t>(fault: &Fault<'t>) -> Remark<'t> {
         .text
         .split_at_checked(fault.offset)
         .unwrap_or((fault.text, ""));
+    if let Some(start) = surrogate_start(before, rest) {
+        let end = start.saturating_add(6);
+        return Remark {
+            start,
+            end,
+            advice: Some(Advice::Surrogate),
+        };
+    }
     let is_in_word = fault.word_inside().is_some();
     let start = if rest.starts_with('\\') {
         fault.offset
@@ -165,6 +266,25 @@ fn escape_remark<'t>(fault: &Fault<'t>) -> Remark<'t> {
         end: start.saturating_add(2),
         advice: Some(escape_advice(fault.text.get(start..).unwrap_or(""), is_in_word)),
     }
+}
+
+/// Where the half of a character begins that is written before the fault, or at it.
+fn surrogate_start(before: &str, rest: &str) -> Option<usize> {
+    let half = before.len().saturating_sub(6);
+    for (start, text) in [
+        (half, before.get(half..).unwrap_or("")),
+        (before.len(), rest),
+    ] {
+        let digits = text
+            .strip_prefix("\\u")
+            .unwrap_or("")
+            .get(..4)
+            .unwrap_or("");
+        if u32::from_str_radix(digits, 16).is_ok() && digits.starts_with(['d', 'D']) {
+            return Some(start);
+        }
+    }
+    None
 }
 
 /// What is said of an escape in front: how many digits it takes, if it takes some. A key has no `\x`.
@@ -181,35 +301,29 @@ fn escape_advice<'t>(text: &str, is_in_key: bool) -> Advice<'t> {
 /// What is said of a word whose beginning is a number or a literal.
 fn word_remark<'t>(fault: &Fault<'t>, word: Lexeme) -> Remark<'t> {
     let text = word.of(fault.text);
-    let is_number = matches!(
-        text.as_bytes().first(),
-        Some(b'0'..=b'9' | b'+' | b'-' | b'.')
-    );
-    if is_number && text.contains('_') {
-        return Remark::of(word, Advice::DropUnderscore);
+    if text.starts_with(|c: char| c.is_ascii_digit() || matches!(c, '+' | '-' | '.')) {
+        return number_remark(fault, word);
     }
-    if is_number {
-        return Remark::of(word, Advice::DropUnit(text));
-    }
-    Remark::of(word, Advice::QuoteText(text))
+    bare_remark(fault, word.start, Advice::QuoteText(""))
 }
 
-/// What is said where a key is expected: a word before a colon needs quotes.
-fn key_remark<'t>(fault: &Fault<'t>) -> Remark<'t> {
-    match fault.token() {
-        Some(token) if token.kind == Kind::Word && fault.is_key(token) => {
-            Remark::of(token, Advice::QuoteKey(token.of(fault.text)))
-        }
-        _ => fault.plain(),
-    }
-}
-
-/// The string that a line ends in.
+/// The string that a line ends in: its quote is missing, or is on the next line.
 fn quote_remark<'t>(fault: &Fault<'t>) -> Remark<'t> {
-    match fault.around.last {
-        Some(last) => Remark::of(last, Advice::CloseQuote),
-        None => fault.plain(),
+    let Some(last) = fault.around.last else {
+        return fault.plain();
+    };
+    let front = fault.text.get(..last.start).unwrap_or("");
+    if front.ends_with("''") || front.ends_with("\"\"") {
+        return Remark::of(last, Advice::OneQuote);
     }
+    let next = fault.text.get(fault.offset..).unwrap_or("").trim_start();
+    let (begun, rest) = next.split_once(['\'', '"']).unwrap_or(("", ""));
+    let rest = rest.get(..line_len(rest)).unwrap_or("");
+    let is_whole = last.of(fault.text).trim_end().ends_with([',', ']', '}']);
+    if is_whole || begun.is_empty() || begun.contains([':', '\n']) || rest.contains(['\'', '"']) {
+        return Remark::of(last, Advice::CloseQuote);
+    }
+    Remark::of(last, Advice::EscapeLineEnd)
 }
 
 /// What is said of what follows the document's value.
@@ -217,8 +331,26 @@ fn trailing_remark<'t>(fault: &Fault<'t>) -> Remark<'t> {
     if let Some(word) = fault.word_inside() {
         return word_remark(fault, word);
     }
-    match fault.found {
-        Found::Character(':') => fault.remark(Advice::UseBracesOfFile),
-        _ => fault.remark(Advice::OneValue),
+    if let Found::Character(':') = fault.found {
+        return fault.remark(Advice::UseBracesOfFile);
     }
+    let Some(last) = fault.around.last else {
+        return fault.remark(Advice::OneValue);
+    };
+    let first = first_token(fault.text);
+    if last.kind == Kind::Close && closed_after(fault.text, fault.offset) > 0 {
+        let is_array = last.of(fault.text) == "]";
+        let kind = if is_array {
+            BracketKind::Array
+        } else {
+            BracketKind::Object
+        };
+        return fault.remark(Advice::Closes(kind, fault.line_of(first.start)));
+    }
+    let is_line = lexeme_at(fault.text, line_start(fault.text, last.start)).start == first.start
+        && fault.gap().contains(is_json5_line_terminator);
+    if is_line && matches!(fault.found, Found::Object | Found::Array) && first.kind == Kind::Open {
+        return fault.remark(Advice::Ndjson);
+    }
+    fault.remark(Advice::OneValue)
 }

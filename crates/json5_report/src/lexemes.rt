@@ -36,6 +36,11 @@ impl Lexeme {
         text.get(self.start..self.end).unwrap_or("")
     }
 
+    /// Whether it is the bracket that closes this one.
+    pub(crate) fn closes(self, text: &str, open: Lexeme) -> bool {
+        matches!((open.of(text), self.of(text)), ("[", "]") | ("{", "}"))
+    }
+
     /// Whether the offset lies in it, past its first character.
     pub(crate) fn holds(self, offset: usize) -> bool {
         self.start < offset && offset < self.end
@@ -56,6 +61,18 @@ pub(crate) fn lexeme_at(text: &str, from: usize) -> Lexeme {
     }
 }
 
+/// The first token of the text.
+pub(crate) fn first_token(text: &str) -> Lexeme {
+    let mut token = lexeme_at(text, 0);
+    for _ in 0..text.len() {
+        if token.kind != Kind::Comment {
+            break;
+        }
+        token = lexeme_at(text, token.end);
+    }
+    token
+}
+
 /// The kind and the length of the lexeme that the text begins with.
 fn kind_and_len(text: &str) -> (Kind, usize) {
     match text.chars().next() {
@@ -63,6 +80,7 @@ fn kind_and_len(text: &str) -> (Kind, usize) {
         Some('[' | '{') => (Kind::Open, 1),
         Some(']' | '}') => (Kind::Close, 1),
         Some(':') => (Kind::Colon, 1),
+        Some(c @ ('\u{ff0c}' | '\u{ff1a}' | '\u{ff1b}')) => (Kind::Word, c.len_utf8()),
         Some(',') => (Kind::Comma, 1),
         Some(quote @ ('"' | '\'')) => (Kind::Text, string_len(text, quote)),
         Some('/') if text.starts_with("//") => (Kind::Comment, line_len(text)),
@@ -117,18 +135,19 @@ fn block_len(text: &str) -> usize {
 /// How long the word is that the text begins with; it has a character at least.
 fn word_len(text: &str) -> usize {
     for (index, c) in text.char_indices() {
-        if index > 0 && ends_word(c) {
+        if index > 0 && ends_word(c, text.get(index..).unwrap_or("")) {
             return index;
         }
     }
     text.len()
 }
 
-/// Whether the character is in no word, unless it is the first.
-fn ends_word(c: char) -> bool {
-    is_json5_whitespace(c)
-        || matches!(
-            c,
-            '[' | ']' | '{' | '}' | ':' | ',' | '"' | '\'' | '/' | ';' | '=' | '#'
-        )
+/// Whether the character, which this begins with, is in no word, unless it is the first: a slash that begins a comment is.
+fn ends_word(c: char, rest: &str) -> bool {
+    match c {
+        '[' | ']' | '{' | '}' | ':' | ',' | '"' | '\'' | ';' | '=' | '#' => true,
+        '\u{ff0c}' | '\u{ff1a}' | '\u{ff1b}' => true,
+        '/' => rest.starts_with("//") || rest.starts_with("/*"),
+        _ => is_json5_whitespace(c),
+    }
 }

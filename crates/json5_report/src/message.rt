@@ -2,27 +2,27 @@
 //!
 //! Plain code, of which no promise is made but that it is safe and ends: change it by the rows of reports, which judge it.
 
+use crate::fault::Fault;
 use crate::found::Found;
+use crate::lexemes::{Kind, first_token};
 use json5_types::ErrorCode;
-use json5_types::error::Error;
 use std::alloc::{AllocError, Global};
 
 /// The message: the fault's own, with what was found where something else was expected.
-pub(crate) fn message_of(
-    alloc: Global,
-    error: &Error,
-    found: Found<'_>,
-) -> Result<String, AllocError> {
-    let Some(code) = error.code() else {
-        return custom_message(alloc, error.message());
+pub(crate) fn message_of(alloc: Global, fault: &Fault<'_>) -> Result<String, AllocError> {
+    let Some(code) = fault.code else {
+        return custom_message(alloc, fault);
     };
     if let Some(words) = end_words(code) {
+        let is_empty = first_token(fault.text).kind == Kind::End
+            && code != ErrorCode::EofParsingComment;
+        let words = if is_empty { "expected value" } else { words };
         return format!(in alloc; "{words}, found {}", Found::End);
     }
     if names_found(code) {
-        return format!(in alloc; "{code}, found {found}");
+        return format!(in alloc; "{code}, found {}", fault.found);
     }
-    String::from_str(alloc, error.message())
+    String::from_str(alloc, fault.message)
 }
 
 /// What is said where the text ends too early; none for other codes.
@@ -64,17 +64,54 @@ fn names_found(code: ErrorCode) -> bool {
     )
 }
 
-/// A custom message, with a range in place of an integer type, and a name in place of a variant.
-fn custom_message(alloc: Global, message: &str) -> Result<String, AllocError> {
+/// A custom message, in a person's words: with a range in place of an integer type, a number as it is written, and a name
+/// in place of a variant. Control characters show as U+FFFD.
+fn custom_message(alloc: Global, fault: &Fault<'_>) -> Result<String, AllocError> {
+    let message = fault.message;
     if let Some(rest) = message.strip_prefix("unknown variant ") {
-        return format!(in alloc; "unknown name {rest}");
+        return seen_text(alloc, "unknown name ", rest);
     }
-    if let Some((found, expected)) = message.rsplit_once(", expected ") {
-        if let Some(range) = range_of(expected) {
-            return format!(in alloc; "{found}, expected a whole number from {range}");
-        }
+    if message.starts_with("invalid type: unit variant") {
+        return String::from_str(alloc, "expected a name with a value, found the name alone");
     }
-    String::from_str(alloc, message)
+    let (found, expected) = message.rsplit_once(", expected ").unwrap_or((message, ""));
+    let is_decimal = found.contains(": decimal");
+    let range = match range_in(message) {
+        Some((least, most)) => format!(in alloc;
+            ", expected a whole number from {least} to {most}"
+        )?,
+        None if is_decimal && expected == "an integer" => String::from_str(
+            alloc,
+            ", expected a whole number",
+        )?,
+        None => return seen_text(alloc, "", message),
+    };
+    let word = fault.word();
+    if !is_decimal || word.is_empty() {
+        return format!(in alloc; "{found}{range}");
+    }
+    let is_of_digits = !word.contains(|c: char| !c.is_ascii_digit());
+    let kind = if is_of_digits { "integer" } else { "decimal" };
+    format!(in alloc; "invalid value: {kind} `{word}`{range}")
+}
+
+/// The text after these words, with U+FFFD for its control characters.
+fn seen_text(alloc: Global, words: &str, text: &str) -> Result<String, AllocError> {
+    let mut seen = String::from_str(alloc, words)?;
+    for c in text.chars() {
+        seen.push(if c.is_control() { '\u{fffd}' } else { c })?;
+    }
+    Ok(seen)
+}
+
+/// The range of the integers that the message names, or whose type it names.
+pub(crate) fn range_in(message: &str) -> Option<(&str, &str)> {
+    let (_, expected) = message.rsplit_once(", expected ")?;
+    let range = match range_of(expected) {
+        Some(range) => range,
+        None => expected.strip_prefix("a whole number from ")?,
+    };
+    range.split_once(" to ")
 }
 
 /// The range of an integer type.

@@ -22,13 +22,14 @@ pub(crate) fn near_name<'m>(
     else {
         return Ok(None);
     };
-    let mut least = (name.len() / 3).min(2);
+    let mut least: usize = 2;
     let mut near = None;
     let mut is_known = false;
     for part in known.split('`') {
         if is_known {
             let distance = distance_of(alloc, name, part)?;
-            if distance < least || distance == least && near.is_none() {
+            let is_near = distance <= name.len().max(part.len()) / 3;
+            if is_near && (distance < least || distance == least && near.is_none()) {
                 (near, least) = (Some(part), distance);
             }
         }

@@ -104,6 +104,8 @@ impl Report {
             found,
             around,
             open: course.bracket(),
+            due: course.due,
+            depth: course.outer.len(),
         };
         let spot = Spot {
             name,
@@ -113,7 +115,7 @@ impl Report {
             offset,
         };
         let remark = remark_of(alloc, &fault)?;
-        spot.report(alloc, &course, message_of(alloc, error, found)?, remark)
+        spot.report(alloc, &course, message_of(alloc, &fault)?, remark)
     }
 
     /// The same report in colours, for a terminal. The place has none, so that it can be found.

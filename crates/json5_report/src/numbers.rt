@@ -1,0 +1,157 @@
+//! What a report says of numbers.
+//!
+//! Plain code, of which no promise is made but that it is safe and ends: change it by the rows of reports, which judge it.
+
+use crate::advice::Advice;
+use crate::fault::{Fault, Remark};
+use crate::lexemes::Lexeme;
+use crate::message::range_in;
+use crate::texts::bare_text;
+
+/// What a number that is written in parts is of.
+const PARTS: [char; 13] = [
+    '0', '1', '2', '3', '4', '5', '6', '7', '8', '9', ' ', ',', '\'',
+];
+
+/// What is said of a word that begins as a number does, and goes on.
+pub(crate) fn number_remark<'t>(fault: &Fault<'t>, word: Lexeme) -> Remark<'t> {
+    let text = word.of(fault.text);
+    if text.contains('_') {
+        return Remark::of(word, Advice::DropUnderscore);
+    }
+    let digits = text.trim_start_matches(['+', '-']);
+    if let Some(hex) = digits.strip_prefix("0x").or(digits.strip_prefix("0X")) {
+        let end = hex.trim_start_matches(|c: char| c.is_ascii_hexdigit());
+        return match end.chars().next() {
+            Some(c) => Remark::of(word, Advice::NoHexDigit(c)),
+            None => fault.plain(),
+        };
+    }
+    match bare_text(fault, word.start) {
+        Some(part) => Remark::of(part, Advice::DropUnit(part.of(fault.text))),
+        None => fault.plain(),
+    }
+}
+
+/// What is said of a member's value that is written as digits with commas, blanks or apostrophes between them, if the
+/// fault is at the second of these parts.
+pub(crate) fn parts_remark<'t>(fault: &Fault<'t>) -> Option<Remark<'t>> {
+    let front = fault.text.get(..fault.offset).unwrap_or("");
+    let before = front.trim_end_matches(PARTS).trim_end();
+    let run = fault.text.get(before.len()..).unwrap_or("").trim_start();
+    let rest = run.trim_start_matches(PARTS);
+    let len = run.len().saturating_sub(rest.len());
+    let digits = run
+        .get(..len)
+        .unwrap_or("")
+        .trim_end_matches([' ', ',', '\'']);
+    if fault.array_line().is_some() || !before.ends_with(':') {
+        return None;
+    }
+    let start = fault.text.len().saturating_sub(run.len());
+    let end = start.saturating_add(digits.len());
+    Some(Remark {
+        start,
+        end,
+        advice: Some(parts_advice(digits)?),
+    })
+}
+
+/// What is said of digits in parts: three in each after the first, or two parts with a comma for a point.
+fn parts_advice(digits: &str) -> Option<Advice<'_>> {
+    let sign = digits.chars().find(|c| !c.is_ascii_digit())?;
+    let (first, rest) = digits.split_once(sign)?;
+    let mut are_threes = first.len() <= 3;
+    for part in rest.split(sign) {
+        are_threes = are_threes && part.len() == 3 && !part.contains(|c: char| !c.is_ascii_digit());
+    }
+    if are_threes {
+        return Some(Advice::JoinDigits(digits));
+    }
+    let is_decimal = sign == ','
+        && !rest.is_empty()
+        && !rest.contains(|c: char| !c.is_ascii_digit());
+    if is_decimal {
+        Some(Advice::UsePoint(digits))
+    } else {
+        None
+    }
+}
+
+/// What is said of a number that isn't one of the integers that are expected.
+pub(crate) fn range_advice<'t>(fault: &Fault<'t>) -> Option<Advice<'t>> {
+    let is_decimal = fault.message.contains(": decimal");
+    let word = fault.word();
+    if !is_decimal && !fault.message.contains(": integer") || word.starts_with(['\'', '"']) {
+        return None;
+    }
+    let range = range_in(fault.message);
+    let Some((sign, number)) = whole_of(word) else {
+        return match range {
+            _ if word.contains('.') => Some(Advice::NoFraction),
+            Some((_, most)) if !word.contains(|c: char| !c.is_ascii_digit()) => {
+                Some(Advice::TooLarge(0, most))
+            }
+            _ => None,
+        };
+    };
+    let advice = match range {
+        Some((least, most)) => bound_advice(sign, number, least, most),
+        None => None,
+    };
+    advice.or(if is_decimal {
+        Some(Advice::WrittenAs(word, sign, number))
+    } else {
+        None
+    })
+}
+
+/// By how much a number is outside of a range.
+fn bound_advice<'t>(sign: &str, number: u128, least: &'t str, most: &'t str) -> Option<Advice<'t>> {
+    let least_size = least.trim_start_matches('-').parse::<u128>().ok()?;
+    let most_size = most.parse::<u128>().ok()?;
+    if sign.is_empty() {
+        if number > most_size {
+            return Some(Advice::TooLarge(number.saturating_sub(most_size), most));
+        }
+        return None;
+    }
+    if number > least_size || !least.starts_with('-') {
+        let by = if least.starts_with('-') {
+            number.saturating_sub(least_size)
+        } else {
+            number.saturating_add(least_size)
+        };
+        return Some(Advice::TooSmall(by, least));
+    }
+    None
+}
+
+/// The sign and the magnitude of a number, if it is whole, such as `1e6`.
+pub(crate) fn whole_of(word: &str) -> Option<(&'static str, u128)> {
+    let sign = if word.starts_with('-') { "-" } else { "" };
+    let digits = word.trim_start_matches(['+', '-']);
+    if let Some(hex) = digits.strip_prefix("0x").or(digits.strip_prefix("0X")) {
+        return Some((sign, u128::from_str_radix(hex, 16).ok()?));
+    }
+    let (mantissa, exponent) = digits.split_once(['e', 'E']).unwrap_or((digits, "0"));
+    let (whole, fraction) = mantissa.split_once('.').unwrap_or((mantissa, ""));
+    let fraction = fraction.trim_end_matches('0');
+    let exponent = exponent.trim_start_matches('+').parse::<usize>().ok()?;
+    let zeros = u32::try_from(exponent.checked_sub(fraction.len())?).ok()?;
+    let places = u32::try_from(fraction.len()).ok()?;
+    let tenths = if fraction.is_empty() {
+        0
+    } else {
+        fraction.parse::<u128>().ok()?
+    };
+    let whole = if whole.is_empty() {
+        0
+    } else {
+        whole.parse::<u128>().ok()?
+    };
+    let number = whole
+        .checked_mul(10u128.checked_pow(places)?)?
+        .checked_add(tenths)?;
+    Some((sign, number.checked_mul(10u128.checked_pow(zeros)?)?))
+}
