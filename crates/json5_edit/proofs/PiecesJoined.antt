@@ -1,43 +1,70 @@
 -- A text with a part taken out of it or put into it.
-use Rattle.std.proofs.Common.{◌≡◌, ℕ, ◌-◌, Bool, true, List, [], ◌++◌, refl, ap, sym, ◌∙◌, append_assoc, subst, inl, take, arith}
-use Rattle.std.specs.Prelude.{IfOk, Result, Ok, Err}
+use Rattle.std.proofs.Common.{◌≡◌, ◌⊎◌, ℕ, ◌-◌, Bool, true, List, [], ◌∷◌, ◌++◌, length, refl, ap, sym, ◌∙◌, append_assoc, subst, inl, inr, take, Option, Some, arith}
+use Rattle.std.specs.Prelude.{IfOk, Result, Ok, Err, ⊤}
 use Rattle.std.specs.Str.{chars, IsUtf8, all_scalars, encode_utf8_all}
-use Rattle.std.proofs.lemmas.Str.{chars-encodes, scalars-chars}
+use Rattle.std.proofs.lemmas.Str.{chars-encodes, scalars-chars, chars-append}
 use Rattle.std.proofs.Math.Seq.{take-append_seam}
+use Rattle.json5_grammar.specs.Language.Blanks.{Blanks, LastBlanks}
 use Rattle.json5_grammar.specs.Language.Names.{Key}
 use Rattle.json5_grammar.specs.Language.Values.{KeyText}
 use Rattle.json5_grammar.proofs.ValueHeads.{key_spelling}
 use Rattle.json5_tokens.specs.Outcome.{bytes_in}
 use Rattle.json5_walk.proofs.Calls.{bytes_joined}
-use Rattle.json5_lexemes.specs.Lexemes.{HaveSameLexemes}
+use Rattle.json5_read.specs.declared.brackets.BracketKind.{BracketKind as Kind}
+use Rattle.json5_walk.specs.Seams.{WholeTokens, then_blanks}
 use Rattle.json5_walk.proofs.Rests.{append_nil}
-use Rattle.json5_edit.specs.Pieces.{IsComma, WithoutComma, Cuts, Grows, IsKeyText, SplitsKey, Respells, IsWithComments}
+use Rattle.json5_edit.specs.Pieces.{IsComma, IsCommaBetween, IsSpace, IsNameAlone, IsEntryAlone, Cuts, Grows, IsKeyText, SplitsKey, Respells, IsWithComments}
+use Rattle.json5_edit.specs.Spots.{EndTokens, IsAroundComma}
 use Rattle.json5_edit.proofs.Placed.{scalars_left, bytes_cut}
+use Rattle.json5_edit.proofs.StepsSurveyed.{found_some}
 
 pub ok_both : {A B : Type 0} {P Q R : A → Type 0} (r : Result A B) → ((a : A) → P a → Q a → R a) → IfOk r P → IfOk r Q → IfOk r R
 ok_both (Ok a) k p q = k a p q
 ok_both (Err e) k p q = tt
 
-pub no_comma : (x : List ℕ) → WithoutComma x x []
-no_comma x = ([], inl refl, sym (append_nil x))
+pub no_comma : (x : List ℕ) (n : Option ℕ) → IsAroundComma x n x [] []
+no_comma x n = record { comma = []; split = sym (append_nil x); is_comma = inl refl }
 
-pub cuts : (x y head before gone back front middle : List ℕ) → x ≡ head ++ back → head ≡ before ++ gone → WithoutComma before front middle → IsWithComments before gone back → y ≡ front ++ (middle ++ back) → Cuts x y
-cuts x y head before gone back front middle e f (comma, k, g) b h = record {
-  front = front;
-  comma = comma;
-  middle = middle;
-  gone = gone;
-  back = back;
-  was =
-      e ∙ ap (λ z. z ++ back) f ∙ append_assoc before gone back ∙ ap (λ z. z ++ (gone ++ back)) g
-      ∙ append_assoc front (comma ++ middle) (gone ++ back) ∙ ap (λ z. front ++ z) (append_assoc comma middle (gone ++ back));
-  now = h;
-  is_comma = k;
-  belongs = subst (λ z. IsWithComments z gone back) g b;
-}
+-- the comma between these is one between tokens
+module _ (x before front blank middle more : List ℕ) (n : Option ℕ) (ends : EndTokens x n) (a : IsAroundComma before n front blank middle) (was : x ≡ before ++ more) where
+  around : before ≡ (front ++ blank) ++ (a.comma ++ middle)
+  around = a.split ∙ sym (append_assoc front blank (a.comma ++ middle))
 
-pub grows : (x y head before gone back front middle comma came : List ℕ) → x ≡ head ++ back → head ≡ before ++ gone → before ≡ front ++ middle → IsComma comma → HaveSameLexemes (chars gone) [] → y ≡ front ++ (comma ++ (middle ++ (came ++ back))) → Grows x y
-grows x y head before gone back front middle comma came e f g k b h = record {
+  front_is : take (length front) x ≡ front
+  front_is = ap (take (length front)) (was ∙ ap (λ z. z ++ more) a.split ∙ append_assoc front (blank ++ (a.comma ++ middle)) more) ∙ take-append_seam front ((blank ++ (a.comma ++ middle)) ++ more)
+
+  tokens : n ≡ Some (length front) → Blanks (chars blank) → WholeTokens true (chars (front ++ blank))
+  tokens e b =
+      let (u, t) = found_some ⊤ (λ m. IsUtf8 (take m x) × WholeTokens true (chars (take m x))) n (length front) e ends in
+      subst (WholeTokens true) (sym (chars-append front blank (subst IsUtf8 front_is u))) (then_blanks (subst (λ z. WholeTokens true (chars z)) front_is t) b)
+
+  between : (a.comma ≡ []) ⊎ ((a.comma ≡ 44 ∷ []) × (n ≡ Some (length front)) × Blanks (chars blank) × LastBlanks (chars middle)) → IsCommaBetween (front ++ blank) a.comma middle
+  between (inl e) = inl e
+  between (inr (e, at, b, l)) = inr (e, tokens at b, l)
+
+pub cuts : (x y head before gone back front blank middle : List ℕ) (n : Option ℕ) → EndTokens x n → x ≡ head ++ back → head ≡ before ++ gone → IsAroundComma before n front blank middle → IsWithComments before gone back → y ≡ front ++ (blank ++ (middle ++ back)) → Cuts x y
+cuts x y head before gone back front blank middle n ends e f a b h =
+    let was : x ≡ before ++ (gone ++ back) = e ∙ ap (λ z. z ++ back) f ∙ append_assoc before gone back in
+    let is = around x before front blank middle (gone ++ back) n ends a was in
+    record {
+      front = front ++ blank;
+      comma = a.comma;
+      middle = middle;
+      gone = gone;
+      back = back;
+      was =
+          was ∙ ap (λ z. z ++ (gone ++ back)) is
+          ∙ append_assoc (front ++ blank) (a.comma ++ middle) (gone ++ back) ∙ ap (λ z. (front ++ blank) ++ z) (append_assoc a.comma middle (gone ++ back));
+      now = h ∙ sym (append_assoc front blank (middle ++ back));
+      is_comma = between x before front blank middle (gone ++ back) n ends a was a.is_comma;
+      belongs = subst (λ z. IsWithComments z gone back) is b;
+    }
+
+pub entry_alone : (k : Kind) (value x lead name trail : List ℕ) → IsSpace lead → IsNameAlone k name → IsSpace trail → x ≡ lead ++ (name ++ (value ++ trail)) → IsEntryAlone k value x
+entry_alone k value x lead name trail l n t e = record { lead = lead; name = name; trail = trail; split = e; is_lead = l; is_name = n; is_trail = t }
+
+pub grows : (k : Kind) (value x y head before gone back front middle comma came : List ℕ) → x ≡ head ++ back → head ≡ before ++ gone → before ≡ front ++ middle → IsComma comma → IsSpace gone → IsEntryAlone k value came → y ≡ front ++ (comma ++ (middle ++ (came ++ back))) → Grows k value x y
+grows k value x y head before gone back front middle comma came e f g i b a h = record {
   front = front;
   middle = middle;
   gone = gone;
@@ -46,8 +73,9 @@ grows x y head before gone back front middle comma came e f g k b h = record {
   came = came;
   was = e ∙ ap (λ z. z ++ back) f ∙ append_assoc before gone back ∙ ap (λ z. z ++ (gone ++ back)) g ∙ append_assoc front middle (gone ++ back);
   now = h;
-  is_comma = k;
+  is_comma = i;
   blank = b;
+  alone = a;
 }
 
 pub no_characters : chars [] ≡ []

@@ -21,11 +21,11 @@ use Rattle.json5_read.specs.Brackets.{brackets_of}
 use Rattle.json5_walk.specs.Frames.{value_end, Spells}
 use Rattle.json5_walk.proofs.Rests.{append_nil}
 use Rattle.json5_walk.proofs.Determined.{here}
-use Rattle.json5_lexemes.specs.Lexemes.{HaveSameLexemes, no_lexeme}
+use Rattle.json5_lexemes.specs.Lexemes.{HaveSameLexemes, no_lexeme, separator, sign}
 use Rattle.json5_edit.specs.Changes.{Gains, GainsAt}
 use Rattle.json5_edit.specs.Comparing.{IsWithLast, step_kind, step_key}
 use Rattle.json5_edit.specs.Entries.{elements, members, entries, kind_of}
-use Rattle.json5_edit.specs.Pieces.{IsComma, Grows, SpellsKey}
+use Rattle.json5_edit.specs.Pieces.{IsComma, IsSpace, IsNameAlone, IsEntryAlone, Grows, SpellsKey, SplitsKey}
 use Rattle.json5_edit.specs.Places.{IsValue}
 use Rattle.json5_edit.specs.Spots.{Goes, joined, Spot, HasEntry, HasEnd, Adds, Parts, first_element, first_member, SpellsEntry, spells_element, spells_member, comma_for}
 use Rattle.json5_edit.specs.declared.paths.Step.{Step}
@@ -226,8 +226,8 @@ no_part : HaveSameLexemes (chars []) []
 no_part = subst (λ x. HaveSameLexemes x []) (sym no_characters) (record { lexemes = []; left = no_lexeme; right = no_lexeme })
 
 -- a text with a part put into it at a spot
-grows_there : (bytes front back comma came new : List ℕ) → IsComma comma → bytes ≡ front ++ back → new ≡ front ++ (comma ++ (came ++ back)) → Grows bytes new
-grows_there bytes front back comma came new c was now = record { front = front; middle = []; gone = []; back = back; comma = comma; came = came; was = was; now = now; is_comma = c; blank = no_part }
+grows_there : (k : Kind) (value bytes front back comma came new : List ℕ) → IsComma comma → IsEntryAlone k value came → bytes ≡ front ++ back → new ≡ front ++ (comma ++ (came ++ back)) → Grows k value bytes new
+grows_there k value bytes front back comma came new c a was now = record { front = front; middle = []; gone = []; back = back; comma = comma; came = came; was = was; now = now; is_comma = c; blank = no_part; alone = a }
 
 -- what a part that was put in at a spot makes
 pub record Made (limit : ℕ) (old new : List ℕ) (w : Tree) : Type 0 where
@@ -262,8 +262,11 @@ chars_both x y a b = chars-append x y a
 pub utf8_both : (x y : List ℕ) → IsUtf8 x → IsUtf8 y → IsUtf8 (x ++ y)
 utf8_both x y a b = IsUtf8-append x y a b
 
+comma_space : IsSpace (44 ∷ [])
+comma_space = subst (λ x. HaveSameLexemes x []) (sym ascii_comma) (record { lexemes = []; left = separator refl no_lexeme; right = no_lexeme })
+
 -- before the element that begins at the offset
-pub element_added : (i limit n : ℕ) (bytes new front back value : List ℕ) → limit ≤ max_depth → IsUtf8 bytes → IsUtf8 value → (h : HasEntry (step.Index i) limit bytes n) → front ≡ encode_utf8_all h.entry.spot.front → back ≡ encode_utf8_all h.entry.spot.rest → IsValue (limit - 1) (chars value) → new ≡ front ++ (value ++ ((44 ∷ []) ++ back)) → Adds (GainsAt i value) limit bytes new
+pub element_added : (i limit n : ℕ) (bytes new front back value : List ℕ) → limit ≤ max_depth → IsUtf8 bytes → IsUtf8 value → (h : HasEntry (step.Index i) limit bytes n) → front ≡ encode_utf8_all h.entry.spot.front → back ≡ encode_utf8_all h.entry.spot.rest → IsValue (limit - 1) (chars value) → new ≡ front ++ (value ++ ((44 ∷ []) ++ back)) → Adds kind.Array value (GainsAt i value) limit bytes new
 element_added i limit n bytes new front back value small utf8 value_utf8 h front_is back_is (v, val, d) now =
     let e = h.entry in
     let p = e.spot in
@@ -302,7 +305,7 @@ element_added i limit n bytes new front back value small utf8 value_utf8 h front
           },
         ),
       ),
-      grows_there bytes front back [] part new (inl refl) (whole ∙ ap (λ z. z ++ encode_utf8_all p.rest) (sym front_is) ∙ ap (λ z. front ++ z) (sym back_is)) joined_bytes,
+      grows_there kind.Array value bytes front back [] part new (inl refl) (record { lead = []; name = []; trail = 44 ∷ []; split = refl; is_lead = no_part; is_name = refl; is_trail = comma_space }) (whole ∙ ap (λ z. z ++ encode_utf8_all p.rest) (sym front_is) ∙ ap (λ z. front ++ z) (sym back_is)) joined_bytes,
       (w, m.value, m.shallow),
     )
 
@@ -328,9 +331,11 @@ last_closed {k = k} {limit = limit} {bytes = bytes} h =
     (u, no_rest (entries h.tree) (entries u) (ap entries joins ∙ entries_joined k h.tree u h.kind (same ∙ h.kind)), goes)
 
 -- at the end
-pub last_added : (k : Kind) (limit : ℕ) (end : End) (bytes new front back entry comma : List ℕ) → limit ≤ max_depth → IsUtf8 bytes → IsUtf8 entry → (h : HasEnd k limit bytes end) → front ≡ encode_utf8_all h.end.front → back ≡ encode_utf8_all h.end.rest → comma ≡ comma_for end.comma → new ≡ front ++ (comma ++ (entry ++ back)) → (key : List ℕ) (v : Tree) → SpellsEntry k key v (chars entry) → depth v + 1 ≤ limit → Adds (IsWithLast k key v) limit bytes new
-last_added k limit end bytes new front back entry comma small utf8 entry_utf8 h front_is back_is comma_at now key v spelled inside =
+pub last_added : (k : Kind) (limit : ℕ) (end : End) (bytes new front back name value comma : List ℕ) → limit ≤ max_depth → IsUtf8 bytes → IsUtf8 name → IsUtf8 value → IsNameAlone k name → (h : HasEnd k limit bytes end) → front ≡ encode_utf8_all h.end.front → back ≡ encode_utf8_all h.end.rest → comma ≡ comma_for end.comma → new ≡ front ++ (comma ++ (name ++ (value ++ back))) → (key : List ℕ) (v : Tree) → SpellsEntry k key v (chars (name ++ value)) → depth v + 1 ≤ limit → Adds k value (IsWithLast k key v) limit bytes new
+last_added k limit end bytes new front back name value comma small utf8 name_utf8 value_utf8 named h front_is back_is comma_at now key v spelled inside =
     let p = h.end in
+    let entry : List ℕ = name ++ value in
+    let entry_utf8 = utf8_both name value name_utf8 value_utf8 in
     let (u, same, goes, small_u, joins) = p.back h.tree (spells_value limit (chars bytes) h.tree h.value h.shallow) in
     let ku : IsOf k u = same ∙ h.kind in
     let none : entries u ≡ [] = no_rest (entries h.tree) (entries u) (ap entries joins ∙ entries_joined k h.tree u h.kind ku) in
@@ -339,7 +344,7 @@ last_added k limit end bytes new front back entry comma small utf8 entry_utf8 h 
     let part : List ℕ = due ++ entry in
     let part_utf8 = utf8_both due entry (comma_utf8 end.comma) entry_utf8 in
     let goes_on = last_goes end.comma entry p.rest key v u entry_utf8 none goes f in
-    let comma_now : new ≡ front ++ (due ++ (entry ++ back)) = now ∙ ap (λ z. front ++ (z ++ (entry ++ back))) comma_at in
+    let comma_now : new ≡ front ++ (due ++ (entry ++ back)) = now ∙ ap (λ z. front ++ (z ++ (name ++ (value ++ back)))) comma_at ∙ ap (λ z. front ++ (due ++ z)) (sym (append_assoc name value back)) in
     let made : new ≡ encode_utf8_all p.front ++ (part ++ encode_utf8_all p.rest) =
     comma_now ∙ ap (λ z. front ++ z) (sym (append_assoc due entry back)) ∙ ap (λ z. z ++ (part ++ back)) front_is ∙ ap (λ z. encode_utf8_all p.front ++ (part ++ z)) back_is in
     let w : Tree = joined h.tree f.all in
@@ -358,12 +363,12 @@ last_added k limit end bytes new front back entry comma small utf8 entry_utf8 h 
           one_more = entries_joined k h.tree f.all h.kind f.same_kind ∙ ap (λ z. entries h.tree ++ z) (f.one_more ∙ ap (λ z. (key, v) ∷ z) none);
         },
       ),
-      grows_there bytes front back due entry new (comma_is end.comma) (whole ∙ ap (λ z. z ++ encode_utf8_all p.rest) (sym front_is) ∙ ap (λ z. front ++ z) (sym back_is)) comma_now,
+      grows_there k value bytes front back due entry new (comma_is end.comma) (record { lead = []; name = name; trail = []; split = ap (λ z. name ++ z) (sym (append_nil value)); is_lead = no_part; is_name = named; is_trail = no_part }) (whole ∙ ap (λ z. z ++ encode_utf8_all p.rest) (sym front_is) ∙ ap (λ z. front ++ z) (sym back_is)) comma_now,
       (w, m.value, m.shallow),
     )
 
 -- an entry that these bytes spell
-pub gains : (k : Kind) (key value : List ℕ) (v : Tree) (limit : ℕ) (bytes new : List ℕ) → Val (chars value) v → Adds (IsWithLast k key v) limit bytes new → Adds (Gains k key value) limit bytes new
+pub gains : (k : Kind) (key value : List ℕ) (v : Tree) (limit : ℕ) (bytes new : List ℕ) → Val (chars value) v → Adds k value (IsWithLast k key v) limit bytes new → Adds k value (Gains k key value) limit bytes new
 gains k key value v limit bytes new p ((t, w, was, now, change), how, fits) = ((t, w, was, now, (v, p, change)), how, fits)
 
 -- ---- a text cut at a spot
@@ -416,7 +421,7 @@ ahead s limit n kd bytes rest is_kind utf8 h is =
 pub cut_in_two : {front back bytes : List ℕ} (n : ℕ) → front ≡ take n bytes → back ≡ drop n bytes → bytes ≡ front ++ back
 cut_in_two {front = front} {bytes = bytes} n f b = sym (take-append-drop n bytes) ∙ ap (λ z. z ++ drop n bytes) (sym f) ∙ ap (λ z. front ++ z) (sym b)
 
-ascii_colon : chars (58 ∷ []) ≡ 58 ∷ []
+pub ascii_colon : chars (58 ∷ []) ≡ 58 ∷ []
 unfolding lib.Utf8.encode
 ascii_colon = chars-encodes (58 ∷ []) refl
 
@@ -430,8 +435,15 @@ member_chars value name entry name_utf8 value_utf8 is =
     ap chars is ∙ chars_both name ((58 ∷ []) ++ value) name_utf8 (utf8_both (58 ∷ []) value colon_utf8 value_utf8)
     ∙ ap (λ z. chars name ++ z) (chars_both (58 ∷ []) value colon_utf8 value_utf8 ∙ ap (λ z. z ++ chars value) ascii_colon)
 
+-- a key and a colon alone
+pub name_alone : (key json name : List ℕ) → SpellsKey key json → name ≡ json ++ (58 ∷ []) → IsNameAlone kind.Object name
+name_alone key json name (u, b, spelled, means) is = (json, 58 ∷ [], is, (u, b, spelled), subst (λ x. HaveSameLexemes x (58 ∷ [])) (sym ascii_colon) (record { lexemes = (58 ∷ []) ∷ []; left = sign refl no_lexeme; right = sign refl no_lexeme }))
+
+pub colon_alone : (k : Kind) (name key colon : List ℕ) → k ≡ kind.Object → SplitsKey name key colon → HaveSameLexemes (chars colon) (chars (58 ∷ [])) → IsNameAlone k name
+colon_alone k name key colon e (split, spelled) h = subst (λ z. IsNameAlone z name) (sym e) (key, colon, split, spelled, subst (HaveSameLexemes (chars colon)) ascii_colon h)
+
 -- a member that is spelled so
-pub member_added : {end : End} (key value : List ℕ) (limit : ℕ) (bytes new name entry : List ℕ) → IsUtf8 name → IsUtf8 value → SpellsKey key name → entry ≡ name ++ ((58 ∷ []) ++ value) → HasEnd kind.Object limit bytes end → IsValue (limit - 1) (chars value) → ((k : List ℕ) (v : Tree) → SpellsEntry kind.Object k v (chars entry) → depth v + 1 ≤ limit → Adds (IsWithLast kind.Object k v) limit bytes new) → Adds (Gains kind.Object key value) limit bytes new
+pub member_added : {end : End} (key value : List ℕ) (limit : ℕ) (bytes new name entry : List ℕ) → IsUtf8 name → IsUtf8 value → SpellsKey key name → entry ≡ name ++ ((58 ∷ []) ++ value) → HasEnd kind.Object limit bytes end → IsValue (limit - 1) (chars value) → ((k : List ℕ) (v : Tree) → SpellsEntry kind.Object k v (chars entry) → depth v + 1 ≤ limit → Adds kind.Object value (IsWithLast kind.Object k v) limit bytes new) → Adds kind.Object value (Gains kind.Object key value) limit bytes new
 member_added key value limit bytes new name entry name_utf8 value_utf8 (u, b, spelled, means) is h (v, val, d) adds =
     let parts = member_chars value name entry name_utf8 value_utf8 is in
     let one : SpellsEntry kind.Object (encode_utf8_all u) v (chars entry) = subst (SpellsEntry kind.Object (encode_utf8_all u) v) (sym parts) (spells_member (chars name) (chars value) u b v spelled val) in
@@ -439,6 +451,6 @@ member_added key value limit bytes new name entry name_utf8 value_utf8 (u, b, sp
     gains kind.Object key value v limit bytes new val (adds key v same (fits_inside limit (depth v) kind.Object h.tree h.kind h.shallow d))
 
 -- an element alone
-pub value_added : {end : End} (value : List ℕ) (limit : ℕ) (bytes new : List ℕ) → HasEnd kind.Array limit bytes end → IsValue (limit - 1) (chars value) → ((k : List ℕ) (v : Tree) → SpellsEntry kind.Array k v (chars value) → depth v + 1 ≤ limit → Adds (IsWithLast kind.Array k v) limit bytes new) → Adds (Gains kind.Array [] value) limit bytes new
+pub value_added : {end : End} (value : List ℕ) (limit : ℕ) (bytes new : List ℕ) → HasEnd kind.Array limit bytes end → IsValue (limit - 1) (chars value) → ((k : List ℕ) (v : Tree) → SpellsEntry kind.Array k v (chars value) → depth v + 1 ≤ limit → Adds kind.Array value (IsWithLast kind.Array k v) limit bytes new) → Adds kind.Array value (Gains kind.Array [] value) limit bytes new
 value_added value limit bytes new h (v, val, d) adds =
     gains kind.Array [] value v limit bytes new val (adds [] v (spells_element v (chars value) val) (fits_inside limit (depth v) kind.Array h.tree h.kind h.shallow d))

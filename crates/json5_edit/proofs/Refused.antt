@@ -28,9 +28,9 @@ use Rattle.json5_walk.specs.declared.place.Place.{Place}
 use Rattle.json5_walk.specs.Walks.{IsDocument}
 use Rattle.json5_walk.proofs.Rests.{append_nil}
 use Rattle.json5_edit.specs.Entries.{kind_of as kind_of_tree}
-use Rattle.json5_edit.specs.Parts.{positions_of}
+use Rattle.json5_edit.specs.Parts.{in_member, positions_of}
 use Rattle.json5_edit.specs.Places.{IsValue, IsPart, Leads, LeadsNowhere}
-use Rattle.json5_edit.specs.Refusals.{IsFaulty, Reaches, Misfits, IsNo, HasKey, RefusesText, RefusesPath, RefusesSet, RefusesRemove, RefusesPush, RefusesPutIn, RefusesInsert, RefusesRename, IsOwn, RefusesStep, RefusesKey, RefusesKind, RefusesFree, RefusesValue, BeginsNo}
+use Rattle.json5_edit.specs.Refusals.{IsFaulty, Reaches, Misfits, IsNo, HasKey, RefusesText, RefusesPath, RefusesSet, RefusesRemove, RefusesPush, RefusesPutIn, RefusesInsert, RefusesRename, IsFree, IsOwn, RefusesStep, RefusesKey, RefusesKind, RefusesFree, RefusesValue, BeginsNo}
 use Rattle.json5_edit.specs.declared.faults.EditError.{EditError}
 use Rattle.json5_edit.specs.declared.faults.EditError.TheVariants as error
 use Rattle.json5_edit.specs.declared.paths.Step.{Step}
@@ -311,3 +311,21 @@ module _ (bytes old : List ℕ) (path : List Step) (p : Place) (u : IsUtf8 bytes
 
 pub is_taken : (old : List ℕ) (k : Bor (List ℕ)) (p : Place) → Leads old (step.Key k ∷ []) (Some p) → (t : Tree) × Doc max_depth (chars old) t × HasKey k.now t
 is_taken old k p leads = (leads.tree, leads.document, has_key k leads.tree leads.placed.positions leads.placed.led)
+
+-- where it leads nowhere no member has the key
+no_key : (k : Bor (List ℕ)) (t : Tree) → positions_of (step.Key k ∷ []) t ≡ None → HasKey k.now t → ⊥
+no_key k (object ps) none ((i, s), is) = nothing (i ∷ []) (sym (ap (in_member (positions_of [])) is) ∙ none)
+  where
+    nothing : (js : List ℕ) → Some js ≡ None → ⊥
+    nothing js e = cc
+no_key k (array ts) none h = h
+no_key k null none h = h
+no_key k (boolean b) none h = h
+no_key k (number n) none h = h
+no_key k (text u b) none h = h
+
+pub key_free : (old : List ℕ) (k : Bor (List ℕ)) → LeadsNowhere old (step.Key k ∷ []) → IsFree k.now old
+key_free old k (t, d, none) u v h = no_key k u (subst (λ z. positions_of (step.Key k ∷ []) z ≡ None) (tree_of (chars old) t u d v) none) h
+
+pub leads_free : (old : List ℕ) (k : Bor (List ℕ)) → Leads old (step.Key k ∷ []) None → IsFree k.now old
+leads_free old k leads = key_free old k (leads.tree, leads.document, leads.placed)

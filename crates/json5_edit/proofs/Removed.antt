@@ -1,14 +1,14 @@
 -- A collection with one entry less in its text.
-use Rattle.std.proofs.Common.{◌≡◌, ℕ, ◌≤◌, Bool, true, false, List, [], ◌∷◌, ◌++◌, refl, ap, sym, ◌∙◌, append_assoc, subst, inl, inr, ◌⊎◌, take, drop, Result, Ok, Err, arith}
-use Rattle.std.specs.Prelude.{IfOk, OnOk, String, string_bytes}
+use Rattle.std.proofs.Common.{◌≡◌, ℕ, ◌≤◌, Bool, true, false, List, [], ◌∷◌, ◌++◌, length, Option, Some, None, refl, ap, sym, ◌∙◌, append_assoc, subst, inl, inr, ◌⊎◌, take, drop, Result, Ok, Err, arith}
+use Rattle.std.specs.Prelude.{IfOk, OnOk, MatchOption, String, string_bytes}
 use Rattle.std.specs.declared.alloc.Global.{Global}
 use Rattle.json5_edit.specs.Pieces.{Cuts}
 use Rattle.json5_edit.specs.declared.faults.EditError.{EditError}
 use Rattle.std.specs.Str.{chars, IsUtf8, IsCharBoundary, all_scalars, encode_utf8_all}
 use Rattle.std.proofs.Math.Seq.{drop-append_seam, take-append_seam}
 use Rattle.json5_tokens.specs.Outcome.{bytes_in}
-use Rattle.std.proofs.lemmas.Str.{chars-encodes, encodes-append, scalars-chars}
-use Rattle.json5_grammar.specs.Language.Blanks.{Blanks, Gap, Solid}
+use Rattle.std.proofs.lemmas.Str.{chars-append, chars-encodes, encodes-append, scalars-chars}
+use Rattle.json5_grammar.specs.Language.Blanks.{Blanks, LastBlanks, Gap, Solid, at_end}
 use Rattle.json5_grammar.specs.Language.Documents.{max_depth}
 use Rattle.json5_grammar.specs.Language.Trees.{Tree, null, boolean, number, text, array, object, no_more, more, no_member, member, depth}
 use Rattle.json5_grammar.specs.Language.Values.{Val}
@@ -19,13 +19,14 @@ use Rattle.json5_lexemes.specs.Plain.{Plain, KeepsPlain}
 use Rattle.json5_lexemes.specs.Spans.{Spans}
 use Rattle.json5_read.specs.declared.brackets.BracketKind.{BracketKind as Kind}
 use Rattle.json5_read.specs.declared.brackets.BracketKind.TheVariants as kind
+use Rattle.json5_walk.specs.Seams.{WholeTokens, then_blanks}
 use Rattle.json5_walk.proofs.Determined.{here}
 use Rattle.json5_walk.proofs.Rests.{append_nil}
 use Rattle.json5_edit.specs.Changes.{ChangesBy}
 use Rattle.json5_edit.specs.Comparing.{IsWithout, step_kind, step_key}
 use Rattle.json5_edit.specs.Entries.{entries}
 use Rattle.json5_edit.specs.Places.{IsValue}
-use Rattle.json5_edit.specs.Spots.{BeginsWithComma, Goes, HasBefore, HasEntry, HasFound, IsAhead, IsCommaSpan, Measures, Parts, Removes, Spot, TakesCommaAhead, joined}
+use Rattle.json5_edit.specs.Spots.{BeginsWithComma, EndTokens, IsAroundComma, LastEnds, Goes, HasBefore, HasEntry, HasFound, IsAhead, IsCommaSpan, Measures, Parts, Removes, Spot, TakesCommaAhead, joined}
 use Rattle.json5_edit.specs.declared.paths.Step.{Step}
 use Rattle.json5_edit.specs.declared.plain.CommaSpan.{CommaSpan}
 use Rattle.json5_edit.specs.declared.plain.EntryLen.{EntryLen}
@@ -35,6 +36,7 @@ use Rattle.json5_edit.proofs.Placed.{encoded, scalars_left, bytes_cut, scalars_r
 use Rattle.json5_edit.proofs.PlainCuts.{cut_after_value, cut_alone, cut_with_comma, opening_array, opening_object}
 use Rattle.json5_edit.proofs.PlainlyEdited.{HasFirst, ascii_comma, ascii_utf8, back_there, chars_both, chars_joined, cut_in_two, cut_there, first_of, front_there, makes, rest_there, rest_utf8, same_rest, utf8_both}
 use Rattle.json5_edit.proofs.Spotted.{IsOf, entries_joined, joined_kind, not_nothing, spells_value, value_document}
+use Rattle.json5_edit.proofs.PiecesJoined.{no_characters}
 use Rattle.json5_edit.proofs.TakenApart.{alone, entry_there}
 
 -- ---- what comes at a spot before the entry
@@ -257,7 +259,7 @@ removed_after {s = s} {limit = limit} {n = n} {j = j} bytes new front following 
         back = back;
         was = cut_in_two j front_take text_drop ∙ ap (λ x. front ++ x) (t.split ∙ ap (λ x. before ++ (44 ∷ (after ++ x))) cut_rest) ∙ sym (append_assoc front before (44 ∷ (after ++ (gone ++ back))));
         now = now ∙ sym (append_assoc front before (after ++ back));
-        is_comma = inr refl;
+        is_comma = inr (refl, subst (WholeTokens true) (sym (chars_both front before front_text t.before_text ∙ ap (λ x. x ++ chars before) (ap chars front_is ∙ chars-encodes p.front scalar_front))) (then_blanks p.passed t.is_before), LastBlanks.blanks t.is_after);
         belongs = alone _ gone back entry;
       },
       made.1,
@@ -351,6 +353,33 @@ pub same_len : {k : Kind} {limit : ℕ} {bytes : List ℕ} {n : EntryLen} → (m
 same_len m e = m.bare ∙ sym (m.whole ∙ ap (λ z. bytes_in ((m.name ++ m.value) ++ z)) e ∙ ap bytes_in (append_nil (m.name ++ m.value)))
 
 -- ---- by lines
+
+-- whole tokens end where the value of the entry before ends
+pub end_tokens : {s : Step} {limit : ℕ} {bytes : List ℕ} (f : Found) → IsUtf8 bytes → HasFound s limit bytes f → EndTokens bytes f.before
+end_tokens {limit = limit} {bytes = bytes} f utf8 h = by_before f.before h.entry.before
+  where
+    by_before : (n : Option ℕ) → MatchOption n (entries h.entry.entry.before ≡ []) (LastEnds limit bytes h.entry.entry.before) → EndTokens bytes n
+    by_before None m = tt
+    by_before (Some n) l =
+        let p = l.spot in
+        let (whole, scalar_front, scalar_rest) = cut_there utf8 p in
+        let is = front_there utf8 p in
+        (subst IsUtf8 (sym is) (encoded p.front scalar_front), subst (WholeTokens true) (sym (ap chars is ∙ chars-encodes p.front scalar_front)) p.passed)
+
+last_gap : (w r : List ℕ) → r ≡ [] → Gap w r → LastBlanks w
+last_gap w r e (Gap.blanks b) = LastBlanks.blanks b
+last_gap w r e (at_end l) = l
+
+-- the blanks around a comma that was found, and what is before it
+pub comma_there : (x front rest blank rest_after comma middle gap left : List ℕ) (before : Option ℕ) (n : ℕ) → before ≡ Some n → length front ≡ n → x ≡ front ++ rest → rest ≡ blank ++ rest_after → Gap (chars blank) (chars rest_after) → rest_after ≡ comma ++ middle → comma ≡ 44 ∷ [] → middle ≡ gap ++ left → Gap (chars gap) (chars left) → left ≡ [] → IsAroundComma x before front blank middle
+comma_there x front rest blank rest_after comma middle gap left before n b len e f before_gap g is_comma h after_gap none =
+    let later_is : chars rest_after ≡ 44 ∷ chars middle = ap chars (g ∙ ap (λ z. z ++ middle) is_comma) ∙ chars-append (44 ∷ []) middle ascii_utf8 ∙ ap (λ z. z ++ chars middle) ascii_comma in
+    let middle_is : gap ≡ middle = sym (h ∙ ap (λ z. gap ++ z) none ∙ append_nil gap) in
+    record {
+      comma = 44 ∷ [];
+      split = e ∙ ap (λ z. front ++ z) (f ∙ ap (λ z. blank ++ z) (g ∙ ap (λ z. z ++ middle) is_comma));
+      is_comma = inr (refl, b ∙ ap Some (sym len), gap_blanks 44 (chars middle) (subst (Gap (chars blank)) later_is before_gap), subst (λ z. LastBlanks (chars z)) middle_is (last_gap (chars gap) (chars left) (ap chars none ∙ no_characters) after_gap));
+    }
 
 pub kept_removed : {s : Step} (limit : ℕ) (old new : List ℕ) (r : Result (String Global) EditError) → IfOk r (λ made. string_bytes made ≡ new) → OnOk r (IsValue limit (chars new)) → OnOk r (KeepsPlain old new) → ChangesBy (IsWithout s) old new → Cuts old new → IfOk r (λ made. Removes s limit old (string_bytes made))
 kept_removed {s = s} limit old new (Ok made) same fits plain change how = subst (Removes s limit old) (sym same) (change, how, fits, plain)

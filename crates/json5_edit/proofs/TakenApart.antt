@@ -4,7 +4,7 @@ use Rattle.std.specs.Str.{chars, IsUtf8, all_scalars, encode_utf8_all}
 use Rattle.std.proofs.lemmas.Str.{chars-encodes, scalars-chars}
 use Rattle.std.proofs.Math.Seq.{drop-append_seam, take-append_seam}
 use Rattle.json5_edit_style.specs.Comments.{IsLead, IsTrail, CommentLines}
-use Rattle.json5_grammar.specs.Language.Blanks.{Solid}
+use Rattle.json5_grammar.specs.Language.Blanks.{Gap, Solid}
 use Rattle.json5_grammar.specs.Language.Characters.{no_char}
 use Rattle.json5_tokens.specs.Outcome.{bytes_in}
 use Rattle.json5_walk.proofs.Calls.{bytes_joined}
@@ -36,6 +36,12 @@ pub solid_there : (bytes w y part rest : List ℕ) (n : ℕ) → IsUtf8 bytes �
 solid_there bytes w y part rest n u e size solid cut is =
     let j = bytes_joined w y in
     subst Solid (sym (back_spelled bytes w y part rest n u e (omega (arith, size, j)) is cut)) solid
+
+pub gap_there : (bytes w y part rest : List ℕ) (n : ℕ) → IsUtf8 bytes → chars bytes ≡ w ++ y → n ≡ bytes_in (w ++ y) - bytes_in y → Gap w y → bytes ≡ part ++ rest → part ≡ take n bytes → Gap (chars part) (chars rest)
+gap_there bytes w y part rest n u e size gap cut is =
+    let j = bytes_joined w y in
+    let at : n ≡ bytes_in w = omega (arith, size, j) in
+    subst (λ z. Gap z (chars rest)) (sym (front_spelled bytes w y part n u e at is)) (subst (Gap w) (sym (back_spelled bytes w y part rest n u e at is cut)) gap)
 
 pub entry_there : (bytes part : List ℕ) (n : ℕ) → IsUtf8 bytes → BeginsWithEntry (chars bytes) n → part ≡ take n bytes → IsEntryText (chars part)
 entry_there bytes part n u (x, y, e, size, entry) is = subst IsEntryText (sym (front_spelled bytes x y part n u e size is)) entry

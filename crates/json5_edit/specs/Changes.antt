@@ -14,6 +14,7 @@ use Rattle.json5_read.specs.declared.brackets.BracketKind.TheVariants as kind
 use Rattle.json5_edit.specs.Comparing.{IsWithout, IsWithLast, IsWithAt, IsRenamed}
 use Rattle.json5_edit.specs.Parts.{part, put, positions_of}
 use Rattle.json5_edit.specs.Pieces.{Cuts, Grows, Respells}
+use Rattle.json5_edit.specs.Refusals.{IsFree}
 use Rattle.json5_edit.specs.declared.paths.Step.{Step}
 use Rattle.json5_edit.specs.declared.paths.Step.TheVariants as step
 
@@ -54,25 +55,25 @@ pub record IsChanged (Change : Tree → Tree → Type 0) (text : List ℕ) (path
   pub still : Doc max_depth (chars made) (put positions tree new_tree)
   pub changed : Change old_tree new_tree
 
--- without the entry that the path leads to: of the collection's text one part goes, and perhaps a comma before it
+-- without the entry that the path leads to: of the collection's text one part goes, and perhaps the comma before it
 abbrev pub IsRemoved : List ℕ → List Step → List ℕ → Type 0
 IsRemoved text path made = (outer : List Step) × (s : Step) × (path ≡ outer ++ (s ∷ [])) × (c : IsChanged (IsWithout s) text outer made) × Cuts c.old c.new
 
--- with one more element at the end of the array that the path leads to: one part comes, and perhaps a comma before it
+-- with one more element at the end of the array that the path leads to: it comes alone, and perhaps a comma before it
 abbrev pub IsPushed : List ℕ → List Step → List ℕ → List ℕ → Type 0
-IsPushed text path value made = (c : IsChanged (Gains kind.Array [] value) text path made) × Grows c.old c.new
+IsPushed text path value made = (c : IsChanged (Gains kind.Array [] value) text path made) × Grows kind.Array value c.old c.new
 
 -- with one more element of the array that the path leads to, before that with this index: so too
 abbrev pub IsPutIn : List ℕ → List Step → ℕ → List ℕ → List ℕ → Type 0
-IsPutIn text path i value made = (c : IsChanged (GainsAt i value) text path made) × Grows c.old c.new
+IsPutIn text path i value made = (c : IsChanged (GainsAt i value) text path made) × Grows kind.Array value c.old c.new
 
--- with one more member, the last, of the object that the path leads to: so too
+-- with one more member, the last, of the object that the path leads to, where none had the key: so too
 abbrev pub IsInserted : List ℕ → List Step → List ℕ → List ℕ → List ℕ → Type 0
-IsInserted text path key value made = (c : IsChanged (Gains kind.Object key value) text path made) × Grows c.old c.new
+IsInserted text path key value made = (c : IsChanged (Gains kind.Object key value) text path made) × Grows kind.Object value c.old c.new × IsFree key c.old
 
--- with another key for the member that the path leads to: one key is spelled anew
+-- with another key, which no member had, for the member that the path leads to: one key is spelled anew
 abbrev pub IsRekeyed : List ℕ → List Step → List ℕ → List ℕ → Type 0
-IsRekeyed text path key made = (outer : List Step) × (k : Bor (List ℕ)) × (path ≡ outer ++ (step.Key k ∷ [])) × (c : IsChanged (IsRenamed k.now key) text outer made) × Respells c.old c.new
+IsRekeyed text path key made = (outer : List Step) × (k : Bor (List ℕ)) × (path ≡ outer ++ (step.Key k ∷ [])) × (c : IsChanged (IsRenamed k.now key) text outer made) × Respells c.old c.new × IsFree key c.old
 
 -- made is as plain as the text where the value is so too, if a name stands between quotes as the first key
 abbrev pub StaysPlainQuoted : Names → List ℕ → List ℕ → List ℕ → Type 0

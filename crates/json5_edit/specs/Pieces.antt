@@ -1,21 +1,32 @@
 -- Two texts that differ by a part, and perhaps by a comma before it.
 -- A promise rests on this.
-use Rattle.std.specs.Prelude.{◌≡◌, ◌⊎◌, ℕ, Bool, List, [], ◌∷◌, ◌++◌}
+use Rattle.std.specs.Prelude.{◌≡◌, ◌⊎◌, ℕ, Bool, true, List, [], ◌∷◌, ◌++◌}
 use Rattle.std.specs.Str.{chars, encode_utf8_all}
 use Rattle.json5_edit_style.specs.Comments.{IsLead, IsTrail}
-use Rattle.json5_grammar.specs.Language.Blanks.{Blanks}
+use Rattle.json5_grammar.specs.Language.Blanks.{Blanks, LastBlanks}
 use Rattle.json5_grammar.specs.Language.Characters.{comma_sign, colon_sign}
 use Rattle.json5_grammar.specs.Language.Trees.{Tree}
 use Rattle.json5_grammar.specs.Language.Values.{KeyText, Val}
 use Rattle.json5_lexemes.specs.Lexemes.{HaveSameLexemes}
+use Rattle.json5_read.specs.declared.brackets.BracketKind.{BracketKind as Kind}
+use Rattle.json5_read.specs.declared.brackets.BracketKind.TheVariants as kind
+use Rattle.json5_walk.specs.Seams.{WholeTokens}
 
 -- a comma, or nothing
 abbrev pub IsComma : List ℕ → Type 0
 IsComma x = (x ≡ []) ⊎ (x ≡ comma_sign ∷ [])
 
--- x is these two, with a comma between them or nothing
-abbrev pub WithoutComma : List ℕ → List ℕ → List ℕ → Type 0
-WithoutComma x front middle = (comma : List ℕ) × IsComma comma × (x ≡ front ++ (comma ++ middle))
+-- nothing, or a comma between tokens: whole ones come before it, and blanks alone after it
+abbrev pub IsCommaBetween : List ℕ → List ℕ → List ℕ → Type 0
+IsCommaBetween front comma middle = (comma ≡ []) ⊎ ((comma ≡ comma_sign ∷ []) × WholeTokens true (chars front) × LastBlanks (chars middle))
+
+-- no token and no comment: blanks, and perhaps commas
+abbrev pub IsSpace : List ℕ → Type 0
+IsSpace x = HaveSameLexemes (chars x) []
+
+-- a spelling of a key
+abbrev pub IsKeyText : List ℕ → Type 0
+IsKeyText x = (u : List ℕ) × (escape_free : Bool) × KeyText (chars x) u escape_free
 
 -- a key and a colon, with the blanks around the colon
 pub data IsName : List ℕ → Type 0 where
@@ -46,7 +57,7 @@ pub record IsWithComments (before gone after : List ℕ) : Type 0 where
   pub is_entry : IsEntryText (chars entry)
   pub is_trail : IsTrail (chars after) (chars trail)
 
--- y is x without one entry, the comments that belong to it, and perhaps a comma before it: all other bytes are the same
+-- y is x without one entry, the comments that belong to it, and perhaps the comma before it: all other bytes are the same
 pub record Cuts (x y : List ℕ) : Type 0 where
   pub front : List ℕ
   pub comma : List ℕ
@@ -55,11 +66,27 @@ pub record Cuts (x y : List ℕ) : Type 0 where
   pub back : List ℕ
   pub was : x ≡ front ++ (comma ++ (middle ++ (gone ++ back)))
   pub now : y ≡ front ++ (middle ++ back)
-  pub is_comma : IsComma comma
+  pub is_comma : IsCommaBetween front comma middle
   pub belongs : IsWithComments (front ++ (comma ++ middle)) gone back
 
--- y is x with one part more, and perhaps with a comma before it: all other bytes are the same, but for blanks that go
-pub record Grows (x y : List ℕ) : Type 0 where
+-- what comes before an entry's value: in an object a key and a colon, with no comment, and in an array nothing
+abbrev pub IsNameAlone : Kind → List ℕ → Type 0
+IsNameAlone kind.Array x = x ≡ []
+IsNameAlone kind.Object x = (key colon : List ℕ) × (x ≡ key ++ colon) × IsKeyText key × HaveSameLexemes (chars colon) (colon_sign ∷ [])
+
+-- x is an entry with this spelling of its value, without a comment, and blanks and commas before and after it
+pub record IsEntryAlone (k : Kind) (value x : List ℕ) : Type 0 where
+  pub lead : List ℕ
+  pub name : List ℕ
+  pub trail : List ℕ
+  pub split : x ≡ lead ++ (name ++ (value ++ trail))
+  pub is_lead : IsSpace lead
+  pub is_name : IsNameAlone k name
+  pub is_trail : IsSpace trail
+
+-- y is x with one part more, an entry with this value alone, and perhaps with a comma before it: all other bytes are the
+-- same, but for blanks that go
+pub record Grows (k : Kind) (value x y : List ℕ) : Type 0 where
   pub front : List ℕ
   pub middle : List ℕ
   pub gone : List ℕ
@@ -69,11 +96,8 @@ pub record Grows (x y : List ℕ) : Type 0 where
   pub was : x ≡ front ++ (middle ++ (gone ++ back))
   pub now : y ≡ front ++ (comma ++ (middle ++ (came ++ back)))
   pub is_comma : IsComma comma
-  pub blank : HaveSameLexemes (chars gone) []
-
--- a spelling of a key
-abbrev pub IsKeyText : List ℕ → Type 0
-IsKeyText x = (u : List ℕ) × (escape_free : Bool) × KeyText (chars x) u escape_free
+  pub blank : IsSpace gone
+  pub alone : IsEntryAlone k value came
 
 -- x spells the key whose text has these bytes
 abbrev pub SpellsKey : List ℕ → List ℕ → Type 0

@@ -133,6 +133,10 @@ RefusesKey old key error.Taken = (t : Tree) × Doc max_depth (chars old) t × Ha
 RefusesKey old key error.NoMemory = ⊤
 RefusesKey old key _ = ⊥
 
+-- no member of the object that this text spells has the key
+abbrev pub IsFree : List ℕ → List ℕ → Type 0
+IsFree key old = (t : Tree) → Val (chars old) t → HasKey key t → ⊥
+
 -- a text of no such collection
 abbrev pub RefusesKind : Kind → List ℕ → EditError → Type 0
 RefusesKind kind.Array old error.NotArray = BeginsNo kind.Array (chars old)

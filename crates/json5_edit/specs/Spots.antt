@@ -1,8 +1,8 @@
 -- Where an entry stands in the text of a collection, and where one more may stand.
 -- Private.
-use Rattle.std.specs.Prelude.{◌≡◌, ◌⊎◌, ℕ, ◌+◌, ◌≤◌, Bool, true, false, nat_eq, List, [], ◌∷◌, ◌++◌, length, Option, Some, MatchOption}
+use Rattle.std.specs.Prelude.{◌≡◌, ◌⊎◌, ℕ, ◌+◌, ◌≤◌, Bool, true, false, nat_eq, List, [], ◌∷◌, ◌++◌, length, Option, Some, MatchOption, take, ⊤}
 use Rattle.std.specs.Str.{chars, IsUtf8, encode_utf8_all}
-use Rattle.json5_grammar.specs.Language.Blanks.{Blanks, Gap, Solid}
+use Rattle.json5_grammar.specs.Language.Blanks.{Blanks, Gap, LastBlanks, Solid}
 use Rattle.json5_grammar.specs.Language.Characters.{comma_sign, colon_sign}
 use Rattle.json5_grammar.specs.Language.Trees.{Tree, null, boolean, number, text, array, object, Trees, Members, more, member, depth}
 use Rattle.json5_grammar.specs.Language.Values.{Val, KeyText, Reads}
@@ -156,18 +156,18 @@ pub record HasEnd (k : Kind) (limit : ℕ) (bytes : List ℕ) (e : End) : Type 0
 abbrev pub Removes : Step → ℕ → List ℕ → List ℕ → Type 0
 Removes s limit old new = ChangesBy (IsWithout s) old new × Cuts old new × IsValue limit (chars new) × KeepsPlain old new
 
--- so changed, by one part more
-abbrev pub Adds : (Tree → Tree → Type 0) → ℕ → List ℕ → List ℕ → Type 0
-Adds Change limit old new = ChangesBy Change old new × Grows old new × IsValue limit (chars new)
+-- so changed, by one entry more, with this value
+abbrev pub Adds : Kind → List ℕ → (Tree → Tree → Type 0) → ℕ → List ℕ → List ℕ → Type 0
+Adds k value Change limit old new = ChangesBy Change old new × Grows k value old new × IsValue limit (chars new)
 
 -- these characters are an entry with this key and value
 pub data SpellsEntry : Kind → List ℕ → Tree → List ℕ → Type 0 where
   spells_element : (v : Tree) (x : List ℕ) → Val x v → SpellsEntry kind.Array [] v x
   spells_member : (k x u : List ℕ) (escape_free : Bool) (v : Tree) → KeyText k u escape_free → Val x v → SpellsEntry kind.Object (encode_utf8_all u) v (k ++ colon_sign ∷ x)
 
--- with these characters as one more entry at the end, of whatever key and value they are an entry that fits
-abbrev pub AddsEntry : Kind → List ℕ → ℕ → List ℕ → List ℕ → Type 0
-AddsEntry k x limit old new = (key : List ℕ) (v : Tree) → SpellsEntry k key v x → depth v + 1 ≤ limit → Adds (IsWithLast k key v) limit old new
+-- with this name and value as one more entry at the end, of whatever key and value they are an entry that fits
+abbrev pub AddsEntry : Kind → List ℕ → List ℕ → ℕ → List ℕ → List ℕ → Type 0
+AddsEntry k name value limit old new = (key : List ℕ) (v : Tree) → SpellsEntry k key v (chars (name ++ value)) → depth v + 1 ≤ limit → Adds k value (IsWithLast k key v) limit old new
 
 -- and of whatever key and value they are an entry, the collection stays as plain as it was where the entry is so too
 abbrev pub AddsPlainly : Kind → List ℕ → List ℕ → List ℕ → Type 0
@@ -237,6 +237,18 @@ pub record IsAhead (k : Kind) (limit : ℕ) (x : List ℕ) : Type 0 where
   pub goes : Goes false all x
   pub fits : depth gone ≤ limit
   pub solid : Solid x
+
+-- ---- a comma between entries
+
+-- whole tokens end at the offset, if there is one
+abbrev pub EndTokens : List ℕ → Option ℕ → Type 0
+EndTokens bytes before = MatchOption before ⊤ (λ n. IsUtf8 (take n bytes) × WholeTokens true (chars (take n bytes)))
+
+-- x is these three, and a comma before the last, or nothing: the comma comes after the offset, with blanks alone around it
+pub record IsAroundComma (x : List ℕ) (before : Option ℕ) (front blank middle : List ℕ) : Type 0 where
+  pub comma : List ℕ
+  pub split : x ≡ front ++ (blank ++ (comma ++ middle))
+  pub is_comma : (comma ≡ []) ⊎ ((comma ≡ comma_sign ∷ []) × (before ≡ Some (length front)) × Blanks (chars blank) × LastBlanks (chars middle))
 
 -- ---- a comma in front of a text
 

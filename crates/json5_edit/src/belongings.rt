@@ -4,7 +4,7 @@ ghost use Rattle.std.specs.Prelude.{◌≡◌, ◌≤◌, ◌++◌, IfOk, IfErr,
 ghost use Rattle.std.specs.Str.{chars};
 ghost use Rattle.json5_edit.specs.Pieces.{IsEntryText, IsWithComments};
 ghost use Rattle.json5_edit.specs.Refusals.{IsOwn};
-ghost use Rattle.json5_grammar.specs.Language.Blanks.{Solid};
+ghost use Rattle.json5_grammar.specs.Language.Blanks.{Gap, Solid};
 ghost use Rattle.json5_grammar.specs.Language.Documents.{max_depth};
 
 use crate::faults::{EditError, Result};
@@ -40,8 +40,9 @@ pub(crate) fn check_gone(
 }
 
 /// The blanks and comments in front of the text, and what follows them.
-fn split_blanks(alloc: Global, text: &str) -> Result<(&str, &str)>
+pub(crate) fn split_blanks(alloc: Global, text: &str) -> Result<(&str, &str)>
     ensures split { IfOk result (λ parts. text.now ≡ parts.0.now ++ parts.1.now) }
+    ensures blank { IfOk result (λ parts. Gap (chars parts.0.now) (chars parts.1.now)) }
     ensures solid { IfOk result (λ parts. Solid (chars parts.1.now)) }
     ensures own { IfErr result IsOwn }
 {

@@ -4,7 +4,7 @@ ghost use Rattle.std.specs.Prelude.{◌≡◌, ◌≤◌, ◌-◌, ℕ, List, []
 ghost use Rattle.json5_edit.specs.Changes.{ChangesBy, Gains, GainsAt, IsRemoved, IsPushed, IsPutIn, IsInserted, IsRekeyed, StaysPlainQuoted};
 ghost use Rattle.json5_edit.specs.Pieces.{Grows};
 ghost use Rattle.json5_edit.specs.Places.{HasPlace, IsPart, IsValue};
-ghost use Rattle.json5_edit.specs.Refusals.{RefusesRemove, RefusesPush, RefusesPutIn, RefusesInsert, RefusesRename, RefusesKind, RefusesKey, RefusesValue, IsOwn, BeginsNo};
+ghost use Rattle.json5_edit.specs.Refusals.{RefusesRemove, RefusesPush, RefusesPutIn, RefusesInsert, RefusesRename, RefusesKind, RefusesKey, RefusesValue, IsFree, IsOwn, BeginsNo};
 ghost use Rattle.json5_edit.specs.Spots.{Adds, HasEnd, HasEntry, HasFound, Removes};
 ghost use Rattle.json5_edit.specs.declared.faults.EditError.TheVariants as edit_errors;
 ghost use Rattle.json5_edit.specs.declared.paths.Step.TheVariants as step;
@@ -263,7 +263,8 @@ fn which(step: Step<'_>) -> Which<'_> {
 /// Refuses a key that a member of the object has.
 fn check_key(alloc: Global, old: &str, key: &str) -> Result<()>
     requires { IsDocument old.now }
-    ensures { IfErr result (RefusesKey old.now key.now) }
+    ensures free { OnOk result (IsFree key.now old.now) }
+    ensures refused { IfErr result (RefusesKey old.now key.now) }
 {
     match walked_place(alloc, old, &[Step::Key(key)]) {
         Ok(None) => Ok(()),
@@ -280,7 +281,7 @@ fn removed(alloc: Global, old: &str, step: Step<'_>, found: Found, room: usize) 
     ensures removed { IfOk result (λ new. Removes step.entry room old.now (string_bytes new)) }
     ensures full { IfErr result (λ e. e ≡ edit_errors.NoMemory) }
 {
-    match removed_by_lines(alloc, old, step, room) {
+    match removed_by_lines(alloc, old, step, found, room) {
         Ok(new) => Ok(new),
         Err(EditError::NoMemory) => Err(EditError::NoMemory),
         Err(_) => without_entry(alloc, old, step, found, room),
@@ -288,12 +289,19 @@ fn removed(alloc: Global, old: &str, step: Step<'_>, found: Found, room: usize) 
 }
 
 /// The collection without the entry, its lines and its comments.
-fn removed_by_lines(alloc: Global, old: &str, step: Step<'_>, room: usize) -> Result<String>
-    requires { room ≤ max_depth }
+fn removed_by_lines(
+    alloc: Global,
+    old: &str,
+    step: Step<'_>,
+    found: Found,
+    room: usize,
+) -> Result<String>
+    requires small { room ≤ max_depth }
+    requires entry { HasFound step room old.now found }
     ensures { IfOk result (λ new. Removes step.entry room old.now (string_bytes new)) }
 {
     let gone = laid(cut_for(alloc, old, which(step)))?;
-    let new = cut(alloc, old, gone, kind(step), room)?;
+    let new = cut(alloc, old, gone, found.before, kind(step), room)?;
     match check_removed(alloc, old, new.as_str(), step, gone.index) {
         Ok(()) => kept_plain(alloc, old, new, room),
         Err(error) => Err(EditError::of_made(error)),
@@ -337,7 +345,7 @@ fn pushed(
     requires old { IsValue room (chars old.now) }
     requires value { IsValue (room - 1) (chars value.now) }
     requires plain { KeepsPlain collection.now.document.now old.now }
-    ensures pushed { IfOk result (λ new. Adds (Gains kind.Array [] value.now) room old.now (string_bytes new)) }
+    ensures pushed { IfOk result (λ new. Adds kind.Array value.now (Gains kind.Array [] value.now) room old.now (string_bytes new)) }
     ensures plain { IfOk result (λ new. StaysPlainQuoted collection.now.names collection.now.document.now value.now (string_bytes new)) }
     ensures refused { IfErr result (RefusesKind kind.Array old.now) }
 {
@@ -346,7 +354,7 @@ fn pushed(
         Err(EditError::NoMemory) => Err(EditError::NoMemory),
         Err(_) => {
             let end = array_end(alloc, old, room)?;
-            with_last(alloc, old, BracketKind::Array, end, value, room)
+            with_last(alloc, old, end, "", value, BracketKind::Array, room)
         }
     }
 }
@@ -365,7 +373,7 @@ fn inserted(
     requires end { HasEnd kind.Object room old.now end }
     requires value { IsValue (room - 1) (chars value.now) }
     requires plain { KeepsPlain collection.now.document.now old.now }
-    ensures inserted { IfOk result (λ new. Adds (Gains kind.Object key.now value.now) room old.now (string_bytes new)) }
+    ensures inserted { IfOk result (λ new. Adds kind.Object value.now (Gains kind.Object key.now value.now) room old.now (string_bytes new)) }
     ensures plain { IfOk result (λ new. StaysPlainQuoted collection.now.names collection.now.document.now value.now (string_bytes new)) }
     ensures full { IfErr result (λ e. e ≡ edit_errors.NoMemory) }
 {
@@ -395,12 +403,12 @@ fn added_by_lines(
     room: usize,
 ) -> Result<String>
     requires { room ≤ max_depth }
-    ensures added { IfOk result (λ new. Adds (Gains kind key.now value.now) room old.now (string_bytes new)) }
+    ensures added { IfOk result (λ new. Adds kind value.now (Gains kind key.now value.now) room old.now (string_bytes new)) }
     ensures plain { IfOk result (λ new. StaysPlainQuoted collection.now.names collection.now.document.now value.now (string_bytes new)) }
 {
     let added = Added { kind, key, value };
     let growth = laid(growth_for(alloc, collection, added))?;
-    let new = grown(alloc, old, &growth)?;
+    let new = grown(alloc, old, &growth, kind, value)?;
     match check_added(alloc, old, new.as_str(), growth.count, kind, key, value) {
         Ok(()) => fitting_as_plain(
             alloc,
@@ -429,7 +437,7 @@ fn put_in(
     requires entry { HasEntry (step.Index index) room old.now start }
     requires value { IsValue (room - 1) (chars value.now) }
     requires plain { KeepsPlain collection.now.document.now old.now }
-    ensures put_in { IfOk result (λ new. Adds (GainsAt index value.now) room old.now (string_bytes new)) }
+    ensures put_in { IfOk result (λ new. Adds kind.Array value.now (GainsAt index value.now) room old.now (string_bytes new)) }
     ensures plain { IfOk result (λ new. StaysPlain collection.now.document.now value.now (string_bytes new)) }
     ensures full { IfErr result (λ e. e ≡ edit_errors.NoMemory) }
 {
@@ -450,11 +458,11 @@ fn put_in_by_lines(
     room: usize,
 ) -> Result<String>
     requires { room ≤ max_depth }
-    ensures added { IfOk result (λ new. Adds (GainsAt index value.now) room old.now (string_bytes new)) }
+    ensures added { IfOk result (λ new. Adds kind.Array value.now (GainsAt index value.now) room old.now (string_bytes new)) }
     ensures plain { IfOk result (λ new. StaysPlain collection.now.document.now value.now (string_bytes new)) }
 {
-    let growth = laid(growth_before(alloc, collection, index, value))?;
-    let new = grown(alloc, old, &growth)?;
+    let growth = laid(growth_before(alloc, collection, index))?;
+    let new = grown(alloc, old, &growth, BracketKind::Array, value)?;
     match check_put_in(alloc, old, new.as_str(), index, value) {
         Ok(()) => fitting_as_plain(alloc, Names::Quoted, collection.document, value, new, room),
         Err(error) => Err(EditError::of_made(error)),

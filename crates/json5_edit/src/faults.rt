@@ -83,6 +83,8 @@ impl EditError {
     }
 }
 
+impl std::error::Error for EditError {}
+
 impl fmt::Display for EditError {
     fn fmt<W: fmt::Write>(&self, f: &mut fmt::Formatter<W>) -> fmt::Result {
         match self {

@@ -1,15 +1,17 @@
 //! A text with a part taken out of it or put into it.
 
-ghost use Rattle.std.specs.Prelude.{◌≡◌, ◌≤◌, ◌++◌, IfOk, IfErr, IsTrue, [], string_bytes, take};
+ghost use Rattle.std.specs.Prelude.{◌≡◌, ◌≤◌, ◌++◌, IfOk, IfErr, OnOk, IsTrue, [], length, string_bytes, take};
 ghost use Rattle.std.specs.Str.{chars};
-ghost use Rattle.json5_edit.specs.Pieces.{Cuts, Grows, Respells, IsComma, WithoutComma, SplitsKey};
+ghost use Rattle.json5_edit.specs.Pieces.{Cuts, Grows, Respells, IsComma, IsEntryAlone, IsNameAlone, SplitsKey};
 ghost use Rattle.json5_edit.specs.Refusals.{IsOwn};
+ghost use Rattle.json5_edit.specs.Spots.{EndTokens, IsAroundComma};
 ghost use Rattle.json5_edit.specs.declared.faults.EditError.TheVariants as edit_errors;
 ghost use Rattle.json5_grammar.specs.Language.Documents.{max_depth};
 ghost use Rattle.json5_lexemes.specs.Lexemes.{HaveSameLexemes};
 
-use crate::belongings::check_gone;
+use crate::belongings::{check_gone, split_blanks};
 use crate::faults::{EditError, Result};
+use crate::plain::join_four;
 use crate::setting::join;
 use json5_edit_style::{Cut, Growth, Respelling};
 use json5_lexemes::same_lexemes;
@@ -17,38 +19,92 @@ use json5_read::brackets::BracketKind;
 use json5_tokens::scanner::Scanner;
 use std::alloc::Global;
 
-/// The text without what goes, where that is an entry of such a collection with the comments that belong to it.
+/// The text without what goes, where that is an entry of such a collection with the comments that belong to it, and
+/// perhaps the comma after the value that ends at the offset.
 pub(crate) fn cut(
     alloc: Global,
     text: &str,
     cut: Cut,
+    before: Option<usize>,
     kind: BracketKind,
     room: usize,
 ) -> Result<String>
-    requires { room ≤ max_depth }
+    requires small { room ≤ max_depth }
+    requires tokens { EndTokens text.now before }
     ensures cuts { IfOk result (λ new. Cuts text.now (string_bytes new)) }
     ensures own { IfErr result IsOwn }
 {
     let (head, back) = split(text, cut.end)?;
     let (head, gone) = split(head, cut.start)?;
     check_gone(alloc, head, gone, back, kind, room)?;
-    let (front, middle) = around_comma(head, cut.comma)?;
-    join(alloc, front, middle, back)
+    let (front, blank, middle) = around_comma(alloc, head, cut.comma, before)?;
+    join_four(alloc, front, blank, middle, back)
 }
 
-/// The text with what comes.
-pub(crate) fn grown(alloc: Global, text: &str, growth: &Growth) -> Result<String>
-    ensures grows { IfOk result (λ new. Grows text.now (string_bytes new)) }
+/// The text with what comes: an entry of such a collection with this value.
+pub(crate) fn grown(
+    alloc: Global,
+    text: &str,
+    growth: &Growth,
+    kind: BracketKind,
+    value: &str,
+) -> Result<String>
+    ensures grows { IfOk result (λ new. Grows kind value.now text.now (string_bytes new)) }
     ensures own { IfErr result IsOwn }
 {
     let (head, back) = split(text, growth.end)?;
     let (head, gone) = split(head, growth.start)?;
+    let (front, middle) = split(head, growth.at)?;
     if !is_blank(gone) {
         return Err(EditError::Failed);
     }
-    let (front, middle) = split(head, growth.at)?;
-    let (comma, came) = (comma_if(growth.comma), growth.part.as_str());
-    join_five(alloc, front, comma, middle, came, back)
+    let came = part(alloc, growth, kind, value)?;
+    join_five(
+        alloc,
+        front,
+        comma_if(growth.comma),
+        middle,
+        came.as_str(),
+        back,
+    )
+}
+
+/// The entry with this value, and what comes around it: blanks and commas alone.
+fn part(alloc: Global, growth: &Growth, kind: BracketKind, value: &str) -> Result<String>
+    ensures alone { IfOk result (λ came. IsEntryAlone kind value.now (string_bytes came)) }
+    ensures own { IfErr result IsOwn }
+{
+    let (lead, name, trail) = (
+        growth.lead.as_str(),
+        growth.name.as_str(),
+        growth.trail.as_str(),
+    );
+    if !is_blank(lead) || !is_blank(trail) {
+        return Err(EditError::Failed);
+    }
+    check_name(alloc, name, kind)?;
+    join_four(alloc, lead, name, value, trail)
+}
+
+/// Refuses what isn't a key and a colon alone, or in an array nothing.
+fn check_name(alloc: Global, name: &str, kind: BracketKind) -> Result<()>
+    ensures named { OnOk result (IsNameAlone kind name.now) }
+    ensures own { IfErr result IsOwn }
+{
+    match kind {
+        BracketKind::Array => {
+            if name == "" {
+                return Ok(());
+            }
+        }
+        BracketKind::Object => {
+            let (_key, colon) = split_key(alloc, name)?;
+            if same_lexemes(colon, ":") {
+                return Ok(());
+            }
+        }
+    }
+    Err(EditError::Failed)
 }
 
 /// The five texts one after another.
@@ -102,6 +158,7 @@ fn split_key(alloc: Global, text: &str) -> Result<(&str, &str)>
 pub(crate) fn split(text: &str, at: usize) -> Result<(&str, &str)>
     ensures split { IfOk result (λ parts. text.now ≡ parts.0.now ++ parts.1.now) }
     ensures front { IfOk result (λ parts. parts.0.now ≡ take at text.now) }
+    ensures front_len { IfOk result (λ parts. length parts.0.now ≡ at) }
     ensures own { IfErr result IsOwn }
 {
     match text.split_at_checked(at) {
@@ -110,18 +167,26 @@ pub(crate) fn split(text: &str, at: usize) -> Result<(&str, &str)>
     }
 }
 
-/// The text before the comma at the offset, and that after it; or the text, and nothing, where there is no offset.
-fn around_comma(text: &str, at: Option<usize>) -> Result<(&str, &str)>
-    ensures around { IfOk result (λ parts. WithoutComma text.now parts.0.now parts.1.now) }
+/// The text up to the offset, the blanks before the comma there, and those after it, which end the text; or the text, and
+/// nothing, where no comma goes.
+fn around_comma(
+    alloc: Global,
+    text: &str,
+    goes: bool,
+    before: Option<usize>,
+) -> Result<(&str, &str, &str)>
+    ensures around { IfOk result (λ parts. IsAroundComma text.now before parts.0.now parts.1.now parts.2.now) }
     ensures own { IfErr result IsOwn }
 {
-    let Some(at) = at else {
-        return Ok((text, ""));
+    let (true, Some(end)) = (goes, before) else {
+        return Ok((text, "", ""));
     };
-    let (front, rest) = split(text, at)?;
+    let (front, rest) = split(text, end)?;
+    let (blank, rest) = split_blanks(alloc, rest)?;
     let (comma, middle) = split(rest, 1)?;
-    if comma == "," {
-        return Ok((front, middle));
+    let (_blank, left) = split_blanks(alloc, middle)?;
+    if comma == "," && left == "" {
+        return Ok((front, blank, middle));
     }
     Err(EditError::Failed)
 }

@@ -9,8 +9,9 @@ ghost use Rattle.json5_lexemes.specs.Plain.{StaysPlain};
 ghost use Rattle.json5_types.specs.Errors.{LacksMemory};
 ghost use Rattle.json5_read.specs.declared.brackets.BracketKind.TheVariants as kind;
 ghost use Rattle.json5_edit.specs.Changes.{Gains, GainsAt};
+ghost use Rattle.json5_edit.specs.Pieces.{IsNameAlone};
 ghost use Rattle.json5_edit.specs.Places.{IsValue};
-ghost use Rattle.json5_edit.specs.Refusals.{RefusesFree, RefusesKind, RefusesStep};
+ghost use Rattle.json5_edit.specs.Refusals.{IsFree, RefusesFree, RefusesKind, RefusesStep};
 ghost use Rattle.json5_edit.specs.Spots.{Adds, AddsEntry, AddsPlainly, Goes, HasEnd, HasEntry, HasFound, HasBefore, IsAhead, BeginsWithComma, IsCommaSpan, TakesCommaAhead, IsColonBefore, IsNameBefore, Measures, Parts, PassedBefore, ReadsColon, ReadsThen, Removes, comma_for};
 ghost use Rattle.json5_edit.specs.declared.faults.EditError.TheVariants as edit_errors;
 ghost use Rattle.json5_edit.specs.declared.paths.Step.TheVariants as step;
@@ -19,6 +20,7 @@ use crate::comparing::kind;
 use crate::entries::failed;
 use crate::faults::{EditError, Result};
 use crate::paths::Step;
+use crate::pieces::join_five;
 use crate::setting::join;
 use crate::spelled::json_key;
 use crate::survey::{Found, find_entry};
@@ -79,6 +81,7 @@ pub(crate) fn free_end(alloc: Global, old: &str, key: &str, room: usize) -> Resu
     requires small { room ≤ max_depth }
     requires value { IsValue room (chars old.now) }
     ensures found { IfOk result (HasEnd kind.Object room old.now) }
+    ensures free { OnOk result (IsFree key.now old.now) }
     ensures refused { IfErr result (RefusesFree old.now key.now) }
 {
     match find_entry(alloc, old, Step::Key(key), room) {
@@ -207,7 +210,7 @@ pub(crate) fn with_element(
     requires small { room ≤ max_depth }
     requires entry { HasEntry (step.Index index) room old.now start }
     requires value { IsValue (room - 1) (chars value.now) }
-    ensures added { IfOk result (λ new. Adds (GainsAt index value.now) room old.now (string_bytes new)) }
+    ensures added { IfOk result (λ new. Adds kind.Array value.now (GainsAt index value.now) room old.now (string_bytes new)) }
     ensures plain { IfOk result (λ new. StaysPlain old.now value.now (string_bytes new)) }
     ensures full { IfErr result (λ e. e ≡ edit_errors.NoMemory) }
 {
@@ -223,23 +226,25 @@ pub(crate) struct End {
     pub(crate) comma: bool,
 }
 
-/// The collection with the entry at its end, which is spelled so.
+/// The collection with one more entry at its end: this value, after a key and a colon in an object.
 pub(crate) fn with_last(
     alloc: Global,
     old: &str,
-    kind: BracketKind,
     end: End,
-    entry: &str,
+    name: &str,
+    value: &str,
+    kind: BracketKind,
     room: usize,
 ) -> Result<String>
     requires small { room ≤ max_depth }
     requires end { HasEnd kind room old.now end }
-    ensures added { IfOk result (λ new. AddsEntry kind (chars entry.now) room old.now (string_bytes new)) }
-    ensures plain { IfOk result (λ new. AddsPlainly kind entry.now old.now (string_bytes new)) }
+    requires name { IsNameAlone kind name.now }
+    ensures added { IfOk result (λ new. AddsEntry kind name.now value.now room old.now (string_bytes new)) }
+    ensures plain { IfOk result (λ new. AddsPlainly kind (name.now ++ value.now) old.now (string_bytes new)) }
     ensures full { IfErr result (λ e. e ≡ edit_errors.NoMemory) }
 {
     let (front, back) = old.split_at(end.at);
-    join_four(alloc, front, comma_for(end.comma), entry, back)
+    join_five(alloc, front, comma_for(end.comma), name, value, back)
 }
 
 /// The object with the member at its end.
@@ -254,17 +259,31 @@ pub(crate) fn with_member(
     requires small { room ≤ max_depth }
     requires end { HasEnd kind.Object room old.now end }
     requires value { IsValue (room - 1) (chars value.now) }
-    ensures added { IfOk result (λ new. Adds (Gains kind.Object key.now value.now) room old.now (string_bytes new)) }
+    ensures added { IfOk result (λ new. Adds kind.Object value.now (Gains kind.Object key.now value.now) room old.now (string_bytes new)) }
     ensures plain { IfOk result (λ new. StaysPlain old.now value.now (string_bytes new)) }
     ensures full { IfErr result (λ e. e ≡ edit_errors.NoMemory) }
 {
-    let name = json_key(alloc, key)?;
-    let member = join(alloc, name.as_str(), ":", value)?;
-    with_last(alloc, old, BracketKind::Object, end, member.as_str(), room)
+    let key = json_key(alloc, key)?;
+    let name = join(alloc, key.as_str(), ":", "")?;
+    with_last(
+        alloc,
+        old,
+        end,
+        name.as_str(),
+        value,
+        BracketKind::Object,
+        room,
+    )
 }
 
 /// The four texts one after another.
-fn join_four(alloc: Global, front: &str, came: &str, more: &str, back: &str) -> Result<String>
+pub(crate) fn join_four(
+    alloc: Global,
+    front: &str,
+    came: &str,
+    more: &str,
+    back: &str,
+) -> Result<String>
     ensures joined { IfOk result (λ made. string_bytes made ≡ front.now ++ (came.now ++ (more.now ++ back.now))) }
     ensures full { IfErr result (λ e. e ≡ edit_errors.NoMemory) }
 {

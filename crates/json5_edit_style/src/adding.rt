@@ -19,10 +19,11 @@ pub struct Added<'x> {
     pub value: &'x str,
 }
 
-/// What comes into a text: perhaps a comma, and after it a part in the place of blanks. Offsets are in bytes.
+/// What comes into a text: perhaps a comma, and after it an entry in the place of blanks, with what stands around its
+/// value. Offsets are in bytes.
 ///
 /// ```text
-/// Growth { count: 1, comma: true, at: 3, start: 3, end: 3, part }    // `[80, 443]` of `[80]`, where the part is ` 443`
+/// Growth { count: 1, comma: true, at: 3, start: 3, end: 3, lead, name, trail }    // `[80, 443]` of `[80]`: `lead` is a blank
 /// ```
 #[derive(Drop)]
 pub struct Growth {
@@ -34,7 +35,12 @@ pub struct Growth {
     /// The blanks that go: between two brackets, else none.
     pub start: usize,
     pub end: usize,
-    pub part: String,
+    /// The blanks before the entry.
+    pub lead: String,
+    /// The key of a member, and the colon with the blanks around it.
+    pub name: String,
+    /// The comma after the entry, if one comes there, and blanks.
+    pub trail: String,
 }
 
 /// Returns what comes into the collection's text with what is added: on a line of its own, if its neighbour has one,
@@ -50,29 +56,14 @@ pub struct Growth {
 /// As reading, if the text is no value; `OutOfMemory` where there is no memory for the text.
 pub fn growth_for(alloc: Global, collection: &Collection<'_>, added: Added<'_>) -> Result<Growth> {
     let around = find_around(alloc, collection.text(), Which::Index(usize::MAX))?;
-    let entry = entry(alloc, collection, around, added)?;
     let line = line_in(collection.text(), around, has_lines(added.value));
-    let growth = match around.before {
-        Some(last) => after_last(alloc, collection, around.close, last, line, entry.as_str()),
-        None => into_empty(
-            alloc,
-            collection,
-            around.close,
-            line,
-            added.kind,
-            entry.as_str(),
-        ),
+    let mut growth = match around.before {
+        Some(last) => after_last(alloc, collection, around.close, last, line),
+        None => into_empty(alloc, collection, around.close, line, added.kind),
     }?;
-    Ok(growth.after(around.count))
-}
-
-impl Growth {
-    /// The same after so many entries.
-    fn after(self, count: usize) -> Growth {
-        let mut growth = self;
-        growth.count = count;
-        growth
-    }
+    growth.count = around.count;
+    growth.name = name(alloc, collection, around, added)?;
+    Ok(growth)
 }
 
 /// Returns the blanks that the line begins with on which a new entry over several lines begins: at the end, or before the
@@ -109,19 +100,14 @@ pub fn entry_indentation(
 ///
 /// ```text
 /// let list = Collection { document: "[80]", start: 0, end: 4, names: Names::Quoted };
-/// growth_before(alloc, &list, 0, "443")?    // 443, with a blank after it
+/// growth_before(alloc, &list, 0)?    // a comma and a blank after it
 /// ```
 ///
 /// # Errors
 ///
 /// - `Failed`, if there is no such element.
 /// - As reading, if the text is no value; `OutOfMemory` where there is no memory for the text.
-pub fn growth_before(
-    alloc: Global,
-    collection: &Collection<'_>,
-    index: usize,
-    value: &str,
-) -> Result<Growth> {
+pub fn growth_before(alloc: Global, collection: &Collection<'_>, index: usize) -> Result<Growth> {
     let text = collection.text();
     let around = find_around(alloc, text, Which::Index(index))?;
     let Some(here) = around.here else {
@@ -132,51 +118,34 @@ pub fn growth_before(
         None => 1,
     };
     let gap = Gap::of(text, from, here.start);
-    let entry = joined(alloc, &[value])?;
-    let (entry, end) = (entry.as_str(), collection.line_end());
-    let growth = if here.begins_line(text) {
+    let mut growth = if here.begins_line(text) {
+        let trail = joined(alloc, &[",", collection.line_end()])?;
         let indent = indentation(text, here.start);
-        before_at(alloc, gap.lead, indent, entry, end)
+        put(alloc, gap.lead, gap.lead, indent, trail.as_str())
     } else {
-        before_at(alloc, gap.own, "", entry, blank_before(text, here))
+        let trail = joined(alloc, &[",", blank_before(text, here)])?;
+        put(alloc, gap.own, gap.own, "", trail.as_str())
     }?;
-    Ok(growth.after(index))
+    growth.count = index;
+    Ok(growth)
 }
 
-/// Puts it at this offset, before another: with these blanks before it, and these after its comma.
-fn before_at<'x>(
-    alloc: Global,
-    at: usize,
-    indent: &'x str,
-    entry: &'x str,
-    blank: &'x str,
-) -> Result<Growth> {
-    Ok(Growth {
-        count: 0,
-        comma: false,
-        at,
-        start: at,
-        end: at,
-        part: joined(alloc, &[indent, entry, ",", blank])?,
-    })
-}
-
-/// The text of the entry.
-fn entry(
+/// The key of what is added, and the colon with its blanks; nothing in an array.
+fn name(
     alloc: Global,
     collection: &Collection<'_>,
     around: Around,
     added: Added<'_>,
 ) -> Result<String> {
     let BracketKind::Object = added.kind else {
-        return joined(alloc, &[added.value]);
+        return Ok(String::new(alloc));
     };
     let key = key_for(alloc, collection, added.key)?;
     let colon = match around.before {
         Some(spot) => colon_like(between(collection.text(), spot.key_end, spot.value)),
         None => ": ",
     };
-    joined(alloc, &[key.as_str(), colon, added.value])
+    joined(alloc, &[key.as_str(), colon])
 }
 
 /// A colon with the blanks that another has, unless they hold more.
@@ -237,63 +206,29 @@ fn after_last(
     close: usize,
     last: Spot,
     line: Line,
-    entry: &str,
 ) -> Result<Growth> {
     let text = collection.text();
     let gap = Gap::of(text, last.full_end(), close);
     let comma = last.comma.is_none();
     let after = if comma { "" } else { "," };
-    let (at, part) = match line {
-        Line::Same => {
-            let blank = blank_before(text, last);
-            (gap.tail, three(alloc, blank, entry, after)?)
-        }
-        _ => (
-            last.end,
-            on_own_line(alloc, collection, line, entry, after)?,
-        ),
+    let (at, lead) = match line {
+        Line::Same => (gap.tail, joined(alloc, &[blank_before(text, last)])?),
+        _ => (last.end, on_own_line(alloc, collection, line)?),
     };
-    Ok(Growth {
-        count: 0,
-        comma,
-        at,
-        start: gap.tail,
-        end: gap.tail,
-        part,
-    })
+    let mut growth = put(alloc, gap.tail, gap.tail, lead.as_str(), after)?;
+    growth.comma = comma;
+    growth.at = at;
+    Ok(growth)
 }
 
-/// The entry on a line of its own, with what comes after it.
-fn on_own_line(
-    alloc: Global,
-    collection: &Collection<'_>,
-    line: Line,
-    entry: &str,
-    after: &str,
-) -> Result<String> {
+/// What comes before an entry on a line of its own.
+fn on_own_line(alloc: Global, collection: &Collection<'_>, line: Line) -> Result<String> {
     let end = collection.line_end();
     if let Line::Own(at) = line {
-        let indent = indentation(collection.text(), at);
-        return four(alloc, end, indent, entry, after);
+        return joined(alloc, &[end, indentation(collection.text(), at)]);
     }
     let inner = inner_indentation(alloc, collection)?;
-    four(alloc, end, inner.as_str(), entry, after)
-}
-
-/// The three texts one after another.
-fn three<'x>(alloc: Global, one: &'x str, two: &'x str, three: &'x str) -> Result<String> {
-    joined(alloc, &[one, two, three])
-}
-
-/// The four texts one after another.
-fn four<'x>(
-    alloc: Global,
-    one: &'x str,
-    two: &'x str,
-    three: &'x str,
-    four: &'x str,
-) -> Result<String> {
-    joined(alloc, &[one, two, three, four])
+    joined(alloc, &[end, inner.as_str()])
 }
 
 /// What stands between a comma and an entry: nothing, if the last entry stands right after a comma.
@@ -326,36 +261,38 @@ fn into_empty(
     close: usize,
     line: Line,
     kind: BracketKind,
-    entry: &str,
 ) -> Result<Growth> {
     let gap = Gap::of(collection.text(), 1, close);
     let blank = blank_beside(kind);
     match (line, gap.mark > 1) {
-        (Line::Same, true) => put_blanks(gap.mark, gap.mark, three(alloc, " ", entry, "")?),
-        (Line::Same, false) => put_blanks(1, close, three(alloc, blank, entry, blank)?),
+        (Line::Same, true) => put(alloc, gap.mark, gap.mark, " ", ""),
+        (Line::Same, false) => put(alloc, 1, close, blank, blank),
         (_, true) if gap.line_end.is_some() => {
-            let part = on_own_line(alloc, collection, line, entry, "")?;
-            put_blanks(gap.mark, gap.mark, part)
+            let lead = on_own_line(alloc, collection, line)?;
+            put(alloc, gap.mark, gap.mark, lead.as_str(), "")
         }
         _ => {
             let last = joined(
                 alloc,
                 &[collection.line_end(), collection.indentation_at(0)],
             )?;
-            let part = on_own_line(alloc, collection, line, entry, last.as_str())?;
-            put_blanks(gap.mark, close, part)
+            let lead = on_own_line(alloc, collection, line)?;
+            put(alloc, gap.mark, close, lead.as_str(), last.as_str())
         }
     }
 }
 
-/// Puts the part in the place of the blanks between these offsets, without a comma.
-fn put_blanks(start: usize, end: usize, part: String) -> Result<Growth> {
+/// Puts a first element in the place of the blanks between these offsets, without a comma before it: with this before it,
+/// and this after it.
+fn put(alloc: Global, start: usize, end: usize, lead: &str, trail: &str) -> Result<Growth> {
     Ok(Growth {
         count: 0,
         comma: false,
         at: start,
         start,
         end,
-        part,
+        lead: joined(alloc, &[lead])?,
+        name: String::new(alloc),
+        trail: joined(alloc, &[trail])?,
     })
 }

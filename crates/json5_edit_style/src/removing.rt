@@ -7,16 +7,17 @@ use json5_types::ErrorCode;
 use json5_types::error::{Error, Result};
 use std::alloc::Global;
 
-/// What goes from a text: a part, and perhaps a comma before it. Offsets are in bytes.
+/// What goes from a text: a part, and perhaps the comma before it. Offsets are in bytes.
 ///
 /// ```text
-/// Cut { index: 1, comma: Some(6), start: 7, end: 12 }    // the ` b: 2` of `{ a: 1, b: 2 }`, and the comma before it
+/// Cut { index: 1, comma: true, start: 7, end: 12 }    // the ` b: 2` of `{ a: 1, b: 2 }`, and the comma before it
 /// ```
 #[derive(Clone, Copy, Drop)]
 pub struct Cut {
     /// How many entries come before the one that goes.
     pub index: usize,
-    pub comma: Option<usize>,
+    /// Whether the comma before it goes.
+    pub comma: bool,
     pub start: usize,
     pub end: usize,
 }
@@ -64,25 +65,22 @@ fn cut_of(text: &str, around: Around, here: Spot) -> Cut {
     if around.count == 1 && !has_comment(text, 1, start) && !has_comment(text, end, around.close) {
         return Cut {
             index: around.index,
-            comma: None,
+            comma: false,
             start: 1,
             end: around.close,
         };
     }
     Cut {
         index: around.index,
-        comma: comma_before(around, here),
+        comma: takes_comma(around, here),
         start,
         end,
     }
 }
 
-/// The comma before the last entry, which goes with it if it has none itself.
-fn comma_before(around: Around, here: Spot) -> Option<usize> {
-    if around.after.is_some() || here.comma.is_some() {
-        return None;
-    }
-    around.before?.comma
+/// Whether the comma before it goes: with a last entry that has none itself.
+fn takes_comma(around: Around, here: Spot) -> bool {
+    around.before.is_some() && around.after.is_none() && here.comma.is_none()
 }
 
 /// From where to where it goes, by the lines that it shares with others.

@@ -3,69 +3,16 @@ use Rattle.std.proofs.Common.{◌≤◌, ◌<◌, ◌⊎◌, inl, inr, ℕ, ◌+
 use Rattle.std.specs.Str.{chars}
 use Rattle.json5_grammar.specs.Language.Documents.{max_depth}
 use Rattle.json5_grammar.specs.Language.Trees.{Tree, depth}
-use Rattle.json5_grammar.specs.Language.Values.{Val}
-use Rattle.json5_read.specs.declared.brackets.BracketKind.{BracketKind as Kind}
-use Rattle.json5_read.specs.declared.brackets.BracketKind.TheVariants as kind
 use Rattle.json5_write.specs.EscapeFreeMarks.{marks}
 use Rattle.json5_write.specs.Out.{written_text}
 use Rattle.json5_write.specs.WrittenTrees.{Written}
-use Rattle.json5_edit.specs.Changes.{Gains, GainsAt, IsChanged, IsInserted, IsPushed, IsPutIn}
-use Rattle.json5_edit.specs.Comparing.{IsWithAt, IsWithLast}
-use Rattle.json5_edit.specs.Pieces.{Grows}
 use Rattle.json5_edit.specs.Refusals.{Misfits, RefusesInsert, RefusesPush, RefusesPutIn, RefusesSet}
-use Rattle.json5_edit.specs.Sets.{IsSet}
 use Rattle.json5_edit.specs.declared.faults.EditError.{EditError}
 use Rattle.json5_edit.specs.declared.faults.EditError.TheVariants as error
 use Rattle.json5_edit.specs.declared.paths.Step.{Step}
 use Rattle.json5_edit_values.specs.Refusals.{IsPlaceless, IsTooDeepFor, RefusesInsertOf, RefusesPushOf, RefusesPutInOf, RefusesSetTo, RefusesWriting}
-use Rattle.json5_edit_values.specs.Spelled.{IsTreeOf, Spells}
-use Rattle.json5_edit_values.specs.Trees.{IsInsertedAs, IsPushedAs, IsPutInAs, IsSetTo}
-use Rattle.json5_edit_values.proofs.ValuesSpelled.{alike_depth, one_value}
-
--- ---- what is made
-
-pub set_to : (t : Written) (text : List ℕ) (path : List Step) (new made : List ℕ) → Spells t text (chars new) → IsSet text path new made → IsSetTo t text path made
-set_to t text path new made (u, v, k) s = (new, s, subst (IsTreeOf t text) (sym (one_value (chars new) s.new_tree u s.new_value v)) k)
-
-changed_as : (Change Other : Tree → Tree → Type 0) (text : List ℕ) (path : List Step) (made : List ℕ) → ((t u : Tree) → Change t u → Other t u)
-    → (c : IsChanged Change text path made) × Grows c.old c.new → (c : IsChanged Other text path made) × Grows c.old c.new
-changed_as Change Other text path made more (c, g) = (
-  record {
-    before = c.before;
-    old = c.old;
-    new = c.new;
-    after = c.after;
-    was = c.was;
-    now = c.now;
-    tree = c.tree;
-    old_tree = c.old_tree;
-    new_tree = c.new_tree;
-    positions = c.positions;
-    led = c.led;
-    old_value = c.old_value;
-    new_value = c.new_value;
-    there = c.there;
-    document = c.document;
-    still = c.still;
-    changed = more c.old_tree c.new_tree c.changed;
-  },
-  g,
-)
-
-last_of : (k : Kind) (key new : List ℕ) (v : Tree) → Val (chars new) v → (t u : Tree) → Gains k key new t u → IsWithLast k key v t u
-last_of k key new v is t u (w, spells, last) = subst (λ z. IsWithLast k key z t u) (one_value (chars new) w v spells is) last
-
-at_of : (i : ℕ) (new : List ℕ) (v : Tree) → Val (chars new) v → (t u : Tree) → GainsAt i new t u → IsWithAt i v t u
-at_of i new v is t u (w, spells, there) = subst (λ z. IsWithAt i z t u) (one_value (chars new) w v spells is) there
-
-pub pushed_as : (t : Written) (text : List ℕ) (path : List Step) (new made : List ℕ) → Spells t text (chars new) → IsPushed text path new made → IsPushedAs t text path made
-pushed_as t text path new made (u, v, k) c = (u, k, changed_as (Gains kind.Array [] new) (IsWithLast kind.Array [] u) text path made (last_of kind.Array [] new u v) c)
-
-pub put_in_as : (t : Written) (text : List ℕ) (path : List Step) (i : ℕ) (new made : List ℕ) → Spells t text (chars new) → IsPutIn text path i new made → IsPutInAs t text path i made
-put_in_as t text path i new made (u, v, k) c = (u, k, changed_as (GainsAt i new) (IsWithAt i u) text path made (at_of i new u v) c)
-
-pub inserted_as : (t : Written) (text : List ℕ) (path : List Step) (key new made : List ℕ) → Spells t text (chars new) → IsInserted text path key new made → IsInsertedAs t text path key made
-inserted_as t text path key new made (u, v, k) c = (u, k, changed_as (Gains kind.Object key new) (IsWithLast kind.Object key u) text path made (last_of kind.Object key new u v) c)
+use Rattle.json5_edit_values.specs.Spelled.{Spells}
+use Rattle.json5_edit_values.proofs.ValuesSpelled.{alike_depth}
 
 -- ---- why it isn't made
 

@@ -35,10 +35,6 @@ same_again t bytes w = tree_again max_depth t 0 w.stop
 itself : (n : ℕ) → n ≤ n
 itself n = omega arith
 
--- a text is a value of at most one tree
-pub one_value : (x : List ℕ) (t u : Tree) → Val x t → Val x u → t ≡ u
-one_value x t u v w = one_tree (depth t) (depth u) x t u (alone (depth t) x t v (itself (depth t))) (alone (depth u) x u w (itself (depth u)))
-
 -- a value that has the lexemes of another has its tree
 pub same_value : (x y : List ℕ) (t : Tree) → Val x t → IsValue max_depth y → HaveSameLexemes x y → Val y t
 same_value x y t v (u, w, d) h =

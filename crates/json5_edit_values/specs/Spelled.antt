@@ -12,6 +12,10 @@ use Rattle.json5_write.specs.WrittenTrees.{Written}
 abbrev pub IsTreeOf : Written → List ℕ → Tree → Type 0
 IsTreeOf t text u = (unmarked u ≡ t) × ((IsPlain (chars text) → ⊥) → u ≡ marks t)
 
+-- x spells the value's tree
+abbrev pub Spells : Written → List ℕ → List ℕ → Type 0
+Spells t text x = (u : Tree) × Val x u × IsTreeOf t text u
+
 -- ---- private clauses alone cite these
 
 -- x spells a tree that is t but for the marks
@@ -21,7 +25,3 @@ MeansAlike t x = (u : Tree) × Val x u × (unmarked u ≡ unmarked t)
 -- and t itself, unless the text is plain
 abbrev pub SpellsAlike : Tree → List ℕ → List ℕ → Type 0
 SpellsAlike t text x = (u : Tree) × Val x u × (unmarked u ≡ unmarked t) × ((IsPlain (chars text) → ⊥) → u ≡ t)
-
--- x spells the value's tree
-abbrev pub Spells : Written → List ℕ → List ℕ → Type 0
-Spells t text x = (u : Tree) × Val x u × IsTreeOf t text u

@@ -1,28 +1,25 @@
--- What an edit with a value makes. Each word has the tree of the value, and what is made reads back as that.
+-- What an edit with a value makes: what the edit with a text makes of one that spells the value's tree.
 -- A promise rests on this.
-use Rattle.std.specs.Prelude.{◌≡◌, ℕ, List, []}
-use Rattle.json5_grammar.specs.Language.Trees.{Tree}
-use Rattle.json5_read.specs.declared.brackets.BracketKind.TheVariants as kind
-use Rattle.json5_edit.specs.Changes.{IsChanged}
-use Rattle.json5_edit.specs.Comparing.{IsWithAt, IsWithLast}
-use Rattle.json5_edit.specs.Pieces.{Grows}
+use Rattle.std.specs.Prelude.{ℕ, List}
+use Rattle.std.specs.Str.{chars}
+use Rattle.json5_edit.specs.Changes.{IsInserted, IsPushed, IsPutIn}
 use Rattle.json5_edit.specs.Sets.{IsSet}
 use Rattle.json5_edit.specs.declared.paths.Step.{Step}
-use Rattle.json5_edit_values.specs.Spelled.{IsTreeOf}
+use Rattle.json5_edit_values.specs.Spelled.{Spells}
 use Rattle.json5_write.specs.WrittenTrees.{Written}
 
 -- the text `made` is the text with the value that the path leads to replaced by one of this tree
 abbrev pub IsSetTo : Written → List ℕ → List Step → List ℕ → Type 0
-IsSetTo t text path made = (new : List ℕ) × (s : IsSet text path new made) × IsTreeOf t text s.new_tree
+IsSetTo t text path made = (new : List ℕ) × Spells t text (chars new) × IsSet text path new made
 
 -- with one more element at the end of the array that the path leads to
 abbrev pub IsPushedAs : Written → List ℕ → List Step → List ℕ → Type 0
-IsPushedAs t text path made = (u : Tree) × IsTreeOf t text u × ((c : IsChanged (IsWithLast kind.Array [] u) text path made) × Grows c.old c.new)
+IsPushedAs t text path made = (new : List ℕ) × Spells t text (chars new) × IsPushed text path new made
 
 -- with one more element of the array that the path leads to, before that with this index
 abbrev pub IsPutInAs : Written → List ℕ → List Step → ℕ → List ℕ → Type 0
-IsPutInAs t text path i made = (u : Tree) × IsTreeOf t text u × ((c : IsChanged (IsWithAt i u) text path made) × Grows c.old c.new)
+IsPutInAs t text path i made = (new : List ℕ) × Spells t text (chars new) × IsPutIn text path i new made
 
--- with one more member, the last, of the object that the path leads to
+-- with one more member, the last, of the object that the path leads to, where none had the key
 abbrev pub IsInsertedAs : Written → List ℕ → List Step → List ℕ → List ℕ → Type 0
-IsInsertedAs t text path key made = (u : Tree) × IsTreeOf t text u × ((c : IsChanged (IsWithLast kind.Object key u) text path made) × Grows c.old c.new)
+IsInsertedAs t text path key made = (new : List ℕ) × Spells t text (chars new) × IsInserted text path key new made

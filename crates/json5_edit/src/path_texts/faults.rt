@@ -47,6 +47,8 @@ impl Expected {
     }
 }
 
+impl std::error::Error for PathError {}
+
 impl fmt::Display for PathError {
     fn fmt<W: fmt::Write>(&self, f: &mut fmt::Formatter<W>) -> fmt::Result {
         match self {

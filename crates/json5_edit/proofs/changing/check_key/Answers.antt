@@ -1,8 +1,11 @@
-use Rattle.json5_edit.proofs.Refused.{is_taken}
+use Rattle.json5_edit.proofs.Refused.{is_taken, leads_free}
 use Rattle.json5_edit.proofs.changing.check_key.Goals as goal
 
-pub returns-in-Ok-Some : goal.returns-in-Ok-Some
-returns-in-Ok-Some c = is_taken c.args.old.now c.args.key _ (rw c.in-Ok-Some.field-0-is at c.in-Ok-Some.ensures.found)
+pub returns-in-Ok-None-clause-free : goal.returns-in-Ok-None-clause-free
+returns-in-Ok-None-clause-free c = leads_free c.args.old.now c.args.key (rw c.in-Ok-None.field-0-is at c.in-Ok-None.ensures.found)
 
-pub returns-in-Err : goal.returns-in-Err
-returns-in-Err c = rw (c.of_made.ensures.memory (c.in-Err.ensures.refused c.requires)) tt
+pub returns-in-Ok-Some-clause-refused : goal.returns-in-Ok-Some-clause-refused
+returns-in-Ok-Some-clause-refused c = is_taken c.args.old.now c.args.key _ (rw c.in-Ok-Some.field-0-is at c.in-Ok-Some.ensures.found)
+
+pub returns-in-Err-clause-refused : goal.returns-in-Err-clause-refused
+returns-in-Err-clause-refused c = rw (c.of_made.ensures.memory (c.in-Err.ensures.refused c.requires)) tt

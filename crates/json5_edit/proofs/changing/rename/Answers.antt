@@ -2,7 +2,7 @@ use Rattle.std.proofs.Common.{inl, refl, ap, ◌∙◌, [], ◌∷◌, ◌++◌,
 use Rattle.std.proofs.lemmas.Result.{err_from_is_err_and}
 use Rattle.json5_edit.specs.Comparing.{IsRenamed}
 use Rattle.json5_edit.specs.Pieces.{Respells}
-use Rattle.json5_edit.specs.Refusals.{RefusesRename}
+use Rattle.json5_edit.specs.Refusals.{IsFree, RefusesRename}
 use Rattle.json5_edit.specs.Spots.{HasEntry}
 use Rattle.json5_edit.proofs.Placed.{ok_then}
 use Rattle.json5_edit.proofs.PlainCuts.{keeps_within}
@@ -47,7 +47,7 @@ returns-in_err-start-clause-refused c =
 pub returns-in_err-check_key-clause-refused : goal.returns-in_err-check_key-clause-refused
 returns-in_err-check_key-clause-refused c =
     let (y, is, from) = err_from_is_err_and c.from_residual-in_err-check_key.result c.from_residual-in_err-check_key.ensures.1 in
-    rw (is, from) (key_rename c.args.text.now c.part_text-old.result.now c.in-Some.outer.now c.in_ok-place.place c.utf8.text c.in_ok-place.ensures.found c.part_text-old.ensures c.args.path.now c.args.key.now c.in-Some.step.now c.in_err-check_key.field-0.0 c.in-Some.ensures.cases.0 c.in_err-check_key.ensures)
+    rw (is, from) (key_rename c.args.text.now c.part_text-old.result.now c.in-Some.outer.now c.in_ok-place.place c.utf8.text c.in_ok-place.ensures.found c.part_text-old.ensures c.args.path.now c.args.key.now c.in-Some.step.now c.in_err-check_key.field-0.0 c.in-Some.ensures.cases.0 c.in_err-check_key.ensures.refused)
 
 pub returns-in_err-new-clause-refused : goal.returns-in_err-new-clause-refused
 returns-in_err-new-clause-refused c =
@@ -55,7 +55,7 @@ returns-in_err-new-clause-refused c =
     rw (is, from, c.in_err-new.ensures.full) tt
 
 pub returns-clause-rekeyed : goal.returns-clause-rekeyed
-returns-clause-rekeyed c = ok_then c.splice.result (λ made k. let q = changed_within Respells (IsRenamed c.in-Key.name.now c.args.key.now) c.args.text.now c.part_text-old.result.now c.as_str.result.now (string_bytes c.in_ok-new.new) (string_bytes made) c.in-Some.outer.now c.in_ok-place.place c.utf8.text c.as_str.utf8 c.as_str.ensures.value c.in_ok-place.ensures.found c.part_text-old.ensures (let q = c.in_ok-new.ensures.renamed in (q.0, q.1, q.2)) k in (c.in-Some.outer.now, c.in-Key.name, c.in-Some.ensures.cases.0 ∙ ap (λ s. c.in-Some.outer.now ++ (s ∷ [])) c.in-Key.is, q.0, q.1)) c.splice.ensures.spliced
+returns-clause-rekeyed c = ok_then c.splice.result (λ made k. let q = changed_within (λ x y. Respells x y × IsFree c.args.key.now x) (IsRenamed c.in-Key.name.now c.args.key.now) c.args.text.now c.part_text-old.result.now c.as_str.result.now (string_bytes c.in_ok-new.new) (string_bytes made) c.in-Some.outer.now c.in_ok-place.place c.utf8.text c.as_str.utf8 c.as_str.ensures.value c.in_ok-place.ensures.found c.part_text-old.ensures (let m = c.in_ok-new.ensures.renamed in (m.0, (m.1, c.in_ok-check_key.ensures.free), m.2)) k in (c.in-Some.outer.now, c.in-Key.name, c.in-Some.ensures.cases.0 ∙ ap (λ s. c.in-Some.outer.now ++ (s ∷ [])) c.in-Key.is, q.0, q.1.0, q.1.1)) c.splice.ensures.spliced
 
 pub returns-clause-plain : goal.returns-clause-plain
 returns-clause-plain c = ok_then c.splice.result (λ made k. let q = c.in_ok-new.ensures.renamed in keeps_within c.args.text.now c.part_text-old.result.now c.as_str.result.now (string_bytes c.in_ok-new.new) (string_bytes made) c.in-Some.outer.now c.in_ok-place.place c.utf8.text c.as_str.utf8 c.as_str.ensures.value c.in_ok-place.ensures.found c.part_text-old.ensures q.2 q.3 k) c.splice.ensures.spliced

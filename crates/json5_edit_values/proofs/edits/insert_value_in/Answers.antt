@@ -1,8 +1,8 @@
-use Rattle.std.proofs.Common.{sym, subst, string_bytes}
+use Rattle.std.proofs.Common.{sym, subst}
 use Rattle.std.proofs.lemmas.Result.{err_from_is_err_and}
 use Rattle.std.specs.Str.{chars}
 use Rattle.json5_edit_values.specs.Spelled.{Spells}
-use Rattle.json5_edit_values.proofs.Refused.{inserted_as, insert_writing, insert_refused}
+use Rattle.json5_edit_values.proofs.Refused.{insert_writing, insert_refused}
 use Rattle.json5_edit_values.proofs.edits.insert_value_in.Goals as goal
 
 pub returns-in_err-new-clause-refused : goal.returns-in_err-new-clause-refused
@@ -11,7 +11,7 @@ returns-in_err-new-clause-refused g c =
     rw (is, from) (insert_writing (g.T.Serialize.tree c.args.value.now) c.args.text.now c.args.path.now c.args.key.now c.in_err-new.field-0.0 c.in_err-new.ensures.refused)
 
 pub returns-in-Ok-clause-inserted : goal.returns-in-Ok-clause-inserted
-returns-in-Ok-clause-inserted g c = inserted_as (g.T.Serialize.tree c.args.value.now) c.args.text.now c.args.path.now c.args.key.now c.as_str.result.now (string_bytes c.in-Ok.made) (subst (λ z. Spells (g.T.Serialize.tree c.args.value.now) c.args.text.now (chars z)) (sym c.as_str.ensures.value) c.in_ok-new.ensures.value) c.in-Ok.ensures.inserted
+returns-in-Ok-clause-inserted g c = (c.as_str.result.now, subst (λ z. Spells (g.T.Serialize.tree c.args.value.now) c.args.text.now (chars z)) (sym c.as_str.ensures.value) c.in_ok-new.ensures.value, c.in-Ok.ensures.inserted)
 
 pub returns-clause-refused : goal.returns-clause-refused
 returns-clause-refused g c = insert_refused (g.T.Serialize.tree c.args.value.now) c.args.text.now c.args.path.now c.args.key.now c.as_str.result.now c.in-Err.error c.placeless.result (subst (λ z. Spells (g.T.Serialize.tree c.args.value.now) c.args.text.now (chars z)) (sym c.as_str.ensures.value) c.in_ok-new.ensures.value) c.in-Err.ensures.refused c.placeless.ensures
