@@ -7,6 +7,8 @@ use Rattle.json5_types.specs.declared.error.Error.{Error}
 use Rattle.json5_types.specs.Errors.{error_text}
 use Rattle.cli_files.specs.declared.failure.Failure.{Failure}
 use Rattle.cli_files.specs.declared.failure.Failure.TheVariants as failure
+use Rattle.cli_files.specs.declared.reason.Reason.{Reason}
+use Rattle.cli_files.specs.declared.reason.Reason.TheVariants as reasons
 use Rattle.cli_files.specs.declared.unwritten.Unwritten.{Unwritten}
 use Rattle.cli_files.specs.declared.unwritten.Unwritten.TheVariants as unwritten
 
@@ -31,8 +33,17 @@ status_of failure.NoMemory = 2
 status_of failure.Read = 2
 status_of failure.Write = 2
 
+-- why the system refuses a file, behind what can't be done
+abbrev pub reason_words : Reason → List ℕ
+reason_words reasons.NoFile = codes ": no such file"
+reason_words reasons.NotAllowed = codes ": not allowed"
+reason_words reasons.NameTooLong = codes ": its name is too long"
+reason_words reasons.ReadOnly = codes ": the disk is read-only"
+reason_words reasons.NoRoom = codes ": the disk is full"
+reason_words reasons.Other = []
+
 abbrev pub unwritten_line : List ℕ → Unwritten → List ℕ
-unwritten_line name unwritten.Refused = named_report name (codes "cannot be written")
+unwritten_line name (unwritten.Refused why) = named_report name (codes "cannot be written" ++ reason_words why)
 unwritten_line name unwritten.Changed = named_report name (codes "changed meanwhile, and was left as it is")
 unwritten_line name unwritten.Linked = named_report name (codes "cannot be written: it has other hard links")
 unwritten_line name (unwritten.Taken beside) = named_report name (codes "cannot be written: " ++ (string_bytes beside ++ codes " is there"))

@@ -4,9 +4,11 @@
 
 mod disk;
 mod failure;
+mod globs;
 mod host_words;
 mod input;
 mod names;
+mod reason;
 mod replacing;
 mod reports;
 mod stores;
@@ -17,9 +19,11 @@ mod writing;
 
 pub use disk::Disk;
 pub use failure::Failure;
+pub use globs::matches_glob;
 pub use host_words::given_words;
 pub use input::{read_text, read_whole};
 pub use names::push_name;
+pub use reason::Reason;
 pub use reports::{report, report_unwritten, say};
 pub use stores::{Entry, Store};
 pub use texts::{answer_with, put_texts};

@@ -42,7 +42,7 @@ pub fn report_unwritten<E: Write>(name: &str, unwritten: &Unwritten, e: &mut E) 
     ensures line { AppendsFront (E.contents e.old) (E.contents e.new) (unwritten_line name.now unwritten.now) }
 {
     match unwritten {
-        Unwritten::Refused => say(e, &[name, ": cannot be written\n"]),
+        Unwritten::Refused(why) => say(e, &[name, ": cannot be written", why.words(), "\n"]),
         Unwritten::Changed => say(e, &[name, ": changed meanwhile, and was left as it is\n"]),
         Unwritten::Linked => say(e, &[name, ": cannot be written: it has other hard links\n"]),
         Unwritten::NoMemory => say(e, &[name, ": out of memory\n"]),

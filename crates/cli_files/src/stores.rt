@@ -45,6 +45,13 @@ pub trait Store: Disk {
     fn entries(&self, alloc: Global, folder: &str) -> io::Result<Vec<String>>
         ensures { MatchResult result (λ all. (known self.now).lists folder.now (Some (names_of all.items))) (λ _. (known self.now).lists folder.now None) };
 
+    /// The path of a folder from the root on, without links.
+    ///
+    /// # Errors
+    ///
+    /// That of the system.
+    fn real_path(&self, alloc: Global, folder: &str) -> io::Result<String>;
+
     /// Puts a text in the place of that of a file, if the file still holds the text that was read of it.
     ///
     /// # Errors
@@ -86,6 +93,10 @@ where
 
     fn entries(&self, alloc: Global, folder: &str) -> io::Result<Vec<String>> {
         entries_of(self, alloc, folder)
+    }
+
+    fn real_path(&self, alloc: Global, folder: &str) -> io::Result<String> {
+        Ok(self.canonicalize(alloc, folder)?.into_string())
     }
 
     fn replace(

@@ -1,12 +1,13 @@
 //! Why a file wasn't replaced.
 
+use crate::reason::Reason;
 use std::io::{self, ErrorKind};
 
 /// Why a file wasn't replaced. It holds what it held before.
 #[derive(Drop)]
 pub enum Unwritten {
     /// The system refused a step.
-    Refused,
+    Refused(Reason),
     /// The file isn't as it was read.
     Changed,
     /// It has other names, as hard links.
@@ -23,7 +24,7 @@ impl From<io::Error> for Unwritten {
     fn from(e: io::Error) -> Unwritten {
         match e.kind() {
             ErrorKind::OutOfMemory => Unwritten::NoMemory,
-            _ => Unwritten::Refused,
+            _ => Unwritten::Refused(Reason::of(&e)),
         }
     }
 }

@@ -11,7 +11,7 @@ use Rattle.json5_report.specs.Reports.{IsReportOf, IsReportOfWrong, report_text}
 use Rattle.cli_files.specs.declared.failure.Failure.{Failure}
 use Rattle.cli_files.specs.declared.failure.Failure.TheVariants as failure
 use Rattle.cli_files.specs.Inputs.{RefusesInput}
-use Rattle.json5_tidy.specs.declared.style.Style.{Style}
+use Rattle.json5_tidy.specs.declared.style.LastCommas.{LastCommas}
 use Rattle.cli_tidy.specs.declared.tidied.Tidied.{Tidied}
 use Rattle.cli_tidy.specs.declared.trouble.FileTrouble.{FileTrouble}
 use Rattle.cli_tidy.specs.declared.trouble.FileTrouble.TheVariants as trouble
@@ -47,6 +47,7 @@ unknown_trouble : (name text : List ℕ) (e : FileTrouble) → IsTroubleOf name 
 unknown_trouble name text (trouble.Failed s) k = k
 unknown_trouble name text (trouble.Refused shown) k = tt
 unknown_trouble name text (trouble.Unreported s memory) k = (unknown_cause text s k.0, k.1)
+unknown_trouble name text (trouble.Unopened why) k = k
 unknown_trouble name text (trouble.Unwritten u) k = k
 unknown_trouble name text trouble.NoFile k = k
 
@@ -59,6 +60,7 @@ at_trouble name text (trouble.Failed failure.Read) k = tt
 at_trouble name text (trouble.Failed failure.Write) k = k
 at_trouble name text (trouble.Refused shown) k = k
 at_trouble name text (trouble.Unreported s memory) k = k
+at_trouble name text (trouble.Unopened why) k = k
 at_trouble name text (trouble.Unwritten u) k = k
 at_trouble name text trouble.NoFile k = k
 
@@ -70,8 +72,8 @@ held : (input : Option (List ℕ)) (bytes : List ℕ) (text : String Global) →
 held None bytes text all same = tt
 held (Some known) bytes text all same = same ∙ all
 
-module _ (style : Style) (name : List ℕ) (input : Option (List ℕ)) (bytes : List ℕ) (all : IfSome input (λ known. bytes ≡ known)) where
-  pub tidied_read : (r : Result Tidied FileTrouble) → IfOk r (HoldsTidied style name (Some bytes)) → IfOk r (HoldsTidied style name input)
+module _ (asked : LastCommas) (name : List ℕ) (input : Option (List ℕ)) (bytes : List ℕ) (all : IfSome input (λ known. bytes ≡ known)) where
+  pub tidied_read : (r : Result Tidied FileTrouble) → IfOk r (HoldsTidied asked name (Some bytes)) → IfOk r (HoldsTidied asked name input)
   tidied_read (Ok t) k = record { all = held input bytes t.before all k.all; tidies = k.tidies }
   tidied_read (Err e) k = tt
 

@@ -22,6 +22,7 @@ trouble_low : (e : FileTrouble) → trouble_status e ≤ 2
 trouble_low (trouble.Failed s) = failure_low s
 trouble_low (trouble.Refused shown) = omega arith
 trouble_low (trouble.Unreported s memory) = failure_low s
+trouble_low (trouble.Unopened why) = omega arith
 trouble_low (trouble.Unwritten u) = omega arith
 trouble_low trouble.NoFile = omega arith
 

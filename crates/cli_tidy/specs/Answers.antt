@@ -16,14 +16,14 @@ use Rattle.cli_tidy.specs.Names.{WorksThroughNames}
 use Rattle.cli_files.specs.Says.{SaysText}
 use Rattle.cli_files.specs.Stores.{Known}
 use Rattle.cli_tidy.specs.Tidies.{TidyTrouble, WritesTidied}
-use Rattle.cli_tidy.specs.Troubles.{memory_line, trouble_line, trouble_status, usage_line}
+use Rattle.cli_tidy.specs.Troubles.{SaysUsage, memory_line, trouble_line, trouble_status}
 
 -- what was read, what output and errors held before and after, and the status
 pub data AnswersStream (options : Options) (input output written errors : Option (List ℕ)) : Option (List ℕ) → ℕ → Type 0 where
   -- it wrote the document tidied
-  tidies : IfSome input (WritesTidied options.style (input_name options) output written) → AnswersStream options input output written errors errors 0
+  tidies : IfSome input (WritesTidied options.style.last_commas (input_name options) output written) → AnswersStream options input output written errors errors 0
   -- it said why it stopped
-  fails : {said : Option (List ℕ)} (e : FileTrouble) → TidyTrouble options.style (input_name options) input output written e
+  fails : {said : Option (List ℕ)} (e : FileTrouble) → TidyTrouble options.style.last_commas (input_name options) input output written e
       → AppendsFront errors said (trouble_line (input_name options) e) → AnswersStream options input output written errors said (trouble_status e)
 
 abbrev pub version_text : List ℕ
@@ -42,6 +42,6 @@ pub data Answers (known : Known) (list : List (String Global)) (input output err
   answers : {written said : Option (List ℕ)} {status : ℕ} (request : TidyRequest) → Asks list request
       → AnswersRequest known request input output errors written said status → Answers known list input output errors written said status
   -- they ask for nothing, and it said how it is called
-  says_usage : {said : Option (List ℕ)} → AsksNothing list → AppendsFront errors said usage_line → Answers known list input output errors output said 2
+  says_usage : {said : Option (List ℕ)} → AsksNothing list → SaysUsage errors said → Answers known list input output errors output said 2
   -- memory ran out before any work began
   no_memory : {said : Option (List ℕ)} → AppendsFront errors said memory_line → Answers known list input output errors output said 2

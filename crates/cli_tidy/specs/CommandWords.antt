@@ -1,14 +1,14 @@
 -- The words after the program's name, and what they ask for.
 -- A promise rests on this.
 use Rattle.std.specs.declared.alloc.Global.{Global}
-use Rattle.std.specs.Prelude.{◌≡◌, ◌≢◌, ◌⊎◌, ◌≤◌, ℕ, List, [], ◌∷◌, ◌++◌, Option, Some, None, option_map, String, string_bytes}
+use Rattle.std.specs.Prelude.{◌≡◌, ◌≢◌, ◌⊎◌, ◌≤◌, ℕ, Bool, true, false, List, [], ◌∷◌, ◌++◌, Option, Some, None, option_map, String, string_bytes}
 use Rattle.std.specs.Option.{option_map_or}
 use Rattle.std.specs.Str.Parse.{IsNumeral, digits_value, without_leading_plus}
 use lib.Chars.{codes}
 use Rattle.json5_tidy.specs.declared.style.LastCommas.{LastCommas}
 use Rattle.json5_tidy.specs.declared.style.LastCommas.TheVariants as commas
-use Rattle.json5_tidy.specs.declared.style.Style.{Style}
-use Rattle.json5_tidy.specs.Styles.{usual_style}
+use Rattle.cli_tidy.specs.declared.styles.ChosenStyle.{ChosenStyle}
+use Rattle.cli_tidy.specs.ChosenStyles.{asked, nothing_asked}
 use Rattle.cli_tidy.specs.declared.options.Flag.{Flag}
 use Rattle.cli_tidy.specs.declared.options.Flag.TheVariants as flags
 use Rattle.cli_tidy.specs.declared.options.Options.{Options}
@@ -34,6 +34,7 @@ work_word work.Check = codes "check"
 work_word work.Diff = codes "diff"
 work_word work.Print = codes "print"
 work_word work.Write = codes "write"
+work_word work.Style = codes "style"
 
 -- after it no word is an option
 abbrev pub end_word : List ℕ
@@ -48,6 +49,7 @@ abbrev pub IsFlag : List ℕ → Flag → Type 0
 IsFlag word flags.Help = (word ≡ codes "--help") ⊎ (word ≡ codes "-h")
 IsFlag word flags.Version = word ≡ codes "--version"
 IsFlag word flags.NoLastComma = word ≡ codes "--no-last-comma"
+IsFlag word flags.Quiet = word ≡ codes "--quiet"
 
 -- the option that has a value
 abbrev pub setting_word : Setting → List ℕ
@@ -111,15 +113,16 @@ pub data Starts (words : List (List ℕ)) (p : Part) (left : List (List ℕ)) : 
 
 -- what the parts choose
 pub record Choices : Type 0 where
-  pub style : Style
+  pub style : ChosenStyle
   pub endings : List (List ℕ)
   pub stdin_name : Option (List ℕ)
+  pub is_quiet : Bool
   pub question : Option Question
   -- the words that are no options
   pub others : List (List ℕ)
 
 abbrev pub nothing_chosen : Choices
-nothing_chosen = record { style = usual_style; endings = []; stdin_name = None; question = None; others = [] }
+nothing_chosen = record { style = nothing_asked; endings = []; stdin_name = None; is_quiet = false; question = None; others = [] }
 
 -- after one part more; of an option that is given twice the last counts, but each ending does
 abbrev pub with_part : Part → Choices → Choices
@@ -127,8 +130,9 @@ with_part (name word) c = record c { others = c.others ++ word ∷ [] }
 with_part (flag flags.Help) c = record c { question = Some questions.Help }
 with_part (flag flags.Version) c = record c { question = Some questions.Version }
 with_part (flag flags.NoLastComma) c = record c { style = record c.style { last_commas = commas.Never } }
-with_part (indent n) c = record c { style = record c.style { indent = n } }
-with_part (width n) c = record c { style = record c.style { width = n } }
+with_part (flag flags.Quiet) c = record c { is_quiet = true }
+with_part (indent n) c = record c { style = record c.style { indent = asked n } }
+with_part (width n) c = record c { style = record c.style { width = asked n } }
 with_part (last_commas l) c = record c { style = record c.style { last_commas = l } }
 with_part (ending e) c = record c { endings = c.endings ++ e ∷ [] }
 with_part (stdin_name n) c = record c { stdin_name = Some n }
@@ -146,7 +150,7 @@ pub data Choose : Choices → (words : List (List ℕ)) → Choices → Type 0 w
 -- ---- requests
 
 abbrev pub HasOptions : Choices → Options → Type 0
-HasOptions c o = (o.style ≡ c.style) × (names_of o.endings.items ≡ c.endings) × (option_map string_bytes o.stdin_name ≡ c.stdin_name)
+HasOptions c o = (o.style ≡ c.style) × (names_of o.endings.items ≡ c.endings) × (option_map string_bytes o.stdin_name ≡ c.stdin_name) × (o.is_quiet ≡ c.is_quiet)
 
 -- the name of standard input
 abbrev pub input_name : Options → List ℕ

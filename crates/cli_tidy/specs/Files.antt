@@ -7,6 +7,7 @@ use Rattle.std.specs.Io.KnownBytes.{Appends, Keeps}
 use Rattle.json5_write.specs.Pieces.{AppendsFront}
 use Rattle.cli_files.specs.declared.failure.Failure.{Failure}
 use Rattle.cli_files.specs.declared.failure.Failure.TheVariants as failure
+use Rattle.cli_files.specs.declared.reason.Reason.{Reason}
 use Rattle.cli_files.specs.Stores.{Opening}
 use Rattle.cli_tidy.specs.declared.files.Outcome.{Outcome}
 use Rattle.cli_tidy.specs.declared.files.Outcome.TheVariants as outcome
@@ -29,6 +30,10 @@ abbrev pub PutsTexts : Outcome → List ℕ → (old new : Option (List ℕ)) �
 PutsTexts o texts old new (Ok result) = (result ≡ o) × Appends old new texts
 PutsTexts o texts old new (Err e) = (e ≡ trouble.Failed failure.Write) × AppendsFront old new texts
 
+-- a line was written, or a prefix of it was, or memory ran out before
+abbrev pub PutsStyle : (old new : Option (List ℕ)) → Result Outcome FileTrouble → Type 0
+PutsStyle old new result = ((line : List ℕ) × PutsTexts outcome.Tidy line old new result) ⊎ ((result ≡ Err (trouble.Failed failure.NoMemory)) × Keeps old new)
+
 -- a write of a diff failed, or memory ran out before
 abbrev pub DiffFailure : (old new : Option (List ℕ)) → Failure → Type 0
 DiffFailure old new failure.Write = ⊤
@@ -42,11 +47,12 @@ PutsDiff old new (Err (trouble.Failed failure.Write)) = ⊤
 PutsDiff old new (Err (trouble.Failed failure.NoMemory)) = Keeps old new
 PutsDiff old new (Err e) = ⊥
 
--- the file was replaced, or wasn't
-abbrev pub PutsFile : Type 0 → Result Outcome FileTrouble → Type 0
-PutsFile Replaced (Ok result) = (result ≡ outcome.Tidy) × Replaced
-PutsFile Replaced (Err (trouble.Unwritten u)) = ⊤
-PutsFile Replaced (Err e) = ⊥
+-- the file was replaced, and its name may have been written, or a write of that failed; or it wasn't
+abbrev pub PutsFile : Type 0 → (name : List ℕ) → (old new : Option (List ℕ)) → Result Outcome FileTrouble → Type 0
+PutsFile Replaced name old new (Ok result) = (result ≡ outcome.Tidy) × Replaced × (Keeps old new ⊎ Appends old new (name_line name))
+PutsFile Replaced name old new (Err (trouble.Failed failure.Write)) = Replaced × AppendsFront old new (name_line name)
+PutsFile Replaced name old new (Err (trouble.Unwritten u)) = Keeps old new
+PutsFile Replaced name old new (Err e) = ⊥
 
 -- the work on a file with these texts, before and after tidying, and what output held before and after it
 abbrev pub WorksOnTexts : Replacing → FileWork → (name before after : List ℕ) → (old new : Option (List ℕ)) → Result Outcome FileTrouble → Type 0
@@ -59,8 +65,9 @@ WorksOnTexts replaces work.Diff name before after old new (Err (trouble.Failed f
 WorksOnTexts replaces work.Diff name before after old new (Err (trouble.Failed failure.NoMemory)) = Keeps old new
 WorksOnTexts replaces work.Print name before after old new (Ok result) = (result ≡ outcome.Tidy) × Appends old new after
 WorksOnTexts replaces work.Print name before after old new (Err (trouble.Failed failure.Write)) = AppendsFront old new after
-WorksOnTexts replaces work.Write name before after old new (Ok result) = (result ≡ outcome.Tidy) × ((before ≡ after) ⊎ replaces before after) × Keeps old new
-WorksOnTexts replaces work.Write name before after old new (Err (trouble.Unwritten u)) = (before ≢ after) × Keeps old new
+WorksOnTexts replaces work.Write name before after old new result =
+    ((result ≡ Ok outcome.Tidy) × (before ≡ after) × Keeps old new) ⊎ ((before ≢ after) × PutsFile (replaces before after) name old new result)
+WorksOnTexts replaces work.Style name before after old new result = PutsStyle old new result
 WorksOnTexts replaces w name before after old new result = ⊥
 
 -- the same of the texts that were kept
@@ -69,10 +76,10 @@ WorksOnTidied known w name t = WorksOnTexts (known.replaces name) w name (string
 
 -- the file was opened, what it held was tidied, and the work was done on that; or it held no document; or it could not be opened
 pub data WorksOn (opens : Opening) (replaces : Replacing) (request : FileRequest) (name : List ℕ) (old new : Option (List ℕ)) (result : Result Outcome FileTrouble) : Type 0 where
-  worked : (held : Option (List ℕ)) (before after : List ℕ) → opens (Some held) → IfSome held (λ known. before ≡ known) → Tidies request.options.style name before after
+  worked : (held : Option (List ℕ)) (before after : List ℕ) → opens (Some held) → IfSome held (λ known. before ≡ known) → Tidies request.options.style.last_commas name before after
       → WorksOnTexts replaces request.work name before after old new result → WorksOn opens replaces request name old new result
   refused : (held : Option (List ℕ)) (e : FileTrouble) → opens (Some held) → IsTroubleOf name held e → result ≡ Err e → Keeps old new → WorksOn opens replaces request name old new result
-  unopened : opens None → result ≡ Err (trouble.Failed failure.Read) → Keeps old new → WorksOn opens replaces request name old new result
+  unopened : (why : Reason) → opens None → result ≡ Err (trouble.Unopened why) → Keeps old new → WorksOn opens replaces request name old new result
 
 -- the work on this file, and what output held before and after it
 abbrev pub WorksOnFile : Known → FileRequest → (name : List ℕ) → (old new : Option (List ℕ)) → Result Outcome FileTrouble → Type 0

@@ -2,6 +2,7 @@
 pub mod Refusals
 pub mod Tidies
 pub mod Answers
+pub mod ChosenStyles
 pub mod CommandWords
 pub mod WordSteps
 pub mod Troubles

@@ -2,12 +2,14 @@
 
 ghost use Rattle.cli_tidy.specs.Answers.{Answers, AnswersRequest, AnswersStream};
 
+use crate::configs::Configs;
 use crate::files::work_through;
 use crate::options::{Fault, Options};
 use crate::reports::{HELP, no_memory, report_trouble, usage};
 use crate::requests::TidyRequest;
 use crate::streams::tidy_stream;
-use cli_files::{Store, VERSION, answer_with};
+use crate::trouble::FileTrouble;
+use cli_files::{Failure, Store, VERSION, answer_with};
 use std::alloc::Global;
 use std::io::{Read, Write};
 
@@ -30,7 +32,7 @@ pub fn answer<S: Store, R: Read, W: Write, E: Write>(
 {
     match TidyRequest::of(alloc, list) {
         Ok(request) => answer_request(store, alloc, &request, r, w, e),
-        Err(Fault::Unknown) => usage(e),
+        Err(Fault::Unknown) => usage(alloc, list, e),
         Err(Fault::NoMemory) => no_memory(e),
     }
 }
@@ -49,13 +51,14 @@ fn answer_request<S: Store, R: Read, W: Write, E: Write>(
     match request {
         TidyRequest::Help => answer_with(&[HELP], w, e),
         TidyRequest::Version => answer_with(&["json5_tidy ", VERSION, "\n"], w, e),
-        TidyRequest::Stream(options) => answer_stream(alloc, options, r, w, e),
+        TidyRequest::Stream(options) => answer_stream(store, alloc, options, r, w, e),
         TidyRequest::Files(files) => work_through(store, alloc, files, w, e),
     }
 }
 
 /// Tidies `r` to `w`, and writes to `e` why that ended early.
-fn answer_stream<R: Read, W: Write, E: Write>(
+fn answer_stream<S: Store, R: Read, W: Write, E: Write>(
+    store: &S,
     alloc: Global,
     options: &Options,
     r: &mut R,
@@ -65,7 +68,10 @@ fn answer_stream<R: Read, W: Write, E: Write>(
     ensures { AnswersStream options.now (R.remaining r.old) (W.contents w.old) (W.contents w.new) (E.contents e.old) (E.contents e.new) result }
 {
     let name = options.name_of_input();
-    match tidy_stream(alloc, name, options.style, r, w) {
+    let Ok(style) = Configs::none(alloc).choose(store, alloc, name, options.style) else {
+        return report_trouble(name, &FileTrouble::Failed(Failure::NoMemory), e);
+    };
+    match tidy_stream(alloc, name, style, r, w) {
         Ok(()) => 0,
         Err(trouble) => report_trouble(name, &trouble, e),
     }

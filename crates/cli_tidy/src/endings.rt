@@ -2,12 +2,12 @@
 
 ghost use Rattle.std.specs.Bool.{Decides};
 ghost use Rattle.std.specs.List.{Any};
-ghost use Rattle.std.specs.Prelude.{◌≡◌, codes, string_bytes};
+ghost use Rattle.std.specs.Prelude.{◌≡◌, string_bytes};
 ghost use Rattle.json5_tidy.specs.declared.style.LastCommas.TheVariants as commas;
 ghost use Rattle.cli_tidy.specs.Folders.{HasEnding, IsPassedOver, IsSought};
 ghost use Rattle.cli_tidy.specs.Tidies.{GetsCommas};
 
-use json5_tidy::{LastCommas, Style};
+use json5_tidy::LastCommas;
 
 /// Whether the name ends in a point and this ending, after something else.
 pub(crate) fn has_ending(name: &str, ending: &str) -> bool
@@ -52,24 +52,14 @@ pub(crate) fn is_passed_over(name: &str) -> bool
     name.ends_with(b"/.git") || name.ends_with(b"/node_modules")
 }
 
-/// The style for the file with this name.
-pub(crate) fn style_for(name: &str, style: Style) -> Style
-    ensures { result.last_commas ≡ commas.Always → GetsCommas name.now style }
+/// Where last commas come in the file with this name, if this is asked for: where nothing else is, always if its readers
+/// take them, and never if they take it for JSON.
+pub(crate) fn last_commas_for(name: &str, asked: LastCommas) -> LastCommas
+    ensures { result ≡ commas.Always → GetsCommas name.now asked }
 {
-    match style.last_commas {
-        LastCommas::Auto => Style {
-            last_commas: last_commas_for(name),
-            ..style
-        },
-        _ => style,
+    if !matches!(asked, LastCommas::Auto) {
+        return asked;
     }
-}
-
-/// Where last commas come in the file with this name, if nothing else is asked: always if its readers take them, and
-/// never if they take it for JSON.
-fn last_commas_for(name: &str) -> LastCommas
-    ensures { result ≡ commas.Always → HasEnding (codes "json5") name.now }
-{
     if has_ending(name, "json5") {
         return LastCommas::Always;
     }

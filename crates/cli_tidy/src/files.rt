@@ -2,17 +2,19 @@
 
 ghost use Rattle.std.specs.Prelude.{string_bytes};
 ghost use Rattle.cli_files.specs.JoinedTexts.{joined_texts};
-ghost use Rattle.cli_tidy.specs.Files.{PutsDiff, PutsFile, PutsTexts, WorksOnFile, WorksOnTidied, WorksThrough};
+ghost use Rattle.cli_tidy.specs.Files.{PutsDiff, PutsFile, PutsStyle, PutsTexts, WorksOnFile, WorksOnTidied, WorksThrough};
 ghost use Rattle.cli_tidy.specs.Names.{WorksBelow, WorksThroughNames};
 
+use crate::configs::Configs;
 use crate::diffs::diff;
 use crate::folders::files_of;
 use crate::reports::report_trouble;
 use crate::requests::FileRequest;
+use crate::styles::{TextStyle, style_line};
 use crate::tidied::{Tidied, read_tidied};
 use crate::trouble::FileTrouble;
 use crate::work::FileWork;
-use cli_files::{Failure, Store, put_texts};
+use cli_files::{Failure, Reason, Store, put_texts};
 use std::alloc::Global;
 use std::io::Write;
 
@@ -42,8 +44,9 @@ pub fn work_through<S: Store, W: Write, E: Write>(
     ensures { WorksThroughNames (S.known store.now) request.now (W.contents w.old) (E.contents e.old) (W.contents w.new) (E.contents e.new) result }
 {
     let mut status: u8 = 0;
+    let mut configs = Configs::none(alloc);
     for name in &request.names {
-        let (met, goes_on) = work_below(store, alloc, request, name.as_str(), w, e);
+        let (met, goes_on) = work_below(store, alloc, request, &mut configs, name.as_str(), w, e);
         status = status.max(met);
         if !goes_on {
             return status;
@@ -57,6 +60,7 @@ fn work_below<S: Store, W: Write, E: Write>(
     store: &S,
     alloc: Global,
     request: &FileRequest,
+    configs: &mut Configs,
     name: &str,
     w: &mut W,
     e: &mut E,
@@ -73,7 +77,7 @@ fn work_below<S: Store, W: Write, E: Write>(
     if names.is_empty() {
         return (report_trouble(name, &FileTrouble::NoFile, e), true);
     }
-    work_on_each(store, alloc, request, names.as_slice(), w, e)
+    work_on_each(store, alloc, request, configs, names.as_slice(), w, e)
 }
 
 /// Does the work on each file in turn; and whether it goes on.
@@ -81,6 +85,7 @@ fn work_on_each<S: Store, W: Write, E: Write>(
     store: &S,
     alloc: Global,
     request: &FileRequest,
+    configs: &mut Configs,
     names: &[String],
     w: &mut W,
     e: &mut E,
@@ -90,7 +95,7 @@ fn work_on_each<S: Store, W: Write, E: Write>(
 {
     let mut status: u8 = 0;
     for name in names {
-        let trouble = match work_on(store, alloc, request, name.as_str(), w) {
+        let trouble = match work_on(store, alloc, request, configs, name.as_str(), w) {
             Ok(Outcome::Tidy) => continue,
             Ok(Outcome::Untidy) => {
                 status = status.max(1);
@@ -111,16 +116,21 @@ fn work_on<S: Store, W: Write>(
     store: &S,
     alloc: Global,
     request: &FileRequest,
+    configs: &mut Configs,
     name: &str,
     w: &mut W,
 ) -> Result<Outcome, FileTrouble>
     ensures { WorksOnFile (S.known store.now) request.now name.now (W.contents w.old) (W.contents w.new) result }
 {
-    let Ok(mut file) = store.open(name) else {
-        return Err(FileTrouble::Failed(Failure::Read));
+    let mut file = match store.open(name) {
+        Ok(file) => file,
+        Err(e) => return Err(FileTrouble::Unopened(Reason::of(&e))),
     };
-    match read_tidied(alloc, name, request.options.style, &mut file) {
-        Ok(tidied) => work_on_texts(store, alloc, request.work, name, &tidied, w),
+    let Ok(style) = configs.choose(store, alloc, name, request.options.style) else {
+        return Err(FileTrouble::Failed(Failure::NoMemory));
+    };
+    match read_tidied(alloc, name, style, &mut file) {
+        Ok(tidied) => work_on_texts(store, alloc, request, configs, name, &tidied, w),
         Err(trouble) => Err(trouble),
     }
 }
@@ -129,19 +139,21 @@ fn work_on<S: Store, W: Write>(
 fn work_on_texts<S: Store, W: Write>(
     store: &S,
     alloc: Global,
-    work: FileWork,
+    request: &FileRequest,
+    configs: &Configs,
     name: &str,
     tidied: &Tidied,
     w: &mut W,
 ) -> Result<Outcome, FileTrouble>
-    ensures { WorksOnTidied (S.known store.now) work name.now tidied.now (W.contents w.old) (W.contents w.new) result }
+    ensures { WorksOnTidied (S.known store.now) request.now.work name.now tidied.now (W.contents w.old) (W.contents w.new) result }
 {
-    match work {
+    match request.work {
+        FileWork::Style => put_style(alloc, name, configs, tidied.style, w),
         FileWork::Print => put(w, &[tidied.after.as_str()], Outcome::Tidy),
         _ if tidied.is_tidy() => Ok(Outcome::Tidy),
         FileWork::Check => put(w, &[name, "\n"], Outcome::Untidy),
         FileWork::Diff => put_diff(alloc, name, tidied, w),
-        FileWork::Write => put_file(store, alloc, name, tidied),
+        FileWork::Write => put_file(store, alloc, request, name, tidied, w),
     }
 }
 
@@ -152,6 +164,22 @@ fn put<W: Write>(w: &mut W, texts: &[&str], outcome: Outcome) -> Result<Outcome,
     match put_texts(w, texts) {
         Ok(()) => Ok(outcome),
         Err(failure) => Err(FileTrouble::Failed(failure)),
+    }
+}
+
+/// Writes the style that holds for the file, and what chose each size.
+fn put_style<W: Write>(
+    alloc: Global,
+    name: &str,
+    configs: &Configs,
+    style: TextStyle,
+    w: &mut W,
+) -> Result<Outcome, FileTrouble>
+    ensures { PutsStyle (W.contents w.old) (W.contents w.new) result }
+{
+    match style_line(alloc, name, configs, style) {
+        Ok(line) => put(w, &[line.as_str()], Outcome::Tidy),
+        Err(_) => Err(FileTrouble::Failed(Failure::NoMemory)),
     }
 }
 
@@ -176,17 +204,21 @@ fn put_diff<W: Write>(
     }
 }
 
-/// Puts the tidied text in the place of the file's.
-fn put_file<S: Store>(
+/// Puts the tidied text in the place of the file's, and writes the name, unless nothing is to be said.
+fn put_file<S: Store, W: Write>(
     store: &S,
     alloc: Global,
+    request: &FileRequest,
     name: &str,
     tidied: &Tidied,
+    w: &mut W,
 ) -> Result<Outcome, FileTrouble>
-    ensures { PutsFile ((S.known store.now).replaces name.now (string_bytes tidied.now.before) (string_bytes tidied.now.after)) result }
+    ensures { PutsFile ((S.known store.now).replaces name.now (string_bytes tidied.now.before) (string_bytes tidied.now.after))
+        name.now (W.contents w.old) (W.contents w.new) result }
 {
     match store.replace(alloc, name, tidied.before.as_str(), tidied.after.as_str()) {
-        Ok(()) => Ok(Outcome::Tidy),
+        Ok(()) if request.options.is_quiet => Ok(Outcome::Tidy),
+        Ok(()) => put(w, &[name, "\n"], Outcome::Tidy),
         Err(unwritten) => Err(FileTrouble::Unwritten(unwritten)),
     }
 }

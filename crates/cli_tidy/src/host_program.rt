@@ -25,7 +25,7 @@ pub fn program(rt: &HostRuntime) -> ExitCode {
     let status = match given_words(rt) {
         Ok(list) => words(rt, rt.alloc(), list.as_slice()),
         Err(e) if e.kind() == ErrorKind::OutOfMemory => no_memory(&mut rt.stderr()),
-        Err(_) => usage(&mut rt.stderr()),
+        Err(_) => usage(rt.alloc(), &[], &mut rt.stderr()),
     };
     ExitCode::from(status)
 }

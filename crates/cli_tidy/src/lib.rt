@@ -9,20 +9,25 @@
 
 mod answers;
 mod blocks;
+mod configs;
 mod diffs;
 mod endings;
 mod files;
 mod folders;
+mod hints;
 mod host_program;
 mod hunks;
+mod indents;
 mod names;
 mod options;
 mod refusals;
 mod reports;
 mod requests;
 mod streams;
+mod styles;
 mod taking;
 mod tidied;
+mod told;
 mod trouble;
 mod work;
 
@@ -33,5 +38,6 @@ pub use host_program::{program, words};
 pub use options::Options;
 pub use requests::{FileRequest, TidyRequest};
 pub use streams::tidy_stream;
+pub use styles::{Chooser, ChosenSize, ChosenStyle};
 pub use trouble::FileTrouble;
 pub use work::FileWork;

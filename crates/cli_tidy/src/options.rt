@@ -1,23 +1,26 @@
 //! The options of the command line.
 
 ghost use Rattle.std.specs.Bool.{Decides};
-ghost use Rattle.std.specs.Prelude.{◌≡◌, ◌≢◌, [], ℕ, List, MatchOption, None};
-ghost use Rattle.json5_tidy.specs.Styles.{usual_style};
+ghost use Rattle.std.specs.Prelude.{◌≡◌, ◌≢◌, [], ℕ, List, MatchOption, None, false};
 ghost use Rattle.json5_tidy.specs.declared.style.LastCommas.{LastCommas};
+ghost use Rattle.cli_tidy.specs.ChosenStyles.{nothing_asked};
 ghost use Rattle.cli_tidy.specs.CommandWords.{IsCount, IsDashed, IsEnding, IsFlag, IsIndent, commas_word, end_word, input_name, setting_word};
 ghost use Rattle.cli_tidy.specs.WordSteps.{IsJoined};
 
-use json5_tidy::{LastCommas, Style};
+use crate::styles::ChosenStyle;
+use json5_tidy::LastCommas;
 use std::alloc::{AllocError, Global};
 
 /// What the options ask for.
 #[derive(Drop)]
 pub struct Options {
-    pub style: Style,
+    pub style: ChosenStyle,
     /// The endings, without their points, of the files that are looked for below a folder, beside `json5`.
     pub endings: Vec<String>,
     /// The name of standard input, if one was given: for the style, and in reports.
     pub stdin_name: Option<String>,
+    /// Whether `write` doesn't name the files that it writes.
+    pub is_quiet: bool,
 }
 
 /// An option without a value.
@@ -26,6 +29,7 @@ pub(crate) enum Flag {
     Help,
     Version,
     NoLastComma,
+    Quiet,
 }
 
 /// An option with a value.
@@ -57,16 +61,18 @@ impl From<AllocError> for Fault {
 }
 
 impl Options {
-    /// The usual style, files that end in `.json5`, and standard input without a name.
+    /// No style, files that end in `.json5`, and standard input without a name.
     pub(crate) fn usual(alloc: Global) -> Options
-        ensures style { result.style ≡ usual_style }
+        ensures style { result.style ≡ nothing_asked }
         ensures endings { result.endings.items ≡ [] }
         ensures stdin_name { result.stdin_name ≡ None }
+        ensures is_quiet { result.is_quiet ≡ false }
     {
         Options {
-            style: Style::usual(),
+            style: ChosenStyle::none(),
             endings: Vec::new(alloc),
             stdin_name: None,
+            is_quiet: false,
         }
     }
 
@@ -91,6 +97,7 @@ impl Flag {
             "-h" => Some(Flag::Help),
             "--version" => Some(Flag::Version),
             "--no-last-comma" => Some(Flag::NoLastComma),
+            "--quiet" => Some(Flag::Quiet),
             _ => None,
         }
     }

@@ -2,33 +2,39 @@
 
 ghost use Rattle.std.specs.Prelude.{◌≡◌};
 ghost use Rattle.json5_write.specs.Pieces.{AppendsFront};
-ghost use Rattle.cli_tidy.specs.Troubles.{memory_line, trouble_line, trouble_status, usage_line};
+ghost use Rattle.cli_tidy.specs.Troubles.{SaysUsage, memory_line, trouble_line, trouble_status};
 
+use crate::hints::hint;
 use crate::trouble::FileTrouble;
 use cli_files::{report, report_unwritten, say};
+use std::alloc::Global;
 use std::io::Write;
 
 /// What `--help` writes.
 pub(crate) const HELP: &str =
-    "usage: json5_tidy [OPTION...] [check FILE... or diff FILE... or print FILE... or write FILE...]
+    "usage: json5_tidy [OPTION...] [check FILE... or diff FILE... or print FILE... or write FILE... or style FILE...]
 Lays JSON5 out anew, and keeps each comment and each token as it is spelled.
 
   json5_tidy                tidies standard input to standard output
   json5_tidy check FILE...  names each file that isn't tidy
   json5_tidy diff FILE...   writes what would change, as a unified diff
   json5_tidy print FILE...  writes each file tidied to standard output
-  json5_tidy write FILE...  tidies each file in place
+  json5_tidy write FILE...  tidies each file in place, and names those that weren't tidy
+  json5_tidy style FILE...  writes the style of each file, and what chose it
 
 A folder stands for the files below it that end in .json5, in the order of their names.
 Folders named .git or node_modules are passed over, and links too.
+The style is as the words ask, else as .editorconfig files tell, else the indentation
+that the file has, or 2, and a width of 80.
 
-  --indent N          N spaces a level, 1 to 16; tab: a tab (2)
-  --width N           characters that a line may have, 1 to 9999 (80)
+  --indent N          N spaces a level, 1 to 16; tab: a tab
+  --width N           characters that a line may have, 1 to 9999
   --last-commas WHEN  a comma after the last of a collection over several lines:
                       always; never; or auto: in .json5 files, never in .json
                       and .jsonc files, in others if the text isn't JSON (auto)
   --no-last-comma     the same as --last-commas never
   --ext ENDING        in folders look for files with this ending too
+  --quiet             write doesn't name the files that it writes
   --stdin-name FILE   the name of standard input: for last commas and in reports
   --                  what follows is no option
   --help              writes this
@@ -39,15 +45,17 @@ a file isn't tidy; 2 if a file can't be read or written, memory runs out, or the
 words are wrong.
 ";
 
-/// Writes how the program is called, as one line, and returns the status 2.
-pub(crate) fn usage<E: Write>(e: &mut E) -> u8
+/// Writes a hint to the wrong word of these, and how the program is called, as one line, and returns the status 2.
+pub(crate) fn usage<E: Write>(alloc: Global, list: &[String], e: &mut E) -> u8
     ensures status { result ≡ 2 }
-    ensures line { AppendsFront (E.contents e.old) (E.contents e.new) usage_line }
+    ensures line { SaysUsage (E.contents e.old) (E.contents e.new) }
 {
+    let hint = hint(alloc, list);
     say(
         e,
         &[
-            "usage: json5_tidy [OPTION...] [check FILE... or diff FILE... or print FILE... or write FILE...]\n",
+            hint.as_str(),
+            "usage: json5_tidy [OPTION...] [check FILE... or diff FILE... or print FILE... or write FILE... or style FILE...]\n",
         ],
     );
     2
@@ -74,6 +82,10 @@ pub(crate) fn report_trouble<E: Write>(name: &str, trouble: &FileTrouble, e: &mu
             1
         }
         FileTrouble::Unreported(failure, _) => report(name, failure, e),
+        FileTrouble::Unopened(why) => {
+            say(e, &[name, ": cannot be read", why.words(), "\n"]);
+            2
+        }
         FileTrouble::Unwritten(unwritten) => report_unwritten(name, unwritten, e),
         FileTrouble::NoFile => {
             say(e, &[name, ": no file to tidy is in it\n"]);

@@ -3,10 +3,10 @@
 ghost use Rattle.std.specs.Prelude.{IfErr, IfSome, OnOk};
 ghost use Rattle.cli_tidy.specs.Tidies.{TidyTrouble, WritesTidied};
 
+use crate::styles::ChosenStyle;
 use crate::tidied::read_tidied;
 use crate::trouble::FileTrouble;
 use cli_files::put_texts;
-use json5_tidy::Style;
 use std::alloc::Global;
 use std::io::{Read, Write};
 
@@ -14,7 +14,7 @@ use std::io::{Read, Write};
 /// the style, since in a `.json5` file last commas come unless the style says otherwise.
 ///
 /// ```text
-/// tidy_stream(alloc, "stdin", Style::usual(), &mut rt.stdin(), &mut rt.stdout())?;
+/// tidy_stream(alloc, "stdin", options.style, &mut rt.stdin(), &mut rt.stdout())?;
 /// ```
 ///
 /// # Errors
@@ -25,12 +25,12 @@ use std::io::{Read, Write};
 pub fn tidy_stream<R: Read, W: Write>(
     alloc: Global,
     name: &str,
-    style: Style,
+    style: ChosenStyle,
     r: &mut R,
     w: &mut W,
 ) -> Result<(), FileTrouble>
-    ensures written { OnOk result (IfSome (R.remaining r.old) (WritesTidied style name.now (W.contents w.old) (W.contents w.new))) }
-    ensures stopped { IfErr result (TidyTrouble style name.now (R.remaining r.old) (W.contents w.old) (W.contents w.new)) }
+    ensures written { OnOk result (IfSome (R.remaining r.old) (WritesTidied style.last_commas name.now (W.contents w.old) (W.contents w.new))) }
+    ensures stopped { IfErr result (TidyTrouble style.last_commas name.now (R.remaining r.old) (W.contents w.old) (W.contents w.new)) }
 {
     let tidied = read_tidied(alloc, name, style, r)?;
     match put_texts(w, &[tidied.after.as_str()]) {

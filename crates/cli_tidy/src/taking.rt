@@ -9,6 +9,7 @@ use crate::options::{
     Fault, Flag, Options, Setting, ending_of, indent_of, is_dashed, is_end, last_commas_of,
     unless_empty, width_of,
 };
+use crate::styles::{Chooser, ChosenSize};
 use cli_files::push_name;
 use json5_tidy::LastCommas;
 use std::alloc::Global;
@@ -95,6 +96,7 @@ impl Words {
             Flag::Help => self.question = Some(Question::Help),
             Flag::Version => self.question = Some(Question::Version),
             Flag::NoLastComma => self.options.style.last_commas = LastCommas::Never,
+            Flag::Quiet => self.options.is_quiet = true,
         }
     }
 
@@ -137,10 +139,13 @@ impl Words {
         ensures set { OnOk result (Gains (Sets Setting.Indent value.now) self.old self.new) }
         ensures refused { IfErr result (Refuses (Sets Setting.Indent value.now)) }
     {
-        let Some(indent) = indent_of(value) else {
+        let Some(size) = indent_of(value) else {
             return Err(Fault::Unknown);
         };
-        self.options.style.indent = indent;
+        self.options.style.indent = Some(ChosenSize {
+            size,
+            by: Chooser::Words,
+        });
         Ok(())
     }
 
@@ -148,10 +153,13 @@ impl Words {
         ensures set { OnOk result (Gains (Sets Setting.Width value.now) self.old self.new) }
         ensures refused { IfErr result (Refuses (Sets Setting.Width value.now)) }
     {
-        let Some(width) = width_of(value) else {
+        let Some(size) = width_of(value) else {
             return Err(Fault::Unknown);
         };
-        self.options.style.width = width;
+        self.options.style.width = Some(ChosenSize {
+            size,
+            by: Chooser::Words,
+        });
         Ok(())
     }
 

@@ -4,11 +4,11 @@ ghost use Rattle.std.specs.Prelude.{◌≡◌, ◌≢◌, true, false, IfOk, IfE
 ghost use Rattle.cli_tidy.specs.Refusals.{IsFaultOf, IsTroubleOf};
 ghost use Rattle.cli_tidy.specs.Tidies.{HoldsTidied};
 
-use crate::endings::style_for;
 use crate::refusals::{refused_text, wrong_bytes};
+use crate::styles::{ChosenStyle, TextStyle, style_for};
 use crate::trouble::FileTrouble;
 use cli_files::read_whole;
-use json5_tidy::{Style, tidy_with};
+use json5_tidy::tidy_with;
 use std::alloc::Global;
 use std::io::Read;
 
@@ -17,6 +17,8 @@ use std::io::Read;
 pub(crate) struct Tidied {
     pub(crate) before: String,
     pub(crate) after: String,
+    /// In which style.
+    pub(crate) style: TextStyle,
 }
 
 impl Tidied {
@@ -38,10 +40,10 @@ impl Tidied {
 pub(crate) fn read_tidied<R: Read>(
     alloc: Global,
     name: &str,
-    style: Style,
+    style: ChosenStyle,
     r: &mut R,
 ) -> Result<Tidied, FileTrouble>
-    ensures read { IfOk result (HoldsTidied style name.now (R.remaining r.old)) }
+    ensures read { IfOk result (HoldsTidied style.last_commas name.now (R.remaining r.old)) }
     ensures stopped { IfErr result (IsTroubleOf name.now (R.remaining r.old)) }
 {
     match read_whole(alloc, r) {
@@ -59,10 +61,10 @@ pub(crate) fn read_tidied<R: Read>(
 fn tidied_bytes(
     alloc: Global,
     name: &str,
-    style: Style,
+    style: ChosenStyle,
     bytes: Vec<u8>,
 ) -> Result<Tidied, FileTrouble>
-    ensures tidied { IfOk result (HoldsTidied style name.now (Some bytes.items)) }
+    ensures tidied { IfOk result (HoldsTidied style.last_commas name.now (Some bytes.items)) }
     ensures refused { IfErr result (IsFaultOf name.now bytes.items) }
 {
     match String::from_utf8(bytes) {
@@ -75,14 +77,19 @@ fn tidied_bytes(
 fn tidied_text(
     alloc: Global,
     name: &str,
-    style: Style,
+    style: ChosenStyle,
     before: String,
 ) -> Result<Tidied, FileTrouble>
-    ensures tidied { IfOk result (HoldsTidied style name.now (Some (string_bytes before))) }
+    ensures tidied { IfOk result (HoldsTidied style.last_commas name.now (Some (string_bytes before))) }
     ensures refused { IfErr result (IsFaultOf name.now (string_bytes before)) }
 {
-    match tidy_with(alloc, style_for(name, style), before.as_str()) {
-        Ok(after) => Ok(Tidied { before, after }),
+    let style = style_for(alloc, name, style, before.as_str());
+    match tidy_with(alloc, style.style, before.as_str()) {
+        Ok(after) => Ok(Tidied {
+            before,
+            after,
+            style,
+        }),
         Err(error) => Err(refused_text(alloc, name, before.as_str(), error)),
     }
 }

@@ -5,7 +5,7 @@ ghost use Rattle.cli_files.specs.declared.failure.Failure.TheVariants as failure
 ghost use Rattle.cli_tidy.specs.declared.trouble.FileTrouble.TheVariants as troubles;
 ghost use Rattle.cli_tidy.specs.Troubles.{trouble_status};
 
-use cli_files::{Failure, Unwritten};
+use cli_files::{Failure, Reason, Unwritten};
 use json5_types::error::Error;
 
 /// Why the work on a file ended.
@@ -17,6 +17,8 @@ pub enum FileTrouble {
     Refused(String),
     /// The same, where memory ran out for its report: why it is refused, and the error of making the report.
     Unreported(Failure, Error),
+    /// The file can't be opened.
+    Unopened(Reason),
     /// The file wasn't replaced.
     Unwritten(Unwritten),
     /// It is a folder, and no file below it has an ending that was asked for.
@@ -32,7 +34,7 @@ impl FileTrouble {
             FileTrouble::Failed(failure) => failure.status(),
             FileTrouble::Refused(_) => 1,
             FileTrouble::Unreported(failure, _) => failure.status(),
-            FileTrouble::Unwritten(_) | FileTrouble::NoFile => 2,
+            FileTrouble::Unopened(_) | FileTrouble::Unwritten(_) | FileTrouble::NoFile => 2,
         }
     }
 

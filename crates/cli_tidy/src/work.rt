@@ -14,6 +14,8 @@ pub enum FileWork {
     Print,
     /// Tidies it in place.
     Write,
+    /// Writes the style that holds for it.
+    Style,
 }
 
 impl FileWork {
@@ -30,6 +32,7 @@ impl FileWork {
             "diff" => Some(FileWork::Diff),
             "print" => Some(FileWork::Print),
             "write" => Some(FileWork::Write),
+            "style" => Some(FileWork::Style),
             _ => None,
         }
     }

@@ -4,7 +4,7 @@ use Rattle.cli_files.proofs.LinesJoined.{taken_joined, remains_joined}
 use Rattle.cli_files.proofs.reports.report_unwritten.Goals as goal
 
 pub returns-in-Refused-clause-line : goal.returns-in-Refused-clause-line
-returns-in-Refused-clause-line g c = rw c.in-Refused.is c.say.ensures
+returns-in-Refused-clause-line g c = rw (c.in-Refused.is, sym c.words.ensures) c.say.ensures
 
 pub returns-in-Changed-clause-line : goal.returns-in-Changed-clause-line
 returns-in-Changed-clause-line g c = rw c.in-Changed.is c.say-in-Changed.ensures

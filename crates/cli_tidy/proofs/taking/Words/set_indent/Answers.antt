@@ -6,4 +6,4 @@ pub returns-in_default-clause-refused : goal.returns-in_default-clause-refused
 returns-in_default-clause-refused c = λ u p k. c.in_default.ensures k.0 k.1
 
 pub returns-clause-set : goal.returns-clause-set
-returns-clause-set c = (indent c.in-Some.indent, (c.in-Some.indent, c.in-Some.ensures, refl), refl)
+returns-clause-set c = (indent c.in-Some.size, (c.in-Some.size, c.in-Some.ensures, refl), refl)
