@@ -1,4 +1,7 @@
 -- Lists the lemmas about what the program does.
+pub mod WordsTaken
 pub mod PartsRead
+pub mod Reading
+pub mod PathsPut
 pub mod EditsMade
 pub mod Statuses

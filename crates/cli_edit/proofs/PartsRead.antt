@@ -1,10 +1,11 @@
 -- The value that a path leads to.
-use Rattle.std.proofs.Common.{◌≡◌, ◌≤◌, ◌⊎◌, inl, inr, ℕ, zero, suc, true, false, Bool, List, [], ◌∷◌, ◌++◌, Some, refl, ap, sym, ◌∙◌, subst, arith}
+use Rattle.std.proofs.Common.{◌≡◌, ◌≤◌, ◌<◌, ◌+◌, ◌⊎◌, append-nil, append_assoc, get_or, length, take, inl, inr, ℕ, zero, suc, true, false, Bool, List, [], ◌∷◌, ◌++◌, Option, Some, refl, ap, sym, ◌∙◌, subst, arith}
 use Rattle.std.proofs.Math.Nat.{le-max_left, le-max_right}
 use Rattle.std.specs.declared.alloc.Global.{Global}
 use Rattle.std.specs.Prelude.{IfErr, IfOk, Result, Ok, Err, String, string_bytes, slice_range}
 use Rattle.std.specs.Str.{chars, IsUtf8, all_scalars}
 use Rattle.std.proofs.lemmas.Str.{chars-encodes, scalars-chars}
+use Rattle.json5_grammar.specs.Language.Characters.{line_feed}
 use Rattle.json5_grammar.specs.Language.Documents.{Doc, max_depth}
 use Rattle.json5_grammar.specs.Language.Trees.{Tree, null, boolean, number, text, array, object, Trees, Members, no_more, more, no_member, member, depth, depths, member_depths}
 use Rattle.json5_grammar.specs.Language.Values.{Val}
@@ -12,8 +13,10 @@ use Rattle.json5_grammar.proofs.OneTree.{one_tree}
 use Rattle.json5_grammar.proofs.ScalarsWritten.{alone}
 use Rattle.json5_types.specs.declared.error.Error.{Error}
 use Rattle.json5_types.specs.Errors.{LacksMemory}
+use Rattle.json5_types.specs.ValueKinds.{len_of}
 use Rattle.json5_types.specs.ValueLookups.{fits}
-use Rattle.json5_types.specs.ValueMeanings.{Datum}
+use Rattle.json5_types.specs.ValueMeanings.{Datum, fields_view}
+use Rattle.json5_types.specs.declared.value.Value.{Value}
 use Rattle.json5_read.specs.TreeMeanings.{datum_of}
 use Rattle.json5_styles.specs.JsonTexts.{is_json}
 use Rattle.json5_styles.specs.WholeTexts.{RefusesText}
@@ -25,7 +28,11 @@ use Rattle.json5_edit.specs.declared.paths.Step.{Step}
 use Rattle.json5_edit.proofs.Placed.{part_there, scalars_left, scalars_right}
 use Rattle.cli_edit.specs.declared.trouble.TextTrouble.{TextTrouble}
 use Rattle.cli_edit.specs.declared.trouble.TextTrouble.TheVariants as trouble
-use Rattle.cli_edit.specs.Parts.{IsJsonAt, IsJsonOf, IsNoJson, IsPartAt, HasNoJson, RefusesJsonAt, RefusesJsonOf, json_line}
+use Rattle.json5_edit.specs.declared.faults.EditError.TheVariants as error
+use Rattle.cli_edit.specs.Puts.{IsCountAt}
+use Rattle.cli_edit.specs.declared.requests.View.{View}
+use Rattle.cli_edit.specs.declared.requests.View.TheVariants as view
+use Rattle.cli_edit.specs.Parts.{IsNoJson, IsPartAt, IsShownAt, IsShownOf, KeyLines, RefusesShowing, RefusesShownOf, Shows, ShowsNone}
 
 itself : (n : ℕ) → n ≤ n
 itself n = omega arith
@@ -71,18 +78,62 @@ part_found bytes spelled steps p u leads is =
 pub part_fits : (bytes spelled : List ℕ) (steps : List Step) → IsPartAt bytes steps spelled → IsValue max_depth (chars spelled)
 part_fits bytes spelled steps p = (p.value, p.is_value, within (part_depth p.positions p.tree p.value p.there) p.document.shallow)
 
--- ---- JSON
+-- ---- what is written of it
 
 same_value : (x : List ℕ) (t u : Tree) → Doc max_depth x t → Val x u → t ≡ u
 same_value x t u d v = one_tree max_depth (depth u) x t u d (alone (depth u) x u v (itself (depth u)))
 
-pub json_there : (bytes spelled made : List ℕ) (steps : List Step) → IsPartAt bytes steps spelled → IsJsonOf spelled made → IsJsonAt bytes steps made
-json_there bytes spelled made steps p (t, d, j, m) =
-    let same = same_value (chars spelled) t p.value d p.is_value in
-    (spelled, p, subst (λ z. is_json (datum_of z) ≡ true) same j, subst (λ z. made ≡ json_line (datum_of z)) same m)
+pub value_alone : (x : List ℕ) → IsValue max_depth x → (t : Tree) × Doc max_depth x t
+value_alone x (t, v, n) = (t, alone max_depth x t v n)
 
-pub no_json_there : (bytes spelled : List ℕ) (steps : List Step) (p : IsPartAt bytes steps spelled) (t : Tree) → Doc max_depth (chars spelled) t → HasNoJson (datum_of t) → HasNoJson (datum_of p.value)
-no_json_there bytes spelled steps p t d n = subst (λ z. HasNoJson (datum_of z)) (same_value (chars spelled) t p.value d p.is_value) n
+module _ (w : View) (bytes spelled : List ℕ) (steps : List Step) (p : IsPartAt bytes steps spelled) where
+  pub shown_ok : (r : Result (String Global) TextTrouble) → IfOk r (λ made. IsShownOf w spelled (string_bytes made)) → IfOk r (λ made. IsShownAt w bytes steps (string_bytes made))
+  shown_ok (Ok made) (t, d, k) = (spelled, p, subst (λ z. Shows w spelled (datum_of z) (string_bytes made)) (same_value (chars spelled) t p.value d p.is_value) k)
+  shown_ok (Err x) k = tt
+
+  pub shown_err : (r : Result (String Global) TextTrouble) → IfErr r (RefusesShownOf w spelled) → IfErr r (RefusesShowing w bytes steps)
+  shown_err (Ok made) k = tt
+  shown_err (Err x) (t, d, k) = inr (spelled, p, subst (λ z. ShowsNone w (datum_of z) x) (same_value (chars spelled) t p.value d p.is_value) k)
+
+-- how many entries it has
+pub count_there : (bytes spelled : List ℕ) (steps : List Step) → IsPartAt bytes steps spelled → (t : Tree) → Doc max_depth (chars spelled) t → (x : Datum) → x ≡ datum_of t → (n : Option ℕ) → n ≡ len_of x → IsCountAt bytes steps n
+count_there bytes spelled steps p t d x is n e = (spelled, p, sym (e ∙ ap len_of (is ∙ ap datum_of (same_value (chars spelled) t p.value d p.is_value))))
+
+-- of a value that was read
+module _ (w : View) (spelled : List ℕ) (t : Tree) (d : Doc max_depth (chars spelled) t) (x : Datum) (is : x ≡ datum_of t) where
+  pub told_ok : (r : Result (String Global) TextTrouble) → IfOk r (λ made. Shows w spelled x (string_bytes made)) → IfOk r (λ made. IsShownOf w spelled (string_bytes made))
+  told_ok (Ok made) k = (t, d, subst (λ z. Shows w spelled z (string_bytes made)) is k)
+  told_ok (Err e) k = tt
+
+  pub told_err : (r : Result (String Global) TextTrouble) → IfErr r (ShowsNone w x) → IfErr r (RefusesShownOf w spelled)
+  told_err (Ok made) k = tt
+  told_err (Err e) k = (t, d, subst (λ z. ShowsNone w z e) is k)
+
+-- of a value without reading it
+memory : (w : View) (x : Datum) → ShowsNone w x (trouble.Edit error.NoMemory)
+memory view.Spelled x = tt
+memory view.Json x = tt
+memory view.Content x = tt
+memory view.Nothing x = tt
+memory view.Keys x = tt
+memory view.Count x = tt
+memory view.Kind x = tt
+
+pub memory_none : (w : View) (spelled : List ℕ) → IsValue max_depth (chars spelled) → RefusesShownOf w spelled (trouble.Edit error.NoMemory)
+memory_none w spelled v = let (t, d) = value_alone (chars spelled) v in (t, d, memory w (datum_of t))
+
+pub shown_nothing : (spelled made : List ℕ) → IsValue max_depth (chars spelled) → made ≡ [] → IsShownOf view.Nothing spelled made
+shown_nothing spelled made v e = let (t, d) = value_alone (chars spelled) v in (t, d, e)
+
+pub shown_spelled : (spelled : List ℕ) → IsValue max_depth (chars spelled) → (r : Result (String Global) TextTrouble) → IfOk r (λ made. string_bytes made ≡ spelled ++ line_feed ∷ []) → IfOk r (λ made. IsShownOf view.Spelled spelled (string_bytes made))
+shown_spelled spelled v (Ok made) e = let (t, d) = value_alone (chars spelled) v in (t, d, e)
+shown_spelled spelled v (Err x) e = tt
+
+pub spelled_refused : (spelled : List ℕ) → IsValue max_depth (chars spelled) → (r : Result (String Global) TextTrouble) → IfErr r (λ e. e ≡ trouble.Edit error.NoMemory) → IfErr r (RefusesShownOf view.Spelled spelled)
+spelled_refused spelled v (Ok made) e = tt
+spelled_refused spelled v (Err x) e = subst (RefusesShownOf view.Spelled spelled) (sym e) (memory_none view.Spelled spelled v)
+
+-- ---- JSON
 
 -- what isn't refused for want of memory
 pub not_memory : (f j : Bool) (e : Error) → RefusesText f j e → (LacksMemory e → ⊥) → (j ≡ false) ⊎ (f ≡ false)
@@ -90,32 +141,31 @@ not_memory true true e r n = absurd (n r)
 not_memory true false e r n = inl refl
 not_memory false j e r n = inr refl
 
--- ---- what the calls return
-
-module _ (bytes spelled : List ℕ) (steps : List Step) (p : IsPartAt bytes steps spelled) where
-  pub json_ok : (r : Result (String Global) TextTrouble) → IfOk r (λ made. IsJsonOf spelled (string_bytes made)) → IfOk r (λ made. IsJsonAt bytes steps (string_bytes made))
-  json_ok (Ok made) k = json_there bytes spelled (string_bytes made) steps p k
-  json_ok (Err x) k = tt
-
-  json_trouble : (x : TextTrouble) → RefusesJsonOf spelled x → RefusesJsonAt bytes steps x
-  json_trouble (trouble.Edit e) k = subst (RefusesPath bytes steps) (sym k) tt
-  json_trouble (trouble.NoJson e) (t, d, n) = (spelled, p, no_json_there bytes spelled steps p t d n)
-  json_trouble (trouble.Failed f) k = k
-  json_trouble (trouble.Unwritten u) k = k
-
-  pub json_err : (r : Result (String Global) TextTrouble) → IfErr r (RefusesJsonOf spelled) → IfErr r (RefusesJsonAt bytes steps)
-  json_err (Ok made) k = tt
-  json_err (Err x) k = json_trouble x k
-
--- ---- a value alone
-
-module _ (spelled : List ℕ) (t : Tree) (d : Doc max_depth (chars spelled) t) (x : Datum) (is : x ≡ datum_of t) where
-  pub no_json_of : (e : Error) (r : TextTrouble) → RefusesText (fits x) (is_json x) e → IsNoJson e r → RefusesJsonOf spelled r
-  no_json_of e (trouble.Edit m) k n = n
-  no_json_of e (trouble.NoJson f) k n = (t, d, subst HasNoJson is (not_memory (fits x) (is_json x) e k n))
-  no_json_of e (trouble.Failed f) k n = n
-  no_json_of e (trouble.Unwritten u) k n = n
+pub json_none : (x : Datum) (e : Error) (r : TextTrouble) → RefusesText (fits x) (is_json x) e → IsNoJson e r → ShowsNone view.Json x r
+json_none x e (trouble.Edit m) k n = subst (λ z. ShowsNone view.Json x (trouble.Edit z)) (sym n) tt
+json_none x e (trouble.NoJson f) k n = not_memory (fits x) (is_json x) e k n
+json_none x e (trouble.Failed f) k n = n
+json_none x e (trouble.Unwritten u) k n = n
 
 -- the place is in the text
 pub place_there : (bytes : List ℕ) (steps : List Step) (p : Place) → Leads bytes steps (Some p) → HasPlace bytes p
 place_there bytes steps p leads = let q = leads.placed in (q.before, q.old, q.after, q.cut)
+
+-- ---- the keys of an object
+
+lines_grow : (i : ℕ) (fs : List (String Global × Value)) (d : String Global × Value) (made : List ℕ) → i < length fs → KeyLines (fields_view (take i fs)) made
+    → KeyLines (fields_view (take (suc i) fs)) (made ++ (string_bytes ((get_or fs i d).0) ++ line_feed ∷ []))
+lines_grow zero [] d made h k = absurd (omega (arith, h))
+lines_grow zero (g ∷ fs) d made h k =
+    let line = string_bytes (g.0) ++ line_feed ∷ [] in
+    (string_bytes (g.0), [], refl, ap (λ z. z ++ line) k ∙ sym (append-nil line), refl)
+lines_grow (suc i) [] d made h k = absurd (omega (arith, h))
+lines_grow (suc i) (g ∷ fs) d made h (key, rest, c, is, k) =
+    let line = string_bytes ((get_or fs i d).0) ++ line_feed ∷ [] in
+    (key, rest ++ line, c, ap (λ z. z ++ line) is ∙ append_assoc (key ++ line_feed ∷ []) rest line, lines_grow i fs d rest (omega (arith, h)) k)
+
+pub lines_more : (i : ℕ) (fs : List (String Global × Value)) (d f : String Global × Value) (made new : List ℕ) → i < length fs → KeyLines (fields_view (take i fs)) made
+    → f ≡ get_or fs i d → new ≡ made ++ (string_bytes (f.0) ++ line_feed ∷ []) → KeyLines (fields_view (take (i + 1) fs)) new
+lines_more i fs d f made new h k is e =
+    let next : i + 1 ≡ suc i = omega arith in
+    rw (next, e, is) (lines_grow i fs d made h k)

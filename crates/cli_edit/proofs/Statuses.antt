@@ -1,10 +1,12 @@
--- Statuses are at most 2.
+-- Statuses are at most 3.
 use Rattle.std.proofs.Common.{◌≡◌, ◌≤◌, ℕ, List, refl, arith}
 use Rattle.std.specs.declared.alloc.Global.{Global}
 use Rattle.std.specs.Prelude.{Option, String}
 use Rattle.cli_files.specs.NameLists.{names_of}
 use Rattle.cli_files.specs.Stores.{Known}
-use Rattle.cli_files.proofs.Statuses.{failure_low, text_low}
+use Rattle.cli_files.specs.declared.failure.Failure.{Failure}
+use Rattle.cli_files.specs.declared.failure.Failure.TheVariants as failure
+use Rattle.cli_files.proofs.Statuses.{text_low}
 use Rattle.json5_edit.specs.declared.faults.EditError.{EditError}
 use Rattle.json5_edit.specs.declared.faults.EditError.TheVariants as error
 use Rattle.cli_edit.specs.declared.trouble.TextTrouble.{TextTrouble}
@@ -13,10 +15,10 @@ use Rattle.cli_edit.specs.declared.requests.Task.{Task}
 use Rattle.cli_edit.specs.declared.requests.EditRequest.TheVariants as requests
 use Rattle.cli_edit.specs.Answers.{Answers, helps, tells_version, does, says_usage}
 use Rattle.cli_edit.specs.Requests.{AsksNothing}
-use Rattle.cli_edit.specs.Troubles.{edit_status, trouble_status}
-use Rattle.cli_edit.specs.Works.{Does, DoesAt, reads, reads_none, no_path, worked, stopped, no_steps}
+use Rattle.cli_edit.specs.Troubles.{edit_status, read_status, trouble_status}
+use Rattle.cli_edit.specs.Works.{Does, DoesAt, DoesWith, does_with, not_begun, reads, reads_none, worked, stopped, no_steps}
 
-edit_small : (e : EditError) → edit_status e ≤ 2
+edit_small : (e : EditError) → edit_status e ≤ 3
 edit_small (error.Text e) = omega arith
 edit_small error.Nowhere = omega arith
 edit_small (error.Value e) = omega arith
@@ -27,25 +29,38 @@ edit_small error.NoKey = omega arith
 edit_small error.NoMemory = omega arith
 edit_small error.Failed = omega arith
 
-trouble_small : (x : TextTrouble) → trouble_status x ≤ 2
+trouble_small : (x : TextTrouble) → trouble_status x ≤ 3
 trouble_small (trouble.Edit e) = edit_small e
 trouble_small (trouble.NoJson e) = omega arith
-trouble_small (trouble.Failed f) = failure_low f
+trouble_small (trouble.Failed f) = omega arith
 trouble_small (trouble.Unwritten u) = omega arith
 
-at_small : {known : Known} {t : Task} {text : List ℕ} {output errors written said : Option (List ℕ)} {status : ℕ} → DoesAt known t text output errors written said status → status ≤ 2
-at_small (worked steps w) = omega arith
-at_small (stopped steps x n) = trouble_small x
+read_small : (f : Failure) → read_status f ≤ 3
+read_small failure.NotUtf8 = omega arith
+read_small (failure.Text e) = omega arith
+read_small failure.NoMemory = omega arith
+read_small failure.Read = omega arith
+read_small failure.Write = omega arith
+
+wider : {n : ℕ} → n ≤ 2 → n ≤ 3
+wider p = omega (arith, p)
+
+at_small : {known : Known} {t : Task} {given text : List ℕ} {output errors written said : Option (List ℕ)} {status : ℕ} → DoesAt known t given text output errors written said status → status ≤ 3
+at_small (worked steps value m w) = omega arith
+at_small (stopped steps value x m n) = trouble_small x
 at_small (no_steps e r k) = edit_small e
 
-does_small : {known : Known} {t : Task} {input output errors written said : Option (List ℕ)} {status : ℕ} → Does known t input output errors written said status → status ≤ 2
-does_small (reads text h d) = at_small d
-does_small (reads_none f h k) = failure_low f
-does_small (no_path k) = omega arith
+with_small : {known : Known} {t : Task} {given : List ℕ} {input output errors written said : Option (List ℕ)} {status : ℕ} → DoesWith known t given input output errors written said status → status ≤ 3
+with_small (reads text h d) = at_small d
+with_small (reads_none f h k) = read_small f
 
-pub small : {known : Known} {words : List (String Global)} {input output errors written said : Option (List ℕ)} {status : ℕ} → Answers known words input output errors written said status → status ≤ 2
-small (helps a s) = text_low s
-small (tells_version a s) = text_low s
+does_small : {known : Known} {t : Task} {input output errors written said : Option (List ℕ)} {status : ℕ} → Does known t input output errors written said status → status ≤ 3
+does_small (does_with given g d) = with_small d
+does_small (not_begun k) = omega arith
+
+pub small : {known : Known} {words : List (String Global)} {input output errors written said : Option (List ℕ)} {status : ℕ} → Answers known words input output errors written said status → status ≤ 3
+small (helps a s) = wider (text_low s)
+small (tells_version a s) = wider (text_low s)
 small (does t a d) = does_small d
 small (says_usage n) = omega arith
 

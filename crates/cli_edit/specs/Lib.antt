@@ -1,6 +1,8 @@
 -- Lists the definitions of what the program does.
 pub mod Requests
 pub mod Parts
+pub mod Values
+pub mod Puts
 pub mod Makes
 pub mod Troubles
 pub mod Works

@@ -1,11 +1,11 @@
 -- What is made of a text.
 -- A promise rests on this.
 use Rattle.std.specs.declared.alloc.Global.{Global}
-use Rattle.std.specs.Prelude.{◌≡◌, ◌≢◌, ◌⊎◌, ℕ, List, [], ◌∷◌, ◌++◌, Result, Ok, Err, String}
+use Rattle.std.specs.Prelude.{◌≡◌, ◌≢◌, ◌⊎◌, ℕ, true, false, List, [], ◌∷◌, ◌++◌, Result, Ok, Err, String}
 use Rattle.std.specs.Str.{chars}
 use Rattle.json5_lexemes.specs.Lexemes.{HaveSameLexemes}
 use Rattle.json5_edit.specs.Changes.{IsInserted, IsPushed, IsPutIn, IsRekeyed, IsRemoved}
-use Rattle.json5_edit.specs.Refusals.{RefusesInsert, RefusesPath, RefusesPush, RefusesPutIn, RefusesRemove, RefusesRename, RefusesSet}
+use Rattle.json5_edit.specs.Refusals.{RefusesInsert, RefusesPath, RefusesPush, RefusesPutIn, RefusesRename, RefusesSet}
 use Rattle.json5_edit.specs.Sets.{IsSet}
 use Rattle.json5_edit.specs.declared.faults.EditError.{EditError}
 use Rattle.json5_edit.specs.declared.faults.EditError.TheVariants as error
@@ -15,7 +15,8 @@ use Rattle.cli_edit.specs.declared.requests.Command.{Command}
 use Rattle.cli_edit.specs.declared.requests.Command.TheVariants as work
 use Rattle.cli_edit.specs.declared.trouble.TextTrouble.{TextTrouble}
 use Rattle.cli_edit.specs.declared.trouble.TextTrouble.TheVariants as trouble
-use Rattle.cli_edit.specs.Parts.{IsJsonAt, IsSpelledAt, RefusesJsonAt}
+use Rattle.cli_edit.specs.Parts.{IsShownAt, RefusesShowing}
+use Rattle.cli_edit.specs.Puts.{PutsAt, RefusesPut}
 
 -- with a member of this key more, or with an element more before that with this index
 abbrev pub InsertsBy : Step → List ℕ → List Step → List ℕ → List ℕ → Type 0
@@ -33,32 +34,39 @@ RefusesBy (step.Index i) text outer value e = RefusesPutIn text outer i value e
 abbrev pub RefusesInserting : List ℕ → List Step → List ℕ → EditError → Type 0
 RefusesInserting text steps value e = ((steps ≡ []) × (e ≡ error.NoKey)) ⊎ ((outer : List Step) × (s : Step) × (steps ≡ outer ++ (s ∷ [])) × RefusesBy s text outer value e)
 
+-- without the entry at the steps: the whole value is none
+abbrev pub RefusesRemoving : List ℕ → List Step → EditError → Type 0
+RefusesRemoving text steps error.NoKey = steps ≡ []
+RefusesRemoving text steps e = RefusesPath text steps e
+
 -- the work on this text, at these steps, with this value
 abbrev pub Makes : Command → List ℕ → List Step → List ℕ → List ℕ → Type 0
-Makes work.Get text steps value made = IsSpelledAt text steps made
-Makes work.Json text steps value made = IsJsonAt text steps made
+Makes (work.Show v) text steps value made = IsShownAt v text steps made
 Makes work.Set text steps value made = IsSet text steps value made
 Makes work.Insert text steps value made = Inserts text steps value made
-Makes work.Remove text steps value made = IsRemoved text steps made
 Makes work.Push text steps value made = IsPushed text steps value made
+Makes work.Put text steps value made = PutsAt false text steps value made
+Makes work.PutAbsent text steps value made = PutsAt true text steps value made
 Makes work.Rename text steps value made = IsRekeyed text steps value made
+Makes work.Remove text steps value made = IsRemoved text steps made
 
 -- the same with this value; or, unless it is a key, with another that has its lexemes
 abbrev pub MakesLaid : Command → List ℕ → List Step → List ℕ → List ℕ → Type 0
 MakesLaid w text steps value made = Makes w text steps value made ⊎ ((w ≢ work.Rename) × ((placed : List ℕ) × HaveSameLexemes (chars value) (chars placed) × Makes w text steps placed made))
 
 abbrev pub RefusesEdit : Command → List ℕ → List Step → List ℕ → EditError → Type 0
-RefusesEdit work.Get text steps value e = RefusesPath text steps e
-RefusesEdit work.Json text steps value e = RefusesPath text steps e
+RefusesEdit (work.Show v) text steps value e = ⊥
 RefusesEdit work.Set text steps value e = RefusesSet text steps value e
 RefusesEdit work.Insert text steps value e = RefusesInserting text steps value e
-RefusesEdit work.Remove text steps value e = RefusesRemove text steps e
 RefusesEdit work.Push text steps value e = RefusesPush text steps value e
+RefusesEdit work.Put text steps value e = RefusesPut text steps value e
+RefusesEdit work.PutAbsent text steps value e = RefusesPut text steps value e
 RefusesEdit work.Rename text steps value e = RefusesRename text steps value e
+RefusesEdit work.Remove text steps value e = RefusesRemoving text steps e
 
 abbrev pub RefusesWork : Command → List ℕ → List Step → List ℕ → TextTrouble → Type 0
+RefusesWork (work.Show v) text steps value x = RefusesShowing v text steps x
 RefusesWork w text steps value (trouble.Edit e) = RefusesEdit w text steps value e
-RefusesWork w text steps value (trouble.NoJson e) = (w ≡ work.Json) × RefusesJsonAt text steps (trouble.NoJson e)
 RefusesWork w text steps value _ = ⊥
 
 -- what an edit returns, as the work's own

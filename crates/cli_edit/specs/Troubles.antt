@@ -1,18 +1,24 @@
--- The statuses of what goes wrong.
+-- The statuses of what goes wrong: 1 where the path leads nowhere, 3 where the file is no document, 2 for anything else.
 -- A promise rests on this.
 use Rattle.std.specs.Prelude.{ℕ}
-use Rattle.cli_files.specs.Reports.{status_of}
+use Rattle.cli_files.specs.declared.failure.Failure.{Failure}
+use Rattle.cli_files.specs.declared.failure.Failure.TheVariants as failure
 use Rattle.json5_edit.specs.declared.faults.EditError.{EditError}
 use Rattle.json5_edit.specs.declared.faults.EditError.TheVariants as error
 use Rattle.cli_edit.specs.declared.trouble.TextTrouble.{TextTrouble}
 use Rattle.cli_edit.specs.declared.trouble.TextTrouble.TheVariants as trouble
 
 abbrev pub edit_status : EditError → ℕ
-edit_status error.NoMemory = 2
-edit_status _ = 1
+edit_status error.Nowhere = 1
+edit_status (error.Text e) = 3
+edit_status _ = 2
 
 abbrev pub trouble_status : TextTrouble → ℕ
 trouble_status (trouble.Edit e) = edit_status e
-trouble_status (trouble.NoJson e) = 1
-trouble_status (trouble.Failed f) = status_of f
-trouble_status (trouble.Unwritten u) = 2
+trouble_status _ = 2
+
+-- where it isn't read
+abbrev pub read_status : Failure → ℕ
+read_status failure.NotUtf8 = 3
+read_status (failure.Text e) = 3
+read_status _ = 2

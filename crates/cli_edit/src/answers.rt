@@ -2,7 +2,7 @@
 
 ghost use Rattle.cli_edit.specs.Answers.{Answers};
 
-use crate::lines::{HELP, usage};
+use crate::lines::{HELP, wrong_words};
 use crate::requests::EditRequest;
 use crate::works::do_task;
 use cli_files::{Store, VERSION, answer_with};
@@ -13,7 +13,7 @@ use std::io::{Read, Write};
 /// with the usage line. Returns the status that the program ends with.
 ///
 /// ```text
-/// answer(&rt, alloc, list, &mut rt.stdin(), &mut rt.stdout(), &mut rt.stderr())    // 0, 1 or 2
+/// answer(&rt, alloc, list, &mut rt.stdin(), &mut rt.stdout(), &mut rt.stderr())    // 0, 1, 2 or 3
 /// ```
 pub fn answer<S: Store, R: Read, W: Write, E: Write>(
     store: &S,
@@ -29,6 +29,6 @@ pub fn answer<S: Store, R: Read, W: Write, E: Write>(
         Some(EditRequest::Help) => answer_with(&[HELP], w, e),
         Some(EditRequest::Version) => answer_with(&["json5_edit ", VERSION, "\n"], w, e),
         Some(EditRequest::Task(task)) => do_task(store, alloc, &task, r, w, e),
-        None => usage(e),
+        None => wrong_words(alloc, list, e),
     }
 }

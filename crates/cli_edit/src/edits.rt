@@ -1,30 +1,33 @@
 //! What is made of a text.
 
 ghost use Rattle.std.specs.Prelude.{◌≡◌, IfErr, IfOk, string_bytes};
-ghost use Rattle.cli_edit.specs.Makes.{Inserts, Makes, MakesLaid, RefusesInserting, RefusesWork, edited};
+ghost use Rattle.cli_edit.specs.Makes.{Inserts, Makes, MakesLaid, RefusesInserting, RefusesRemoving, RefusesWork, edited};
+ghost use Rattle.json5_edit.specs.Changes.{IsRemoved};
 
-use crate::parts::{json_at, spelled_at};
+use crate::parts::shown_at;
 use crate::placed::placed;
+use crate::putting::put;
 use crate::requests::{Command, Task};
 use crate::trouble::TextTrouble;
 use json5_edit::{
-    EditError, Names, Result, Step, find, insert_element, insert_in, push, remove, rename, set,
+    EditError, Names, Result, Step, insert_element, insert_in, push, remove, rename, set,
 };
 use std::alloc::Global;
 
-/// The text that is written: the value that was asked for and a line end, or the changed text. A VALUE over several lines
-/// is laid out for where it goes, where that leaves its strings and comments as they are.
+/// The text that is written: what was asked for of the value, or the changed text. A VALUE over several lines is laid out
+/// for where it goes, where that leaves its strings and comments as they are.
 pub(crate) fn made(
     alloc: Global,
     task: &Task<'_>,
     text: &str,
     steps: &[Step<'_>],
+    value: &str,
 ) -> std::result::Result<String, TextTrouble>
-    ensures made { IfOk result (λ new. MakesLaid task.now.work text.now steps.now task.now.value.now (string_bytes new)) }
-    ensures refused { IfErr result (RefusesWork task.now.work text.now steps.now task.now.value.now) }
+    ensures made { IfOk result (λ new. MakesLaid task.now.work text.now steps.now value.now (string_bytes new)) }
+    ensures refused { IfErr result (RefusesWork task.now.work text.now steps.now value.now) }
 {
-    match made_with(alloc, task, text, steps, task.value) {
-        Ok(as_given) => Ok(made_laid(alloc, task, text, steps, as_given)),
+    match made_with(alloc, task, text, steps, value) {
+        Ok(as_given) => Ok(made_laid(alloc, task, text, steps, value, as_given)),
         Err(trouble) => Err(trouble),
     }
 }
@@ -35,12 +38,13 @@ fn made_laid(
     task: &Task<'_>,
     text: &str,
     steps: &[Step<'_>],
+    value: &str,
     as_given: String,
 ) -> String
-    requires { Makes task.now.work text.now steps.now task.now.value.now (string_bytes as_given) }
-    ensures { MakesLaid task.now.work text.now steps.now task.now.value.now (string_bytes result) }
+    requires { Makes task.now.work text.now steps.now value.now (string_bytes as_given) }
+    ensures { MakesLaid task.now.work text.now steps.now value.now (string_bytes result) }
 {
-    let Some(placed) = placed(alloc, task, text, steps) else {
+    let Some(placed) = placed(alloc, task.work, text, steps, value) else {
         return as_given;
     };
     match made_with(alloc, task, text, steps, placed.as_str()) {
@@ -60,14 +64,16 @@ fn made_with(
     ensures made { IfOk result (λ new. Makes task.now.work text.now steps.now value.now (string_bytes new)) }
     ensures refused { IfErr result (RefusesWork task.now.work text.now steps.now value.now) }
 {
+    let names = names_in(task.file);
     match task.work {
-        Command::Get => edited(spelled_at(alloc, text, steps)),
-        Command::Json => json_at(alloc, text, steps),
+        Command::Show(view) => shown_at(alloc, view, text, steps),
         Command::Set => edited(set(alloc, text, steps, value)),
-        Command::Insert => edited(inserted(alloc, text, steps, value, names_in(task.file))),
-        Command::Remove => edited(remove(alloc, text, steps)),
+        Command::Insert => edited(inserted(alloc, text, steps, value, names)),
         Command::Push => edited(push(alloc, text, steps, value)),
+        Command::Put => edited(put(alloc, text, steps, value, names, false)),
+        Command::PutAbsent => edited(put(alloc, text, steps, value, names, true)),
         Command::Rename => edited(rename(alloc, text, steps, value)),
+        Command::Remove => edited(removed(alloc, text, steps)),
     }
 }
 
@@ -99,6 +105,17 @@ fn inserted(
     }
 }
 
+/// The text without the entry to which the steps lead; the whole value is none.
+fn removed(alloc: Global, text: &str, steps: &[Step<'_>]) -> Result<String>
+    ensures removed { IfOk result (λ new. IsRemoved text.now steps.now (string_bytes new)) }
+    ensures refused { IfErr result (RefusesRemoving text.now steps.now) }
+{
+    if steps.is_empty() {
+        return Err(EditError::NoKey);
+    }
+    remove(alloc, text, steps)
+}
+
 /// How a name stands as the first key of the file: without quotes, if the file is named as JSON5.
 fn names_in(file: &str) -> Names {
     if file.ends_with(".json5") {
@@ -106,18 +123,4 @@ fn names_in(file: &str) -> Names {
     } else {
         Names::Quoted
     }
-}
-
-/// How many steps lead somewhere.
-pub(crate) fn steps_that_lead(alloc: Global, text: &str, steps: &[Step<'_>]) -> usize {
-    for count in 1..=steps.len() {
-        let Some((front, _)) = steps.split_at_checked(count) else {
-            return count;
-        };
-        match find(alloc, text, front) {
-            Ok(Some(_)) => {}
-            _ => return count - 1,
-        }
-    }
-    steps.len()
 }

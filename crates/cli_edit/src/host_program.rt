@@ -5,7 +5,7 @@ ghost use Rattle.cli_edit.specs.Requests.{AsksNothing};
 ghost use Rattle.cli_files.specs.NameLists.{names_of};
 
 use crate::answers::answer;
-use crate::lines::{no_memory, usage};
+use crate::lines::{no_memory, wrong_words};
 use cli_files::given_words;
 use std::alloc::Global;
 use std::io::ErrorKind;
@@ -23,7 +23,7 @@ pub fn program(rt: &HostRuntime) -> ExitCode {
     let status = match given_words(rt) {
         Ok(list) => words(rt, rt.alloc(), list.as_slice()),
         Err(e) if e.kind() == ErrorKind::OutOfMemory => no_memory(&mut rt.stderr()),
-        Err(_) => usage(&mut rt.stderr()),
+        Err(_) => wrong_words(rt.alloc(), &[], &mut rt.stderr()),
     };
     ExitCode::from(status)
 }
@@ -34,7 +34,7 @@ pub fn program(rt: &HostRuntime) -> ExitCode {
 /// words(&rt, rt.alloc(), list.as_slice())    // list: `get`, `app.json5` and `server.port`
 /// ```
 pub fn words(rt: &HostRuntime, alloc: Global, list: &[String]) -> u8
-    ensures status { result ≤ 2 }
+    ensures status { result ≤ 3 }
     ensures usage { AsksNothing (names_of list.now) → result ≡ 2 }
 {
     let (mut input, mut output, mut errors) = (rt.stdin(), rt.stdout(), rt.stderr());

@@ -1,14 +1,14 @@
 //! What is said on standard error, and of the program itself.
 
 ghost use Rattle.std.specs.Prelude.{◌≡◌};
-ghost use Rattle.cli_edit.specs.Troubles.{trouble_status};
+ghost use Rattle.cli_edit.specs.Troubles.{read_status, trouble_status};
 
-use crate::edits::steps_that_lead;
-use crate::requests::Task;
+use crate::advice::{edit_advice, value_advice, word_fault};
+use crate::requests::{Command, Source, Task, View};
 use crate::texts::name_of;
 use crate::trouble::TextTrouble;
-use cli_files::report_unwritten;
-use json5_edit::{EditError, PathError, Step};
+use cli_files::{Failure, Store, read_whole, report, report_unwritten};
+use json5_edit::{EditError, Expected, PathError, Step};
 use json5_report::Report;
 use json5_types::error::Error;
 use std::alloc::Global;
@@ -16,38 +16,47 @@ use std::io::Write;
 
 /// How the program is called.
 const USAGE: &str =
-    "usage: json5_edit get FILE PATH [--json], json5_edit remove FILE PATH, or json5_edit set|insert|push|rename FILE PATH VALUE\n";
+    "usage: json5_edit get|has|keys|length|type|remove FILE PATH, or json5_edit set|insert|push|put|rename FILE PATH VALUE; more by --help\n";
 
 /// What `--help` writes.
-pub(crate) const HELP: &str =
-    "usage: json5_edit get FILE PATH [--json], or json5_edit remove FILE PATH,
-       or json5_edit set|insert|push|rename FILE PATH VALUE
+pub(crate) const HELP: &str = "usage: json5_edit get|has|keys|length|type|remove FILE PATH, or
+       json5_edit set|insert|push|put|rename FILE PATH VALUE
 Changes one value of a JSON5 file, and keeps the rest as it is.
 
-  json5_edit get FILE PATH            writes the value, as it is spelled
-  json5_edit get FILE PATH --json     writes the value as JSON
-  json5_edit set FILE PATH VALUE      puts another value in its place
-  json5_edit insert FILE PATH VALUE   adds a member, whose key is the last step of the
-                                      path, or an element before the one there
-  json5_edit push FILE PATH VALUE     adds an element to the array there
-  json5_edit rename FILE PATH KEY     gives a member another key
-  json5_edit remove FILE PATH         removes an element or a member
-
-  --help      writes this
-  --version   writes the version
+  get FILE PATH            writes the value, as it is spelled
+      --json               writes it as JSON
+      --raw                writes the content of a string
+  has FILE PATH            writes nothing: the status is 0 if the value is there, else 1
+  keys FILE PATH           writes the keys of an object, each on a line
+  length FILE PATH         writes how many elements or members there are
+  type FILE PATH           writes object, array, string, number, boolean or null
+  set FILE PATH VALUE      puts another value in its place
+  insert FILE PATH VALUE   adds a member, whose key is the last step of the path, or an
+                           element before the one there
+  push FILE PATH VALUE     adds an element to the array there
+  put FILE PATH VALUE      sets the value, or adds it with what is missing above it
+      --if-absent          leaves a value that is there as it is
+  rename FILE PATH KEY     gives a member another key
+  remove FILE PATH         removes an element or a member
+  --help                   writes this
+  --version                writes the version
 
 FILE is changed in place; where it is `-`, standard input is changed to standard
-output. PATH is as server.ports[0] or /server/ports/0. VALUE is JSON5.
+output. PATH is as server.ports[0] or /server/ports/0. VALUE is JSON5, in one word; it
+is `-` for standard input, or `--from NAME` for what a file holds. With --text behind
+it, VALUE is the content of a string.
 
-The status is 0 if all is well; 1 if the text is no JSON5, the path leads nowhere,
-or the value is refused; 2 if a file can't be read or written, memory runs out, or
-the words are wrong.
+The status is 0 if all is well; 1 if the path leads nowhere; 3 if FILE is no JSON5; and
+2 for anything else.
 ";
 
-/// Writes how the program is called, as one line, and returns the status 2.
-pub(crate) fn usage<E: Write>(e: &mut E) -> u8
+/// Writes what is wrong with the words, if that is certain, and how the program is called; returns the status 2.
+pub(crate) fn wrong_words<E: Write>(alloc: Global, list: &[String], e: &mut E) -> u8
     ensures { result ≡ 2 }
 {
+    if let Some(fault) = word_fault(alloc, list) {
+        let _ = writeln!(e, "json5_edit: {fault}");
+    }
     let _ = e.write_all(USAGE.as_bytes());
     2
 }
@@ -64,14 +73,80 @@ pub(crate) fn no_memory<E: Write>(e: &mut E) -> u8
 pub(crate) fn wrong_path<E: Write>(path: &str, error: &PathError, e: &mut E) -> u8
     ensures { result ≡ 2 }
 {
-    let _ = writeln!(e, "{path}: {error}");
+    let advice = match error {
+        PathError::At(0, Expected::Name) => ": a path begins without a dot, as server.ports[0]",
+        PathError::At(_, Expected::IndexOrKey) => {
+            ": an index counts from 0, and a key has quotes, as [0] and [\"a.b\"]"
+        }
+        _ => "",
+    };
+    let _ = writeln!(e, "{path}: {error}{advice}");
     2
+}
+
+/// Writes why VALUE isn't read, and returns the status 2.
+pub(crate) fn no_value<E: Write>(task: &Task<'_>, failure: &Failure, e: &mut E) -> u8
+    ensures { result ≡ 2 }
+{
+    let name = match task.given.source {
+        Source::File(name) => name,
+        _ => "VALUE",
+    };
+    let _ = report(name, failure, e);
+    2
+}
+
+/// Writes why the file's text isn't read, and returns the status that the program ends with.
+pub(crate) fn unread<S: Store, E: Write>(
+    store: &S,
+    alloc: Global,
+    task: &Task<'_>,
+    failure: &Failure,
+    e: &mut E,
+) -> u8
+    ensures { result ≡ read_status failure.now }
+{
+    let name = name_of(task.file);
+    match failure {
+        Failure::NotUtf8 => {
+            if !show_bytes(store, alloc, task.file, e) {
+                let _ = report(name, failure, e);
+            }
+            return 3;
+        }
+        Failure::Read if store.open(task.path).is_ok() => {
+            let _ = writeln!(e, "{name}: cannot be read: FILE comes before PATH");
+        }
+        _ => {
+            let _ = report(name, failure, e);
+        }
+    }
+    match failure {
+        Failure::Text(_) => 3,
+        _ => 2,
+    }
+}
+
+/// Writes where the file isn't UTF-8, if it can be read again.
+fn show_bytes<S: Store, E: Write>(store: &S, alloc: Global, file: &str, e: &mut E) -> bool {
+    let Ok(mut opened) = store.open(file) else {
+        return false;
+    };
+    let Ok(bytes) = read_whole(alloc, &mut opened) else {
+        return false;
+    };
+    let Ok(Some(report)) = Report::of_bytes(alloc, file, bytes.as_slice()) else {
+        return false;
+    };
+    let _ = writeln!(e, "{report}");
+    true
 }
 
 /// Writes why the work on this text ended, and returns the status that the program ends with.
 pub(crate) fn tell<E: Write>(
     alloc: Global,
     task: &Task<'_>,
+    value: &str,
     text: &str,
     steps: &[Step<'_>],
     trouble: &TextTrouble,
@@ -82,11 +157,11 @@ pub(crate) fn tell<E: Write>(
     let name = name_of(task.file);
     match trouble {
         TextTrouble::Edit(EditError::Text(error)) => show(alloc, name, text, error, e),
-        TextTrouble::Edit(EditError::Value(error)) => show(alloc, "VALUE", task.value, error, e),
-        TextTrouble::Edit(EditError::Nowhere) => nowhere(alloc, name, text, steps, e),
-        TextTrouble::Edit(error) => {
-            let _ = writeln!(e, "{name}: {error}");
+        TextTrouble::Edit(EditError::Value(error)) => {
+            show(alloc, "VALUE", value, error, e);
+            value_advice(alloc, value, e);
         }
+        TextTrouble::Edit(error) => tell_edit(alloc, task, text, steps, error, e),
         TextTrouble::NoJson(error) => {
             let _ = writeln!(e, "{name}: {error}");
         }
@@ -100,6 +175,28 @@ pub(crate) fn tell<E: Write>(
     trouble.status()
 }
 
+/// Writes why an edit isn't made that suits neither the text nor VALUE alone. Of `has`, the status says enough.
+fn tell_edit<E: Write>(
+    alloc: Global,
+    task: &Task<'_>,
+    text: &str,
+    steps: &[Step<'_>],
+    error: &EditError,
+    e: &mut E,
+) {
+    let name = name_of(task.file);
+    let said = edit_advice(alloc, task.work, text, steps, error);
+    match (task.work, error, said) {
+        (Command::Show(View::Nothing), EditError::Nowhere, _) => {}
+        (_, _, Some(said)) => {
+            let _ = writeln!(e, "{name}: {said}");
+        }
+        (_, _, None) => {
+            let _ = writeln!(e, "{name}: {error}");
+        }
+    }
+}
+
 /// Writes the report of a fault of this text, or one line where there is no memory for it.
 fn show<E: Write>(alloc: Global, name: &str, text: &str, error: &Error, e: &mut E) {
     match Report::new(alloc, name, text, error) {
@@ -108,22 +205,6 @@ fn show<E: Write>(alloc: Global, name: &str, text: &str, error: &Error, e: &mut 
         }
         Err(_) => {
             let _ = writeln!(e, "{name}: {error}");
-        }
-    }
-}
-
-/// Writes which step leads nowhere.
-fn nowhere<E: Write>(alloc: Global, name: &str, text: &str, steps: &[Step<'_>], e: &mut E) {
-    let lead = "the path leads nowhere";
-    match steps.get(steps_that_lead(alloc, text, steps)) {
-        Some(Step::Key(key)) => {
-            let _ = writeln!(e, "{name}: {lead}: there is no member `{key}`");
-        }
-        Some(Step::Index(index)) => {
-            let _ = writeln!(e, "{name}: {lead}: there is no element {index}");
-        }
-        None => {
-            let _ = writeln!(e, "{name}: {lead}");
         }
     }
 }

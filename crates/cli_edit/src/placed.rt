@@ -5,31 +5,32 @@ ghost use Rattle.std.specs.Str.{chars};
 ghost use Rattle.cli_edit.specs.declared.requests.Command.TheVariants as work;
 ghost use Rattle.json5_lexemes.specs.Lexemes.{HaveSameLexemes};
 
-use crate::requests::{Command, Task};
+use crate::requests::Command;
 use json5_edit::{Names, Step, find};
 use json5_edit_style::{Collection, entry_indentation, indentation, relined};
 use json5_lexemes::same_lexemes;
 use std::alloc::Global;
 
-/// The task's VALUE with its lines as they are where it goes; None where it has one line, is a key, or has a line end
+/// The VALUE with its lines as they are where it goes; None where it has one line, is a key, or has a line end
 /// within a string or a comment.
 pub(crate) fn placed(
     alloc: Global,
-    task: &Task<'_>,
+    command: Command,
     text: &str,
     steps: &[Step<'_>],
+    value: &str,
 ) -> Option<String>
-    ensures value { OnSome result (task.now.work ≢ work.Rename) }
-    ensures same { IfSome result (λ placed. HaveSameLexemes (chars task.now.value.now) (chars (string_bytes placed))) }
+    ensures value { OnSome result (command ≢ work.Rename) }
+    ensures same { IfSome result (λ placed. HaveSameLexemes (chars value.now) (chars (string_bytes placed))) }
 {
-    if let Command::Rename = task.work {
+    if let Command::Rename = command {
         return None;
     }
-    if !task.value.contains('\n') {
+    if !value.contains('\n') {
         return None;
     }
-    let made = laid_out(alloc, task, text, steps)?;
-    if same_lexemes(task.value, made.as_str()) {
+    let made = laid_out(alloc, command, text, steps, value)?;
+    if same_lexemes(value, made.as_str()) {
         Some(made)
     } else {
         None
@@ -37,19 +38,26 @@ pub(crate) fn placed(
 }
 
 /// What is made of it, which isn't trusted.
-fn laid_out(alloc: Global, task: &Task<'_>, text: &str, steps: &[Step<'_>]) -> Option<String> {
-    let indent = match (task.work, steps.split_last()) {
-        (Command::Set, _) => indentation_at(alloc, text, steps),
-        (Command::Push, _) => indentation_in(alloc, text, steps, usize::MAX),
-        (Command::Insert, Some((Step::Key(_), outer))) => {
-            indentation_in(alloc, text, outer, usize::MAX)
-        }
-        (Command::Insert, Some((Step::Index(index), outer))) => {
-            indentation_in(alloc, text, outer, *index)
-        }
+fn laid_out(
+    alloc: Global,
+    command: Command,
+    text: &str,
+    steps: &[Step<'_>],
+    value: &str,
+) -> Option<String> {
+    let there = match command {
+        Command::Set | Command::Put => indentation_at(alloc, text, steps),
+        Command::Push => indentation_in(alloc, text, steps, usize::MAX),
         _ => None,
-    }?;
-    relined(alloc, text, indent.as_str(), task.value).ok()
+    };
+    let indent = match (there, command, steps.split_last()) {
+        (Some(indent), _, _) => indent,
+        (None, Command::Set | Command::Push | Command::Show(_) | Command::Remove, _) => return None,
+        (None, _, Some((Step::Key(_), outer))) => indentation_in(alloc, text, outer, usize::MAX)?,
+        (None, _, Some((Step::Index(at), outer))) => indentation_in(alloc, text, outer, *at)?,
+        (None, _, None) => return None,
+    };
+    relined(alloc, text, indent.as_str(), value).ok()
 }
 
 /// How the line is indented on which the value stands to which the steps lead.

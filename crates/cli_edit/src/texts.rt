@@ -1,8 +1,9 @@
 //! Reading a text.
 
-ghost use Rattle.std.specs.Prelude.{IfErr, IfOk, string_bytes};
-ghost use Rattle.cli_edit.specs.Works.{Holds, HoldsNone};
+ghost use Rattle.std.specs.Prelude.{◌≡◌, ◌⊎◌, IfErr, IfOk, string_bytes};
+ghost use Rattle.cli_edit.specs.Works.{FileHolds, FileHoldsNone, Holds, HoldsNone, IsGiven, stream_word};
 
+use crate::requests::{Source, Task};
 use cli_files::{Failure, Store, read_text};
 use std::alloc::Global;
 use std::io::Read;
@@ -20,9 +21,38 @@ pub(crate) fn text_of<S: Store, R: Read>(
     if file == "-" {
         return read_text(alloc, r);
     }
-    match store.open(file) {
+    text_in(store, alloc, file)
+}
+
+/// The text of the file with this name.
+fn text_in<S: Store>(store: &S, alloc: Global, name: &str) -> Result<String, Failure>
+    ensures read { IfOk result (λ text. FileHolds (S.known store.now) name.now (string_bytes text)) }
+    ensures stopped { IfErr result (FileHoldsNone (S.known store.now) name.now) }
+{
+    match store.open(name) {
         Ok(mut opened) => read_text(alloc, &mut opened),
         Err(_) => Err(Failure::Read),
+    }
+}
+
+/// What is given for VALUE. Where that is read of standard input, FILE is another; else standard input is kept for FILE.
+pub(crate) fn value_of<S: Store, R: Read>(
+    store: &S,
+    alloc: Global,
+    task: &Task<'_>,
+    r: &mut R,
+) -> Result<String, Failure>
+    ensures read { IfOk result (λ value. IsGiven (S.known store.now) task.now.given.source (R.remaining r.old) (string_bytes value)) }
+    ensures kept { IfOk result (λ _. ¬ (task.now.file.now ≡ stream_word) ⊎ (R.remaining r.new ≡ R.remaining r.old)) }
+{
+    match task.given.source {
+        Source::Word(word) => match String::from_str(alloc, word) {
+            Ok(value) => Ok(value),
+            Err(_) => Err(Failure::NoMemory),
+        },
+        Source::File(name) => text_in(store, alloc, name),
+        Source::Input if task.file == "-" => Err(Failure::Read),
+        Source::Input => read_text(alloc, r),
     }
 }
 

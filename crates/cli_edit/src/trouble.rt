@@ -21,15 +21,18 @@ pub enum TextTrouble {
 }
 
 impl TextTrouble {
-    /// Returns the status that the program ends with: 1 if the text, the path or the value is at fault, else 2.
+    /// Returns the status that the program ends with: 1 if the path leads nowhere, 3 if the text is no document, else 2.
+    ///
+    /// ```text
+    /// TextTrouble::Edit(EditError::Nowhere).status()    // 1
+    /// ```
     pub fn status(&self) -> u8
         ensures { result ≡ trouble_status self.now }
     {
         match self {
-            TextTrouble::Edit(EditError::NoMemory) => 2,
-            TextTrouble::Edit(_) | TextTrouble::NoJson(_) => 1,
-            TextTrouble::Failed(failure) => failure.status(),
-            TextTrouble::Unwritten(_) => 2,
+            TextTrouble::Edit(EditError::Nowhere) => 1,
+            TextTrouble::Edit(EditError::Text(_)) => 3,
+            _ => 2,
         }
     }
 }

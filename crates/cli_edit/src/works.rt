@@ -2,14 +2,15 @@
 
 ghost use Rattle.std.specs.Bool.{Decides};
 ghost use Rattle.std.specs.Prelude.{IfErr, OnOk};
-ghost use Rattle.cli_edit.specs.Works.{Does, DoesAt, GoesOut, Puts, PutsNot, Works, WorksNot};
+ghost use Rattle.cli_edit.specs.Works.{Does, DoesAt, DoesWith, GoesOut, Puts, PutsNot, Works, WorksNot};
 
 use crate::edits::made;
-use crate::lines::{tell, wrong_path};
+use crate::lines::{no_value, tell, unread, wrong_path};
 use crate::requests::{Command, Task};
-use crate::texts::{name_of, text_of};
+use crate::texts::{text_of, value_of};
 use crate::trouble::TextTrouble;
-use cli_files::{Store, put_texts, report};
+use crate::values::meant;
+use cli_files::{Store, put_texts};
 use json5_edit::{Path, Step};
 use std::alloc::Global;
 use std::io::{Read, Write};
@@ -29,9 +30,28 @@ pub(crate) fn do_task<S: Store, R: Read, W: Write, E: Write>(
         Ok(path) => path,
         Err(error) => return wrong_path(task.path, &error, e),
     };
+    match value_of(store, alloc, task, r) {
+        Ok(value) => do_with(store, alloc, task, &path, value.as_str(), r, w, e),
+        Err(failure) => no_value(task, &failure, e),
+    }
+}
+
+/// The same with what is given for VALUE.
+fn do_with<S: Store, R: Read, W: Write, E: Write>(
+    store: &S,
+    alloc: Global,
+    task: &Task<'_>,
+    path: &Path,
+    value: &str,
+    r: &mut R,
+    w: &mut W,
+    e: &mut E,
+) -> u8
+    ensures { DoesWith (S.known store.now) task.now value.now (R.remaining r.old) (W.contents w.old) (E.contents e.old) (W.contents w.new) (E.contents e.new) result }
+{
     match text_of(store, alloc, task.file, r) {
-        Ok(text) => do_at(store, alloc, task, &path, text.as_str(), w, e),
-        Err(failure) => report(name_of(task.file), &failure, e),
+        Ok(text) => do_at(store, alloc, task, path, value, text.as_str(), w, e),
+        Err(failure) => unread(store, alloc, task, &failure, e),
     }
 }
 
@@ -41,35 +61,57 @@ fn do_at<S: Store, W: Write, E: Write>(
     alloc: Global,
     task: &Task<'_>,
     path: &Path,
+    value: &str,
     text: &str,
     w: &mut W,
     e: &mut E,
 ) -> u8
-    ensures { DoesAt (S.known store.now) task.now text.now (W.contents w.old) (E.contents e.old) (W.contents w.new) (E.contents e.new) result }
+    ensures { DoesAt (S.known store.now) task.now value.now text.now (W.contents w.old) (E.contents e.old) (W.contents w.new) (E.contents e.new) result }
 {
     let steps = match path.steps_in(alloc, text) {
         Ok(steps) => steps,
-        Err(error) => return tell(alloc, task, text, &[], &TextTrouble::Edit(error), e),
+        Err(error) => return tell(alloc, task, value, text, &[], &TextTrouble::Edit(error), e),
     };
-    match work_on(store, alloc, task, text, steps.as_slice(), w) {
+    let value = match meant(alloc, task, text, value) {
+        Ok(value) => value,
+        Err(error) => return tell(alloc, task, value, text, &[], &TextTrouble::Edit(error), e),
+    };
+    match work_on(
+        store,
+        alloc,
+        task,
+        text,
+        steps.as_slice(),
+        value.as_str(),
+        w,
+    ) {
         Ok(()) => 0,
-        Err(trouble) => tell(alloc, task, text, steps.as_slice(), &trouble, e),
+        Err(trouble) => tell(
+            alloc,
+            task,
+            value.as_str(),
+            text,
+            steps.as_slice(),
+            &trouble,
+            e,
+        ),
     }
 }
 
-/// The same with the steps of the path.
+/// The same with the steps of the path, and with what VALUE means.
 fn work_on<S: Store, W: Write>(
     store: &S,
     alloc: Global,
     task: &Task<'_>,
     text: &str,
     steps: &[Step<'_>],
+    value: &str,
     w: &mut W,
 ) -> Result<(), TextTrouble>
-    ensures worked { OnOk result (Works (S.known store.now) task.now text.now steps.now (W.contents w.old) (W.contents w.new)) }
-    ensures stopped { IfErr result (WorksNot task.now text.now steps.now (W.contents w.old) (W.contents w.new)) }
+    ensures worked { OnOk result (Works (S.known store.now) task.now text.now steps.now value.now (W.contents w.old) (W.contents w.new)) }
+    ensures stopped { IfErr result (WorksNot task.now text.now steps.now value.now (W.contents w.old) (W.contents w.new)) }
 {
-    let new = made(alloc, task, text, steps)?;
+    let new = made(alloc, task, text, steps, value)?;
     put(store, alloc, task, text, new.as_str(), w)
 }
 
@@ -105,8 +147,7 @@ fn goes_out(task: &Task<'_>) -> bool
     ensures { Decides result (GoesOut task.now) }
 {
     match task.work {
-        Command::Get => true,
-        Command::Json => true,
+        Command::Show(_) => true,
         _ => task.file == "-",
     }
 }

@@ -4,7 +4,7 @@ use Rattle.cli_edit.proofs.edits.made_with.Goals as goal
 
 pub returns-in-Remove-clause-made : goal.returns-in-Remove-clause-made
 returns-in-Remove-clause-made c =
-    made_by work.Remove c.args.task.now.work c.args.text.now c.args.steps.now c.args.value.now c.remove.result c.edited-in-Remove.result c.in-Remove.is c.edited-in-Remove.ensures c.remove.ensures.removed
+    made_by work.Remove c.args.task.now.work c.args.text.now c.args.steps.now c.args.value.now c.removed.result c.edited-in-Remove.result c.in-Remove.is c.edited-in-Remove.ensures c.removed.ensures.removed
 
 pub returns-in-Push-clause-made : goal.returns-in-Push-clause-made
 returns-in-Push-clause-made c =

@@ -1,12 +1,17 @@
 use Rattle.std.proofs.Common.{rules}
-use Rattle.cli_edit.specs.Works.{no_path, reads, reads_none}
+use Rattle.cli_edit.specs.Works.{does_with, not_begun}
+use Rattle.cli_edit.proofs.Reading.{kept_for_file}
 use Rattle.cli_edit.proofs.works.do_task.Goals as goal
 
 pub returns-in-Err : goal.returns-in-Err
-returns-in-Err g c = rw c.wrong_path.ensures (no_path (search rules))
+returns-in-Err g c = rw c.wrong_path.ensures (not_begun (search rules))
 
-pub returns-in-Ok-text_of : goal.returns-in-Ok-text_of
-returns-in-Ok-text_of g c = reads c.as_str.result.now (rw c.as_str.ensures.value c.in-Ok-text_of.ensures.read) c.do_at.ensures
+pub returns-in-Ok-value_of : goal.returns-in-Ok-value_of
+returns-in-Ok-value_of g c =
+    does_with c.as_str.result.now (rw c.as_str.ensures.value c.in-Ok-value_of.ensures.read)
+    (kept_for_file (g.S.Store.known c.args.store.now) c.args.task.now c.as_str.result.now (g.R.Read.remaining c.value_of.new.r) (g.R.Read.remaining c.args.r.now)
+    (g.W.Write.contents c.args.w.now) (g.E.Write.contents c.args.e.now) (g.W.Write.contents c.do_with.new.w) (g.E.Write.contents c.do_with.new.e) c.do_with.result
+    c.in-Ok-value_of.ensures.kept c.do_with.ensures)
 
-pub returns : goal.returns
-returns g c = rw c.report.ensures.status (reads_none c.in-Err-text_of.failure c.in-Err-text_of.ensures.stopped (search rules))
+pub returns-in-Err-value_of : goal.returns-in-Err-value_of
+returns-in-Err-value_of g c = rw c.no_value.ensures (not_begun (search rules))

@@ -1,0 +1,23 @@
+use Rattle.std.proofs.Common.{◌≡◌, ◌∷◌, ◌+◌, suc, drop, take, rules, arith}
+use Rattle.std.specs.Prelude.{string_bytes}
+use Rattle.cli_edit.specs.Puts.{Adds, first_in}
+use Rattle.cli_edit.proofs.PathsPut.{along, along_refused}
+use Rattle.cli_edit.proofs.putting.+add_along.Goals as goal
+
+pub returns-in-Ok-clause-added : goal.returns-in-Ok-clause-added
+returns-in-Ok-clause-added t c =
+    let a = c.args in
+    let here : drop a.count a.steps.now ≡ c.in-Some.step.now ∷ c.in-Some.inner.now = search rules in
+    let adds : Adds c.in-Some.step.now a.text.now (take a.count a.steps.now) (first_in c.in-Some.inner.now a.value.now) c.as_str.result.now =
+    rw (c.as_str.ensures.value) (rw (c.split_at.ensures.front, c.first_in-new.ensures) at c.in-Ok.ensures.added) in
+    let next : a.count + 1 ≡ suc a.count = omega arith in
+    along a.text.now a.value.now a.steps.now a.count c.in-Some.step.now c.in-Some.inner.now here c.as_str.result.now adds c.add_along.result (rw next at c.add_along.ensures.added)
+
+pub returns-in-Ok-clause-refused : goal.returns-in-Ok-clause-refused
+returns-in-Ok-clause-refused t c =
+    let a = c.args in
+    let here : drop a.count a.steps.now ≡ c.in-Some.step.now ∷ c.in-Some.inner.now = search rules in
+    let adds : Adds c.in-Some.step.now a.text.now (take a.count a.steps.now) (first_in c.in-Some.inner.now a.value.now) c.as_str.result.now =
+    rw (c.as_str.ensures.value) (rw (c.split_at.ensures.front, c.first_in-new.ensures) at c.in-Ok.ensures.added) in
+    let next : a.count + 1 ≡ suc a.count = omega arith in
+    along_refused a.text.now a.value.now a.steps.now a.count c.in-Some.step.now c.in-Some.inner.now here c.as_str.result.now adds c.add_along.result (rw next at c.add_along.ensures.refused)
