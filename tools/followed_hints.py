@@ -182,6 +182,8 @@ instead("no bracket is open here", lambda part: "")
 instead(r"(\S+) is written as (\S+?)(?: here)?", lambda part, old, new: new)
 instead(r"a number has no (?:blanks|commas|quotes) in it: (\S+)", lambda part, new: new)
 instead("a comma too many", lambda part: part.replace(",", "", 1))
+instead("a bracket too many|no comment is open here", lambda part: "")
+instead("write a minus as -", lambda part: re.sub(r"^[^\d.]+", "-", part))
 instead("a colon too many", lambda part: part.replace(":", "", 1))
 instead("this is a mark of a diff: remove it", lambda part: "")
 instead(r"this character \(U\+(\w+)\).*: remove it", lambda part, code: part.replace(chr(int(code, 16)), ""))
@@ -238,7 +240,33 @@ def other_kind(case, said, kind):
     return case.good.text if re.fullmatch(KINDS.get(case.way, ""), kind) else None
 
 
-@form("there are no triple quotes: a text has one quote on each side")
+@form("write a (?:number|text) in quotes")
+def fitting_text(case, said):
+    return put(case.text, said.start, max(said.end, value_end(case.text, said.start)), fits(case, said))
+
+
+@form("a quote is missing behind `(.+)`")
+def quote_behind(case, said, words):
+    # a quote of the other kind that stands there gives way
+    found = case.text.rfind(words, 0, said.end)
+    if found < 1 or case.text[found - 1] not in "'\"":
+        return None
+    end = found + len(words)
+    return put(case.text, end, end + (case.text[end:end + 1] in ("'", '"')), case.text[found - 1])
+
+
+@form(r"a byte order mark \(U\+FEFF\) stands after this")
+def mark_behind(case, said):
+    return case.text[:said.start] + case.text[said.start:].replace("\ufeff", "", 1)
+
+
+@form("a text goes on in the next line after a backslash")
+def goes_on(case, said):
+    found = LINE.search(case.text, said.start)
+    return put(case.text, found.start(), found.start(), "\\") if found else None
+
+
+@form("(?:there are no triple quotes: )?a text has one quote on each side")
 def one_quote(case, said):
     for quote in "'\"":
         if quote * 3 in case.text:
