@@ -13,5 +13,5 @@ returns-in-Ok-value_of g c =
     (g.W.Write.contents c.args.w.now) (g.E.Write.contents c.args.e.now) (g.W.Write.contents c.do_with.new.w) (g.E.Write.contents c.do_with.new.e) c.do_with.result
     c.in-Ok-value_of.ensures.kept c.do_with.ensures)
 
-pub returns-in-Err-value_of : goal.returns-in-Err-value_of
-returns-in-Err-value_of g c = rw c.no_value.ensures (not_begun (search rules))
+pub returns : goal.returns
+returns g c = rw c.no_value.ensures (not_begun (search rules))
