@@ -1,7 +1,7 @@
 -- The words after the program's name, and what they ask for.
 -- A promise rests on this.
 use denote.Ref.{Bor}
-use Rattle.std.specs.Prelude.{⊤, ◌≡◌, ◌≢◌, ◌⊎◌, ℕ, Bool, true, false, List, [], ◌∷◌, ◌++◌}
+use Rattle.std.specs.Prelude.{⊤, MatchOption, Option, ◌≡◌, ◌≢◌, ◌⊎◌, ℕ, Bool, true, false, List, [], ◌∷◌, ◌++◌}
 use lib.Chars.{codes}
 use Rattle.cli_edit.specs.declared.requests.EditRequest.{EditRequest}
 use Rattle.cli_edit.specs.declared.requests.EditRequest.TheVariants as requests
@@ -69,6 +69,10 @@ takes_value _ a = ⊥
 
 abbrev pub GivesValue : Command → Given → List (List ℕ) → Type 0
 GivesValue w g words = (if_absent : Bool) × takes_value w if_absent × Begins g.source (tail_words g.is_text if_absent) words
+
+-- the work of this name that takes a value, and what is given for that; None where there is no such work
+abbrev pub FindsWork : (word : List ℕ) → List (List ℕ) → Option (Command × Given) → Type 0
+FindsWork word rest result = MatchOption result ((w : Command) (g : Given) → word ≡ work_word w → ¬ (GivesValue w g rest)) (λ x. (word ≡ work_word x.0) × GivesValue x.0 x.1 rest)
 
 -- a KEY is a word
 abbrev pub GivesKey : Given → List (List ℕ) → Type 0

@@ -6,7 +6,7 @@ ghost use Rattle.cli_edit.specs.declared.requests.Given.{Given};
 ghost use Rattle.cli_edit.specs.declared.requests.Source.{Source};
 ghost use Rattle.cli_edit.specs.declared.requests.Tail.{Tail};
 ghost use Rattle.cli_edit.specs.declared.requests.Command.{Command};
-ghost use Rattle.cli_edit.specs.Requests.{absent_words, Asks, AsksNothing, AsksNoWork, AsksWork, Begins, GivesValue, tail_words, takes_value, work_word};
+ghost use Rattle.cli_edit.specs.Requests.{absent_words, Asks, AsksNothing, AsksNoWork, AsksWork, Begins, FindsWork, tail_words, takes_value, work_word};
 ghost use Rattle.cli_files.specs.NameLists.{names_of};
 
 /// What is done.
@@ -186,7 +186,7 @@ fn keyed<'w>(rest: &'w [String]) -> Option<(Command, Given<'w>)>
 
 /// A work with a value.
 fn valued<'w>(word: &str, rest: &'w [String]) -> Option<(Command, Given<'w>)>
-    ensures { MatchOption result ((w : Command) (g : Given) → word.now ≡ work_word w → ¬ (GivesValue w g (names_of rest.now))) (λ x. (word.now ≡ work_word x.0) × GivesValue x.0 x.1 (names_of rest.now)) }
+    ensures { FindsWork word.now (names_of rest.now) result }
 {
     let Some((source, more)) = take_source(rest) else {
         return None;
