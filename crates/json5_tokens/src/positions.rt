@@ -4,10 +4,10 @@
 //! let offset = error.position()?.offset_in(text)?;    // so that `&text[offset..]` begins with the fault
 //! ```
 
-ghost use Rattle.std.specs.Prelude.{◌≡◌, ◌↔◌, ◌+◌, ◌<◌, false, IsTrue};
+ghost use Rattle.std.specs.Prelude.{◌≡◌, ◌≢◌, ◌↔◌, ◌+◌, ◌<◌, false, IsTrue};
 ghost use Rattle.std.specs.Str.{chars};
 ghost use Rattle.json5_grammar.specs.Model.PositionSteps.{position_step};
-ghost use Rattle.json5_tokens.specs.Places.{FindsOffset, FindsColumn, utf16_units};
+ghost use Rattle.json5_tokens.specs.Places.{FindsOffset, FindsColumn, AreUnitsOfLine};
 
 use crate::char::is_json5_line_terminator;
 use json5_types::Position;
@@ -80,6 +80,7 @@ fn is_same(position: Position, other: Position) -> bool
 /// Whether the position is the wanted one, and the next one isn't. (The one after a CR LF is that after its CR.)
 fn is_passed(position: Position, next: Position, wanted: Position) -> bool
     ensures found { IsTrue result → position ≡ wanted }
+    ensures moves { IsTrue result → next ≢ position }
     ensures passed { result ≡ false → position ≡ wanted → next ≡ position }
 {
     position == wanted && next != position
@@ -111,7 +112,7 @@ fn stepped(position: Position, is_after_cr: bool, c: char) -> Position
 /// utf16_units("[1,\n '😀")    // 4
 /// ```
 pub fn utf16_units(text: &str) -> usize
-    ensures { result ≡ utf16_units 0 (chars text.now) }
+    ensures { AreUnitsOfLine (chars text.now) result }
 {
     let mut units = 0;
     for c in text.chars() {

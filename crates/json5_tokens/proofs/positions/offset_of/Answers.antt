@@ -3,7 +3,7 @@ use Rattle.std.specs.Prelude.{IsTrue}
 use Rattle.std.specs.Char.{encode_utf8, len_utf8}
 use Rattle.std.specs.Str.Iter.{chars_rest}
 use Rattle.json5_grammar.specs.Model.PositionSteps.{position_step}
-use Rattle.json5_tokens.proofs.PositionsReached.{Walk, text_start, walk_start, walk_step, walk_found, walk_missed}
+use Rattle.json5_tokens.proofs.PositionsReached.{Walk, text_start, walk_start, walk_step, walk_passed, walk_ended, walk_missed}
 use Rattle.json5_tokens.proofs.positions.offset_of.Goals as goal
 
 pub loop-c-init : goal.loop-c-init
@@ -16,7 +16,9 @@ pub returns-then-is_passed : goal.returns-then-is_passed
 returns-then-is_passed c =
     let l = c.loop-c in
     let yes : IsTrue c.is_passed.result = search rules in
-    walk_found c.args.text.now c.args.wanted (chars_rest l.c-iterator) l.position l.is_after_cr l.offset (c.is_passed.ensures.found yes) l.invariant
+    let moves : position_step l.position l.is_after_cr c.in-Some.c ≡ l.position → ⊥ = λ same. c.is_passed.ensures.moves yes (c.stepped-next.ensures ∙ same) in
+    walk_passed c.args.text.now c.args.wanted (chars_rest l.c-iterator) (chars_rest c.next.new.self) l.position l.is_after_cr l.offset c.in-Some.c (c.is_passed.ensures.found yes) moves
+    c.in-Some.ensures.steps.0 l.invariant
 
 pub loop-c-preserved : goal.loop-c-preserved
 loop-c-preserved c =
@@ -34,7 +36,7 @@ loop-c-preserved c =
 pub returns-then-is_same : goal.returns-then-is_same
 returns-then-is_same c =
     let l = c.loop-c in
-    walk_found c.args.text.now c.args.wanted (chars_rest l.c-iterator) l.position l.is_after_cr l.offset (c.is_same.ensures.0 c.if-is_same.true) l.invariant
+    walk_ended c.args.text.now c.args.wanted (chars_rest l.c-iterator) l.position l.is_after_cr l.offset (c.is_same.ensures.0 c.if-is_same.true) c.in-None.ensures.steps.0.0 l.invariant
 
 pub returns-else-is_same : goal.returns-else-is_same
 returns-else-is_same c =
