@@ -27,6 +27,7 @@ pub mod ShortNumberSkips
 pub mod ShortSteps
 pub mod ShortTexts
 pub mod ShortWays
+pub mod StringsSkipped
 pub mod StringsSpelled
 pub mod TextCuts
 pub mod TextTokens

@@ -1,7 +1,7 @@
 -- Short ways of escapes.
 use Rattle.std.proofs.Common.{◌≡◌, ℕ, ◌+◌, ◌-◌, ◌*◌, ◌<◌, ◌≤◌, Bool, true, false, List, [], ◌∷◌, ◌++◌, length, drop, refl, ap, sym, ◌∙◌, subst, arith, Option, Some, None}
 use denote.Ref.{Bor}
-use Rattle.std.specs.Prelude.{◌&&◌, slice_index, IfSome, Ok}
+use Rattle.std.specs.Prelude.{◌&&◌, slice_index, IfSome, Result, Ok, Err}
 use Rattle.std.specs.Char.{IsScalar, digit_value, encode_utf8}
 use Rattle.std.specs.Str.{IsUtf8, IsCharBoundary, chars, encode_utf8_all}
 use Rattle.std.proofs.lemmas.List.{length-append, append-nil}
@@ -10,6 +10,7 @@ use Rattle.json5_grammar.specs.Language.Strings.{short_escape, is_raw}
 use Rattle.json5_grammar.specs.Model.Reading.{got, and_then}
 use Rattle.json5_grammar.specs.Model.ReadTexts.{hex, one_char, put}
 use Rattle.json5_grammar.proofs.StringsRead.{put_none}
+use Rattle.json5_tokens.specs.declared.refusal.Refusal.{Refusal}
 use Rattle.json5_tokens.specs.declared.strings_and_names.Kind.{Kind}
 use Rattle.json5_tokens.specs.declared.strings_and_names.Kind.TheVariants as kind
 use Rattle.json5_tokens.specs.declared.strings_and_names.Quote.{Quote}
@@ -17,11 +18,12 @@ use Rattle.json5_tokens.specs.declared.strings_and_names.EscapeStep.{EscapeStep}
 use Rattle.json5_tokens.specs.declared.strings_and_names.Stop.{Stop}
 use Rattle.json5_tokens.specs.declared.strings_and_names.Stop.TheVariants as stop
 use Rattle.json5_tokens.specs.Scan.{SkipsAll, AtEscape, in_list}
-use Rattle.json5_tokens.specs.ScanTexts.{quote_of, text_at, left_in, ReadsUpTo, AnswersStop, IsEscapeStep, IsReadTo, IsStepped}
+use Rattle.json5_tokens.specs.ScanTexts.{quote_of, text_at, left_in, ReadsUpTo, AnswersStop, IsEscapeStep, IsReadTo, IsStepped, PassesSteps}
 use Rattle.json5_tokens.specs.ShortEscapes.{SpellsAlone, SpellsUnicode, SpellsEscape}
 use Rattle.json5_tokens.proofs.ScanEscapes.{hex_done, hex_more, digit_ascii, unicode_single, escape_step}
 use Rattle.json5_tokens.proofs.ScanRuns.{run_each, past_rest, put_put, run_read}
-use Rattle.json5_tokens.proofs.ScanTexts.{bytes_past, goes_past, item_read}
+use Rattle.json5_tokens.proofs.ScanFaults.{code_known}
+use Rattle.json5_tokens.proofs.ScanTexts.{bytes_past, goes_past, refused_past, item_read}
 
 -- ---- one character after the backslash
 
@@ -150,6 +152,30 @@ stepped_past k j escape after u end x y step a e b s =
       escape_free = a.escape_free && false;
       goes_on = goes_past _ _ u (in_list step.spelled ++ chars step.run.now) a.escape_free false step.stop here.0 s.goes_on;
       left = omega arith;
+    }
+
+-- the escape in front and its run are read, then the escapes up to there, and what ends a run there
+pub steps_on : (k j : Kind) (escape after u rest : List ℕ) (x y : Bor (List ℕ)) (step : EscapeStep) (r : Result Stop Refusal) → IsEscapeStep k escape after step → step.stop ≡ stop.Escape j x y → IsReadTo j x.now u rest → AnswersStop j rest r → PassesSteps k escape after r
+steps_on k j escape after u rest x y step (Ok end) s e g ends =
+    let spelled = in_list step.spelled ++ chars step.run.now in
+    let here = subst (ReadsUpTo (text_at k (chars escape)) spelled false) e s.goes_on in
+    let a = at_stop j x.now u rest end g ends in
+    let fewer = a.left in
+    let whole = ap left_in e in
+    let left = s.left in (
+      spelled ++ u,
+      record {
+        escape_free = false && a.escape_free;
+        goes_on = goes_past _ _ spelled u false a.escape_free end here.0 a.goes_on;
+        left = omega arith;
+      },
+    )
+steps_on k j escape after u rest x y step (Err f) s e g ends =
+    let spelled = in_list step.spelled ++ chars step.run.now in
+    let here = subst (ReadsUpTo (text_at k (chars escape)) spelled false) e s.goes_on in
+    record {
+      refused = refused_past f (text_at k (chars escape)) (text_at j (chars x.now)) spelled false here.0 (refused_past f (text_at j (chars x.now)) (text_at j (chars rest)) u g.escape_free g.read ends.refused);
+      known = code_known f ends.known;
     }
 
 -- ---- what is found in front

@@ -11,7 +11,7 @@ ghost use Rattle.json5_tokens.specs.ScanTexts.{quote_of, string_at, AnswersQuote
 use crate::byte_runs::raw_end;
 use crate::char::front;
 use crate::refusal::Refusal;
-use crate::strings_and_names::{Kind, Quote, read_text, read_text_owned, skip_text};
+use crate::strings_and_names::{Kind, Quote, read_text, read_text_owned, skip_escapes, skip_stop};
 use crate::text_token::TextToken;
 use json5_grammar::error_code::ErrorCode;
 use json5_types::cow_str::CowStr;
@@ -57,7 +57,8 @@ pub(crate) fn skip_string(text: &str) -> Result<&str, Refusal>
     ensures { Passes (string_at (chars text.now)) result }
 {
     let (quote, body) = read_quote(text)?;
-    skip_text(Kind::String(quote), body)
+    let kind = Kind::String(quote);
+    skip_stop(kind, skip_escapes(kind, skip_raw(quote, body)))
 }
 
 /// The quote in front, and what follows it (JSON5 section 5).

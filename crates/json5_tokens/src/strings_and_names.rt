@@ -138,7 +138,31 @@ pub(crate) fn read_text_owned(
 pub(crate) fn skip_text(kind: Kind, text: &str) -> Result<&str, Refusal>
     ensures { Passes (text_at kind (chars text.now)) result }
 {
-    let (_, mut stop) = read_run(kind, text)?;
+    let (_, stop) = read_run(kind, text)?;
+    match stop {
+        Stop::End(rest) => Ok(rest),
+        Stop::Escape(kind, escape, after) => skip_rest(kind, escape, after),
+    }
+}
+
+/// What follows the string or name whose tail is in front; no character that spells itself is next.
+#[inline(always)]
+pub(crate) fn skip_stop(kind: Kind, tail: &str) -> Result<&str, Refusal>
+    requires { NotBegun (is_raw_in kind) (chars tail.now) }
+    ensures { Passes (text_at kind (chars tail.now)) result }
+{
+    match read_stop(kind, tail)? {
+        Stop::End(rest) => Ok(rest),
+        Stop::Escape(kind, escape, after) => skip_rest(kind, escape, after),
+    }
+}
+
+/// What follows the string or name, from the escape in front on.
+fn skip_rest<'t>(kind: Kind, escape: &'t str, after: &'t str) -> Result<&'t str, Refusal>
+    requires { AtEscape escape.now after.now }
+    ensures { Passes (text_at kind (chars escape.now)) result }
+{
+    let mut stop = Stop::Escape(kind, escape, after);
     loop {
         match stop {
             Stop::End(rest) => return Ok(rest),
@@ -147,24 +171,21 @@ pub(crate) fn skip_text(kind: Kind, text: &str) -> Result<&str, Refusal>
     }
 }
 
-/// What ends the run after the escape in front, or a later run.
-fn skip_steps<'t>(kind: Kind, escape: &'t str, after: &str) -> Result<Stop<'t>, Refusal>
+/// What ends the run after the escape in front, or the run after the escapes behind it that have a short way.
+fn skip_steps<'t>(kind: Kind, escape: &'t str, after: &'t str) -> Result<Stop<'t>, Refusal>
     requires { AtEscape escape.now after.now }
     ensures { PassesSteps kind escape.now after.now result }
 {
-    let rest = skip_escapes(kind, escape);
-    match read_stop(kind, rest)? {
+    let step = read_step(kind, escape, after)?;
+    match step.stop {
         Stop::End(rest) => Ok(Stop::End(rest)),
-        Stop::Escape(kind, escape, after) => {
-            let step = read_step(kind, escape, after)?;
-            Ok(step.stop)
-        }
+        Stop::Escape(kind, escape, _) => read_stop(kind, skip_escapes(kind, escape)),
     }
 }
 
 /// What follows the escapes in front that have a short way, and the runs after them. In a name no escape has one.
 #[inline(never)]
-fn skip_escapes(kind: Kind, escape: &str) -> &str
+pub(crate) fn skip_escapes(kind: Kind, escape: &str) -> &str
     ensures { (u : List ℕ) × IsReadTo kind escape.now u result.now }
 {
     let Kind::String(quote) = kind else {
