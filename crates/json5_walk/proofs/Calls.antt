@@ -1,16 +1,19 @@
 -- What each call of a walk does.
-use Rattle.std.proofs.Common.{◌≡◌, ℕ, ◌+◌, ◌≤◌, ◌<◌, ◌-◌, Bool, true, false, List, [], ◌∷◌, ◌++◌, length, refl, ap, sym, ◌∙◌, append_assoc, arith, subst, Option, Some, None, drop}
+use Rattle.std.proofs.Common.{◌≡◌, ℕ, ◌+◌, ◌≤◌, ◌<◌, ◌-◌, Bool, true, false, List, [], ◌∷◌, ◌++◌, length, refl, ap, sym, ◌∙◌, append_assoc, arith, subst, Option, Some, None, drop, ℤ, ◌≤ℤ◌}
 use Rattle.std.specs.Prelude.{slice_get, option_to_list, IsSome, ◌↔◌}
 use Rattle.std.specs.Str.{chars, IsUtf8, IsCharBoundary, all_scalars, encode_utf8_all}
 use Rattle.std.proofs.lemmas.Str.{encodes-chars, encodes-append, chars-encodes, IsCharBoundary-at_seam}
 use Rattle.std.proofs.lemmas.List.{length-append}
+use Rattle.std.proofs.lemmas.Int.{ints, to_z-of_z}
+use mir.Syntax.{w128}
+use mir.Val.{to_z, of_z, SFits}
 use Rattle.std.proofs.Math.Seq.{drop-append_seam}
 use Rattle.json5_grammar.specs.Faults.Fronts.{BracketKind}
 use Rattle.json5_grammar.specs.Language.Blanks.{Blanks, LastBlanks, Gap, Solid}
 use Rattle.json5_grammar.specs.Language.Documents.{Doc, max_depth}
 use Rattle.json5_grammar.specs.Language.Names.{Key}
 use Rattle.json5_grammar.specs.Language.Trees.{Tree, null, boolean, number, text, depth}
-use Rattle.json5_grammar.specs.Language.Numbers.{Number, Num}
+use Rattle.json5_grammar.specs.Language.Numbers.{Number, Num, whole}
 use Rattle.json5_grammar.specs.Language.Strings.{Str}
 use Rattle.json5_grammar.specs.Language.Values.{Val, is_null, is_true, is_false, is_number, is_text, Stops, Reads, null_text, true_text, false_text}
 use Rattle.json5_grammar.specs.Model.Collections.{IsSign, ReadsKey}
@@ -38,8 +41,8 @@ use Rattle.json5_walk.specs.declared.place.Place.{Place}
 use Rattle.json5_walk.specs.Nexts.{takes_value}
 use Rattle.json5_walk.specs.Seams.{WholeTokens, no_token, then_value}
 use Rattle.json5_walk.specs.Frames.{Frame, in_array, in_object, Fits, Until, text_end, value_end, Spells, At, at_value, at_element, at_key, at_colon, at_comma, next_of, kinds_of, value_frames, CompletesUntil, CompletesTo}
-use Rattle.json5_walk.specs.Moves.{Stays, TakesValue, takes, Opens, TakesKeyOf, TakesColon, TakesComma, Closes}
-use Rattle.json5_walk.specs.Walks.{kinds_onto, kinds_in, IsInnermost, count_in, member_next, may_close, Walked, at_start, room_of, Trail, IsMarked, IsAt, Live, IsWalk, Moved, MovedMarking, Unmarked, IsDocument, IsDocumentWithin, Ends}
+use Rattle.json5_walk.specs.Moves.{Stays, TakesValue, takes, TakesTree, takes_tree, Opens, TakesKeyOf, TakesColon, TakesComma, Closes}
+use Rattle.json5_walk.specs.Walks.{kinds_onto, kinds_in, IsInnermost, count_in, member_next, may_close, Walked, at_start, room_of, Trail, IsMarked, IsAt, Live, IsWalk, Moved, MovedMarking, Unmarked, TookValue, tree_of, TookSpaced, TookSpacedWhole, IsDocument, IsDocumentWithin, Ends}
 use Rattle.json5_walk.proofs.Rests.{append_nil, no_rest, before_value, reads_gap, token_reads, value_kinds, value_count, Move, gap_move, inner_value, value_completes, value_due, value_move, key_move, colon_move, comma_move, open_move, close_move}
 
 -- ---- the open brackets
@@ -193,10 +196,6 @@ around s f v = sym (value_count s.now (due s f v)) ∙ ap length f.is_kinds
 sign_split : {x y : List ℕ} (c : ℕ) (p : IsSign c x y) → x ≡ (p.front ++ c ∷ []) ++ y
 sign_split {y = y} c p = p.split ∙ sym (append_assoc p.front (c ∷ []) y)
 
--- a step of which nothing is said
-abbrev pub Taken : At → At → Type 0
-Taken a b = Unit {0}
-
 module _ {old : Walked} {y : List ℕ} where
   -- a value that fits was taken
   pub value_moves : (t : Tree) (Step : At → At → Type 0) → ((a : At) → true ≡ takes_value (next_of a) → Step a (at_comma t (value_frames a))) → true ≡ takes_value old.next → Reads old.unread t y → (length old.kinds ≤ old.limit → Fits old.limit (length old.kinds) (depth t)) → Moved Step old (after_token old y old.kinds next.Comma)
@@ -204,10 +203,10 @@ module _ {old : Walked} {y : List ℕ} where
       moved old (p.front ++ p.phrase) y next.Comma old.kinds Step (p.split ∙ sym (append_assoc p.front p.phrase y)) (λ s f. (f.fits, subst (λ o. Move old.limit s.now (p.front ++ p.phrase) y next.Comma o Step) f.is_kinds (value_move old.limit s.now t Step (is s.now (due s f v)) (due s f v) p (subst (λ n. Fits old.limit n (depth t)) (sym (around s f v)) (d f.fits)))))
 
   -- a value without brackets
-  pub scalar_moves : (t : Tree) → depth t ≡ 0 → true ≡ takes_value old.next → Reads old.unread t y → Moved Taken old (after_token old y old.kinds next.Comma)
-  scalar_moves t e v p = value_moves t Taken (λ a d. tt) v p (λ l. rw e (omega (arith, l)))
+  pub scalar_moves : (t : Tree) → depth t ≡ 0 → true ≡ takes_value old.next → Reads old.unread t y → Moved (TakesTree t) old (after_token old y old.kinds next.Comma)
+  scalar_moves t e v p = value_moves t (TakesTree t) takes_tree v p (λ l. rw e (omega (arith, l)))
 
-  pub token_moves : (s : List ℕ) (t : Tree) → depth t ≡ 0 → true ≡ takes_value old.next → old.unread ≡ s ++ y → Val s t → Stops s y → Moved Taken old (after_token old y old.kinds next.Comma)
+  pub token_moves : (s : List ℕ) (t : Tree) → depth t ≡ 0 → true ≡ takes_value old.next → old.unread ≡ s ++ y → Val s t → Stops s y → Moved (TakesTree t) old (after_token old y old.kinds next.Comma)
   token_moves s t d v e k st = scalar_moves t d v (token_reads old.unread s y t e k st)
 
   pub key_moves : (bytes u : List ℕ) (e : Bool) → old.next ≡ next.Key → bytes ≡ encode_utf8_all u → ReadsKey old.unread u e y → Moved (TakesKeyOf bytes) old (after_token old y old.kinds next.Colon)
@@ -258,19 +257,35 @@ false_stops : (r : List ℕ) → Stops false_text r
 false_stops [] = tt
 false_stops (c ∷ r) = refl
 
-pub literal_moves : {old : Walked} {y : List ℕ} (l : Literal) → true ≡ takes_value old.next → old.unread ≡ word_of l ++ y → Moved Taken old (after_token old y old.kinds next.Comma)
-literal_moves {y = y} literal.Null v e = token_moves null_text null refl v e is_null (null_stops y)
-literal_moves {y = y} literal.True v e = token_moves true_text (boolean true) refl v e is_true (true_stops y)
-literal_moves {y = y} literal.False v e = token_moves false_text (boolean false) refl v e is_false (false_stops y)
+-- a token was taken, which is a value of this tree
+pub took_token : {old : Walked} {y : List ℕ} (s : List ℕ) (t : Tree) → depth t ≡ 0 → true ≡ takes_value old.next → old.unread ≡ s ++ y → Val s t → Stops s y → TookValue t old (after_token old y old.kinds next.Comma)
+took_token s t d v e k st = record { due = v; spelled = s; split = e; value = k; stops = st; moved = token_moves s t d v e k st }
 
-pub number_moves : {old : Walked} {y : List ℕ} (s : List ℕ) (k : Number) → true ≡ takes_value old.next → old.unread ≡ s ++ y → Num s k → Stops s y → Moved Taken old (after_token old y old.kinds next.Comma)
-number_moves s k v e p st = token_moves s (number k) refl v e (is_number p) st
+pub took_literal : {old : Walked} {y : List ℕ} (l : Literal) → true ≡ takes_value old.next → old.unread ≡ word_of l ++ y → TookValue (tree_of l) old (after_token old y old.kinds next.Comma)
+took_literal {y = y} literal.Null v e = took_token null_text null refl v e is_null (null_stops y)
+took_literal {y = y} literal.True v e = took_token true_text (boolean true) refl v e is_true (true_stops y)
+took_literal {y = y} literal.False v e = took_token false_text (boolean false) refl v e is_false (false_stops y)
 
-pub string_moves : {old : Walked} {y : List ℕ} (s u : List ℕ) (e : Bool) → true ≡ takes_value old.next → old.unread ≡ s ++ y → Str s u e → Moved Taken old (after_token old y old.kinds next.Comma)
-string_moves {y = y} s u b v e p = token_moves s (text u b) refl v e (is_text p) (text_stops y p)
+pub took_number : {old : Walked} {y : List ℕ} (s : List ℕ) (k : Number) → true ≡ takes_value old.next → old.unread ≡ s ++ y → Num s k → Stops s y → TookValue (number k) old (after_token old y old.kinds next.Comma)
+took_number s k v e p st = took_token s (number k) refl v e (is_number p) st
 
-pub short_number_moves : {old : Walked} {y : List ℕ} (w s : List ℕ) (k : Number) → true ≡ takes_value old.next → old.unread ≡ w ++ (s ++ y) → Gap w (s ++ y) → Num s k → Stops s y → Moved Taken old (after_token old y old.kinds next.Comma)
-short_number_moves {old = old} {y = y} w s k v e g p st = scalar_moves (number k) refl v (subst (λ x. Reads x (number k) y) (sym e) (reads_gap g (token_reads (s ++ y) s y (number k) refl (is_number p) st)))
+pub took_string : {old : Walked} {y : List ℕ} (s u : List ℕ) (e : Bool) → true ≡ takes_value old.next → old.unread ≡ s ++ y → Str s u e → TookValue (text u e) old (after_token old y old.kinds next.Comma)
+took_string {y = y} s u b v e p = took_token s (text u b) refl v e (is_text p) (text_stops y p)
+
+-- after blanks
+pub took_spaced : {old : Walked} {y : List ℕ} (t : Tree) → depth t ≡ 0 → true ≡ takes_value old.next → Reads old.unread t y → TookSpaced t old (after_token old y old.kinds next.Comma)
+took_spaced t d v p = record { due = v; reads = p; moved = scalar_moves t d v p }
+
+pub took_spaced_number : {old : Walked} {y : List ℕ} (w s : List ℕ) (k : Number) → true ≡ takes_value old.next → old.unread ≡ w ++ (s ++ y) → Gap w (s ++ y) → Num s k → Stops s y → TookSpaced (number k) old (after_token old y old.kinds next.Comma)
+took_spaced_number {old = old} {y = y} w s k v e g p st = took_spaced (number k) refl v (subst (λ x. Reads x (number k) y) (sym e) (reads_gap g (token_reads (s ++ y) s y (number k) refl (is_number p) st)))
+
+pub took_spaced_whole : {old : Walked} {y : List ℕ} (min max z : ℤ) (w s : List ℕ) → SFits w128 min → SFits w128 max → to_z w128 (of_z w128 min) ≤ℤ z → z ≤ℤ to_z w128 (of_z w128 max) → true ≡ takes_value old.next → old.unread ≡ w ++ (s ++ y)
+    → Gap w (s ++ y) → Num s (whole z) → Stops s y → TookSpacedWhole min max (to_z w128 (of_z w128 z)) old (after_token old y old.kinds next.Comma)
+took_spaced_whole min max z w s a b l h v e g p st =
+    let low : min ≤ℤ z = rw (to_z-of_z w128 min a) at l in
+    let high : z ≤ℤ max = rw (to_z-of_z w128 max b) at h in
+    let kept : to_z w128 (of_z w128 z) ≡ z = to_z-of_z w128 z (omega (arith, ints, a, b, low, high)) in
+    rw kept (record { low = low; high = high; took = took_spaced_number w s (whole z) v e g p st })
 
 -- ---- brackets, as a walk keeps them
 

@@ -12,10 +12,10 @@ use Rattle.json5_walk.specs.declared.next.Next.TheVariants as next
 use Rattle.json5_walk.specs.Nexts.{takes_value, takes_entry}
 use Rattle.json5_walk.specs.Frames.{Frame, in_array, in_object, frame_kinds, At, at_value, at_element, at_key, at_colon, at_comma, next_of, kinds_of}
 use Rattle.json5_walk.specs.Moves.{Stays, stays, TakesKeyOf, takes_key, TakesColon, takes_colon, TakesComma, after_element, after_member, Closes, TakesEntryComma, no_comma, comma, TakesEntryKey, no_key, key, TakesEntryColon, no_colon, colon, TakesFront, takes_front, EndsEntries, ends_entries}
-use Rattle.json5_walk.specs.Walks.{Walked, Trail, IsAt, Live, Moved, may_close, IsDocumentWithin, IsHopeless, NeedsMemory, offset_in, AwaitsValue, AwaitsKey, AwaitsColon, NotClosed, NotParted}
+use Rattle.json5_walk.specs.Walks.{Walked, Trail, IsAt, Live, Moved, TookKey, may_close, IsDocumentWithin, IsHopeless, NeedsMemory, offset_in, AwaitsValue, AwaitsKey, AwaitsColon, NotClosed, NotParted}
 use Rattle.json5_types.specs.Cows.{cow_bytes}
 use Rattle.json5_walk.specs.declared.entry.EntryKey.{EntryKey}
-use Rattle.json5_walk.specs.Entries.{is_inside, AwaitsEntry, EntryStands, TakesKey, BeginsEntry}
+use Rattle.json5_walk.specs.Entries.{is_inside, AwaitsEntry, EntryStands, TookName, TakesKey, BeginsEntry}
 use Rattle.json5_walk.proofs.Refusals.{within_hopeless}
 
 -- ---- one step after another
@@ -151,6 +151,7 @@ element_taken {v = v} k due text start end = record {
   start = start;
   named = v;
   name = no_key_moves (cow_bytes k.text) due text;
+  spelled = subst (λ n. TookName n k.text v v) (sym due) refl;
   end = end;
   colon = record {
     text = refl;
@@ -216,13 +217,14 @@ module _ {v w : Walked} {bytes : List ℕ} (p : Moved (TakesKeyOf bytes) v w) wh
       let (b, is, g) = r.leads s f in
       needs_as v y r.text r.limit (hopeless_needs y (h (is_live g)))
 
-  pub member_taken : {x y z : Walked} (k : EntryKey) → Moved Stays w x → Moved TakesColon x y → Moved Stays y z → Solid z.unread → cow_bytes k.text ≡ bytes → k.start ≡ offset_in v → k.end ≡ offset_in w → TakesKey v z k
-  member_taken {z = z} k gap q last solid text start end =
+  pub member_taken : {x y z : Walked} (k : EntryKey) → Moved Stays w x → Moved TakesColon x y → Moved Stays y z → Solid z.unread → cow_bytes k.text ≡ bytes → TookKey k.text v w → k.start ≡ offset_in v → k.end ≡ offset_in w → TakesKey v z k
+  member_taken {z = z} k gap q last solid text spelled start end =
       let colon_moves = after_gap gap (before_gap q last) in
       record {
         start = start;
         named = w;
         name = subst (λ b. Moved (TakesEntryKey b) v w) (sym text) (named_so (TakesKeyOf bytes) (TakesEntryKey bytes) (λ a b is. key_taken is) p);
+        spelled = subst (λ n. TookName n k.text v w) (sym spelled.due) spelled;
         end = end;
         colon = named_so TakesColon TakesEntryColon (λ a b is. colon_taken is) colon_moves;
         awaits = λ s.

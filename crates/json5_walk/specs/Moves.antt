@@ -18,6 +18,10 @@ pub data Stays : At → At → Type 0 where
 pub data TakesValue (room : ℕ) (x y : List ℕ) : At → At → Type 0 where
   takes : (a : At) (t : Tree) (s : List ℕ) → true ≡ takes_value (next_of a) → x ≡ s ++ y → Val s t → depth t ≤ room → TakesValue room x y a (at_comma t (value_frames a))
 
+-- a value of this tree
+pub data TakesTree (t : Tree) : At → At → Type 0 where
+  takes_tree : (a : At) → true ≡ takes_value (next_of a) → TakesTree t a (at_comma t (value_frames a))
+
 -- an opening bracket
 pub data Opens : Kind → At → At → Type 0 where
   opens_array : (a : At) → true ≡ takes_value (next_of a) → Opens kind.Array a (at_element no_more (value_frames a))

@@ -17,4 +17,4 @@ returns-in_err-gap-2-clause-refused c =
     rw (is, from) (last_gap_needs c.in_ok-text.ensures.taken c.in_ok-gap.ensures.taken (c.if-not-colon.ensures.taken refl) c.in_err-gap-2.ensures.refused)
 
 pub returns-clause-taken : goal.returns-clause-taken
-returns-clause-taken c = member_taken c.in_ok-text.ensures.taken _ c.in_ok-gap.ensures.taken (c.if-not-colon.ensures.taken refl) c.in_ok-gap-2.ensures.taken c.in_ok-gap-2.ensures.solid refl c.offset-start.ensures c.offset-end.ensures
+returns-clause-taken c = member_taken c.in_ok-text.ensures.taken _ c.in_ok-gap.ensures.taken (c.if-not-colon.ensures.taken refl) c.in_ok-gap-2.ensures.taken c.in_ok-gap-2.ensures.solid refl c.in_ok-text.ensures.spelled c.offset-start.ensures c.offset-end.ensures
