@@ -11,11 +11,10 @@ use Rattle.json5_grammar.specs.Model.ReadNumbers.{front_of, rest_of}
 use Rattle.json5_grammar.proofs.CharacterTests.{front_each, rest_stops}
 use Rattle.json5_grammar.proofs.FixedWidthLaws.{front_is}
 use Rattle.json5_styles.specs.Json.{is_json_blank}
-use Rattle.json5_styles.proofs.JsonRuns.{below}
 use Rattle.json5_tokens.specs.Scan.{SkipsAll}
 use Rattle.json5_types.proofs.AsciiRuns.{PassesAscii, counted, chars_split, rest_cut, rest_chars, front_boundary}
 use Rattle.json5_lexemes.specs.Plain.{is_opening, is_closing}
-use Rattle.json5_lexemes.specs.PlainSteps.{begins_number, ends_blanks, ends_digits}
+use Rattle.json5_lexemes.specs.PlainSteps.{begins_number, ends_blanks}
 
 pub blank_is_ascii : PassesAscii is_json_blank
 blank_is_ascii c h = grind (arith, nat_tests)
@@ -61,9 +60,6 @@ twice false = refl
 pub blank_or_not : (x : ℕ) → is_json_blank x ≡ not (ends_blanks x)
 blank_or_not x = twice (is_json_blank x)
 
-pub digit_or_not : (x : ℕ) → is_digit x ≡ not (ends_digits x)
-digit_or_not x = twice (is_digit x)
-
 -- the lane of a byte that is another
 abbrev pub miss : ℕ → ℕ → ℕ
 miss a b = cond (not (eqb a b)) 255 0
@@ -88,15 +84,3 @@ none_of_four false false false false = refl
 
 pub solid_lane : (x : ℕ) → top 7 (bit_and (bit_and (bit_and (miss x 32) (miss x 9)) (miss x 10)) (miss x 13)) ≡ ends_blanks x
 solid_lane x = none_of_four (x == 32) (x == 9) (x == 10) (x == 13)
-
-lane_of_two : (a b : Bool) → top 7 (bit_or (cond a 255 0) (cond b 255 0)) ≡ (a || b)
-lane_of_two true true = refl
-lane_of_two true false = refl
-lane_of_two false true = refl
-lane_of_two false false = refl
-
-outside : (x : ℕ) → (nat_lt x 48 || nat_lt 57 x) ≡ ends_digits x
-outside x = grind (arith, nat_tests)
-
-pub digit_lane : (x : ℕ) → top 7 (bit_or (below x 48) (below 57 x)) ≡ ends_digits x
-digit_lane x = lane_of_two (nat_lt x 48) (nat_lt 57 x) ∙ outside x

@@ -155,6 +155,3 @@ is_json_part c = is_in 97 122 c || (is_digit c || ((c == minus_sign) || ((c == p
 
 abbrev pub ends_blanks : ℕ → Bool
 ends_blanks x = not (is_json_blank x)
-
-abbrev pub ends_digits : ℕ → Bool
-ends_digits x = not (is_digit x)

@@ -7,9 +7,9 @@ ghost use Rattle.json5_styles.specs.Json.{Exponent, JsonNumber};
 ghost use Rattle.json5_lexemes.specs.PlainSteps.{AfterDigits, AreAscii, Digits, GoesOn, GoesOnIf, IsEmpty, IsPastAll, Leaves, PassesDigits, SignedDigits, Then, Unsigned, is_exponent_letter, is_exponent_sign};
 ghost use Rattle.json5_lexemes.specs.SameLexemes.{is_word_part};
 
-use crate::byte_runs::digits_len;
 use crate::rest::{front, past_byte};
 use crate::same::is_word_part;
+use json5_types::digit_runs::digits_len;
 
 /// What follows these four characters of ASCII, if they are in front.
 #[inline(always)]

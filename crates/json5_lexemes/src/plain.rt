@@ -10,10 +10,11 @@ ghost use Rattle.json5_lexemes.specs.Plain.{is_closing, is_opening, IsPlain, Kee
 ghost use Rattle.json5_lexemes.specs.PlainSteps.{begins_number, is_slash, EndsWord, Leaves, LeavesWith, PassesComment, PassesLexeme, PassesNumber, PassesSign, StaysPassed, TakesBlock, TakesCode, TakesComment, TakesEscape, TakesHex, TakesLine, TakesString, TakesWord, Then};
 ghost use Rattle.json5_lexemes.specs.declared.plain.Last.TheVariants as last_tokens;
 
-use crate::byte_runs::{blanks_len, is_json_blank, line_len, star_offset};
+use crate::byte_runs::{blanks_len, is_json_blank};
 use crate::json_words::{begins_word, end_number, skip_decimal, skip_four, skip_number};
 use crate::rest::{front, past_byte, past_first};
 use json5_styles::json_runs::skip_unescaped_within;
+use json5_tokens::byte_runs::{line_len, star_offset};
 use json5_tokens::char::is_json5_line_terminator;
 use json5_types::digit_runs::is_digit;
 

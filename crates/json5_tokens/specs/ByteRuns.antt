@@ -31,9 +31,6 @@ is_line_part c = not (c == 10) && (not (c == 13) && not (is_in 0x2000 0x2FFF c))
 abbrev pub is_no_star : ℕ → Bool
 is_no_star x = not (x == 42)
 
-abbrev pub is_no_digit : ℕ → Bool
-is_no_digit x = nat_lt x 48 || nat_lt 57 x
-
 -- an ASCII character that may begin a name
 abbrev pub is_ascii_start : ℕ → Bool
 is_ascii_start x = (x == 36) || ((x == 95) || (is_in 65 90 x || is_in 97 122 x))

@@ -6,8 +6,7 @@ ghost use Rattle.std.specs.List.{prefix_len};
 ghost use Rattle.std.specs.Simd.Lanes.{mask_l};
 ghost use Rattle.memchr.specs.Find.{is_byte, is_byte3};
 ghost use Rattle.json5_grammar.specs.Language.Strings.{is_raw};
-ghost use Rattle.json5_tokens.specs.ByteRuns.{ends_raw, is_ascii_blank, is_no_blank, is_ascii_start, is_ascii_part, is_plain_ascii, IsAsciiName, is_in_line, is_no_star, is_no_digit, lengthens_digits, SpellsFront, IsUnpadded, SpellsFewDigits, BeginsSolid};
-ghost use Rattle.json5_types.specs.DigitRuns.{SplitsDigits};
+ghost use Rattle.json5_tokens.specs.ByteRuns.{ends_raw, is_ascii_blank, is_no_blank, is_ascii_start, is_ascii_part, is_plain_ascii, IsAsciiName, is_in_line, is_no_star, lengthens_digits, SpellsFront, IsUnpadded, SpellsFewDigits, BeginsSolid};
 
 use json5_types::digit_runs::is_digit;
 use memchr::{memchr, memchr3};
@@ -145,7 +144,7 @@ fn line_ends(bytes: u8x16) -> u64
 
 /// How many bytes come before the first that is LF or CR or begins a character from U+2000 to U+2FFF, as U+2028 and U+2029.
 /// Most comments end within 16 bytes, and then the call of `memchr3` would take longer than the search.
-pub(crate) fn line_len(bytes: &[u8]) -> usize
+pub fn line_len(bytes: &[u8]) -> usize
     ensures { result ≡ prefix_len is_in_line bytes.now }
 {
     if bytes.len() >= 16 {
@@ -166,7 +165,7 @@ fn stars(bytes: u8x16) -> u64
 }
 
 /// How many bytes come before the first star. The first 16 bytes are tested as in `line_len`.
-pub(crate) fn star_offset(bytes: &[u8]) -> usize
+pub fn star_offset(bytes: &[u8]) -> usize
     ensures { result ≡ prefix_len is_no_star bytes.now }
 {
     if bytes.len() >= 16 {
@@ -222,51 +221,6 @@ pub(crate) fn raw_end(quote: u8, bytes: &[u8]) -> usize
         i += 16;
     }
     raw_end_slowly(quote, bytes, i)
-}
-
-/// Which of the bytes are no digit.
-#[inline(always)]
-fn no_digits(bytes: u8x16) -> u64
-    ensures { result ≡ mask_l (map is_no_digit bytes) }
-{
-    (bytes.simd_lt(u8x16::splat(b'0')) | bytes.simd_gt(u8x16::splat(b'9'))).to_bitmask()
-}
-
-/// The same as `digits_len` from this index on, byte by byte.
-#[inline(never)]
-fn digits_len_slowly(bytes: &[u8], from: usize) -> usize
-    requires { from ≤ length bytes.now }
-    ensures { result ≡ from + prefix_len is_digit (drop from bytes.now) }
-{
-    let mut i = from;
-    while i < bytes.len() && is_digit(bytes[i]) {
-        i += 1;
-    }
-    i
-}
-
-/// How many digits are in front.
-#[inline(always)]
-fn digits_len(bytes: &[u8]) -> usize
-    ensures { result ≡ prefix_len is_digit bytes.now }
-{
-    let mut i = 0;
-    while bytes.len() - i >= 16 {
-        let found = no_digits(u8x16::from_slice(&bytes[i..]));
-        if found != 0 {
-            return i + found.trailing_zeros() as usize;
-        }
-        i += 16;
-    }
-    digits_len_slowly(bytes, i)
-}
-
-/// The digits in front, and what follows them.
-#[inline(always)]
-pub(crate) fn split_digits(text: &str) -> (&str, &str)
-    ensures { SplitsDigits text.now result.0.now result.1.now }
-{
-    text.split_at(digits_len(text.as_bytes()))
 }
 
 /// A number of at most 19 decimal digits, and how many digits these are.

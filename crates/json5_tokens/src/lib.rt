@@ -5,7 +5,7 @@
 #![tactic(auto)]
 
 mod blanks;
-mod byte_runs;
+pub mod byte_runs;
 pub mod char;
 mod escapes;
 pub mod input;

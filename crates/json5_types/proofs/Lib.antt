@@ -1,5 +1,6 @@
 -- Lists the lemmas about values, numbers, strings and errors.
 pub mod AsciiRuns
+pub mod ByteSearch
 pub mod GatheredDigits
 pub mod NumberZeros
 pub mod ZeroPieces

@@ -4,10 +4,11 @@ ghost use Rattle.std.specs.Prelude.{◌≡◌, ◌<◌, ◌+◌, ◌++◌, ◌�
 ghost use Rattle.std.specs.List.{prefix_len};
 ghost use Rattle.json5_grammar.specs.Language.Characters.{is_digit, Each};
 ghost use Rattle.json5_grammar.specs.Language.Numbers as numbers;
-ghost use Rattle.json5_types.specs.DigitRuns.{SplitsDigits, Gathers};
+ghost use Rattle.json5_types.specs.DigitRuns.{SplitsDigits, Gathers, Pushed};
 
-use crate::digit_runs::{is_digit, without_back_zeros};
+use crate::digit_runs::{is_digit, no_digits, without_back_zeros};
 use std::marker::Model;
+use std::simd::prelude::*;
 use std::str;
 
 /// How many digits fit.
@@ -63,7 +64,7 @@ impl InlineDigits {
     }
 
     /// Adds the digits in front of the bytes, and returns how many they are; None if there is no room.
-    #[inline(always)]
+    #[inline(never)]
     fn push_digits(&mut self, bytes: &[u8]) -> Option<usize>
         ensures count { IfSome result (λ count. count ≡ prefix_len is_digit bytes.now) }
         ensures gathered { IfSome result (λ count. Gathers self.old self.new (take count bytes.now)) }
@@ -84,6 +85,36 @@ impl InlineDigits {
         Some(i)
     }
 
+    /// The same where fewer than 16 digits are in front and no zero in front of all: 16 bytes are copied, and so many of them count.
+    #[inline(always)]
+    fn push_few_digits(&mut self, bytes: &[u8]) -> Option<usize>
+        ensures { MatchOption result (self.new ≡ self.old) (Pushed self.old self.new bytes.now) }
+    {
+        let len = usize::from(self.len);
+        if len > 3 || bytes.len() < 16 || len == 0 && bytes[0] == b'0' {
+            return None;
+        }
+        let found = no_digits(u8x16::from_slice(bytes));
+        if found == 0 {
+            return None;
+        }
+        let count = found.trailing_zeros() as usize;
+        self.bytes[len..len + 16].copy_from_slice(&bytes[..16]);
+        self.len = (len + count) as u8;
+        Some(count)
+    }
+
+    /// The same, however many there are.
+    #[inline(always)]
+    fn push_front(&mut self, bytes: &[u8]) -> Option<usize>
+        ensures { IfSome result (Pushed self.old self.new bytes.now) }
+    {
+        if let Some(count) = self.push_few_digits(bytes) {
+            return Some(count);
+        }
+        self.push_digits(bytes)
+    }
+
     /// Adds the digits in front of the text, without zeros in front of all; returns them and what follows them, or None if there
     /// is no room.
     #[inline(always)]
@@ -91,7 +122,7 @@ impl InlineDigits {
         ensures split { IfSome result (λ parts. SplitsDigits text.now parts.0.now parts.1.now) }
         ensures gathered { IfSome result (λ parts. Gathers self.old self.new parts.0.now) }
     {
-        let count = self.push_digits(text.as_bytes())?;
+        let count = self.push_front(text.as_bytes())?;
         Some(text.split_at(count))
     }
 

@@ -1,9 +1,9 @@
 use Rattle.std.proofs.Common.{sym, ap, ◌∙◌, arith}
 use lib.Count.{count_trailing_zeros}
 use Rattle.json5_grammar.specs.Language.Characters.{is_digit}
-use Rattle.json5_tokens.specs.ByteRuns.{is_no_digit}
-use Rattle.json5_tokens.proofs.ByteSearch.{run_through, run_stops, digit_or_none}
-use Rattle.json5_tokens.proofs.byte_runs.digits_len.Goals as goal
+use Rattle.json5_types.specs.DigitRuns.{is_no_digit}
+use Rattle.json5_types.proofs.ByteSearch.{run_through, run_stops, digit_or_none}
+use Rattle.json5_types.proofs.digit_runs.digits_len.Goals as goal
 
 pub returns-then-found-ne0 : goal.returns-then-found-ne0
 returns-then-found-ne0 c =

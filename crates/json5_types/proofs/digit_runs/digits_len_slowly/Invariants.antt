@@ -1,10 +1,11 @@
 use Rattle.std.proofs.Common.{◌≡◌, ◌+◌, ◌-◌, ◌≤◌, length, drop}
 use Rattle.std.specs.List.{prefix_len}
 use Rattle.json5_grammar.specs.Language.Characters.{is_digit}
-use Rattle.json5_lexemes.proofs.byte_runs.many_digits_len.Given as goal
+use Rattle.json5_types.proofs.digit_runs.digits_len_slowly.Given as goal
 
 abbrev pub invariant-loop-i : goal.invariant-loop-i
-invariant-loop-i l = (prefix_len is_digit l.bytes ≡ l.i + prefix_len is_digit (drop l.i l.bytes)) × (l.i ≤ length l.bytes)
+invariant-loop-i l =
+    (l.from + prefix_len is_digit (drop l.from l.bytes) ≡ l.i + prefix_len is_digit (drop l.i l.bytes)) × (l.i ≤ length l.bytes)
 
 abbrev pub decreases-loop-i : goal.decreases-loop-i
 decreases-loop-i l = length l.bytes - l.i

@@ -1,8 +1,8 @@
 use Rattle.std.proofs.Common.{arith}
 use Rattle.std.proofs.lemmas.Simd.{zip2_splat, zip2_splat_left}
-use Rattle.json5_tokens.specs.ByteRuns.{is_no_digit}
-use Rattle.json5_tokens.proofs.ByteSearch.{below, either, masked, no_digit_lane}
-use Rattle.json5_tokens.proofs.byte_runs.no_digits.Goals as goal
+use Rattle.json5_types.specs.DigitRuns.{is_no_digit}
+use Rattle.json5_types.proofs.ByteSearch.{below, either, masked, no_digit_lane}
+use Rattle.json5_types.proofs.digit_runs.no_digits.Goals as goal
 
 pub returns : goal.returns
 returns c =
