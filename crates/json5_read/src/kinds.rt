@@ -51,6 +51,9 @@ pub fn kind_at(c: char) -> ValueKind
 pub fn skip_literal<I: Input>(scanner: &mut Scanner<I>, literal: Literal) -> Result<()>
     ensures { TakesWord (word_of literal) (ends_of literal) (differs_of literal) scanner.old scanner.new result }
 {
+    if short_literal(scanner, literal) {
+        return Ok(());
+    }
     match literal {
         Literal::Null => scanner.word("null", ErrorCode::EofParsingNull, ErrorCode::ExpectedNull),
         Literal::True => scanner.word("true", ErrorCode::EofParsingBool, ErrorCode::ExpectedBool),
