@@ -37,6 +37,18 @@ impl<'t> Json5<'t> {
     }
 
     fn float<F: FastFloat>(&mut self) -> Step<F> {
+        match self.short_digits() {
+            Some(digits) => match fast_float::parse::<F, _>(digits) {
+                Ok(x) => Ok(x),
+                Err(_) => Err(Fault::Misfit(Wanted::Another, self.last)),
+            },
+            None => self.long_float(),
+        }
+    }
+
+    /// A float that has no short way.
+    #[inline(never)]
+    fn long_float<F: FastFloat>(&mut self) -> Step<F> {
         let read = if self.at_key {
             let (number, text) = self.number_key()?;
             nearest(&number, text.as_str().trim())

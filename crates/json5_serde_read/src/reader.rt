@@ -321,6 +321,15 @@ impl<'t> Json5<'t> {
         self.walk.short_whole(min, max)
     }
 
+    /// Takes a decimal number of few digits, and gives it as it stands.
+    #[inline(always)]
+    pub(crate) fn short_digits(&mut self) -> Option<&'t str> {
+        if self.at_key || !self.short_begin() || !self.walk.short_number() {
+            return None;
+        }
+        Some(self.digits())
+    }
+
     /// Takes a whole number, or a key whose text is one.
     pub(crate) fn whole(&mut self) -> Step<Whole> {
         let number = if self.at_key {
