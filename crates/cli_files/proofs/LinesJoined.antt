@@ -14,10 +14,5 @@ fault_joined name m l k e p hm hp hl hk =
     let said : positioned_text m (Some p) ≡ error_text e = ap (λ (x : List ℕ). positioned_text x (Some p)) hm ∙ ap (λ (q : Option Position). positioned_text (kind_text (kind_of e)) q) hp in
     rw (sym said) (rw (sym hl, sym hk) (line_joined name m l k))
 
--- ---- lines that name two files
-
-pub taken_joined : (name beside : List ℕ) → name ++ (codes ": cannot be written: " ++ (beside ++ codes " is there\n")) ≡ named_report name (codes "cannot be written: " ++ (beside ++ codes " is there"))
-taken_joined name beside = simp append_assoc
-
-pub remains_joined : (name beside : List ℕ) → name ++ (codes ": cannot be written, and " ++ (beside ++ codes " remains\n")) ≡ named_report name (codes "cannot be written, and " ++ (beside ++ codes " remains"))
-remains_joined name beside = simp append_assoc
+pub words_joined : (name a b c : List ℕ) → name ++ (codes ": " ++ (a ++ (b ++ (c ++ codes "\n")))) ≡ named_report name (a ++ (b ++ c))
+words_joined name a b c = simp append_assoc

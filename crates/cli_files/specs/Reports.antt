@@ -42,10 +42,14 @@ reason_words reasons.ReadOnly = codes ": the disk is read-only"
 reason_words reasons.NoRoom = codes ": the disk is full"
 reason_words reasons.Other = []
 
+-- why a file wasn't replaced
+abbrev pub unwritten_words : Unwritten → List ℕ
+unwritten_words (unwritten.Refused why) = codes "cannot be written" ++ reason_words why
+unwritten_words unwritten.Changed = codes "changed meanwhile, and was left as it is"
+unwritten_words unwritten.Linked = codes "cannot be written: it has other hard links"
+unwritten_words (unwritten.Taken beside) = codes "cannot be written: " ++ (string_bytes beside ++ codes " is there")
+unwritten_words (unwritten.Remains beside) = codes "cannot be written, and " ++ (string_bytes beside ++ codes " remains")
+unwritten_words unwritten.NoMemory = codes "out of memory"
+
 abbrev pub unwritten_line : List ℕ → Unwritten → List ℕ
-unwritten_line name (unwritten.Refused why) = named_report name (codes "cannot be written" ++ reason_words why)
-unwritten_line name unwritten.Changed = named_report name (codes "changed meanwhile, and was left as it is")
-unwritten_line name unwritten.Linked = named_report name (codes "cannot be written: it has other hard links")
-unwritten_line name (unwritten.Taken beside) = named_report name (codes "cannot be written: " ++ (string_bytes beside ++ codes " is there"))
-unwritten_line name (unwritten.Remains beside) = named_report name (codes "cannot be written, and " ++ (string_bytes beside ++ codes " remains"))
-unwritten_line name unwritten.NoMemory = named_report name (codes "out of memory")
+unwritten_line name u = named_report name (unwritten_words u)

@@ -6,6 +6,7 @@ ghost use Rattle.cli_files.specs.Reports.{status_of};
 
 use json5_types::ErrorCode;
 use json5_types::error::Error;
+use std::fmt;
 
 /// Why the work ended.
 #[derive(Debug, Drop)]
@@ -40,6 +41,20 @@ impl Failure {
         match self {
             Failure::NotUtf8 | Failure::Text(_) => 1,
             Failure::NoMemory | Failure::Read | Failure::Write => 2,
+        }
+    }
+}
+
+impl std::error::Error for Failure {}
+
+impl fmt::Display for Failure {
+    fn fmt<W: fmt::Write>(&self, f: &mut fmt::Formatter<W>) -> fmt::Result {
+        match self {
+            Failure::NotUtf8 => f.write_str("not UTF-8"),
+            Failure::Text(error) => write!(f, "{error}"),
+            Failure::NoMemory => f.write_str("out of memory"),
+            Failure::Read => f.write_str("cannot be read"),
+            Failure::Write => f.write_str("cannot be written"),
         }
     }
 }

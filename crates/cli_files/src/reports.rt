@@ -41,30 +41,8 @@ pub fn report_unwritten<E: Write>(name: &str, unwritten: &Unwritten, e: &mut E) 
     ensures status { result ≡ 2 }
     ensures line { AppendsFront (E.contents e.old) (E.contents e.new) (unwritten_line name.now unwritten.now) }
 {
-    match unwritten {
-        Unwritten::Refused(why) => say(e, &[name, ": cannot be written", why.words(), "\n"]),
-        Unwritten::Changed => say(e, &[name, ": changed meanwhile, and was left as it is\n"]),
-        Unwritten::Linked => say(e, &[name, ": cannot be written: it has other hard links\n"]),
-        Unwritten::NoMemory => say(e, &[name, ": out of memory\n"]),
-        Unwritten::Taken(beside) => say(
-            e,
-            &[
-                name,
-                ": cannot be written: ",
-                beside.as_str(),
-                " is there\n",
-            ],
-        ),
-        Unwritten::Remains(beside) => say(
-            e,
-            &[
-                name,
-                ": cannot be written, and ",
-                beside.as_str(),
-                " remains\n",
-            ],
-        ),
-    }
+    let (cause, beside, rest) = unwritten.words();
+    say(e, &[name, ": ", cause, beside, rest, "\n"]);
     2
 }
 
