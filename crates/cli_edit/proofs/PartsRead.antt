@@ -69,14 +69,20 @@ mutual
 
 pub part_found : (bytes spelled : List ℕ) (steps : List Step) (p : Place) → IsUtf8 bytes → Leads bytes steps (Some p) → spelled ≡ slice_range bytes p.start p.end → IsPartAt bytes steps spelled
 part_found bytes spelled steps p u leads is =
-    let q = leads.placed in
+    record { tree = leads.tree; document = leads.document; place = p; there = leads.placed; same = part_there u is leads.placed.cut }
+
+-- the characters of what is spelled are those of the place
+part_value : (bytes spelled : List ℕ) (steps : List Step) → IsUtf8 bytes → (p : IsPartAt bytes steps spelled) → Val (chars spelled) p.there.tree
+part_value bytes spelled steps u p =
+    let q = p.there in
     let scalars : all_scalars (q.before ++ (q.old ++ q.after)) ≡ true = ap all_scalars (sym q.cut.whole) ∙ scalars-chars bytes u in
     let old_scalars : all_scalars q.old ≡ true = scalars_left q.old q.after (scalars_right q.before (q.old ++ q.after) scalars) in
-    let same : chars spelled ≡ q.old = ap chars (part_there u is q.cut) ∙ chars-encodes q.old old_scalars in
-    record { tree = leads.tree; document = leads.document; positions = q.positions; led = q.led; value = q.tree; there = q.there; is_value = subst (λ z. Val z q.tree) (sym same) q.value }
+    let same : chars spelled ≡ q.old = ap chars p.same ∙ chars-encodes q.old old_scalars in
+    subst (λ z. Val z q.tree) (sym same) q.value
 
-pub part_fits : (bytes spelled : List ℕ) (steps : List Step) → IsPartAt bytes steps spelled → IsValue max_depth (chars spelled)
-part_fits bytes spelled steps p = (p.value, p.is_value, within (part_depth p.positions p.tree p.value p.there) p.document.shallow)
+pub part_fits : (bytes spelled : List ℕ) (steps : List Step) → IsUtf8 bytes → IsPartAt bytes steps spelled → IsValue max_depth (chars spelled)
+part_fits bytes spelled steps u p =
+    (p.there.tree, part_value bytes spelled steps u p, within (part_depth p.there.positions p.tree p.there.tree p.there.there) p.document.shallow)
 
 -- ---- what is written of it
 
@@ -86,18 +92,21 @@ same_value x t u d v = one_tree max_depth (depth u) x t u d (alone (depth u) x u
 pub value_alone : (x : List ℕ) → IsValue max_depth x → (t : Tree) × Doc max_depth x t
 value_alone x (t, v, n) = (t, alone max_depth x t v n)
 
-module _ (w : View) (bytes spelled : List ℕ) (steps : List Step) (p : IsPartAt bytes steps spelled) where
-  pub shown_ok : (r : Result (String Global) TextTrouble) → IfOk r (λ made. IsShownOf w spelled (string_bytes made)) → IfOk r (λ made. IsShownAt w bytes steps (string_bytes made))
-  shown_ok (Ok made) (t, d, k) = (spelled, p, subst (λ z. Shows w spelled (datum_of z) (string_bytes made)) (same_value (chars spelled) t p.value d p.is_value) k)
-  shown_ok (Err x) k = tt
+module _ (bytes spelled : List ℕ) (steps : List Step) (u : IsUtf8 bytes) (p : IsPartAt bytes steps spelled) where
+  same_part : (t : Tree) → Doc max_depth (chars spelled) t → t ≡ p.there.tree
+  same_part t d = same_value (chars spelled) t p.there.tree d (part_value bytes spelled steps u p)
 
-  pub shown_err : (r : Result (String Global) TextTrouble) → IfErr r (RefusesShownOf w spelled) → IfErr r (RefusesShowing w bytes steps)
-  shown_err (Ok made) k = tt
-  shown_err (Err x) (t, d, k) = inr (spelled, p, subst (λ z. ShowsNone w (datum_of z) x) (same_value (chars spelled) t p.value d p.is_value) k)
+  pub shown_ok : (w : View) (r : Result (String Global) TextTrouble) → IfOk r (λ made. IsShownOf w spelled (string_bytes made)) → IfOk r (λ made. IsShownAt w bytes steps (string_bytes made))
+  shown_ok w (Ok made) (t, d, k) = (spelled, p, subst (λ z. Shows w spelled (datum_of z) (string_bytes made)) (same_part t d) k)
+  shown_ok w (Err x) k = tt
 
--- how many entries it has
-pub count_there : (bytes spelled : List ℕ) (steps : List Step) → IsPartAt bytes steps spelled → (t : Tree) → Doc max_depth (chars spelled) t → (x : Datum) → x ≡ datum_of t → (n : Option ℕ) → n ≡ len_of x → IsCountAt bytes steps n
-count_there bytes spelled steps p t d x is n e = (spelled, p, sym (e ∙ ap len_of (is ∙ ap datum_of (same_value (chars spelled) t p.value d p.is_value))))
+  pub shown_err : (w : View) (r : Result (String Global) TextTrouble) → IfErr r (RefusesShownOf w spelled) → IfErr r (RefusesShowing w bytes steps)
+  shown_err w (Ok made) k = tt
+  shown_err w (Err x) (t, d, k) = inr (spelled, p, subst (λ z. ShowsNone w (datum_of z) x) (same_part t d) k)
+
+  -- how many entries it has
+  pub count_there : (t : Tree) → Doc max_depth (chars spelled) t → (x : Datum) → x ≡ datum_of t → (n : Option ℕ) → n ≡ len_of x → IsCountAt bytes steps n
+  count_there t d x is n e = (spelled, p, sym (e ∙ ap len_of (is ∙ ap datum_of (same_part t d))))
 
 -- of a value that was read
 module _ (w : View) (spelled : List ℕ) (t : Tree) (d : Doc max_depth (chars spelled) t) (x : Datum) (is : x ≡ datum_of t) where

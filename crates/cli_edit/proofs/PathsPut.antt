@@ -105,7 +105,7 @@ no_array (object ps) e k = absurd (cc)
 
 pub no_entries : (bytes value : List ℕ) (outer : List Step) (i : ℕ) → IsCountAt bytes outer None → RefusesAdding (step.Index i) bytes outer value error.NotArray
 no_entries bytes value outer i (spelled, p, e) =
-    inl (record { tree = p.tree; document = p.document; positions = p.positions; led = p.led; value = p.value; there = p.there; such = no_array p.value e })
+    inl (record { tree = p.tree; document = p.document; positions = p.there.positions; led = p.there.led; value = p.there.tree; there = p.there.there; such = no_array p.there.tree e })
 
 pub pushed_at : (bytes value : List ℕ) (outer : List Step) (i : ℕ) → IsCountAt bytes outer (Some i) → (r : Result (String Global) EditError)
     → IfOk r (λ made. IsPushed bytes outer value (string_bytes made)) → IfOk r (λ made. Adds (step.Index i) bytes outer value (string_bytes made))

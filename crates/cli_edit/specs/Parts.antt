@@ -7,7 +7,6 @@ use Rattle.std.specs.Str.{chars, encode_utf8_all}
 use Rattle.json5_grammar.specs.Language.Characters.{line_feed}
 use Rattle.json5_grammar.specs.Language.Documents.{Doc, max_depth}
 use Rattle.json5_grammar.specs.Language.Trees.{Tree}
-use Rattle.json5_grammar.specs.Language.Values.{Val}
 use Rattle.json5_types.specs.declared.error.Error.{Error}
 use Rattle.json5_types.specs.Errors.{LacksMemory}
 use Rattle.json5_types.specs.ValueKinds.{len_of}
@@ -18,7 +17,8 @@ use Rattle.json5_read.specs.TreeMeanings.{datum_of}
 use Rattle.json5_styles.specs.declared.layout.Layout.TheVariants as layout
 use Rattle.json5_styles.specs.JsonTexts.{is_json}
 use Rattle.json5_styles.specs.Layouts.{json_text}
-use Rattle.json5_edit.specs.Parts.{part, positions_of}
+use Rattle.json5_walk.specs.declared.place.Place.{Place}
+use Rattle.json5_edit.specs.Places.{IsPlace}
 use Rattle.json5_edit.specs.Refusals.{RefusesPath}
 use Rattle.json5_edit.specs.declared.faults.EditError.{EditError}
 use Rattle.json5_edit.specs.declared.faults.EditError.TheVariants as error
@@ -28,15 +28,13 @@ use Rattle.cli_edit.specs.declared.requests.View.TheVariants as view
 use Rattle.cli_edit.specs.declared.trouble.TextTrouble.{TextTrouble}
 use Rattle.cli_edit.specs.declared.trouble.TextTrouble.TheVariants as trouble
 
--- the text is a document, and the steps lead in it to a value that is spelled so
+-- the text is a document, and at the place to which the steps lead in it the value is spelled so
 pub record IsPartAt (text : List ℕ) (steps : List Step) (spelled : List ℕ) : Type 0 where
   pub tree : Tree
   pub document : Doc max_depth (chars text) tree
-  pub positions : List ℕ
-  pub led : positions_of steps tree ≡ Some positions
-  pub value : Tree
-  pub there : part positions tree ≡ Some value
-  pub is_value : Val (chars spelled) value
+  pub place : Place
+  pub there : IsPlace text steps tree place
+  pub same : spelled ≡ encode_utf8_all there.old
 
 -- the value as JSON over lines that are indented by two spaces a level, and a line feed
 abbrev pub json_line : Datum → List ℕ
@@ -80,10 +78,10 @@ ShowsNone v x _ = ⊥
 
 -- the same of the value there
 abbrev pub IsShownAt : View → List ℕ → List Step → List ℕ → Type 0
-IsShownAt v bytes steps made = (spelled : List ℕ) × (p : IsPartAt bytes steps spelled) × Shows v spelled (datum_of p.value) made
+IsShownAt v bytes steps made = (spelled : List ℕ) × (p : IsPartAt bytes steps spelled) × Shows v spelled (datum_of p.there.tree) made
 
 abbrev pub RefusesShowing : View → List ℕ → List Step → TextTrouble → Type 0
-RefusesShowing v bytes steps x = ((e : EditError) × (x ≡ trouble.Edit e) × RefusesPath bytes steps e) ⊎ ((spelled : List ℕ) × (p : IsPartAt bytes steps spelled) × ShowsNone v (datum_of p.value) x)
+RefusesShowing v bytes steps x = ((e : EditError) × (x ≡ trouble.Edit e) × RefusesPath bytes steps e) ⊎ ((spelled : List ℕ) × (p : IsPartAt bytes steps spelled) × ShowsNone v (datum_of p.there.tree) x)
 
 -- ---- of a value alone. Private clauses cite these.
 

@@ -17,7 +17,7 @@ use Rattle.cli_edit.specs.Parts.{IsPartAt}
 
 -- how many entries the value has to which the steps lead; None of what is no array and no object
 abbrev pub IsCountAt : List ℕ → List Step → Option ℕ → Type 0
-IsCountAt text steps n = (spelled : List ℕ) × (p : IsPartAt text steps spelled) × (len_of (datum_of p.value) ≡ n)
+IsCountAt text steps n = (spelled : List ℕ) × (p : IsPartAt text steps spelled) × (len_of (datum_of p.there.tree) ≡ n)
 
 -- one entry more, the last: a member with this key, or an element that so many others come before
 abbrev pub Adds : Step → List ℕ → (outer : List Step) → (value made : List ℕ) → Type 0
