@@ -14,47 +14,8 @@ use json5_edit::{
 };
 use std::alloc::Global;
 
-/// The text that is written: what was asked for of the value, or the changed text. A VALUE over several lines is laid out
-/// for where it goes, where that leaves its strings and comments as they are.
+/// The text that is written: what was asked for of the value, or the changed text.
 pub(crate) fn made(
-    alloc: Global,
-    task: &Task<'_>,
-    text: &str,
-    steps: &[Step<'_>],
-    value: &str,
-) -> std::result::Result<String, TextTrouble>
-    ensures made { IfOk result (λ new. MakesLaid task.now.work text.now steps.now value.now (string_bytes new)) }
-    ensures refused { IfErr result (RefusesWork task.now.work text.now steps.now value.now) }
-{
-    match made_with(alloc, task, text, steps, value) {
-        Ok(as_given) => Ok(made_laid(alloc, task, text, steps, value, as_given)),
-        Err(trouble) => Err(trouble),
-    }
-}
-
-/// The text that is made with the VALUE laid out; or this one, where it can't be.
-fn made_laid(
-    alloc: Global,
-    task: &Task<'_>,
-    text: &str,
-    steps: &[Step<'_>],
-    value: &str,
-    as_given: String,
-) -> String
-    requires { Makes task.now.work text.now steps.now value.now (string_bytes as_given) }
-    ensures { MakesLaid task.now.work text.now steps.now value.now (string_bytes result) }
-{
-    let Some(placed) = placed(alloc, task.work, text, steps, value) else {
-        return as_given;
-    };
-    match made_with(alloc, task, text, steps, placed.as_str()) {
-        Ok(laid) => laid,
-        Err(_) => as_given,
-    }
-}
-
-/// The text that is made with this value.
-fn made_with(
     alloc: Global,
     task: &Task<'_>,
     text: &str,
@@ -74,6 +35,28 @@ fn made_with(
         Command::PutAbsent => edited(put(alloc, text, steps, value, names, true)),
         Command::Rename => edited(rename(alloc, text, steps, value)),
         Command::Remove => edited(removed(alloc, text, steps)),
+    }
+}
+
+/// The text that was made; or the same with a VALUE over several lines laid out for where it goes, where that leaves
+/// its strings and comments as they are.
+pub(crate) fn laid(
+    alloc: Global,
+    task: &Task<'_>,
+    text: &str,
+    steps: &[Step<'_>],
+    value: &str,
+    as_given: String,
+) -> String
+    requires { Makes task.now.work text.now steps.now value.now (string_bytes as_given) }
+    ensures { MakesLaid task.now.work text.now steps.now value.now (string_bytes result) }
+{
+    let Some(placed) = placed(alloc, task.work, text, steps, value) else {
+        return as_given;
+    };
+    match made(alloc, task, text, steps, placed.as_str()) {
+        Ok(laid) => laid,
+        Err(_) => as_given,
     }
 }
 

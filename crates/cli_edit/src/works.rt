@@ -4,7 +4,7 @@ ghost use Rattle.std.specs.Bool.{Decides};
 ghost use Rattle.std.specs.Prelude.{IfErr, OnOk};
 ghost use Rattle.cli_edit.specs.Works.{Does, DoesAt, DoesWith, GoesOut, Puts, PutsNot, Works, WorksNot};
 
-use crate::edits::made;
+use crate::edits::{laid, made};
 use crate::lines::{no_value, tell, unread, wrong_path};
 use crate::requests::{Command, Task};
 use crate::texts::{text_of, value_of};
@@ -111,7 +111,8 @@ fn work_on<S: Store, W: Write>(
     ensures worked { OnOk result (Works (S.known store.now) task.now text.now steps.now value.now (W.contents w.old) (W.contents w.new)) }
     ensures stopped { IfErr result (WorksNot task.now text.now steps.now value.now (W.contents w.old) (W.contents w.new)) }
 {
-    let new = made(alloc, task, text, steps, value)?;
+    let as_given = made(alloc, task, text, steps, value)?;
+    let new = laid(alloc, task, text, steps, value, as_given);
     put(store, alloc, task, text, new.as_str(), w)
 }
 

@@ -1,6 +1,6 @@
 use Rattle.cli_edit.specs.declared.requests.Command.TheVariants as work
 use Rattle.cli_edit.proofs.EditsMade.{made_by}
-use Rattle.cli_edit.proofs.edits.made_with.Goals as goal
+use Rattle.cli_edit.proofs.edits.made.Goals as goal
 
 pub returns-in-Remove-clause-made : goal.returns-in-Remove-clause-made
 returns-in-Remove-clause-made c =
