@@ -64,13 +64,13 @@ GoesOut t = IsShown t.work ⊎ (t.file.now ≡ stream_word)
 pub data Puts (known : Known) (t : Task) (old new : List ℕ) (output written : Option (List ℕ)) : Type 0 where
   out : GoesOut t → Appends output written new → Puts known t old new output written
   same : ¬ (GoesOut t) → old ≡ new → Keeps output written → Puts known t old new output written
-  replaced : ¬ (GoesOut t) → known.replaces t.file.now old new → Keeps output written → Puts known t old new output written
+  replaced : ¬ (GoesOut t) → known.replaces t.file.now old new None → Keeps output written → Puts known t old new output written
 
--- a prefix of it was written out; or nothing, and the file wasn't replaced
-abbrev pub PutsNot : List ℕ → Option (List ℕ) → Option (List ℕ) → TextTrouble → Type 0
-PutsNot new output written (trouble.Failed f) = (f ≡ failure.Write) × AppendsFront output written new
-PutsNot new output written (trouble.Unwritten u) = Keeps output written
-PutsNot new output written _ = ⊥
+-- a prefix of it was written out; or nothing, and the file holds what it held
+abbrev pub PutsNot : Known → Task → (old new : List ℕ) → (output written : Option (List ℕ)) → TextTrouble → Type 0
+PutsNot known t old new output written (trouble.Failed f) = GoesOut t × (f ≡ failure.Write) × AppendsFront output written new
+PutsNot known t old new output written (trouble.Unwritten u) = ¬ (GoesOut t) × known.replaces t.file.now old new (Some u) × Keeps output written
+PutsNot known t old new output written _ = ⊥
 
 -- ---- a task
 
@@ -79,15 +79,15 @@ abbrev pub Works : Known → Task → List ℕ → List Step → List ℕ → Op
 Works known t text steps value output written = (made : List ℕ) × MakesLaid t.work text steps value made × Puts known t text made output written
 
 -- it wasn't made, or it wasn't put there
-abbrev pub WorksNot : Task → List ℕ → List Step → List ℕ → Option (List ℕ) → Option (List ℕ) → TextTrouble → Type 0
-WorksNot t text steps value output written x =
-    (RefusesWork t.work text steps value x × Keeps output written) ⊎ ((made : List ℕ) × MakesLaid t.work text steps value made × PutsNot made output written x)
+abbrev pub WorksNot : Known → Task → List ℕ → List Step → List ℕ → Option (List ℕ) → Option (List ℕ) → TextTrouble → Type 0
+WorksNot known t text steps value output written x =
+    (RefusesWork t.work text steps value x × Keeps output written) ⊎ ((made : List ℕ) × MakesLaid t.work text steps value made × PutsNot known t text made output written x)
 
 -- with what is given for VALUE, and the text that was read: what output and errors held before and after, and the status
 pub data DoesAt (known : Known) (t : Task) (given text : List ℕ) (output errors written : Option (List ℕ)) : Option (List ℕ) → ℕ → Type 0 where
   -- nothing was said
   worked : (steps : List Step) (value : List ℕ) → Means t given value → Works known t text steps value output written → DoesAt known t given text output errors written errors 0
-  stopped : {said : Option (List ℕ)} (steps : List Step) (value : List ℕ) (x : TextTrouble) → Means t given value → WorksNot t text steps value output written x
+  stopped : {said : Option (List ℕ)} (steps : List Step) (value : List ℕ) (x : TextTrouble) → Means t given value → WorksNot known t text steps value output written x
       → DoesAt known t given text output errors written said (trouble_status x)
   -- the steps of the path aren't known, since the text is no document; or memory ran out
   no_steps : {said : Option (List ℕ)} (e : EditError) → RefusesPath text [] e → Keeps output written → DoesAt known t given text output errors written said (edit_status e)

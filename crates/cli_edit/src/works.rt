@@ -109,7 +109,7 @@ fn work_on<S: Store, W: Write>(
     w: &mut W,
 ) -> Result<(), TextTrouble>
     ensures worked { OnOk result (Works (S.known store.now) task.now text.now steps.now value.now (W.contents w.old) (W.contents w.new)) }
-    ensures stopped { IfErr result (WorksNot task.now text.now steps.now value.now (W.contents w.old) (W.contents w.new)) }
+    ensures stopped { IfErr result (WorksNot (S.known store.now) task.now text.now steps.now value.now (W.contents w.old) (W.contents w.new)) }
 {
     let as_given = made(alloc, task, text, steps, value)?;
     let new = laid(alloc, task, text, steps, value, as_given);
@@ -126,7 +126,7 @@ fn put<S: Store, W: Write>(
     w: &mut W,
 ) -> Result<(), TextTrouble>
     ensures put { OnOk result (Puts (S.known store.now) task.now old.now new.now (W.contents w.old) (W.contents w.new)) }
-    ensures stopped { IfErr result (PutsNot new.now (W.contents w.old) (W.contents w.new)) }
+    ensures stopped { IfErr result (PutsNot (S.known store.now) task.now old.now new.now (W.contents w.old) (W.contents w.new)) }
 {
     if goes_out(task) {
         return match put_texts(w, &[new]) {

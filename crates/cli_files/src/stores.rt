@@ -23,7 +23,8 @@ pub enum Entry {
 /// Where files are found, read and replaced by their names. `known` says what is known of what has a name; of the files
 /// of the system nothing is known, as no contract speaks of them.
 pub trait Store: Disk {
-    ghost use Rattle.std.specs.Prelude.{ℕ, List, Option, None, Some, MatchResult, OnOk};
+    ghost use Rattle.std.specs.Prelude.{ℕ, List, Option, None, Some, MatchResult};
+    ghost use Rattle.std.specs.Result.{result_err};
     ghost use Rattle.cli_files.specs.NameLists.{names_of};
     ghost use Rattle.cli_files.specs.Stores.{Known};
 
@@ -52,13 +53,14 @@ pub trait Store: Disk {
     /// That of the system.
     fn real_path(&self, alloc: Global, folder: &str) -> io::Result<String>;
 
-    /// Puts a text in the place of that of a file, if the file still holds the text that was read of it.
+    /// Puts a text in the place of that of a file, if the file still holds the text that was read of it. At Ok the file
+    /// holds the new text.
     ///
     /// # Errors
     ///
     /// Why it wasn't replaced: then the file holds what it held before.
     fn replace(&self, alloc: Global, name: &str, before: &str, after: &str) -> Result<(), Unwritten>
-        ensures { OnOk result ((known self.now).replaces name.now before.now after.now) };
+        ensures { (known self.now).replaces name.now before.now after.now (result_err result) };
 
     // What opening a file gives is known here too.
     ghost knows_opening: { (s : Self) (name : List ℕ) (o : Option (Option (List ℕ))) → Self.opens s name o → (known s).opens name o };

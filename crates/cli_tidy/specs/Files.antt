@@ -8,6 +8,7 @@ use Rattle.json5_write.specs.Pieces.{AppendsFront}
 use Rattle.cli_files.specs.declared.failure.Failure.{Failure}
 use Rattle.cli_files.specs.declared.failure.Failure.TheVariants as failure
 use Rattle.cli_files.specs.declared.reason.Reason.{Reason}
+use Rattle.cli_files.specs.declared.unwritten.Unwritten.{Unwritten}
 use Rattle.cli_files.specs.Stores.{Opening}
 use Rattle.cli_tidy.specs.declared.files.Outcome.{Outcome}
 use Rattle.cli_tidy.specs.declared.files.Outcome.TheVariants as outcome
@@ -47,12 +48,12 @@ PutsDiff old new (Err (trouble.Failed failure.Write)) = ⊤
 PutsDiff old new (Err (trouble.Failed failure.NoMemory)) = Keeps old new
 PutsDiff old new (Err e) = ⊥
 
--- the file was replaced, and its name may have been written, or a write of that failed; or it wasn't
-abbrev pub PutsFile : Type 0 → (name : List ℕ) → (old new : Option (List ℕ)) → Result Outcome FileTrouble → Type 0
-PutsFile Replaced name old new (Ok result) = (result ≡ outcome.Tidy) × Replaced × (Keeps old new ⊎ Appends old new (name_line name))
-PutsFile Replaced name old new (Err (trouble.Failed failure.Write)) = Replaced × AppendsFront old new (name_line name)
-PutsFile Replaced name old new (Err (trouble.Unwritten u)) = Keeps old new
-PutsFile Replaced name old new (Err e) = ⊥
+-- the file was replaced, and its name may have been written, or a write of that failed; or it holds what it held
+abbrev pub PutsFile : (Option Unwritten → Type 0) → (name : List ℕ) → (old new : Option (List ℕ)) → Result Outcome FileTrouble → Type 0
+PutsFile Replaces name old new (Ok result) = (result ≡ outcome.Tidy) × Replaces None × (Keeps old new ⊎ Appends old new (name_line name))
+PutsFile Replaces name old new (Err (trouble.Failed failure.Write)) = Replaces None × AppendsFront old new (name_line name)
+PutsFile Replaces name old new (Err (trouble.Unwritten u)) = Replaces (Some u) × Keeps old new
+PutsFile Replaces name old new (Err e) = ⊥
 
 -- the work on a file with these texts, before and after tidying, and what output held before and after it
 abbrev pub WorksOnTexts : Replacing → FileWork → (name before after : List ℕ) → (old new : Option (List ℕ)) → Result Outcome FileTrouble → Type 0
