@@ -10,7 +10,7 @@ use Rattle.json5_report.specs.declared.report.Report.{Report}
 use Rattle.json5_report.specs.Reports.{IsReportOf, IsReportOfWrong, report_text}
 use Rattle.cli_files.specs.declared.failure.Failure.{Failure}
 use Rattle.cli_files.specs.declared.failure.Failure.TheVariants as failure
-use Rattle.cli_files.specs.Inputs.{IsReadFault, RefusesInput}
+use Rattle.cli_files.specs.Inputs.{IsReadFault, ReadFailure, RefusesInput}
 use Rattle.cli_tidy.specs.declared.trouble.FileTrouble.{FileTrouble}
 use Rattle.cli_tidy.specs.declared.trouble.FileTrouble.TheVariants as trouble
 
@@ -23,11 +23,11 @@ pub data ShowsFault (name bytes shown : List ℕ) : Type 0 where
   wrong : ShowsReport (IsReportOfWrong name bytes) shown → ShowsFault name bytes shown
   refused : (e : Error) → ¬ (IsOutOfMemory e) → RefusesInput e bytes → ShowsReport (IsReportOf name bytes e) shown → ShowsFault name bytes shown
 
--- why what was read is no document
+-- why what was read is no document: no read failed, and memory didn't run out
 abbrev pub IsCauseOf : (input : Option (List ℕ)) → Failure → Type 0
-IsCauseOf input failure.NotUtf8 = IfSome input (λ bytes. ¬ (IsUtf8 bytes))
-IsCauseOf input (failure.Text e) = ¬ (IsOutOfMemory e) × IfSome input (RefusesInput e)
-IsCauseOf input s = ⊥
+IsCauseOf input failure.Read = ⊥
+IsCauseOf input failure.NoMemory = ⊥
+IsCauseOf input s = ReadFailure input s
 
 -- why what was read under this name isn't tidied; what is no document has its report, unless memory ran out for that
 abbrev pub IsTroubleOf : (name : List ℕ) (input : Option (List ℕ)) → FileTrouble → Type 0
