@@ -13,12 +13,12 @@
 #![tactic(auto)]
 
 pub mod array;
+mod bytes;
 pub mod value;
 mod values;
 
-pub use json5_serde_read::{
-    from_reader, from_slice, from_slice_within, from_str, from_str_owned, from_str_within, raw_text,
-};
+pub use bytes::{from_reader, from_slice, from_slice_within};
+pub use json5_serde_read::{from_str, from_str_owned, from_str_within, raw_text};
 pub use json5_serde_write::{
     raw_number, to_string, to_string_within, to_vec, to_vec_within, to_writer, to_writer_within,
 };

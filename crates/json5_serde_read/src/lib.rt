@@ -19,6 +19,4 @@ mod reader;
 mod texts;
 
 pub use raw::raw_text;
-pub use read::{
-    from_reader, from_slice, from_slice_within, from_str, from_str_owned, from_str_within,
-};
+pub use read::{from_str, from_str_owned, from_str_within};

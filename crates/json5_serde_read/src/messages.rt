@@ -78,7 +78,7 @@ fn said(alloc: Global, text: &str, saying: Saying, at: usize, known: &str) -> Re
 }
 
 /// A custom fault at an offset, with these words.
-pub(crate) fn custom(alloc: Global, text: &str, offset: usize, words: &[&str]) -> Error {
+fn custom(alloc: Global, text: &str, offset: usize, words: &[&str]) -> Error {
     match words.concat(alloc) {
         Ok(message) => Error::from_text(message).at(position(text, offset)),
         Err(_) => Error::new(ErrorCode::OutOfMemory),

@@ -1,18 +1,17 @@
 //! Reading a whole text.
 
-ghost use Rattle.std.specs.Prelude.{◌≡◌, OnOk, IfOk, IfSome};
+ghost use Rattle.std.specs.Prelude.{OnOk};
 ghost use Rattle.json5_walk.specs.Walks.{IsDocument, IsDocumentWithin};
 
 use crate::asking::explained;
 use crate::fault::Fault;
-use crate::messages::{custom, told};
+use crate::messages::told;
 use crate::reader::Json5;
 use json5_types::ErrorCode;
 use json5_types::error::{Error, Result};
 use json5_types::nesting::Limit;
 use serde::{Deserialize, DeserializeOwned, Deserializer, Format};
 use std::alloc::Global;
-use std::io::{ErrorKind, Read};
 
 /// Reads a whole text as a `T`: one value with blanks and comments around it, nested at most 128 deep.
 ///
@@ -88,56 +87,6 @@ fn refused<'de, T: Deserialize<'de>>(
     told(format.alloc, text, fault)
 }
 
-/// Reads a text that these bytes are in UTF-8, as [`from_str`] does.
-///
-/// ```text
-/// let server: Server = json5_serde::from_slice(alloc, b"{host: 'localhost', port: 80}")?;
-/// ```
-///
-/// # Errors
-///
-/// As [`from_slice_within`].
-pub fn from_slice<'de, T: Deserialize<'de>>(alloc: Global, bytes: &'de [u8]) -> Result<T>
-    ensures { OnOk result (IsDocument bytes.now) }
-{
-    from_slice_within(alloc, Limit::full(), bytes)
-}
-
-/// Reads a text that these bytes are in UTF-8, as [`from_str_within`] does.
-///
-/// ```text
-/// let server: Server = json5_serde::from_slice_within(alloc, Limit::new(2).unwrap(), bytes)?;
-/// ```
-///
-/// # Errors
-///
-/// - `invalid UTF-8`, a custom fault, at the first bytes that are no character.
-/// - As [`from_str_within`].
-pub fn from_slice_within<'de, T: Deserialize<'de>>(
-    alloc: Global,
-    limit: Limit,
-    bytes: &'de [u8],
-) -> Result<T>
-    ensures { OnOk result (IsDocumentWithin limit bytes.now) }
-{
-    let text = text_in(alloc, bytes)?;
-    from_str_within(alloc, limit, text)
-}
-
-/// The text that the bytes are.
-fn text_in<'b>(alloc: Global, bytes: &'b [u8]) -> Result<&'b str>
-    ensures { IfOk result (λ text. text.now ≡ bytes.now) }
-{
-    match std::str::from_utf8(bytes) {
-        Ok(text) => Ok(text),
-        Err(error) => {
-            let valid = bytes.get(..error.valid_up_to()).unwrap_or(&[]);
-            let text = std::str::from_utf8(valid).unwrap_or("");
-            Err(custom(alloc, text, text.len(), &["invalid UTF-8"]))
-        }
-    }
-}
-
 /// Reads a whole text as a `T` that borrows nothing from it, with no more brackets open at once than the limit.
 ///
 /// ```text
@@ -168,34 +117,4 @@ impl<'de, T: DeserializeOwned> Deserialize<'de> for Owned<T> {
     ) -> std::result::Result<Owned<T>, F::Error> {
         Ok(Owned(T::deserialize_owned(alloc, from)?))
     }
-}
-
-/// Reads all that a reader gives as one text, as [`from_str_within`] does: a `T` that borrows nothing from it.
-///
-/// It returns Ok only where all that was left of the reader is a document.
-///
-/// ```text
-/// let server: Server = json5_serde::from_reader(alloc, Limit::full(), &mut rt.stdin())?;
-/// ```
-///
-/// # Errors
-///
-/// - A custom fault without a position, with what the reader said, where it failed.
-/// - `OutOfMemory` where a request for memory was refused.
-/// - As [`from_slice_within`].
-pub fn from_reader<T: DeserializeOwned, R: Read>(
-    alloc: Global,
-    limit: Limit,
-    reader: &mut R,
-) -> Result<T>
-    ensures { OnOk result (IfSome (R.remaining reader.old) (IsDocumentWithin limit)) }
-{
-    let mut bytes = Vec::new(alloc);
-    if let Err(error) = reader.read_to_end(&mut bytes) {
-        return Err(match error.kind() {
-            ErrorKind::OutOfMemory => Error::new(ErrorCode::OutOfMemory),
-            _ => Error::custom(alloc, error)?,
-        });
-    }
-    from_str_owned(alloc, limit, text_in(alloc, &bytes)?)
 }

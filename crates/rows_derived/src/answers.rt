@@ -3,7 +3,8 @@
 use crate::hand::*;
 use crate::own::{Blob, Bytes, Raw};
 use json5_read::read_document;
-use json5_serde_read::{from_reader, from_str, from_str_owned};
+use json5_serde::from_reader;
+use json5_serde_read::{from_str, from_str_owned};
 use json5_serde_write::{to_string, to_writer};
 use json5_types::error::{Error, Result};
 use json5_types::nesting::Limit;

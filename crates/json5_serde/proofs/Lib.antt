@@ -1,0 +1,2 @@
+-- Lists the lemmas of what is read of bytes.
+pub mod BytesRead
