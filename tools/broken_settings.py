@@ -338,35 +338,37 @@ def other_for_collection(good):
     return good.made({i: new if i == entry.value else "" for i in range(entry.value, entry.end)})
 
 
+def moved(good, entry, brace, member):
+    """The text without an entry, and with this member at the front of the object that a piece opens."""
+    changes = good.without(entry)
+    changes[brace] = "{" + good.pieces[brace + 1].text + member + ","
+    return good.made(changes)
+
+
+def moved_out(good, member_of):
+    """The text in which a field of a section stands before the sections, as the member that is made of it."""
+    entry = good.entry(lambda entry: len(entry.path) == 2 and is_field(entry) and entry.path[0] != "routes")
+    return moved(good, entry, good.some("open", where=lambda piece: piece.path == ()), member_of(entry))
+
+
 @way
 def field_too_deep(good):
     entry = good.entry(lambda entry: len(entry.path) == 1 and entry.type[0] in ("enum", "number"))
     target = good.some("open", where=lambda piece: piece.path == ("server",) or len(piece.path) == 1 and piece.type[0] == "struct")
     if entry is None or target is None:
         return None
-    changes = good.without(entry)
-    changes[target] = "{" + good.pieces[target + 1].text + good.text_of(entry) + ","
-    return good.made(changes)
+    return moved(good, entry, target, good.text_of(entry))
 
 
 @way
 def field_too_high(good):
-    entry = good.entry(lambda entry: len(entry.path) == 2 and is_field(entry) and entry.path[0] != "routes")
-    changes = good.without(entry)
-    root = good.some("open", where=lambda piece: piece.path == ())
-    changes[root] = "{" + good.pieces[root + 1].text + good.text_of(entry) + ","
-    return good.made(changes)
+    return moved_out(good, good.text_of)
 
 
 @way
 def dotted_name_beside(good):
-    entry = good.entry(lambda entry: len(entry.path) == 2 and is_field(entry) and entry.path[0] != "routes")
-    changes = good.without(entry)
-    root = good.some("open", where=lambda piece: piece.path == ())
     quote = chance.choice(["", "", "'"])
-    name = quote + ".".join(entry.path) + quote
-    changes[root] = "{" + good.pieces[root + 1].text + name + ": " + good.value_of(entry) + ","
-    return good.made(changes)
+    return moved_out(good, lambda entry: quote + ".".join(entry.path) + quote + ": " + good.value_of(entry))
 
 
 @way
