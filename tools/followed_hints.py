@@ -184,10 +184,11 @@ instead(r"a number has no (?:blanks|commas|quotes) in it: (\S+)", lambda part, n
 instead("a comma too many", lambda part: part.replace(",", "", 1))
 instead("a bracket too many|no comment is open here", lambda part: "")
 instead("write a minus as -", lambda part: re.sub(r"^[^\d.]+", "-", part))
+instead("a `=` too many", lambda part: part.replace("=", "", 1))
 instead("a colon too many", lambda part: part.replace(":", "", 1))
 instead("this is a mark of a diff: remove it", lambda part: "")
 instead(r"this character \(U\+(\w+)\).*: remove it", lambda part, code: part.replace(chr(int(code, 16)), ""))
-instead("write `([]}])`: this closes the `.` of line \\d+", lambda part, bracket: bracket)
+instead("write `([]}])`: this closes the `.` of (?:line|column) \\d+", lambda part, bracket: bracket)
 instead("a number has no quotes and no unit", lambda part: re.match(r"[+-]?[\d.]*", part.strip("'\""))[0])
 instead("a whole number has no fraction", lambda part: re.sub(r"\.\d*", "", part))
 instead("`(.)` is no hexadecimal digit", lambda part, digit: part.replace(digit, "", 1))
@@ -301,9 +302,9 @@ def nested(case, said, owner, name):
     return put_into(rest, owner, member) or put(rest, said.start, said.start, "%s: { %s }, " % (owner, member))
 
 
-@form(".*\\bone of (['`].*)")
-def first_name(case, said, names):
-    first = re.findall("[`'\"]([^`'\"]+)[`'\"]", names)[0]
+@form("write one of these names")
+def first_name(case, said):
+    first = re.findall("`([^`]+)`", said.message.split(", expected ")[-1])[0]
     return put(case.text, said.start, max(said.end, value_end(case.text, said.start)), "'%s'" % first)
 
 
@@ -312,7 +313,7 @@ def bound(case, said, number):
     return put(case.text, said.start, said.end, number)
 
 
-@form("the `(.)` before this closes the `.` of line \\d+")
+@form("the `(.)` before this closes the `.` of (?:line|column) \\d+")
 def closes_other(case, said, bracket):
     place = case.text.rfind(bracket, 0, said.start)
     return put(case.text, place, place + 1, "")
@@ -348,12 +349,44 @@ def escaped_quote(case, said, quote):
     return put(case.text, at, at, "\\")
 
 
+@form("write (?:a number|a text in quotes|a value|true or false|an object: .*|an array: .*), or leave it out if it may be missing")
 @form("write (?:a number|a text in quotes|a value)")
 def write_value(case, said):
     return put(case.text, said.start, max(said.end, value_end(case.text, said.start)), fits(case, said))
 
 
-@form("remove it, or move it to where it belongs")
+@form("write `(.+): \\.\\.` into the `(.+)` of line \\d+")
+def nested_in(case, said, name, owner):
+    rest, member = without_member(case.text, said.start)
+    return put_into(rest, owner, name + member[said.end - said.start:])
+
+
+@form("a key with its colon is missing before this")
+def key_before(case, said):
+    # the first field of the object that isn't there
+    owner = type_at(case.schema, said.path) if said.path else case.schema
+    names = list(owner[1]) if owner and owner[0] == "struct" else ["/new"]
+    name = next((name for name in names if not re.search(r"\b%s\b['\"]?\s*:" % name, case.text)), names[0])
+    return put(case.text, said.start, said.start, "'%s': " % name)
+
+
+@form("one key alone may stand in this object")
+def one_alone(case, said):
+    return without_member(case.text, said.start)[0]
+
+
+@form("an element too many")
+def one_less(case, said):
+    return put(case.text, said.start, value_end(case.text, said.start), "")
+
+
+@form("a text ends with the quote that it begins with: (.)")
+def same_quote(case, said, quote):
+    part = case.text[said.start:said.end].rstrip(",]} ")
+    return put(case.text, said.start + len(part) - 1, said.start + len(part), quote)
+
+
+@form("remove it, or move it to where it belongs(?:, perhaps .*)?")
 def remove_or_move(case, said):
     rest, member = without_member(case.text, said.start)
     name, fields = next(lexemes(member))[0].strip("'\""), case.schema[1]
@@ -452,12 +485,12 @@ def close_at_end(case, said, bracket):
     return case.text + CLOSING[bracket]
 
 
-@form("the `(.)` of line (\\d+) is to be closed first")
-def close_first(case, said, bracket, line):
+@form("the `(.)` of (?:line|column) \\d+ is to be closed first")
+def close_first(case, said, bracket):
     return put(case.text, said.start, said.start, CLOSING[bracket])
 
 
-@form(r"the `.` of line \d+ is still open: a `(.)` is missing before this")
+@form(r"the `.` of (?:line|column) \d+ is still open: a `(.)` is missing before this")
 def close_before(case, said, bracket):
     return closed_at(case.text, said.start, bracket)
 

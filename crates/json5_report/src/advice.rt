@@ -11,15 +11,15 @@ pub(crate) enum Advice<'t> {
     AddField(&'t str),
     /// The key.
     AddValueOf(&'t str),
-    /// The brackets of which the closing one is written here, and the line of the other.
-    CloseAs(BracketKind, u128),
-    /// The bracket that is closed before this one, and its line.
-    CloseFirst(BracketKind, u128),
+    /// The brackets of which the closing one is written here, and where the other stands.
+    CloseAs(BracketKind, Stands),
+    /// The bracket that is closed before this one, and where it stands.
+    CloseFirst(BracketKind, Stands),
     CloseQuote,
     /// The line of the quote.
     CloseQuoteOf(u128),
-    /// The brackets of which the closing one is before the place, and the line of the other.
-    Closes(BracketKind, u128),
+    /// The brackets of which the closing one is before the place, and where the other stands.
+    Closes(BracketKind, Stands),
     CommentSign,
     CutCharacter,
     DidYouMean(&'t str),
@@ -31,6 +31,8 @@ pub(crate) enum Advice<'t> {
     DropColon,
     DropComma,
     DropCommentEnd,
+    DropElement,
+    DropEquals,
     DropLeadingZero,
     DropQuotesAndUnit,
     DropQuotesOfBool,
@@ -60,27 +62,35 @@ pub(crate) enum Advice<'t> {
     Ndjson,
     /// The name of a section, and that of its field.
     Nest(&'t str, &'t str),
+    /// The same, and the line of the section.
+    NestIn(&'t str, &'t str, u128),
     /// The bracket.
     NeverClosed(&'t str),
     NoExpressions,
     NoFraction,
     NoHexDigit(char),
+    /// What to write in place of null.
+    NoNull(&'static str),
     NoNumber(&'t str),
     NoValue,
     NoVariables,
+    OneAlone,
     OneQuote,
     OneValue,
+    /// The quote that the text begins with.
+    OtherQuote(char),
     PlainQuotes,
     QuoteKey(&'t str),
     QuoteText(&'t str),
     QuoteTexts,
-    RemoveOrMove,
+    /// Where it may belong.
+    RemoveOrMove(Elsewhere<'t>),
     /// The name of the field, and the line of the first.
     Repeated(&'t str, u128),
     SaveAsUtf8,
-    /// The bracket, and its line.
-    StillOpen(BracketKind, u128),
-    /// The same, and the line that it is to be closed before.
+    /// The bracket, and where it stands.
+    StillOpen(BracketKind, Stands),
+    /// The bracket, its line, and the line that it is to be closed before.
     StillOpenBefore(BracketKind, u128, u128),
     Surrogate,
     TooDeep,
@@ -110,23 +120,23 @@ impl fmt::Display for Advice<'_> {
         match self {
             Advice::AddField(name) => write!(f, "add `{name}: ..` to this object"),
             Advice::AddValueOf(key) => write!(f, "write `{key}: ..`"),
-            Advice::CloseAs(kind, line) => {
+            Advice::CloseAs(kind, stands) => {
                 let (opening, closing) = (kind.brackets().opening, kind.brackets().closing);
                 write!(
                     f,
-                    "write `{closing}`: this closes the `{opening}` of line {line}"
+                    "write `{closing}`: this closes the `{opening}` of {stands}"
                 )
             }
-            Advice::CloseFirst(kind, line) => {
+            Advice::CloseFirst(kind, stands) => {
                 let opening = kind.brackets().opening;
-                write!(f, "the `{opening}` of line {line} is to be closed first")
+                write!(f, "the `{opening}` of {stands} is to be closed first")
             }
             Advice::CloseQuoteOf(line) => write!(f, "the quote of line {line} is not closed"),
-            Advice::Closes(kind, line) => {
+            Advice::Closes(kind, stands) => {
                 let (opening, closing) = (kind.brackets().opening, kind.brackets().closing);
                 write!(
                     f,
-                    "the `{closing}` before this closes the `{opening}` of line {line}"
+                    "the `{closing}` before this closes the `{opening}` of {stands}"
                 )
             }
             Advice::DidYouMean(name) => write!(f, "did you mean `{name}`?"),
@@ -164,18 +174,30 @@ impl fmt::Display for Advice<'_> {
             Advice::MissingQuote(text) => write!(f, "a quote is missing behind `{text}`"),
             Advice::NameHolds(name) => write!(f, "`{name}` holds a value: {{ {name}: .. }}"),
             Advice::Nest(section, name) => write!(f, "write {section}: {{ {name}: .. }}"),
+            Advice::NestIn(section, name, line) => {
+                write!(f, "write `{name}: ..` into the `{section}` of line {line}")
+            }
             Advice::NeverClosed(bracket) => write!(f, "this `{bracket}` is never closed"),
             Advice::NoHexDigit(c) => write!(f, "`{c}` is no hexadecimal digit"),
+            Advice::NoNull(kind) => {
+                write!(f, "write {kind}, or leave it out if it may be missing")
+            }
             Advice::NoNumber(word) => {
                 let text = Quoted(word);
                 write!(f, "this is no number, and a text needs quotes: {text}")
             }
+            Advice::OtherQuote(quote) => {
+                write!(f, "a text ends with the quote that it begins with: {quote}")
+            }
             Advice::QuoteKey(key) => write!(f, "this key needs quotes: '{key}'"),
             Advice::QuoteText(text) => write!(f, "a text needs quotes: {}", Quoted(text)),
+            Advice::RemoveOrMove(place) => {
+                write!(f, "remove it, or move it to where it belongs{place}")
+            }
             Advice::Repeated(name, line) => write!(f, "`{name}` stands on line {line} already"),
-            Advice::StillOpen(kind, line) => {
+            Advice::StillOpen(kind, stands) => {
                 let (opening, closing) = (kind.brackets().opening, kind.brackets().closing);
-                write!(f, "the `{opening}` of line {line} is still open: ")?;
+                write!(f, "the `{opening}` of {stands} is still open: ")?;
                 write!(f, "a `{closing}` is missing before this")
             }
             Advice::StillOpenBefore(kind, line, other) => {
@@ -220,6 +242,8 @@ impl Advice<'_> {
             Advice::DropColon => "a colon too many",
             Advice::DropComma => "a comma too many",
             Advice::DropCommentEnd => "no comment is open here",
+            Advice::DropElement => "an element too many",
+            Advice::DropEquals => "a `=` too many",
             Advice::DropLeadingZero => "a number does not begin with 0",
             Advice::DropQuotesAndUnit => "a number has no quotes and no unit",
             Advice::DropQuotesOfBool => "true and false are written without quotes",
@@ -240,11 +264,11 @@ impl Advice<'_> {
             Advice::NoFraction => "a whole number has no fraction",
             Advice::NoValue => "the file holds no value",
             Advice::NoVariables => "a file has no variables: write the value itself",
+            Advice::OneAlone => "one key alone may stand in this object",
             Advice::OneQuote => "a text has one quote on each side",
             Advice::OneValue => "a file holds one value, and this comes after it",
             Advice::PlainQuotes => "quotes are ' or \"",
             Advice::QuoteTexts => "a text needs quotes",
-            Advice::RemoveOrMove => "remove it, or move it to where it belongs",
             Advice::SaveAsUtf8 => "save the file as UTF-8",
             Advice::Surrogate => "this is half of a character, and its other half is missing",
             Advice::TooDeep => "128 brackets are open here, and no more may be",
@@ -255,6 +279,46 @@ impl Advice<'_> {
             Advice::UseComma => "write `,` between entries",
             Advice::Utf16 => "this file is UTF-16: save it as UTF-8",
             _ => "",
+        }
+    }
+}
+
+/// Where a bracket stands, counted from 1: its line, or its column if the fault is in the same line.
+#[derive(Clone, Copy)]
+pub(crate) enum Stands {
+    OnLine(u128),
+    InColumn(u128),
+}
+
+impl fmt::Display for Stands {
+    fn fmt<W: fmt::Write>(&self, f: &mut fmt::Formatter<W>) -> fmt::Result {
+        match self {
+            Stands::OnLine(line) => write!(f, "line {line}"),
+            Stands::InColumn(column) => write!(f, "column {column}"),
+        }
+    }
+}
+
+/// Where an unknown field may belong: in an object around its own, or in one that is a member of its own.
+#[derive(Clone, Copy)]
+pub(crate) struct Elsewhere<'t> {
+    pub(crate) is_inner: bool,
+    /// The key of the first such member.
+    pub(crate) section: Option<&'t str>,
+    pub(crate) has_more: bool,
+}
+
+impl fmt::Display for Elsewhere<'_> {
+    fn fmt<W: fmt::Write>(&self, f: &mut fmt::Formatter<W>) -> fmt::Result {
+        match (self.is_inner, self.section, self.has_more) {
+            (false, None, _) => Ok(()),
+            (true, None, _) => f.write_str(", perhaps one level up"),
+            (true, Some(section), _) => write!(f, ", perhaps one level up or into `{section}`"),
+            (false, Some(section), true) => write!(
+                f,
+                ", perhaps into `{section}` or another section"
+            ),
+            (false, Some(section), false) => write!(f, ", perhaps into `{section}`"),
         }
     }
 }

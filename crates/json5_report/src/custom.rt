@@ -2,11 +2,11 @@
 //!
 //! Plain code, of which no promise is made but that it is safe and ends: change it by the rows of reports, which judge it.
 
-use crate::advice::Advice;
+use crate::advice::{Advice, Elsewhere};
 use crate::fault::{Fault, Remark};
 use crate::hints::adjacent_advice;
-use crate::lexemes::Kind;
-use crate::members::member_key;
+use crate::lexemes::{Kind, Lexeme, lexeme_at};
+use crate::members::{member_key, member_keys};
 use crate::near::{name_in, near_name};
 use crate::numbers::range_advice;
 use crate::path::unquoted;
@@ -45,9 +45,9 @@ pub(crate) fn custom_remark<'t>(
     if fault.message.starts_with("unknown field `") {
         return unknown_remark(alloc, fault, name);
     }
-    let advice = near_name(alloc, fault.message)?.map(Advice::DidYouMean);
+    let near = near_name(alloc, name, fault.message)?.map(Advice::DidYouMean);
     Ok(Remark {
-        advice,
+        advice: near.or(names_advice(fault)),
         ..fault.plain()
     })
 }
@@ -70,21 +70,109 @@ fn name_advice<'t>(fault: &Fault<'t>) -> Option<Advice<'t>> {
     }
 }
 
-/// The key that is unknown, and a known one that is near.
+/// What is said of a name that isn't known, of what else stands in the place of one, and of a second one.
+fn names_advice<'t>(fault: &Fault<'t>) -> Option<Advice<'t>> {
+    let message = fault.message;
+    if message.ends_with(" is one too many") {
+        return Some(Advice::OneAlone);
+    }
+    let is_name = message.starts_with("unknown variant ")
+        || message.starts_with("expected string or object: ")
+        || message.starts_with("missing key: ");
+    if is_name {
+        return named_value(fault)
+            .map(Advice::NameHolds)
+            .or(Some(Advice::Write("one of these names")));
+    }
+    None
+}
+
+/// The known name that is the value of one that isn't, if other keys follow: `s3` of `{ kind: 's3', .. }`.
+fn named_value<'t>(fault: &Fault<'t>) -> Option<&'t str> {
+    let colon = lexeme_at(fault.text, fault.token()?.end);
+    let value = lexeme_at(fault.text, colon.end);
+    let kinds = (
+        colon.kind,
+        value.kind,
+        lexeme_at(fault.text, value.end).kind,
+    );
+    if !matches!(kinds, (Kind::Colon, Kind::Text, Kind::Comma)) {
+        return None;
+    }
+    let name = unquoted(value.of(fault.text));
+    for known in fault.message.split('`') {
+        if known == name {
+            return Some(name);
+        }
+    }
+    None
+}
+
+/// The key that is unknown, and a known one that is near, or where it may belong.
 fn unknown_remark<'t>(
     alloc: Global,
     fault: &Fault<'t>,
     name: &'t str,
 ) -> Result<Remark<'t>, AllocError> {
-    let advice = match (near_name(alloc, fault.message)?, name.split_once('.')) {
-        (Some(near), _) => Advice::DidYouMean(near),
-        (None, Some((section, field))) => Advice::Nest(section, field),
-        (None, None) => Advice::RemoveOrMove,
+    let found = member_key(alloc, fault.text, fault.object_start(), name, 0)?;
+    let Some(key) = found.or(fault.token()) else {
+        return Ok(fault.plain());
     };
-    match member_key(alloc, fault.text, fault.object_start(), name, 0)? {
-        Some(key) => Ok(Remark::of(key, advice)),
-        None => Ok(fault.remark(advice)),
+    let word = match key.kind {
+        Kind::Word => key.of(fault.text),
+        _ => name,
+    };
+    let advice = match near_name(alloc, word, fault.message)? {
+        Some(near) => Advice::DidYouMean(near),
+        None => stray_advice(alloc, fault, key, name)?,
+    };
+    Ok(Remark::of(key, advice))
+}
+
+/// What is said of the key of an unknown field that is near to none.
+fn stray_advice<'t>(
+    alloc: Global,
+    fault: &Fault<'t>,
+    key: Lexeme,
+    name: &'t str,
+) -> Result<Advice<'t>, AllocError> {
+    if let Some((section, field)) = name.split_once('.') {
+        return Ok(Advice::Nest(section, field));
     }
+    let behind = lexeme_at(fault.text, key.end).kind;
+    if key.kind == Kind::Text && matches!(behind, Kind::Comma | Kind::Close) {
+        return Ok(Advice::Missing("a key with its colon"));
+    }
+    Ok(Advice::RemoveOrMove(elsewhere(alloc, fault, key)?))
+}
+
+/// Where the unknown field with this key may belong, by what is around it and beside it.
+fn elsewhere<'t>(
+    alloc: Global,
+    fault: &Fault<'t>,
+    key: Lexeme,
+) -> Result<Elsewhere<'t>, AllocError> {
+    let start = fault.object_start();
+    let keys = member_keys(alloc, fault.text, start)?;
+    let own = usize::from(start == fault.offset);
+    let mut place = Elsewhere {
+        is_inner: fault.depth.saturating_add(own) > 1,
+        section: None,
+        has_more: false,
+    };
+    for other in &keys {
+        if is_section(fault.text, *other) && other.start != key.start {
+            place.has_more = place.section.is_some();
+            place.section = place.section.or(Some(unquoted(other.of(fault.text))));
+        }
+    }
+    Ok(place)
+}
+
+/// Whether the value of the key is an object.
+fn is_section(text: &str, key: Lexeme) -> bool {
+    let colon = lexeme_at(text, key.end);
+    lexeme_at(text, colon.end).of(text) == "{"
 }
 
 /// The second key of the name, and the line of the first.
@@ -93,16 +181,18 @@ fn repeated_remark<'t>(
     fault: &Fault<'t>,
     name: &'t str,
 ) -> Result<Remark<'t>, AllocError> {
-    if let Some((section, field)) = fault.word().split_once('.') {
-        return Ok(fault.remark(Advice::Nest(section, field)));
-    }
     let first = member_key(alloc, fault.text, fault.object_start(), name, 0)?;
-    let second = member_key(alloc, fault.text, fault.object_start(), name, 1)?;
-    match (first, second) {
-        (Some(first), Some(second)) => {
-            let line = fault.line_of(first.start);
-            Ok(Remark::of(second, Advice::Repeated(name, line)))
-        }
-        _ => Ok(fault.plain()),
+    let Some(first) = first else {
+        return Ok(fault.plain());
+    };
+    let line = fault.line_of(first.start);
+    if let Some((section, field)) = fault.word().split_once('.') {
+        return Ok(fault.remark(Advice::NestIn(section, field, line)));
     }
+    Ok(
+        match member_key(alloc, fault.text, fault.object_start(), name, 1)? {
+            Some(second) => Remark::of(second, Advice::Repeated(name, line)),
+            None => fault.plain(),
+        },
+    )
 }

@@ -2,7 +2,7 @@
 //!
 //! Plain code, of which no promise is made but that it is safe and ends: change it by the rows of reports, which judge it.
 
-use crate::advice::Advice;
+use crate::advice::{Advice, Stands};
 use crate::around::Around;
 use crate::found::Found;
 use crate::lexemes::{Kind, Lexeme, lexeme_at};
@@ -131,6 +131,18 @@ impl<'t> Fault<'t> {
         }
     }
 
+    /// Whether it is an unknown field of an object that is in another one.
+    pub(crate) fn is_unknown_inside(&self) -> bool {
+        let is_key = !matches!(
+            self.token(),
+            Some(Lexeme {
+                kind: Kind::Open,
+                ..
+            })
+        );
+        self.depth > 1 && is_key && self.message.starts_with("unknown field `")
+    }
+
     /// Where the object begins whose field is at fault: at the offset itself, or it is the innermost one that is open there.
     pub(crate) fn object_start(&self) -> usize {
         match (self.token(), self.open) {
@@ -140,10 +152,23 @@ impl<'t> Fault<'t> {
         }
     }
 
+    /// Where the offset is.
+    fn position_of(&self, offset: usize) -> Position {
+        Position::after(self.text.get(..offset).unwrap_or(""))
+    }
+
     /// The number of the line that the offset is in, counted from 1.
     pub(crate) fn line_of(&self, offset: usize) -> u128 {
-        let before = self.text.get(..offset).unwrap_or("");
-        Position::after(before).line as u128 + 1
+        self.position_of(offset).line as u128 + 1
+    }
+
+    /// Where the bracket at the offset stands.
+    pub(crate) fn stands(&self, offset: usize) -> Stands {
+        let place = self.position_of(offset);
+        if place.line == self.position_of(self.offset).line {
+            return Stands::InColumn(place.column as u128 + 1);
+        }
+        Stands::OnLine(place.line as u128 + 1)
     }
 
     /// The token at the fault without a hint; if the fault is inside of it, only its character.

@@ -6,7 +6,8 @@ use crate::advice::Advice;
 use crate::fault::{Fault, Remark};
 use crate::lexemes::{first_token, line_len};
 use crate::place::line_start;
-use json5_tokens::char::is_json5_identifier;
+use json5_tokens::char::{is_json5_identifier, is_json5_whitespace};
+use json5_walk::next::Next;
 
 /// What begins a file of JavaScript.
 const JAVASCRIPT: [&str; 8] = [
@@ -48,7 +49,9 @@ fn mark_remark<'t>(fault: &Fault<'t>) -> Option<Remark<'t>> {
             });
         }
     }
-    let is_sign = line.starts_with("+ ") || line.starts_with("- ");
+    let rest = line.strip_prefix(['+', '-']).unwrap_or("-");
+    let is_key = matches!(fault.due, Next::Key) && !rest.starts_with('-');
+    let is_sign = is_key || rest.starts_with(is_json5_whitespace);
     if is_sign && start == fault.offset && fault.open.is_some() {
         let end = start.saturating_add(1);
         return Some(Remark {

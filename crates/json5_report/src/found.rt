@@ -44,10 +44,11 @@ impl<'t> Found<'t> {
 
 /// Whether a number goes on behind the sign or the point.
 fn begins_number(text: &str) -> bool {
-    matches!(
+    let is_number = matches!(
         text.as_bytes().get(1),
         Some(b'0'..=b'9' | b'.' | b'I' | b'N')
-    )
+    );
+    is_number && !text.starts_with("..")
 }
 
 /// What the name at the front is.

@@ -12,7 +12,7 @@ use crate::keys::{colon_remark, key_remark};
 use crate::lexemes::{Kind, Lexeme, first_token, lexeme_at, line_len};
 use crate::numbers::{number_remark, parts_remark};
 use crate::place::line_start;
-use crate::unclosed::{closed_after, left_open};
+use crate::unclosed::{Unclosed, closed_after, left_open};
 use crate::values::{bare_remark, member_advice, value_remark};
 use crate::widths::is_seen;
 use json5_read::brackets::BracketKind;
@@ -42,29 +42,48 @@ fn open_remark<'t>(alloc: Global, fault: &Fault<'t>) -> Result<Option<Remark<'t>
     let Some(left) = left_open(alloc, fault.text)? else {
         return Ok(None);
     };
-    let is_array = fault.text.get(left.open..).unwrap_or("").starts_with('[');
-    let kind = if is_array {
+    if let Some((open, start)) = open_here(fault, left) {
+        return Ok(Some(Remark {
+            start,
+            ..fault.remark(Advice::StillOpen(kind_of(fault.text, open), fault.stands(open)))
+        }));
+    }
+    if left.before == fault.text.len() || left.before >= fault.offset && !fault.is_end() {
+        return Ok(None);
+    }
+    let (line, before) = (fault.line_of(left.open), fault.line_of(left.before));
+    let kind = kind_of(fault.text, left.open);
+    Ok(Some(fault.remark(Advice::StillOpenBefore(kind, line, before))))
+}
+
+/// The bracket that is to be closed before the fault, or before the key that it is at, and where that is.
+fn open_here(fault: &Fault<'_>, left: Unclosed) -> Option<(usize, usize)> {
+    if left.before == fault.offset && !fault.is_end() {
+        return Some((left.open, fault.offset));
+    }
+    let open = fault.open?.start;
+    if let (true, Some(key)) = (open == left.open, fault.member()) {
+        return Some((open, key.start));
+    }
+    let is_stray = if left.before == fault.text.len() {
+        fault.is_unknown_inside()
+    } else {
+        open == left.open && matches!((fault.due, fault.found), (Next::Key, Found::Object))
+    };
+    if is_stray {
+        Some((open, fault.offset))
+    } else {
+        None
+    }
+}
+
+/// The kind of the bracket at the offset.
+fn kind_of(text: &str, open: usize) -> BracketKind {
+    if text.get(open..).unwrap_or("").starts_with('[') {
         BracketKind::Array
     } else {
         BracketKind::Object
-    };
-    let line = fault.line_of(left.open);
-    let key = match (fault.open, fault.member()) {
-        (Some(open), Some(key)) if open.start == left.open => Some(key.start),
-        _ => None,
-    };
-    if key.is_some() || left.before == fault.offset && !fault.is_end() {
-        let start = key.unwrap_or(fault.offset);
-        return Ok(Some(Remark {
-            start,
-            ..fault.remark(Advice::StillOpen(kind, line))
-        }));
     }
-    if left.before == fault.text.len() || left.before > fault.offset && !fault.is_end() {
-        return Ok(None);
-    }
-    let before = fault.line_of(left.before);
-    Ok(Some(fault.remark(Advice::StillOpenBefore(kind, line, before))))
 }
 
 /// What is said where the text ends too early: which comment, string or bracket isn't closed.
@@ -164,15 +183,15 @@ fn bracket_advice<'t>(fault: &Fault<'t>, closing: &str) -> Option<Advice<'t>> {
     if closing.starts_with(open.kind.brackets().closing) {
         return None;
     }
-    let line = fault.line_of(open.start);
+    let stands = fault.stands(open.start);
     let closed = closed_after(fault.text, fault.offset);
     if closed > fault.depth {
         return Some(Advice::DropClosing);
     }
     Some(if closed == fault.depth {
-        Advice::CloseAs(open.kind, line)
+        Advice::CloseAs(open.kind, stands)
     } else {
-        Advice::CloseFirst(open.kind, line)
+        Advice::CloseFirst(open.kind, stands)
     })
 }
 
@@ -316,6 +335,9 @@ fn quote_remark<'t>(fault: &Fault<'t>) -> Remark<'t> {
     if front.ends_with("''") || front.ends_with("\"\"") {
         return Remark::of(last, Advice::OneQuote);
     }
+    if let Some(quote) = other_quote(last.of(fault.text)) {
+        return Remark::of(last, Advice::OtherQuote(quote));
+    }
     let next = fault.text.get(fault.offset..).unwrap_or("").trim_start();
     let (begun, rest) = next.split_once(['\'', '"']).unwrap_or(("", ""));
     let rest = rest.get(..line_len(rest)).unwrap_or("");
@@ -324,6 +346,20 @@ fn quote_remark<'t>(fault: &Fault<'t>) -> Remark<'t> {
         return Remark::of(last, Advice::CloseQuote);
     }
     Remark::of(last, Advice::EscapeLineEnd)
+}
+
+/// The quote that a string of one line begins with, if it ends with the other one.
+fn other_quote(text: &str) -> Option<char> {
+    let quote = text.chars().next()?;
+    let other = if quote == '"' { '\'' } else { '"' };
+    let inner = text
+        .trim_end_matches([',', ' ', ']', '}'])
+        .strip_suffix(other)?;
+    if inner.contains(other) {
+        None
+    } else {
+        Some(quote)
+    }
 }
 
 /// What is said of what follows the document's value.
@@ -339,13 +375,8 @@ fn trailing_remark<'t>(fault: &Fault<'t>) -> Remark<'t> {
     };
     let first = first_token(fault.text);
     if last.kind == Kind::Close && closed_after(fault.text, fault.offset) > 0 {
-        let is_array = last.of(fault.text) == "]";
-        let kind = if is_array {
-            BracketKind::Array
-        } else {
-            BracketKind::Object
-        };
-        return fault.remark(Advice::Closes(kind, fault.line_of(first.start)));
+        let kind = kind_of(fault.text, first.start);
+        return fault.remark(Advice::Closes(kind, fault.stands(first.start)));
     }
     let is_line = lexeme_at(fault.text, line_start(fault.text, last.start)).start == first.start
         && fault.gap().contains(is_json5_line_terminator);

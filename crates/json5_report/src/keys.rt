@@ -22,6 +22,11 @@ pub(crate) fn key_remark<'t>(fault: &Fault<'t>) -> Remark<'t> {
     }
     match fault.found {
         Found::Character(',') => fault.remark(Advice::DropComma),
+        Found::Character('(') => fault.remark(Advice::CommentSign),
+        Found::Character('.' | '@') => fault.remark(Advice::NoExpressions),
+        Found::Object | Found::Array | Found::Number if fault.is_after(Kind::Comma) => {
+            fault.remark(Advice::Missing("a key with its colon"))
+        }
         Found::Object | Found::Number => {
             let start = match fault.open {
                 Some(open) => open.start,

@@ -71,6 +71,12 @@ fn custom_message(alloc: Global, fault: &Fault<'_>) -> Result<String, AllocError
     if let Some(rest) = message.strip_prefix("unknown variant ") {
         return seen_text(alloc, "unknown name ", rest);
     }
+    if let Some((word, rest)) = unknown_key(fault) {
+        let mut seen = seen_text(alloc, "unknown field `", word)?;
+        seen.push('`')?;
+        seen.push_str(rest)?;
+        return Ok(seen);
+    }
     if message.starts_with("invalid type: unit variant") {
         return String::from_str(alloc, "expected a name with a value, found the name alone");
     }
@@ -93,6 +99,19 @@ fn custom_message(alloc: Global, fault: &Fault<'_>) -> Result<String, AllocError
     let is_of_digits = !word.contains(|c: char| !c.is_ascii_digit());
     let kind = if is_of_digits { "integer" } else { "decimal" };
     format!(in alloc; "invalid value: {kind} `{word}`{range}")
+}
+
+/// The key without quotes that begins with the name of an unknown field and goes on, and the rest of the message.
+fn unknown_key<'t>(fault: &Fault<'t>) -> Option<(&'t str, &'t str)> {
+    let (name, rest) = fault
+        .message
+        .strip_prefix("unknown field `")?
+        .split_once('`')?;
+    let word = fault.word();
+    if word.len() > name.len() && word.starts_with(name) {
+        return Some((word, rest));
+    }
+    None
 }
 
 /// The text after these words, with U+FFFD for its control characters.

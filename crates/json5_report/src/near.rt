@@ -12,14 +12,14 @@ pub(crate) fn name_in(message: &str) -> Option<&str> {
     Some(name)
 }
 
-/// The known name that is nearest to the first one of the message, if one is near: its letters in other case, or one letter
+/// The known name of the message that is nearest to this one, if one is near: its letters in other case, or one letter
 /// away of three at least, or two of six.
 pub(crate) fn near_name<'m>(
     alloc: Global,
+    name: &str,
     message: &'m str,
 ) -> Result<Option<&'m str>, AllocError> {
-    let (Some(name), Some((_, known))) = (name_in(message), message.split_once(", expected "))
-    else {
+    let Some((_, known)) = message.split_once(", expected ") else {
         return Ok(None);
     };
     let mut least: usize = 2;

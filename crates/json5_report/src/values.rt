@@ -5,12 +5,13 @@
 use crate::advice::Advice;
 use crate::fault::{Fault, Remark};
 use crate::found::Found;
-use crate::lexemes::{Kind, Lexeme, line_len};
+use crate::lexemes::{Kind, Lexeme, lexeme_at, line_len};
 use crate::numbers::whole_of;
 use crate::path::unquoted;
+use crate::place::line_start;
 use crate::texts::bare_text;
 use crate::unclosed::closed_after;
-use json5_tokens::char::{is_json5_identifier, is_json5_whitespace};
+use json5_tokens::char::{is_json5_identifier, is_json5_line_terminator, is_json5_whitespace};
 use json5_types::ErrorCode;
 use json5_walk::next::Next;
 
@@ -19,12 +20,18 @@ pub(crate) fn value_remark<'t>(fault: &Fault<'t>, code: ErrorCode) -> Remark<'t>
     if code == ErrorCode::ExpectedComment {
         return slash_remark(fault);
     }
-    if let Some(advice) = sign_advice(fault).or(member_advice(fault)) {
+    if let Some(advice) = sign_advice(fault)
+        .or(member_advice(fault))
+        .or(null_advice(fault, code))
+    {
         return fault.remark(advice);
     }
+    let is_sign = matches!(fault.found, Found::Character(_));
     match code {
         ErrorCode::LeadingZero => fault.remark(Advice::DropLeadingZero),
         ErrorCode::TooDeep => fault.remark(Advice::TooDeep),
+        ErrorCode::ExpectedClosingBrace if !is_sign => fault.remark(Advice::OneAlone),
+        ErrorCode::ExpectedClosingBracket if !is_sign => fault.remark(Advice::DropElement),
         ErrorCode::ExpectedOpeningBrace => fault.remark(Advice::UseBraces),
         ErrorCode::ExpectedOpeningBracket => {
             let is_unopened = closed_after(fault.text, fault.offset) > fault.depth;
@@ -58,13 +65,30 @@ fn sign_advice<'t>(fault: &Fault<'t>) -> Option<Advice<'t>> {
         ',' | '}' | ']' if fault.is_after(Kind::Colon) => Some(Advice::Missing("a value")),
         ',' => Some(Advice::DropComma),
         ':' if fault.is_after(Kind::Colon) => Some(Advice::DropColon),
+        '=' if fault.is_after(Kind::Colon) => Some(Advice::DropEquals),
+        '(' if fault.code == Some(ErrorCode::ExpectedOpeningBrace) => Some(Advice::UseBraces),
         '(' => Some(Advice::UseBrackets),
         _ => None,
     }
 }
 
+/// What is said of null in place of a member's value of some kind.
+fn null_advice<'t>(fault: &Fault<'t>, code: ErrorCode) -> Option<Advice<'t>> {
+    if !matches!(fault.due, Next::Value) || fault.word() != "null" || fault.open.is_none() {
+        return None;
+    }
+    match code {
+        ErrorCode::ExpectedBool => Some(Advice::NoNull("true or false")),
+        ErrorCode::ExpectedNumber => Some(Advice::NoNull("a number")),
+        ErrorCode::ExpectedOpeningBrace => Some(Advice::NoNull("an object: { .. }")),
+        ErrorCode::ExpectedOpeningBracket => Some(Advice::NoNull("an array: [ .. ]")),
+        ErrorCode::ExpectedString => Some(Advice::NoNull("a text in quotes")),
+        _ => None,
+    }
+}
+
 /// What is said of a key where a value is expected: its brace is missing, if one is closed behind it that isn't opened;
-/// else an array that it is in is to be an object.
+/// else the value of the key on the line before is, or an array that it is in is to be an object.
 pub(crate) fn member_advice<'t>(fault: &Fault<'t>) -> Option<Advice<'t>> {
     let token = fault.token()?;
     let is_key = matches!(token.kind, Kind::Word | Kind::Text) && fault.is_key(token);
@@ -75,6 +99,9 @@ pub(crate) fn member_advice<'t>(fault: &Fault<'t>) -> Option<Advice<'t>> {
     let is_unopened = closed_after(fault.text, fault.offset) > fault.depth;
     if is_unopened && (is_member || is_key && fault.is_after(Kind::Colon)) {
         return Some(Advice::Missing("a `{`"));
+    }
+    if is_key && fault.is_after(Kind::Colon) && fault.gap().contains(is_json5_line_terminator) {
+        return Some(Advice::Missing("a value"));
     }
     if is_member {
         Some(Advice::UseBracesInArray(fault.array_line()?))
@@ -128,7 +155,9 @@ fn inside_remark<'t>(fault: &Fault<'t>, word: Lexeme) -> Remark<'t> {
 fn text_remark<'t>(fault: &Fault<'t>) -> Remark<'t> {
     let is_any = fault.code == Some(ErrorCode::ExpectedValue);
     match fault.found {
-        Found::Number if is_number(fault.word()) => fault.remark(Advice::QuoteTexts),
+        Found::Number if is_number(fault.word()) && !is_part(fault) => {
+            fault.remark(Advice::QuoteTexts)
+        }
         Found::Name(_) | Found::Number => bare_remark(fault, fault.offset, Advice::QuoteText("")),
         Found::Character('~' | '.' | '*' | '@' | '%' | '<' | '^' | '&') => {
             bare_remark(fault, fault.offset, Advice::QuoteText(""))
@@ -140,15 +169,27 @@ fn text_remark<'t>(fault: &Fault<'t>) -> Remark<'t> {
     }
 }
 
+/// Whether the number at the fault goes on behind a colon, as a time does.
+fn is_part(fault: &Fault<'_>) -> bool {
+    match fault.token() {
+        Some(token) => fault.is_after(Kind::Colon) && fault.is_key(token),
+        None => false,
+    }
+}
+
 /// What is said of a slash that begins no comment: it divides, begins a path, or is to begin a comment.
 fn slash_remark<'t>(fault: &Fault<'t>) -> Remark<'t> {
     let start = fault.offset.saturating_sub(1);
     let rest = fault.text.get(fault.offset..).unwrap_or("");
     let is_apart = rest.starts_with(is_json5_whitespace);
+    let is_first = lexeme_at(fault.text, line_start(fault.text, start)).start == start;
     match (fault.due, fault.word_inside()) {
         (Next::Comma, Some(word)) if word.start < start => inside_remark(fault, word),
         (Next::Comma, _) => fault.remark(Advice::NoExpressions),
-        _ if is_apart && rest.trim_start().starts_with(is_json5_identifier) => {
+        (Next::Key, Some(word)) if fault.is_key(word) => {
+            Remark::of(word, Advice::QuoteKey(word.of(fault.text)))
+        }
+        _ if is_apart && (is_first || rest.trim_start().starts_with(is_json5_identifier)) => {
             Remark {
                 start,
                 end: fault.offset,

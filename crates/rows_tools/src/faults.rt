@@ -8,13 +8,14 @@ use json5_types::{ErrorCode, Position};
 use std::alloc::{AllocError, Global};
 
 /// The codes of typed reads, which rows name by their words.
-const CODES: [ErrorCode; 14] = [
+const CODES: [ErrorCode; 15] = [
     ErrorCode::ExpectedBool,
     ErrorCode::ExpectedNumber,
     ErrorCode::ExpectedString,
     ErrorCode::ExpectedStringOrObject,
     ErrorCode::ExpectedOpeningBrace,
     ErrorCode::ExpectedOpeningBracket,
+    ErrorCode::ExpectedClosingBrace,
     ErrorCode::ExpectedClosingBracket,
     ErrorCode::InvalidBytes,
     ErrorCode::EofParsingNumber,
