@@ -1,9 +1,10 @@
 -- Reports of one place, one after another.
-use Rattle.std.proofs.Common.{◌≡◌, ◌≢◌, ◌==◌, ℕ, List, [], ◌∷◌, ◌++◌, Some, false, length, sym, subst, ◌∙◌, true≢false}
+use Rattle.std.proofs.Common.{◌≡◌, ◌≢◌, ◌==◌, ℕ, List, [], ◌∷◌, ◌++◌, Some, false, length, take, sym, subst, ◌∙◌, true≢false}
 use Rattle.std.specs.Prelude.{All, Result, Ok, Err, MatchResult}
 use Rattle.std.specs.Str.{chars}
 use Rattle.std.proofs.lemmas.List.Elements.{All-nil, All-cons, All-append}
 use Rattle.json5_grammar.specs.declared.position.Position.{Position}
+use Rattle.json5_tokens.specs.Places.{AreUnitsOfLine}
 use Rattle.json5_types.specs.declared.error.Error.{Error}
 use Rattle.json5_types.specs.Errors.{LacksMemory, error_position}
 use Rattle.json5_report.specs.declared.report.Report.{Report}
@@ -41,15 +42,16 @@ module _ (name text : List ℕ) (error : Error) (p : Position) (at : p ≡ shown
   are_more old new report is all one = record { some = grown old new report is; each = one_more (IsReportOf name text error) old new report is (moved old all) one }
 
 -- the report of a place has the path of what is open there
-there : (name text : List ℕ) (p : Position) (offset : ℕ) (o : List Crumb) (report : Report) → IsOffsetOf text p offset → IsOpenAt (chars text) offset o → IsReportAt name p offset o report → IsReportThere name text p report
+there : (name text : List ℕ) (p : Position) (offset : ℕ) (o : List Crumb) (report : Report) → IsOffsetOf text p offset → IsOpenAt (chars text) offset o → IsReportAt name text p offset o report → IsReportThere name text p report
 there name text p offset o report is shown r = record {
   named = r.named;
   placed = r.placed;
   offset = subst (λ q. IsOffsetOf text q report.offset) (sym r.placed) (subst (IsOffsetOf text p) (sym r.at) is);
+  units = subst (λ k. AreUnitsOfLine (chars (take k text)) report.utf16_column) (sym r.at) (r.units is.boundary);
   path = (o, subst (λ k. IsOpenAt (chars text) k o) (sym r.at) shown, r.path);
 }
 
 pub made : (name text : List ℕ) (e : Error) (p : Position) (offset : ℕ) (o : List Crumb) (r : Result Report Error) → p ≡ shown_position text (error_position e) → IsOffsetOf text p offset → IsOpenAt (chars text) offset o
-    → MatchResult r (IsReportAt name p offset o) LacksMemory → MatchResult r (IsReportOf name text e) LacksMemory
+    → MatchResult r (IsReportAt name text p offset o) LacksMemory → MatchResult r (IsReportOf name text e) LacksMemory
 made name text e p offset o (Ok report) at is shown r = subst (λ q. IsReportThere name text q report) at (there name text p offset o report is shown r)
 made name text e p offset o (Err x) at is shown r = r

@@ -1,10 +1,11 @@
 -- What a report says of a fault.
 -- A promise rests on this.
 use Rattle.std.specs.Prelude.{◌≡◌, ◌≢◌, ◌++◌, ℕ, List, [], ◌∷◌, take, All, Option, Some, None, codes, string_bytes}
-use Rattle.std.specs.Str.{chars, IsUtf8, IsValidUpTo}
+use Rattle.std.specs.Str.{chars, IsUtf8, IsCharBoundary, IsValidUpTo}
 use Rattle.std.specs.Str.Lossy.{utf8_lossy}
 use Rattle.json5_grammar.specs.declared.position.Position.{Position}
 use Rattle.json5_grammar.specs.Faults.Positions.{position_after}
+use Rattle.json5_tokens.specs.Places.{AreUnitsOfLine}
 use Rattle.json5_types.specs.declared.error.Error.{Error}
 use Rattle.json5_types.specs.Errors.{error_position}
 use Rattle.json5_report.specs.declared.report.Report.{Report}
@@ -13,11 +14,12 @@ use Rattle.json5_report.specs.Paths.{Crumb, IsPathAt, path_text}
 use Rattle.json5_report.specs.Painted.{painted_text}
 use Rattle.json5_report.specs.Excerpts.{excerpt_text, coloured_excerpt_text}
 
--- the report has this name, this position of the text, and the path of what is open there
+-- the report has this name, this position of the text, its column in units of UTF-16, and the path of what is open there
 pub record IsReportThere (name text : List ℕ) (p : Position) (report : Report) : Type 0 where
   pub named : string_bytes report.name ≡ name
   pub placed : report.position ≡ p
   pub offset : IsOffsetOf text report.position report.offset
+  pub units : AreUnitsOfLine (chars (take report.offset text)) report.utf16_column
   pub path : IsPathAt (chars text) report.offset (string_bytes report.path)
 
 -- the report has this name, the place of the fault in the text, and the path of what is open there
@@ -30,10 +32,11 @@ pub record AreReportsOf (name text : List ℕ) (error : Error) (reports : List R
   pub each : All (IsReportOf name text error) reports
 
 -- the report has this name, this place, and the path of what is open
-pub record IsReportAt (name : List ℕ) (p : Position) (offset : ℕ) (o : List Crumb) (report : Report) : Type 0 where
+pub record IsReportAt (name text : List ℕ) (p : Position) (offset : ℕ) (o : List Crumb) (report : Report) : Type 0 where
   pub named : string_bytes report.name ≡ name
   pub placed : report.position ≡ p
   pub at : report.offset ≡ offset
+  pub units : IsCharBoundary text offset → AreUnitsOfLine (chars (take offset text)) report.utf16_column
   pub path : string_bytes report.path ≡ path_text o
 
 -- the bytes aren't UTF-8, and the report has this name and the place of the first that is in no character; its path is

@@ -1,7 +1,9 @@
 //! Where a fault is in a text.
 
-ghost use Rattle.std.specs.Prelude.{◌≡◌};
+ghost use Rattle.std.specs.Prelude.{◌≡◌, take};
+ghost use Rattle.std.specs.Str.{chars, IsCharBoundary};
 ghost use Rattle.json5_types.specs.Errors.{error_position};
+ghost use Rattle.json5_tokens.specs.Places.{AreUnitsOfLine};
 ghost use Rattle.json5_report.specs.Places.{IsOffsetOf, shown_position};
 
 use json5_tokens::char::is_json5_line_terminator;
@@ -38,6 +40,11 @@ pub(crate) fn line_start(text: &str, offset: usize) -> usize {
 }
 
 /// How many units of UTF-16 are in the line before the offset.
-pub(crate) fn utf16_column(text: &str, offset: usize) -> usize {
-    utf16_units(text.get(..offset).unwrap_or(text))
+pub(crate) fn utf16_column(text: &str, offset: usize) -> usize
+    ensures { IsCharBoundary text.now offset → AreUnitsOfLine (chars (take offset text.now)) result }
+{
+    match text.get(..offset) {
+        Some(before) => utf16_units(before),
+        None => utf16_units(text),
+    }
 }

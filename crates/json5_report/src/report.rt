@@ -152,7 +152,7 @@ impl Spot<'_> {
         message: String,
         remark: Remark<'_>,
     ) -> Result<Report>
-        ensures { MatchResult result (IsReportAt self.entry.name.now self.entry.position self.entry.offset (open_in course.now)) LacksMemory }
+        ensures { MatchResult result (IsReportAt self.entry.name.now self.entry.text.now self.entry.position self.entry.offset (open_in course.now)) LacksMemory }
     {
         let hint = match remark.advice {
             Some(advice) => Some(format!(in alloc; "{advice}")?),
