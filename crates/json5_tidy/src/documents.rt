@@ -6,7 +6,7 @@ ghost use Rattle.json5_tokens.specs.Cursor.{IsOutOfMemory};
 ghost use Rattle.json5_tidy.specs.Styles.{usual_style};
 ghost use Rattle.json5_tidy.specs.Tidied.{IsAlike, IsLaidOut, KeepsJson, TidiesText};
 
-use crate::layout::{Spacing, laid_out};
+use crate::layout::{Spacing, laid_out, leaves_text};
 use crate::plainness::{Plainness, has_last_commas};
 use crate::style::Style;
 use json5_lexemes::same_lexemes;
@@ -38,6 +38,8 @@ pub fn tidy(alloc: Global, text: &str) -> Result<String>
 ///
 /// Unless last commas are always to come, JSON stays JSON, and JSON but for comments stays so.
 ///
+/// A text with a comment `json5-tidy-ignore-file` before its value is returned as it is.
+///
 /// What was laid out is read again: where it weren't such a document, the answer would be a copy of the text. No test
 /// has met that.
 ///
@@ -64,6 +66,9 @@ fn laid_out_document(alloc: Global, style: Style, text: &str) -> Result<String>
     ensures plain { KeepsJson style text.now result }
     ensures memory { IfErr result IsOutOfMemory }
 {
+    if leaves_text(text.as_bytes()) {
+        return copied(alloc, text);
+    }
     let plainness = Plainness::in_style(style, text);
     let spacing = spacing_in(style, has_last_commas(style, plainness, text));
     let Ok(bytes) = laid_out(alloc, spacing, text.as_bytes()) else {

@@ -3,6 +3,7 @@
 //! It is plain code over bytes, without a promise of what it gives: `tidy_with` reads its answers again. Change it by the
 //! rows of tidying, which judge it.
 
+mod asks;
 mod blanks;
 mod columns;
 mod entries;
@@ -11,5 +12,6 @@ mod lines;
 mod printer;
 mod spacing;
 
+pub use asks::leaves_text;
 pub use printer::laid_out;
 pub use spacing::Spacing;

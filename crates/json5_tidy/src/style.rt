@@ -8,7 +8,7 @@ ghost use Rattle.json5_tidy.specs.Styles.{usual_style};
 pub struct Style {
     /// How many spaces a level is indented by; 0 for a tab.
     pub indent: usize,
-    /// How many characters a line may have that holds a whole collection.
+    /// How many columns a line may have that holds a whole collection.
     pub width: usize,
     pub last_commas: LastCommas,
 }

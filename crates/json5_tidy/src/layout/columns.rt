@@ -3,14 +3,17 @@
 ghost use Rattle.std.specs.Prelude.{◌≡◌, ◌≤◌, false, length};
 ghost use Rattle.json5_tidy.specs.Lexemes.{IsWithin, is_end};
 
+use crate::layout::asks::is_ignore;
 use crate::layout::lexemes::{Kind, Lexeme, lexeme_at};
+use std::str::from_utf8;
+use unicode_width::UnicodeWidthStr;
 
 /// Measures a collection as if it were on one line.
 #[derive(Drop)]
 struct Measure {
-    /// Whether characters are counted, and not bytes.
-    counts_chars: bool,
-    /// How many characters or bytes are left.
+    /// Whether columns are counted, and not bytes.
+    counts_columns: bool,
+    /// How many columns or bytes are left.
     room: usize,
     /// How many brackets are open.
     depth: usize,
@@ -33,9 +36,9 @@ enum Fit {
     Wide(usize),
 }
 
-/// Whether the collection whose opening bracket ends here can be on one line, with so many characters after that
-/// bracket. It can't if a `//` comment or a line end in a lexeme is in it, or a line ends between a bracket and its
-/// first token.
+/// Whether the collection whose opening bracket ends here can be on one line, with so many columns after that bracket. It
+/// can't if a `//` comment or a line end in a lexeme is in it, or a comment that leaves an entry as it is, or a line ends
+/// between a bracket and its first token.
 pub(crate) fn fits(bytes: &[u8], from: usize, room: usize, is_object: bool) -> bool
     requires { from ≤ length bytes.now }
 {
@@ -49,12 +52,12 @@ pub(crate) fn fits(bytes: &[u8], from: usize, room: usize, is_object: bool) -> b
 }
 
 /// What comes of measuring the collection.
-fn measured(bytes: &[u8], from: usize, room: usize, is_object: bool, counts_chars: bool) -> Fit
+fn measured(bytes: &[u8], from: usize, room: usize, is_object: bool, counts_columns: bool) -> Fit
     requires { from ≤ length bytes.now }
 {
     let mut at = from;
     let mut measure = Measure {
-        counts_chars,
+        counts_columns,
         room,
         depth: 1,
         is_opened: true,
@@ -64,7 +67,7 @@ fn measured(bytes: &[u8], from: usize, room: usize, is_object: bool, counts_char
     };
     loop {
         let lexeme = lexeme_at(bytes, at);
-        if measure.is_broken_by(lexeme) {
+        if measure.is_broken_by(lexeme) || is_ignore_in_line(bytes, lexeme) {
             return Fit::Breaks;
         }
         at = lexeme.end;
@@ -75,6 +78,14 @@ fn measured(bytes: &[u8], from: usize, room: usize, is_object: bool, counts_char
             return Fit::Fits;
         }
     }
+}
+
+/// Whether it is a comment that leaves an entry as it is.
+#[inline(always)]
+fn is_ignore_in_line(bytes: &[u8], lexeme: Lexeme) -> bool
+    requires { IsWithin bytes.now lexeme }
+{
+    matches!(lexeme.kind, Kind::Block) && is_ignore(bytes, lexeme)
 }
 
 impl Measure {
@@ -109,7 +120,7 @@ impl Measure {
         true
     }
 
-    /// Takes so many characters, if there is room for them.
+    /// Takes so many columns, if there is room for them.
     #[inline(always)]
     fn takes_width(&mut self, width: usize) -> bool {
         if width > self.room {
@@ -152,8 +163,8 @@ impl Measure {
         requires { IsWithin bytes.now lexeme }
     {
         let text = &bytes[lexeme.start..lexeme.end];
-        let len = if self.counts_chars {
-            char_count(text)
+        let len = if self.counts_columns {
+            columns(text)
         } else {
             text.len()
         };
@@ -180,13 +191,18 @@ fn has_wide(text: &[u8]) -> bool {
     text.iter().any(|byte| *byte >= 128)
 }
 
-/// How many characters the text has.
-pub(crate) fn char_count(text: &[u8]) -> usize
-    ensures { result ≤ length text.now }
-{
-    let mut count = 0;
-    for byte in text {
-        count += usize::from(*byte & 0xC0 != 0x80);
+/// How many columns the text takes. What isn't UTF-8 takes one a byte.
+pub(crate) fn columns(text: &[u8]) -> usize {
+    if !has_wide(text) {
+        return text.len();
     }
-    count
+    match from_utf8(text) {
+        Ok(text) => text.width(),
+        Err(_) => text.len(),
+    }
+}
+
+/// How many tabs the line begins with.
+pub(crate) fn tabs_in_front(line: &[u8]) -> usize {
+    line.iter().take_while(|byte| **byte == b'\t').count()
 }

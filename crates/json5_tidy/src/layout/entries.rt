@@ -41,30 +41,92 @@ pub(crate) fn ends_line(bytes: &[u8], from: usize) -> bool
     }
 }
 
-/// Whether nothing but numbers and commas is in the array whose bracket ends here.
-pub(crate) fn is_numbers(bytes: &[u8], from: usize) -> bool
+/// What was seen of an array of words.
+#[derive(Clone, Copy, Drop)]
+struct Words {
+    is_begun: bool,
+    /// Whether each is a number or null.
+    are_numbers: bool,
+    /// Whether the next of them is on another line than the last.
+    is_apart: bool,
+    /// Whether the comma behind the last of them was passed, or is to go before a comment that was.
+    has_comma: bool,
+    /// Whether two of them were on one line.
+    share_lines: bool,
+    /// Whether two of them weren't.
+    are_over_lines: bool,
+}
+
+/// Whether the array whose bracket ends here is laid out in rows: it holds numbers and nulls alone, or words alone that
+/// were written in rows, of which one has two. Comments aren't counted.
+pub(crate) fn is_in_rows(bytes: &[u8], from: usize) -> bool
     requires { from ≤ length bytes.now }
 {
     let mut at = from;
+    let mut words = Words {
+        is_begun: false,
+        are_numbers: true,
+        is_apart: false,
+        has_comma: false,
+        share_lines: false,
+        are_over_lines: false,
+    };
     loop {
         let next = lexeme_at(bytes, at);
         if next.is_end() {
             return false;
         }
         match next.kind {
-            Kind::Close => return true,
-            Kind::Comma => at = next.end,
-            Kind::Word if is_number(bytes, next) => at = next.end,
-            _ => return false,
+            Kind::Close => return words.are_in_rows(),
+            Kind::Open | Kind::Colon => return false,
+            Kind::Word if next.is_broken => return false,
+            Kind::Word => words.take(next.lines, is_number(bytes, next)),
+            _ => words.pass(next),
         }
+        at = next.end;
     }
 }
 
-/// Whether the word, which is no name, is a number.
+impl Words {
+    /// Takes a word after so many line ends.
+    #[inline(always)]
+    fn take(&mut self, lines: usize, is_number: bool) {
+        let is_apart = self.is_apart || lines > 0;
+        self.share_lines = self.share_lines || self.is_begun && !is_apart;
+        self.are_over_lines = self.are_over_lines || self.is_begun && is_apart;
+        self.are_numbers = self.are_numbers && is_number;
+        self.is_begun = true;
+        self.is_apart = false;
+        self.has_comma = false;
+    }
+
+    /// Passes a comma or a comment.
+    #[inline(always)]
+    fn pass(&mut self, next: Lexeme) {
+        let starts_line = next.lines > 0;
+        match next.kind {
+            // Line ends before a comma go.
+            Kind::Comma if !self.has_comma => {}
+            // It stays before the comma.
+            Kind::Block if !self.has_comma && !starts_line => return,
+            Kind::Line => self.is_apart = true,
+            _ => self.is_apart = self.is_apart || starts_line || next.is_broken,
+        }
+        self.has_comma = true;
+    }
+
+    fn are_in_rows(&self) -> bool {
+        self.is_begun && (self.are_numbers || self.share_lines && self.are_over_lines)
+    }
+}
+
+/// Whether the word, which is no name, is a number or null.
 fn is_number(bytes: &[u8], word: Lexeme) -> bool
     requires { IsWithin bytes.now word }
 {
-    match bytes[word.start..word.end].first() {
+    let text = &bytes[word.start..word.end];
+    match text.first() {
+        Some(b'n') => text == b"null".as_slice(),
         Some(first) => matches!(*first, b'0'..=b'9' | b'+' | b'-' | b'.' | b'I' | b'N'),
         None => false,
     }
@@ -94,13 +156,5 @@ pub(crate) fn entry_end(bytes: &[u8], from: usize, is_member: bool) -> usize
         if depth == 0 && !is_key && matches!(next.kind, Kind::Word | Kind::Close) {
             return at;
         }
-    }
-}
-
-/// Whether the `//` comment asks that what follows it be left as it is.
-pub(crate) fn is_ignore(text: &[u8]) -> bool {
-    match text.split_at_checked(2) {
-        Some((_, words)) => words.trim_ascii() == b"json5-tidy-ignore".as_slice(),
-        None => false,
     }
 }

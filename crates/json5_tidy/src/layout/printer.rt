@@ -3,12 +3,16 @@
 ghost use Rattle.std.specs.Prelude.{◌≤◌, ◌<◌, IfOk, length};
 ghost use Rattle.json5_tidy.specs.Lexemes.{IsPast, IsWithin};
 
-use crate::layout::columns::{char_count, fits};
-use crate::layout::entries::{ends_line, entry_end, has_entry, is_ignore, is_numbers};
+use crate::layout::asks::is_ignore;
+use crate::layout::columns::{columns, fits, tabs_in_front};
+use crate::layout::entries::{ends_line, entry_end, has_entry, is_in_rows};
 use crate::layout::lexemes::{Kind, Lexeme, lexeme_at};
 use crate::layout::lines::{has_crlf, line_start};
 use crate::layout::spacing::Spacing;
 use std::alloc::{AllocError, Global};
+
+/// How many columns a tab has.
+const TAB: usize = 4;
 
 /// Spaces for the indentation of a line.
 const SPACES: [u8; 64] = [b' '; 64];
@@ -33,7 +37,7 @@ enum Shape {
     InLine,
     /// Each entry is on a line of its own.
     Lines,
-    /// Numbers, as many on a line as there were, and as fit.
+    /// Words alone, as many on a line as there were, and as fit.
     Rows,
 }
 
@@ -171,7 +175,7 @@ impl Printer {
         ensures { IfOk result (IsPast bytes.now lexeme) }
     {
         let end = entry_end(bytes, lexeme.start, self.frame.is_object).max(lexeme.end);
-        self.before_word(lines, lexeme.end.saturating_sub(lexeme.start))?;
+        self.before_word(bytes, lexeme, lines)?;
         self.text(&bytes[lexeme.start..end])?;
         self.note_lines(&bytes[lexeme.start..end]);
         self.end_value();
@@ -189,7 +193,7 @@ impl Printer {
             Kind::Line | Kind::Block => self.before_comment(bytes, lexeme, lines),
             Kind::Colon => self.before_colon(),
             Kind::Close => self.before_close(),
-            _ => self.before_word(lines, lexeme.end.saturating_sub(lexeme.start)),
+            _ => self.before_word(bytes, lexeme, lines),
         }
     }
 
@@ -268,7 +272,7 @@ impl Printer {
         if used <= self.style.width && fits(bytes, end, self.style.width - used, is_object) {
             return Shape::InLine;
         }
-        if !is_object && is_numbers(bytes, end) {
+        if !is_object && is_in_rows(bytes, end) {
             return Shape::Rows;
         }
         Shape::Lines
@@ -361,17 +365,20 @@ impl Printer {
             }
         }
         self.note_ignore(bytes, comment, starts_line);
-        self.before_entry_comment(bytes, comment.end, lines, is_line)
+        self.before_entry_comment(bytes, comment, lines)
     }
 
-    /// Notes a comment on a line of its own that asks to leave the next entry as it is.
+    /// Notes a comment that asks to leave the next entry as it is: one on a line of its own, or in stars.
     fn note_ignore(&mut self, bytes: &[u8], comment: Lexeme, starts_line: bool)
         requires { IsWithin bytes.now comment }
     {
-        if !starts_line && !matches!(self.last, Kind::End | Kind::Open) {
+        if !starts_line
+            && !matches!(self.last, Kind::End | Kind::Open)
+            && matches!(comment.kind, Kind::Line)
+        {
             return;
         }
-        if matches!(comment.kind, Kind::Line) && is_ignore(&bytes[comment.start..comment.end]) {
+        if is_ignore(bytes, comment) {
             self.is_ignored = matches!(self.place, Place::Entry);
         }
     }
@@ -379,22 +386,41 @@ impl Printer {
     fn before_entry_comment(
         &mut self,
         bytes: &[u8],
-        end: usize,
+        comment: Lexeme,
         lines: usize,
-        is_line: bool,
     ) -> Result<(), AllocError>
-        requires { end ≤ length bytes.now }
+        requires { IsWithin bytes.now comment }
     {
-        let last = self.last;
-        if matches!(last, Kind::End) {
+        if matches!(self.last, Kind::End) {
             return Ok(());
         }
-        if !self.starts_line(lines)
-            && (matches!(last, Kind::Block) || is_line || ends_line(bytes, end))
-        {
+        if !self.starts_line(lines) && self.stays_on_line(bytes, comment) {
             return self.byte(b' ');
         }
         self.entry_line(lines)
+    }
+
+    /// Whether a comment between entries stays on the line that it is on: at its end, behind another comment, or in a
+    /// row with the word that follows it.
+    fn stays_on_line(&self, bytes: &[u8], comment: Lexeme) -> bool
+        requires { IsWithin bytes.now comment }
+    {
+        match (self.last, comment.kind) {
+            (Kind::Block, _) | (_, Kind::Line) => true,
+            (Kind::Comma, _) if self.is_in_rows() && !comment.is_broken => {
+                ends_line(bytes, comment.end) || self.has_room_for_both(bytes, comment)
+            }
+            _ => ends_line(bytes, comment.end),
+        }
+    }
+
+    /// Whether the comment fits on the line, with the word that follows it.
+    fn has_room_for_both(&self, bytes: &[u8], comment: Lexeme) -> bool
+        requires { IsWithin bytes.now comment }
+    {
+        let next = lexeme_at(bytes, comment.end);
+        let word = columns(&bytes[next.start..next.end]).saturating_add(1);
+        self.has_room(&bytes[comment.start..comment.end], word)
     }
 
     /// Whether the lexeme after so many line ends begins a line.
@@ -434,9 +460,11 @@ impl Printer {
         Ok(())
     }
 
-    /// Before an opening bracket, or any token that is no sign of punctuation, of so many bytes.
+    /// Before an opening bracket, or any token that is no sign of punctuation.
     #[inline(always)]
-    fn before_word(&mut self, lines: usize, len: usize) -> Result<(), AllocError> {
+    fn before_word(&mut self, bytes: &[u8], word: Lexeme, lines: usize) -> Result<(), AllocError>
+        requires { IsWithin bytes.now word }
+    {
         if !self.is_expanded() {
             return self.space_in_line();
         }
@@ -448,28 +476,34 @@ impl Printer {
         if matches!(last, Kind::End) {
             return Ok(());
         }
-        if !starts_line && self.goes_on(last, len) {
+        if !starts_line && self.goes_on(last, &bytes[word.start..word.end]) {
             return self.byte(b' ');
         }
         self.entry_line(lines)
     }
 
-    /// Whether the entry that begins with a token of so many bytes goes on the same line.
+    /// Whether the entry that begins with this token goes on the same line.
     #[inline(always)]
-    fn goes_on(&self, last: Kind, len: usize) -> bool {
+    fn goes_on(&self, last: Kind, word: &[u8]) -> bool {
         match last {
             Kind::Block => true,
-            Kind::Comma => self.is_in_row(len),
+            Kind::Comma => self.is_in_rows() && self.has_room(word, 0),
             _ => false,
         }
     }
 
-    /// Whether a number of so many digits fits in the row, with its comma.
     #[inline(always)]
-    fn is_in_row(&self, len: usize) -> bool {
-        let column = self.out.len().saturating_sub(self.line);
+    fn is_in_rows(&self) -> bool {
         matches!(self.frame.shape, Shape::Rows)
-            && column.saturating_add(len).saturating_add(2) <= self.style.width
+    }
+
+    /// Whether the text fits on the line, behind a space and with a comma, and so many columns after it.
+    fn has_room(&self, text: &[u8], more: usize) -> bool {
+        let room = self.style.width.saturating_sub(more.saturating_add(2));
+        let len = self.out.len().saturating_sub(self.line);
+        // No character takes more columns than it has bytes, but for tabs.
+        self.style.indent > 0 && len.saturating_add(text.len()) <= room
+            || self.column().saturating_add(columns(text)) <= room
     }
 
     /// What is before a lexeme of a collection on one line.
@@ -552,10 +586,10 @@ impl Printer {
         self.out.extend_from_slice(text)
     }
 
-    /// How many characters the current line has.
+    /// How many columns the current line has.
     fn column(&self) -> usize {
         match self.out.as_slice().get(self.line..) {
-            Some(line) => char_count(line),
+            Some(line) => columns(line).saturating_add(tabs_in_front(line).saturating_mul(TAB - 1)),
             None => 0,
         }
     }
