@@ -82,7 +82,7 @@ def members(pairs):
     return ["object", *pairs]
 
 
-def read(text):
+def read(text, number=str):
     plain, comments = stripped(text)
-    value = json.loads(plain, parse_constant=refused, object_pairs_hook=members, parse_int=str, parse_float=str)
+    value = json.loads(plain, parse_constant=refused, object_pairs_hook=members, parse_int=number, parse_float=number)
     return value, comments

@@ -9,13 +9,15 @@ use Rattle.cli_files.specs.declared.failure.Failure.TheVariants as failure
 use Rattle.cli_files.proofs.Statuses.{text_low}
 use Rattle.json5_edit.specs.declared.faults.EditError.{EditError}
 use Rattle.json5_edit.specs.declared.faults.EditError.TheVariants as error
+use Rattle.json5_edit_values.specs.declared.patch.faults.Trouble.{Trouble}
+use Rattle.json5_edit_values.specs.declared.patch.faults.Trouble.TheVariants as patch
 use Rattle.cli_edit.specs.declared.trouble.TextTrouble.{TextTrouble}
 use Rattle.cli_edit.specs.declared.trouble.TextTrouble.TheVariants as trouble
 use Rattle.cli_edit.specs.declared.requests.Task.{Task}
 use Rattle.cli_edit.specs.declared.requests.EditRequest.TheVariants as requests
 use Rattle.cli_edit.specs.Answers.{Answers, helps, tells_version, does, says_usage}
 use Rattle.cli_edit.specs.Requests.{AsksNothing}
-use Rattle.cli_edit.specs.Troubles.{edit_status, read_status, trouble_status}
+use Rattle.cli_edit.specs.Troubles.{edit_status, operation_status, read_status, trouble_status}
 use Rattle.cli_edit.specs.Works.{Does, DoesAt, DoesWith, does_with, not_begun, reads, reads_none, worked, stopped, no_steps}
 
 edit_small : (e : EditError) → edit_status e ≤ 3
@@ -29,8 +31,15 @@ edit_small error.NoKey = omega arith
 edit_small error.NoMemory = omega arith
 edit_small error.Failed = omega arith
 
+operation_small : (x : Trouble) → operation_status x ≤ 3
+operation_small (patch.Edit e) = edit_small e
+operation_small patch.Differs = omega arith
+operation_small patch.IntoItself = omega arith
+
 trouble_small : (x : TextTrouble) → trouble_status x ≤ 3
 trouble_small (trouble.Edit e) = edit_small e
+trouble_small (trouble.NoPatch f) = omega arith
+trouble_small (trouble.Operation x) = operation_small x.trouble
 trouble_small (trouble.NoJson e) = omega arith
 trouble_small (trouble.Failed f) = omega arith
 trouble_small (trouble.Unwritten u) = omega arith

@@ -53,13 +53,15 @@ module _ (word : List ℕ) (words : List (List ℕ)) where
   asks_with (work.Show v) g is (a, k, b) = absurd k
   asks_with work.Remove g is (a, k, b) = absurd k
   asks_with work.Rename g is (a, k, b) = absurd k
+  asks_with work.Apply g is (a, k, b) = absurd k
+  asks_with work.Merge g is (a, k, b) = absurd k
   asks_with work.Set g is k = (is, k)
   asks_with work.Insert g is k = (is, k)
   asks_with work.Push g is k = (is, k)
   asks_with work.Put g is k = (is, k)
   asks_with work.PutAbsent g is k = (is, k)
 
-  module _ (get : word ≢ codes "get") (has : word ≢ codes "has") (keys : word ≢ codes "keys") (len : word ≢ codes "length") (kind : word ≢ codes "type") (remove : word ≢ codes "remove") (rename : word ≢ codes "rename") where
+  module _ (get : word ≢ codes "get") (has : word ≢ codes "has") (keys : word ≢ codes "keys") (len : word ≢ codes "length") (kind : word ≢ codes "type") (remove : word ≢ codes "remove") (apply : word ≢ codes "apply") (merge : word ≢ codes "merge") (rename : word ≢ codes "rename") where
     no_view : (v : View) → word ≡ view_word v → ⊥
     no_view view.Spelled e = get e
     no_view view.Json e = get e
@@ -73,6 +75,8 @@ module _ (word : List ℕ) (words : List (List ℕ)) where
     asks_none n (work.Show v) g (e, f) = no_view v e
     asks_none n work.Remove g (e, f) = remove e
     asks_none n work.Rename g (e, f) = rename e
+    asks_none n work.Apply g (e, f) = apply e
+    asks_none n work.Merge g (e, f) = merge e
     asks_none n work.Set g (e, f) = n work.Set g e f
     asks_none n work.Insert g (e, f) = n work.Insert g e f
     asks_none n work.Push g (e, f) = n work.Push g e f

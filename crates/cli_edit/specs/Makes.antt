@@ -1,7 +1,7 @@
 -- What is made of a text.
 -- A promise rests on this.
 use Rattle.std.specs.declared.alloc.Global.{Global}
-use Rattle.std.specs.Prelude.{◌≡◌, ◌≢◌, ◌⊎◌, ℕ, true, false, List, [], ◌∷◌, ◌++◌, Result, Ok, Err, String}
+use Rattle.std.specs.Prelude.{⊤, ◌≡◌, ◌≢◌, ◌⊎◌, ℕ, true, false, List, [], ◌∷◌, ◌++◌, Result, Ok, Err, String}
 use Rattle.std.specs.Str.{chars}
 use Rattle.json5_lexemes.specs.Lexemes.{HaveSameLexemes}
 use Rattle.json5_edit.specs.Changes.{IsInserted, IsPushed, IsPutIn, IsRekeyed, IsRemoved}
@@ -39,7 +39,7 @@ abbrev pub RefusesRemoving : List ℕ → List Step → EditError → Type 0
 RefusesRemoving text steps error.NoKey = steps ≡ []
 RefusesRemoving text steps e = RefusesPath text steps e
 
--- the work on this text, at these steps, with this value
+-- the work on this text, at these steps, with this value; of a patch nothing is said
 abbrev pub Makes : Command → List ℕ → List Step → List ℕ → List ℕ → Type 0
 Makes (work.Show v) text steps value made = IsShownAt v text steps made
 Makes work.Set text steps value made = IsSet text steps value made
@@ -49,6 +49,8 @@ Makes work.Put text steps value made = PutsAt false text steps value made
 Makes work.PutAbsent text steps value made = PutsAt true text steps value made
 Makes work.Rename text steps value made = IsRekeyed text steps value made
 Makes work.Remove text steps value made = IsRemoved text steps made
+Makes work.Apply text steps value made = ⊤
+Makes work.Merge text steps value made = ⊤
 
 -- the same with this value; or, unless it is a key, with another that has its lexemes
 abbrev pub MakesLaid : Command → List ℕ → List Step → List ℕ → List ℕ → Type 0
@@ -63,9 +65,13 @@ RefusesEdit work.Put text steps value e = RefusesPut text steps value e
 RefusesEdit work.PutAbsent text steps value e = RefusesPut text steps value e
 RefusesEdit work.Rename text steps value e = RefusesRename text steps value e
 RefusesEdit work.Remove text steps value e = RefusesRemoving text steps e
+RefusesEdit work.Apply text steps value e = ⊤
+RefusesEdit work.Merge text steps value e = ⊤
 
 abbrev pub RefusesWork : Command → List ℕ → List Step → List ℕ → TextTrouble → Type 0
 RefusesWork (work.Show v) text steps value x = RefusesShowing v text steps x
+RefusesWork work.Apply text steps value x = ⊤
+RefusesWork work.Merge text steps value x = ⊤
 RefusesWork w text steps value (trouble.Edit e) = RefusesEdit w text steps value e
 RefusesWork w text steps value _ = ⊥
 

@@ -12,6 +12,7 @@ use Rattle.cli_edit.specs.declared.requests.View.TheVariants as view
 use Rattle.cli_edit.specs.declared.requests.Source.{Source}
 use Rattle.cli_edit.specs.declared.requests.Source.TheVariants as source
 use Rattle.cli_edit.specs.declared.requests.Given.{Given}
+use Rattle.cli_edit.specs.declared.requests.Task.{Task}
 
 abbrev pub view_word : View → List ℕ
 view_word view.Spelled = codes "get"
@@ -31,6 +32,8 @@ work_word work.Put = codes "put"
 work_word work.PutAbsent = codes "put"
 work_word work.Rename = codes "rename"
 work_word work.Remove = codes "remove"
+work_word work.Apply = codes "apply"
+work_word work.Merge = codes "merge"
 
 -- ---- VALUE
 
@@ -86,6 +89,8 @@ Follows (work.Show view.Json) g words = words ≡ codes "--json" ∷ []
 Follows (work.Show view.Content) g words = words ≡ codes "--raw" ∷ []
 Follows (work.Show _) g words = words ≡ []
 Follows work.Remove g words = words ≡ []
+Follows work.Apply g words = words ≡ []
+Follows work.Merge g words = words ≡ []
 Follows work.Rename g words = GivesKey g words
 Follows w g words = GivesValue w g words
 
@@ -99,6 +104,21 @@ abbrev pub Asks : List (List ℕ) → EditRequest → Type 0
 Asks words requests.Help = (words ≡ codes "--help" ∷ []) ⊎ (words ≡ codes "-h" ∷ [])
 Asks words requests.Version = words ≡ codes "--version" ∷ []
 Asks words (requests.Task t) = (rest : List (List ℕ)) × (words ≡ work_word t.work ∷ t.file.now ∷ t.path.now ∷ rest) × Follows t.work t.given rest
+
+-- the file of this name, or standard input
+abbrev pub IsNamed : (word : List ℕ) → Source → Type 0
+IsNamed word (source.Word w) = ⊥
+IsNamed word source.Input = word ≡ codes "-"
+IsNamed word (source.File f) = (word ≢ codes "-") × (f.now ≡ word)
+
+-- where VALUE is, or the patch, which the word in PATH's place names
+abbrev pub IsSourceFor : Command → Task → Source → Type 0
+IsSourceFor work.Apply t s = IsNamed t.path.now s
+IsSourceFor work.Merge t s = IsNamed t.path.now s
+IsSourceFor w t s = s ≡ t.given.source
+
+abbrev pub IsSourceOf : Task → Source → Type 0
+IsSourceOf t s = IsSourceFor t.work t s
 
 -- they ask for nothing
 abbrev pub AsksNothing : List (List ℕ) → Type 0

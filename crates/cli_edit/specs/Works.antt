@@ -19,6 +19,7 @@ use Rattle.cli_edit.specs.declared.requests.Command.TheVariants as work
 use Rattle.cli_edit.specs.declared.trouble.TextTrouble.{TextTrouble}
 use Rattle.cli_edit.specs.declared.trouble.TextTrouble.TheVariants as trouble
 use Rattle.cli_edit.specs.Makes.{MakesLaid, RefusesWork}
+use Rattle.cli_edit.specs.Requests.{IsSourceOf}
 use Rattle.cli_edit.specs.Troubles.{edit_status, read_status, trouble_status}
 use Rattle.cli_edit.specs.Values.{Means}
 
@@ -49,6 +50,10 @@ abbrev pub IsGiven : Known → Source → (input : Option (List ℕ)) → List �
 IsGiven known (source.Word w) input value = value ≡ w.now
 IsGiven known source.Input input value = IfSome input (λ bytes. value ≡ bytes)
 IsGiven known (source.File f) input value = FileHolds known f.now value
+
+-- what is given there for the task
+abbrev pub IsGivenFor : Known → Task → (input : Option (List ℕ)) → List ℕ → Type 0
+IsGivenFor known t input value = (s : Source) × IsSourceOf t s × IsGiven known s input value
 
 -- ---- writing
 
@@ -97,6 +102,6 @@ pub data DoesWith (known : Known) (t : Task) (given : List ℕ) (input output er
   reads_none : (f : Failure) → HoldsNone known t.file.now input f → Keeps output written → DoesWith known t given input output errors written said (read_status f)
 
 pub data Does (known : Known) (t : Task) (input output errors written said : Option (List ℕ)) : ℕ → Type 0 where
-  does_with : {status : ℕ} (given : List ℕ) → IsGiven known t.given.source input given → DoesWith known t given input output errors written said status → Does known t input output errors written said status
+  does_with : {status : ℕ} (given : List ℕ) → IsGivenFor known t input given → DoesWith known t given input output errors written said status → Does known t input output errors written said status
   -- the path isn't spelled as one, VALUE can't be read, or memory ran out
   not_begun : Keeps output written → Does known t input output errors written said 2

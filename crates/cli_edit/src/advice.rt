@@ -170,8 +170,9 @@ pub(crate) fn value_advice<E: Write>(alloc: Global, value: &str, e: &mut E) {
 }
 
 /// The commands.
-const COMMANDS: [&str; 11] = [
+const COMMANDS: [&str; 13] = [
     "get", "has", "keys", "length", "type", "set", "insert", "push", "put", "rename", "remove",
+    "apply", "merge",
 ];
 
 /// What is wrong with the words, if that is certain.
@@ -185,6 +186,7 @@ pub(crate) fn word_fault(alloc: Global, list: &[String]) -> Option<String> {
         "get" | "has" | "keys" | "length" | "type" | "remove" => "",
         "set" | "insert" | "push" | "put" => "VALUE",
         "rename" => "KEY",
+        "apply" | "merge" => "PATCH",
         word if word.starts_with("-") => return None,
         word => return no_command(alloc, word),
     };
@@ -195,6 +197,7 @@ pub(crate) fn word_fault(alloc: Global, list: &[String]) -> Option<String> {
     };
     match (rest.len(), given) {
         (0, _) => String::from_str(alloc, "FILE is missing").ok(),
+        (1, "PATCH") => String::from_str(alloc, "PATCH is missing").ok(),
         (1, _) => String::from_str(alloc, "PATH is missing").ok(),
         (2, "VALUE" | "KEY") => format!(in alloc; "{given} is missing").ok(),
         _ if is_early => String::from_str(alloc, "options stand last").ok(),
@@ -214,6 +217,7 @@ fn no_command(alloc: Global, word: &str) -> Option<String> {
         "delete" | "del" | "rm" | "unset" => Some("remove"),
         "replace" | "change" | "update" => Some("set"),
         "append" => Some("push"),
+        "patch" => Some("apply"),
         "move" | "mv" => Some("rename"),
         "exists" => Some("has"),
         "count" | "size" | "len" => Some("length"),

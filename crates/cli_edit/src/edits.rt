@@ -5,6 +5,7 @@ ghost use Rattle.cli_edit.specs.Makes.{Inserts, Makes, MakesLaid, RefusesInserti
 ghost use Rattle.json5_edit.specs.Changes.{IsRemoved};
 
 use crate::parts::shown_at;
+use crate::patches::{applied, merged};
 use crate::placed::placed;
 use crate::putting::put;
 use crate::requests::{Command, Task};
@@ -35,6 +36,8 @@ pub(crate) fn made(
         Command::PutAbsent => edited(put(alloc, text, steps, value, names, true)),
         Command::Rename => edited(rename(alloc, text, steps, value)),
         Command::Remove => edited(removed(alloc, text, steps)),
+        Command::Apply => applied(alloc, text, value, names),
+        Command::Merge => merged(alloc, text, value, names),
     }
 }
 

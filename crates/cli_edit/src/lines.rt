@@ -9,6 +9,7 @@ use crate::texts::name_of;
 use crate::trouble::TextTrouble;
 use cli_files::{Failure, Store, read_whole, report, report_unwritten};
 use json5_edit::{EditError, Expected, PathError, Step};
+use json5_edit_values::patch::{PatchFault, Trouble};
 use json5_report::Report;
 use json5_types::error::Error;
 use std::alloc::Global;
@@ -16,12 +17,13 @@ use std::io::Write;
 
 /// How the program is called.
 const USAGE: &str =
-    "usage: json5_edit get|has|keys|length|type|remove FILE PATH, or json5_edit set|insert|push|put|rename FILE PATH VALUE; more by --help\n";
+    "usage: json5_edit get|has|keys|length|type|remove FILE PATH, json5_edit set|insert|push|put|rename FILE PATH VALUE, or json5_edit apply|merge FILE PATCH; more by --help\n";
 
 /// What `--help` writes.
 pub(crate) const HELP: &str = "usage: json5_edit get|has|keys|length|type|remove FILE PATH, or
-       json5_edit set|insert|push|put|rename FILE PATH VALUE
-Changes one value of a JSON5 file, and keeps the rest as it is.
+       json5_edit set|insert|push|put|rename FILE PATH VALUE, or
+       json5_edit apply|merge FILE PATCH
+Changes values of a JSON5 file, and keeps the rest as it is.
 
   get FILE PATH            writes the value, as it is spelled
       --json               writes it as JSON
@@ -38,16 +40,19 @@ Changes one value of a JSON5 file, and keeps the rest as it is.
       --if-absent          leaves a value that is there as it is
   rename FILE PATH KEY     gives a member another key
   remove FILE PATH         removes an element or a member
+  apply FILE PATCH         makes the operations of the JSON Patch (RFC 6902) in the file PATCH,
+                           all or none
+  merge FILE PATCH         merges the merge patch (RFC 7396) in the file PATCH
   --help                   writes this
   --version                writes the version
 
 FILE is changed in place; where it is `-`, standard input is changed to standard
-output. PATH is as server.ports[0] or /server/ports/0. VALUE is JSON5, in one word; it
+output. PATCH is JSON5 too, and may be `-` for standard input. PATH is as server.ports[0] or /server/ports/0. VALUE is JSON5, in one word; it
 is `-` for standard input, or `--from NAME` for what a file holds. With --text behind
 it, VALUE is the content of a string.
 
-The status is 0 if all is well; 1 if the path leads nowhere; 3 if FILE is no JSON5; and
-2 for anything else.
+The status is 0 if all is well; 1 if the path leads nowhere or a test of a patch fails;
+3 if FILE is no JSON5; and 2 for anything else.
 ";
 
 /// Writes what is wrong with the words, if that is certain, and how the program is called; returns the status 2.
@@ -88,8 +93,9 @@ pub(crate) fn wrong_path<E: Write>(path: &str, error: &PathError, e: &mut E) -> 
 pub(crate) fn no_value<E: Write>(task: &Task<'_>, failure: &Failure, e: &mut E) -> u8
     ensures { result ≡ 2 }
 {
-    let name = match task.given.source {
-        Source::File(name) => name,
+    let name = match (task.source(), task.work) {
+        (Source::File(name), _) => name,
+        (_, Command::Apply | Command::Merge) => "PATCH",
         _ => "VALUE",
     };
     let _ = report(name, failure, e);
@@ -114,7 +120,7 @@ pub(crate) fn unread<S: Store, E: Write>(
             }
             return 3;
         }
-        Failure::Read if store.open(task.path).is_ok() => {
+        Failure::Read if store.open(task.route()).is_ok() => {
             let _ = writeln!(e, "{name}: cannot be read: FILE comes before PATH");
         }
         _ => {
@@ -162,6 +168,19 @@ pub(crate) fn tell<E: Write>(
             value_advice(alloc, value, e);
         }
         TextTrouble::Edit(error) => tell_edit(alloc, task, text, steps, error, e),
+        TextTrouble::NoPatch(PatchFault::Text(error)) => {
+            show(alloc, patch_name(task), value, error, e)
+        }
+        TextTrouble::NoPatch(fault) => {
+            let patch = patch_name(task);
+            let _ = writeln!(e, "{patch}: {fault}");
+        }
+        TextTrouble::Operation(error) => match &error.trouble {
+            Trouble::Edit(EditError::Text(error)) => show(alloc, name, text, error, e),
+            _ => {
+                let _ = writeln!(e, "{name}: {error}");
+            }
+        },
         TextTrouble::NoJson(error) => {
             let _ = writeln!(e, "{name}: {error}");
         }
@@ -173,6 +192,11 @@ pub(crate) fn tell<E: Write>(
         }
     }
     trouble.status()
+}
+
+/// The name of the patch in what is said of it.
+fn patch_name<'w>(task: &Task<'w>) -> &'w str {
+    if task.path == "-" { "stdin" } else { task.path }
 }
 
 /// Writes why an edit isn't made that suits neither the text nor VALUE alone. Of `has`, the status says enough.

@@ -6,7 +6,7 @@ ghost use Rattle.cli_edit.specs.declared.requests.Given.{Given};
 ghost use Rattle.cli_edit.specs.declared.requests.Source.{Source};
 ghost use Rattle.cli_edit.specs.declared.requests.Tail.{Tail};
 ghost use Rattle.cli_edit.specs.declared.requests.Command.{Command};
-ghost use Rattle.cli_edit.specs.Requests.{absent_words, Asks, AsksNothing, AsksNoWork, AsksWork, Begins, FindsWork, tail_words, takes_value, work_word};
+ghost use Rattle.cli_edit.specs.Requests.{absent_words, Asks, AsksNothing, AsksNoWork, AsksWork, Begins, FindsWork, IsNamed, IsSourceOf, tail_words, takes_value, work_word};
 ghost use Rattle.cli_files.specs.NameLists.{names_of};
 
 /// What is done.
@@ -23,6 +23,10 @@ pub enum Command {
     PutAbsent,
     Rename,
     Remove,
+    /// Makes the operations of a JSON Patch.
+    Apply,
+    /// Merges a merge patch.
+    Merge,
 }
 
 /// What is written of a value.
@@ -68,6 +72,7 @@ pub struct Task<'w> {
     pub work: Command,
     /// The file's name, or `-` for standard input.
     pub file: &'w str,
+    /// PATH; the name of the patch's file, or `-`, where one is made.
     pub path: &'w str,
     /// An empty word where there is none.
     pub given: Given<'w>,
@@ -79,6 +84,45 @@ pub enum EditRequest<'w> {
     Help,
     Version,
     Task(Task<'w>),
+}
+
+impl<'w> Task<'w> {
+    /// Returns where VALUE is, or the patch.
+    ///
+    /// ```text
+    /// task.source()    // Source::File("edits.json5") of `apply app.json5 edits.json5`
+    /// ```
+    pub fn source(&self) -> Source<'w>
+        ensures { IsSourceOf self.now result }
+    {
+        match self.work {
+            Command::Apply => source_named(self.path),
+            Command::Merge => source_named(self.path),
+            _ => self.given.source,
+        }
+    }
+
+    /// Returns PATH, which is empty where a patch is made.
+    ///
+    /// ```text
+    /// task.route()    // `port` of `set app.json5 port 80`
+    /// ```
+    pub fn route(&self) -> &'w str {
+        match self.work {
+            Command::Apply | Command::Merge => "",
+            _ => self.path,
+        }
+    }
+}
+
+/// Where the patch of this name is.
+fn source_named<'w>(word: &'w str) -> Source<'w>
+    ensures { IsNamed word.now result }
+{
+    if word == "-" {
+        return Source::Input;
+    }
+    Source::File(word)
 }
 
 impl<'w> EditRequest<'w> {
@@ -134,6 +178,8 @@ fn work_and_given<'w>(word: &str, rest: &'w [String]) -> Option<(Command, Given<
         "length" => alone(Command::Show(View::Count), rest),
         "type" => alone(Command::Show(View::Kind), rest),
         "remove" => alone(Command::Remove, rest),
+        "apply" => alone(Command::Apply, rest),
+        "merge" => alone(Command::Merge, rest),
         "rename" => keyed(rest),
         _ => valued(word, rest),
     }

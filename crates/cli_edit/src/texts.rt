@@ -3,7 +3,7 @@
 ghost use Rattle.std.specs.Prelude.{◌≡◌, ◌⊎◌, IfErr, IfOk, string_bytes};
 ghost use Rattle.cli_edit.specs.Works.{FileHolds, FileHoldsNone, Holds, HoldsNone, IsGiven, stream_word};
 
-use crate::requests::{Source, Task};
+use crate::requests::Source;
 use cli_files::{Failure, Store, read_text};
 use std::alloc::Global;
 use std::io::Read;
@@ -35,23 +35,24 @@ fn text_in<S: Store>(store: &S, alloc: Global, name: &str) -> Result<String, Fai
     }
 }
 
-/// What is given for VALUE. Where that is read of standard input, FILE is another; else standard input is kept for FILE.
+/// What is given for VALUE, or the patch. Where that is read of standard input, FILE is another; else standard input is kept for FILE.
 pub(crate) fn value_of<S: Store, R: Read>(
     store: &S,
     alloc: Global,
-    task: &Task<'_>,
+    file: &str,
+    source: Source<'_>,
     r: &mut R,
 ) -> Result<String, Failure>
-    ensures read { IfOk result (λ value. IsGiven (S.known store.now) task.now.given.source (R.remaining r.old) (string_bytes value)) }
-    ensures kept { IfOk result (λ _. ¬ (task.now.file.now ≡ stream_word) ⊎ (R.remaining r.new ≡ R.remaining r.old)) }
+    ensures read { IfOk result (λ value. IsGiven (S.known store.now) source.entry (R.remaining r.old) (string_bytes value)) }
+    ensures kept { IfOk result (λ _. ¬ (file.now ≡ stream_word) ⊎ (R.remaining r.new ≡ R.remaining r.old)) }
 {
-    match task.given.source {
+    match source {
         Source::Word(word) => match String::from_str(alloc, word) {
             Ok(value) => Ok(value),
             Err(_) => Err(Failure::NoMemory),
         },
         Source::File(name) => text_in(store, alloc, name),
-        Source::Input if task.file == "-" => Err(Failure::Read),
+        Source::Input if file == "-" => Err(Failure::Read),
         Source::Input => read_text(alloc, r),
     }
 }

@@ -1,10 +1,11 @@
 //! Why the program ends before its work is done.
 
 ghost use Rattle.std.specs.Prelude.{◌≡◌};
-ghost use Rattle.cli_edit.specs.Troubles.{trouble_status};
+ghost use Rattle.cli_edit.specs.Troubles.{edit_status, trouble_status};
 
 use cli_files::{Failure, Unwritten};
 use json5_edit::EditError;
+use json5_edit_values::patch::{PatchError, PatchFault, Trouble};
 use json5_types::error::Error;
 
 /// Why the work on a text ended.
@@ -12,6 +13,10 @@ use json5_types::error::Error;
 pub enum TextTrouble {
     /// The edit isn't made, or the path doesn't lead to a value.
     Edit(EditError),
+    /// The text for a patch is none.
+    NoPatch(PatchFault),
+    /// An operation of a patch isn't made.
+    Operation(PatchError),
     /// JSON doesn't have the value.
     NoJson(Error),
     /// What was asked for can't be written out.
@@ -21,7 +26,8 @@ pub enum TextTrouble {
 }
 
 impl TextTrouble {
-    /// Returns the status that the program ends with: 1 if the path leads nowhere, 3 if the text is no document, else 2.
+    /// Returns the status that the program ends with: 1 if the path leads nowhere, or a test of a patch fails, 3 if the text is
+    /// no document, else 2.
     ///
     /// ```text
     /// TextTrouble::Edit(EditError::Nowhere).status()    // 1
@@ -30,9 +36,24 @@ impl TextTrouble {
         ensures { result ≡ trouble_status self.now }
     {
         match self {
-            TextTrouble::Edit(EditError::Nowhere) => 1,
-            TextTrouble::Edit(EditError::Text(_)) => 3,
+            TextTrouble::Edit(error) => edit_status(error),
+            TextTrouble::Operation(PatchError { trouble, .. }) => match trouble {
+                Trouble::Edit(error) => edit_status(error),
+                Trouble::Differs => 1,
+                Trouble::IntoItself => 2,
+            },
             _ => 2,
         }
+    }
+}
+
+/// The status where an edit isn't made.
+fn edit_status(error: &EditError) -> u8
+    ensures { result ≡ edit_status error.now }
+{
+    match error {
+        EditError::Nowhere => 1,
+        EditError::Text(_) => 3,
+        _ => 2,
     }
 }

@@ -26,11 +26,11 @@ pub(crate) fn do_task<S: Store, R: Read, W: Write, E: Write>(
 ) -> u8
     ensures { Does (S.known store.now) task.now (R.remaining r.old) (W.contents w.old) (E.contents e.old) (W.contents w.new) (E.contents e.new) result }
 {
-    let path = match Path::parse(alloc, task.path) {
+    let path = match Path::parse(alloc, task.route()) {
         Ok(path) => path,
         Err(error) => return wrong_path(task.path, &error, e),
     };
-    match value_of(store, alloc, task, r) {
+    match value_of(store, alloc, task.file, task.source(), r) {
         Ok(value) => do_with(store, alloc, task, &path, value.as_str(), r, w, e),
         Err(failure) => no_value(task, &failure, e),
     }

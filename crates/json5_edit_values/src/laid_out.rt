@@ -56,7 +56,7 @@ fn seated(
 }
 
 /// Whether it is a value with the lexemes of the written one.
-fn lays_out(alloc: Global, written: &str, made: &str) -> bool
+pub(crate) fn lays_out(alloc: Global, written: &str, made: &str) -> bool
     ensures { (t : Tree) → Val (chars written.now) t → OnTrue result (Val (chars made.now) t) }
 {
     if !is_value(alloc, made) {

@@ -10,6 +10,7 @@ mod edits;
 mod json;
 mod laid_out;
 mod lines;
+pub mod patch;
 mod seats;
 mod spelled;
 

@@ -1,4 +1,4 @@
-//! Answers rows of edits, of tidying and of reports. Standard input has the rows of the three in one document, and what
+//! Answers rows of edits, of patches, of tidying and of reports. Standard input has all rows in one document, and what
 //! is said of each is whether what came is what the row says.
 #![tactic(auto)]
 
@@ -7,6 +7,7 @@ mod example;
 mod faults;
 mod kinds;
 mod outcomes;
+mod patches;
 mod plain_readers;
 mod reports;
 mod rows;
@@ -38,6 +39,7 @@ fn answer(rt: &HostRuntime) -> io::Result<()> {
 
 fn each_tool(rt: &HostRuntime, document: &Value) -> io::Result<()> {
     each_row(rt, document, "edit")?;
+    each_row(rt, document, "patch")?;
     each_row(rt, document, "tidy")?;
     each_row(rt, document, "report")
 }
@@ -63,6 +65,7 @@ fn each_row(rt: &HostRuntime, document: &Value, tool: &str) -> io::Result<()> {
 fn outcome_of(alloc: Global, document: &Value, tool: &str, row: &Value) -> Outcome {
     match tool {
         "edit" => edits::outcome_of(alloc, row),
+        "patch" => patches::outcome_of(alloc, row),
         "tidy" => tidies::outcome_of(alloc, row),
         _ => reports::outcome_of(alloc, text_of(document, "base"), row),
     }

@@ -1,0 +1,122 @@
+//! A value that comes to where a pointer leads.
+
+use crate::patch::new_values::{New, new_text};
+use crate::patch::steps::{is_array, part_at, steps_in};
+use crate::seats::Goes;
+use json5_edit::{EditError, Names, Result, Step, find, insert_element, insert_in, push, set};
+use json5_read::read_document;
+use std::alloc::Global;
+
+/// The text with the value added at the location.
+pub(crate) fn added(
+    alloc: Global,
+    text: &str,
+    tokens: &[String],
+    new: New<'_>,
+    names: Names,
+) -> Result<String> {
+    let steps = steps_in(alloc, text, tokens)?;
+    let Some((step, outer)) = steps.as_slice().split_last() else {
+        return set_at(alloc, text, &[], new);
+    };
+    match *step {
+        Step::Index(index) => add_element(alloc, text, outer, index, new),
+        Step::Key(key) => add_keyed(alloc, text, steps.as_slice(), outer, key, new, names),
+    }
+}
+
+/// The text with the value where the steps lead, whose last one from an array is its end, and else a key.
+fn add_keyed(
+    alloc: Global,
+    text: &str,
+    steps: &[Step<'_>],
+    outer: &[Step<'_>],
+    key: &str,
+    new: New<'_>,
+    names: Names,
+) -> Result<String> {
+    if key == "-" {
+        if is_array(alloc, text, outer)? {
+            return push_at(alloc, text, outer, new);
+        }
+    }
+    match find(alloc, text, steps) {
+        Ok(Some(_)) => set_at(alloc, text, steps, new),
+        Ok(None) => insert_at(alloc, text, outer, key, new, names),
+        Err(error) => Err(EditError::of_text(error)),
+    }
+}
+
+/// The text with the value in the place of that to which the steps lead.
+pub(crate) fn set_at(
+    alloc: Global,
+    text: &str,
+    steps: &[Step<'_>],
+    new: New<'_>,
+) -> Result<String> {
+    let value = new_text(alloc, new, text, steps, Goes::Instead)?;
+    set(alloc, text, steps, value.as_str())
+}
+
+/// The text with the value as the last member of the object to which the steps lead.
+pub(crate) fn insert_at(
+    alloc: Global,
+    text: &str,
+    steps: &[Step<'_>],
+    key: &str,
+    new: New<'_>,
+    names: Names,
+) -> Result<String> {
+    let value = new_text(
+        alloc,
+        new,
+        text,
+        steps,
+        Goes::Last(key.len().saturating_add(4)),
+    )?;
+    insert_in(alloc, text, steps, key, value.as_str(), names)
+}
+
+/// The text with the value as the last element of the array to which the steps lead.
+fn push_at(alloc: Global, text: &str, steps: &[Step<'_>], new: New<'_>) -> Result<String> {
+    let value = new_text(alloc, new, text, steps, Goes::Last(0))?;
+    push(alloc, text, steps, value.as_str())
+}
+
+/// The text with the value as an element of the array to which the steps lead, before that with the index or as the last.
+fn add_element(
+    alloc: Global,
+    text: &str,
+    steps: &[Step<'_>],
+    index: usize,
+    new: New<'_>,
+) -> Result<String> {
+    let Some(count) = count_at(alloc, text, steps)? else {
+        return Err(EditError::NotArray);
+    };
+    if count == index {
+        return push_at(alloc, text, steps, new);
+    }
+    put_in_at(alloc, text, steps, index, new)
+}
+
+/// The text with the value before the element with the index of the array to which the steps lead.
+fn put_in_at(
+    alloc: Global,
+    text: &str,
+    steps: &[Step<'_>],
+    index: usize,
+    new: New<'_>,
+) -> Result<String> {
+    let value = new_text(alloc, new, text, steps, Goes::Before(index))?;
+    insert_element(alloc, text, steps, index, value.as_str())
+}
+
+/// How many entries the value has to which the steps lead, if it can have any.
+fn count_at(alloc: Global, text: &str, steps: &[Step<'_>]) -> Result<Option<usize>> {
+    let part = part_at(alloc, text, steps)?;
+    match read_document(alloc, part) {
+        Ok(value) => Ok(value.len()),
+        Err(_) => Err(EditError::NoMemory),
+    }
+}

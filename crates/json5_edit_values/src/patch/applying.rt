@@ -1,0 +1,212 @@
+//! A patch that is made on a text.
+
+use crate::patch::adding::{added, set_at};
+use crate::patch::faults::{PatchError, Trouble};
+use crate::patch::new_values::{New, owned};
+use crate::patch::operations::{Operation, Patch};
+use crate::patch::same::is_same;
+use crate::patch::steps::{part_at, steps_in};
+use json5_edit::{EditError, Names, Result, remove};
+use json5_read::{check_document, read_document};
+use json5_types::value::Value;
+use std::alloc::Global;
+
+/// Returns the text after the operations of the patch, one after the other. Each is an edit of json5_edit: all comments and
+/// blanks stay but those of what is removed, and a text that is JSON stays so. A value that moves keeps the comments within it.
+///
+/// ```text
+/// apply_patch(alloc, "{ port: 80 } // web", &patch)?    // { port: 8080 } // web
+/// ```
+///
+/// # Errors
+///
+/// With the index of the first operation that can't be made, and
+/// - `Edit` with the error of the edit: `Nowhere`, if its path or its `from` leads nowhere.
+/// - `Differs`, if it is a test, and another value is there.
+/// - `IntoItself`, if it moves a value into itself.
+pub fn apply_patch(
+    alloc: Global,
+    text: &str,
+    patch: &Patch,
+) -> std::result::Result<String, PatchError> {
+    apply_patch_in(alloc, Names::Quoted, text, patch)
+}
+
+/// The same, where the caller says how a name stands as the first key of a document.
+///
+/// ```text
+/// apply_patch_in(alloc, Names::Bare, "{}", &patch)?    // { port: 80 }
+/// ```
+///
+/// # Errors
+///
+/// As [`apply_patch`].
+pub fn apply_patch_in(
+    alloc: Global,
+    names: Names,
+    text: &str,
+    patch: &Patch,
+) -> std::result::Result<String, PatchError> {
+    let mut made = match document(alloc, text) {
+        Ok(made) => made,
+        Err(error) => return Err(PatchError {
+            operation: 0,
+            trouble: Trouble::Edit(error),
+        }),
+    };
+    for operation in 0..patch.operations.len() {
+        match performed(alloc, names, made.as_str(), &patch.operations[operation]) {
+            Ok(new) => made = new,
+            Err(trouble) => return Err(PatchError { operation, trouble }),
+        }
+    }
+    Ok(made)
+}
+
+/// The text itself, if it is a document.
+fn document(alloc: Global, text: &str) -> Result<String> {
+    match check_document(alloc, text) {
+        Ok(()) => owned(alloc, text),
+        Err(error) => Err(EditError::of_text(error)),
+    }
+}
+
+/// The text after one operation.
+fn performed(
+    alloc: Global,
+    names: Names,
+    text: &str,
+    operation: &Operation,
+) -> std::result::Result<String, Trouble> {
+    match operation {
+        Operation::Add { path, value } => {
+            edited(added(
+                alloc,
+                text,
+                path.tokens.as_slice(),
+                New::Value(value),
+                names,
+            ))
+        }
+        Operation::Remove { path } => edited(removed(alloc, text, path.tokens.as_slice())),
+        Operation::Replace { path, value } => {
+            edited(replaced(alloc, text, path.tokens.as_slice(), New::Value(value)))
+        }
+        Operation::Move { from, path } => {
+            moved(
+                alloc,
+                names,
+                text,
+                from.tokens.as_slice(),
+                path.tokens.as_slice(),
+            )
+        }
+        Operation::Copy { from, path } => {
+            edited(copied(
+                alloc,
+                names,
+                text,
+                from.tokens.as_slice(),
+                path.tokens.as_slice(),
+            ))
+        }
+        Operation::Test { path, value } => tested(alloc, text, path.tokens.as_slice(), value),
+    }
+}
+
+/// What an edit returned, as the operation's own.
+fn edited(made: Result<String>) -> std::result::Result<String, Trouble> {
+    match made {
+        Ok(new) => Ok(new),
+        Err(error) => Err(Trouble::Edit(error)),
+    }
+}
+
+/// The text without the entry at the location.
+fn removed(alloc: Global, text: &str, tokens: &[String]) -> Result<String> {
+    let steps = steps_in(alloc, text, tokens)?;
+    remove(alloc, text, steps.as_slice())
+}
+
+/// The text with the value in the place of that at the location.
+fn replaced(alloc: Global, text: &str, tokens: &[String], new: New<'_>) -> Result<String> {
+    let steps = steps_in(alloc, text, tokens)?;
+    set_at(alloc, text, steps.as_slice(), new)
+}
+
+/// The text with the value at one location moved to another.
+fn moved(
+    alloc: Global,
+    names: Names,
+    text: &str,
+    from: &[String],
+    path: &[String],
+) -> std::result::Result<String, Trouble> {
+    if is_within(from, path) {
+        return Err(Trouble::IntoItself);
+    }
+    edited(moved_out(alloc, names, text, from, path))
+}
+
+/// The text with the value at one location taken out and added at another.
+fn moved_out(
+    alloc: Global,
+    names: Names,
+    text: &str,
+    from: &[String],
+    path: &[String],
+) -> Result<String> {
+    let steps = steps_in(alloc, text, from)?;
+    let part = part_at(alloc, text, steps.as_slice())?;
+    let without = remove(alloc, text, steps.as_slice())?;
+    added(alloc, without.as_str(), path, New::Text(part), names)
+}
+
+/// The text with the value at one location added at another too.
+fn copied(
+    alloc: Global,
+    names: Names,
+    text: &str,
+    from: &[String],
+    path: &[String],
+) -> Result<String> {
+    let steps = steps_in(alloc, text, from)?;
+    let part = part_at(alloc, text, steps.as_slice())?;
+    added(alloc, text, path, New::Text(part), names)
+}
+
+/// Whether the second location is within the first.
+#[cycle(is_within)]
+fn is_within(outer: &[String], inner: &[String]) -> bool {
+    match (outer.split_first(), inner.split_first()) {
+        (None, Some(_)) => true,
+        (Some((first, outer)), Some((same, inner))) if first.as_str() == same.as_str() => {
+            is_within(outer, inner)
+        }
+        _ => false,
+    }
+}
+
+/// The text itself, if the value at the location is this one.
+fn tested(
+    alloc: Global,
+    text: &str,
+    tokens: &[String],
+    value: &Value,
+) -> std::result::Result<String, Trouble> {
+    match is_there(alloc, text, tokens, value) {
+        Ok(true) => edited(owned(alloc, text)),
+        Ok(false) => Err(Trouble::Differs),
+        Err(error) => Err(Trouble::Edit(error)),
+    }
+}
+
+/// Whether the value at the location is this one.
+fn is_there(alloc: Global, text: &str, tokens: &[String], value: &Value) -> Result<bool> {
+    let steps = steps_in(alloc, text, tokens)?;
+    let part = part_at(alloc, text, steps.as_slice())?;
+    match read_document(alloc, part) {
+        Ok(there) => is_same(alloc, &there, value),
+        Err(_) => Err(EditError::NoMemory),
+    }
+}

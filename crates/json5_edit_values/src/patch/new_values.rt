@@ -1,0 +1,63 @@
+//! What a patch puts into a text.
+
+use crate::laid_out::lays_out;
+use crate::seats::{Goes, seat_of};
+use crate::spelled::spelled;
+use json5_edit::{EditError, Result, Step};
+use json5_edit_style::relined;
+use json5_types::value::Value;
+use std::alloc::Global;
+
+/// What a patch puts into a text: a value of its own, or one that is spelled so in the text.
+#[derive(Clone, Copy, Drop)]
+pub(crate) enum New<'n> {
+    Value(&'n Value),
+    Text(&'n str),
+}
+
+/// Its text, laid out for where it goes.
+pub(crate) fn new_text(
+    alloc: Global,
+    new: New<'_>,
+    text: &str,
+    path: &[Step<'_>],
+    goes: Goes,
+) -> Result<String> {
+    match new {
+        New::Value(value) => spelled(alloc, value, text, path, goes, None),
+        New::Text(part) => lined(alloc, part, text, path, goes),
+    }
+}
+
+/// The value with its lines indented for where it goes; as it is, if they can't be.
+fn lined(alloc: Global, part: &str, text: &str, path: &[Step<'_>], goes: Goes) -> Result<String> {
+    if let Some(made) = relined_at(alloc, part, text, path, goes) {
+        if lays_out(alloc, part, made.as_str()) {
+            return Ok(made);
+        }
+    }
+    owned(alloc, part)
+}
+
+/// A copy.
+pub(crate) fn owned(alloc: Global, text: &str) -> Result<String> {
+    match String::from_str(alloc, text) {
+        Ok(made) => Ok(made),
+        Err(_) => Err(EditError::NoMemory),
+    }
+}
+
+/// What is made of its lines, which isn't trusted; None if it has one.
+fn relined_at(
+    alloc: Global,
+    part: &str,
+    text: &str,
+    path: &[Step<'_>],
+    goes: Goes,
+) -> Option<String> {
+    if !part.contains('\n') {
+        return None;
+    }
+    let seat = seat_of(alloc, text, path, goes, None).ok()?;
+    relined(alloc, text, seat.indent.as_str(), part).ok()
+}

@@ -1,0 +1,99 @@
+//! Which steps a pointer has in a text, and what is there.
+
+use json5_edit::{EditError, Result, Step, find_place};
+use json5_read::read_document;
+use std::alloc::Global;
+
+/// The steps that the tokens are in the text: digits are an index where they come to an array, and a key elsewhere.
+pub(crate) fn steps_in<'p>(
+    alloc: Global,
+    text: &str,
+    tokens: &'p [String],
+) -> Result<Vec<Step<'p>>> {
+    let mut steps = Vec::new(alloc);
+    for token in tokens {
+        let step = step_in(alloc, text, steps.as_slice(), token.as_str())?;
+        push_step(&mut steps, step)?;
+    }
+    Ok(steps)
+}
+
+/// Appends a step.
+fn push_step<'p>(steps: &mut Vec<Step<'p>>, step: Step<'p>) -> Result<()> {
+    match steps.push(step) {
+        Ok(()) => Ok(()),
+        Err(_) => Err(EditError::NoMemory),
+    }
+}
+
+/// The step that a token is from where the others lead.
+fn step_in<'p>(alloc: Global, text: &str, outer: &[Step<'_>], token: &'p str) -> Result<Step<'p>> {
+    if !is_array(alloc, text, outer)? {
+        return Ok(Step::Key(token));
+    }
+    match index_of(token) {
+        Some(index) => Ok(Step::Index(index)),
+        None => Ok(Step::Key(token)),
+    }
+}
+
+/// Whether the steps lead to an array.
+pub(crate) fn is_array(alloc: Global, text: &str, steps: &[Step<'_>]) -> Result<bool> {
+    match find_place(alloc, text, steps) {
+        Ok(Some(place)) => Ok(text.as_bytes().get(place.start) == Some(&b'[')),
+        Ok(None) => Ok(false),
+        Err(error) => Err(EditError::of_text(error)),
+    }
+}
+
+/// Whether the steps lead to an object.
+pub(crate) fn is_object(alloc: Global, text: &str, steps: &[Step<'_>]) -> Result<bool> {
+    let part = part_at(alloc, text, steps)?;
+    match read_document(alloc, part) {
+        Ok(value) => Ok(value.as_object().is_some()),
+        Err(_) => Err(EditError::NoMemory),
+    }
+}
+
+/// The steps and one more.
+pub(crate) fn further<'s>(
+    alloc: Global,
+    steps: &[Step<'s>],
+    step: Step<'s>,
+) -> Result<Vec<Step<'s>>> {
+    let mut path = Vec::new(alloc);
+    for outer in steps {
+        push_step(&mut path, *outer)?;
+    }
+    push_step(&mut path, step)?;
+    Ok(path)
+}
+
+/// The index that is written so, if it is one.
+fn index_of(token: &str) -> Option<usize> {
+    if !begins_index(token.as_bytes()) {
+        return None;
+    }
+    token.parse().ok()
+}
+
+/// Whether it is `0` alone, or begins with a digit from 1 to 9.
+fn begins_index(token: &[u8]) -> bool {
+    match token.first() {
+        Some(b'0') => token.len() == 1,
+        Some(first) => matches!(first, b'1'..=b'9'),
+        None => false,
+    }
+}
+
+/// The text of the value to which the steps lead.
+pub(crate) fn part_at<'t>(alloc: Global, text: &'t str, steps: &[Step<'_>]) -> Result<&'t str> {
+    match find_place(alloc, text, steps) {
+        Ok(Some(place)) => match text.get(place.start..place.end) {
+            Some(part) => Ok(part),
+            None => Err(EditError::Nowhere),
+        },
+        Ok(None) => Err(EditError::Nowhere),
+        Err(error) => Err(EditError::of_text(error)),
+    }
+}
