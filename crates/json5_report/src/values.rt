@@ -115,23 +115,44 @@ fn number_remark<'t>(fault: &Fault<'t>) -> Remark<'t> {
     if let Some(word) = fault.word_inside() {
         return inside_remark(fault, word);
     }
-    let text = unquoted(fault.word());
     let is_key = fault.is_after(Kind::Comma) || fault.is_after(Kind::Open);
-    let digits = text.trim_start_matches(['+', '-', '.']);
-    let is_begun = digits.starts_with(|c: char| c.is_ascii_digit());
+    if is_key && fault.array_line().is_none() {
+        return fault.remark(Advice::Write("a number in quotes"));
+    }
     match fault.found {
-        _ if is_key && fault.array_line().is_none() => fault.remark(Advice::Write(
-            "a number in quotes",
-        )),
-        Found::String if is_begun && is_number(text) => { fault.remark(Advice::DropQuotesOfNumber) }
-        Found::String if is_begun && !text.contains(' ') => fault.remark(Advice::DropQuotesAndUnit),
-        Found::Name("nan" | "NAN" | "Nan" | "inf" | "Inf" | "INF" | "infinity") => {
-            fault.advised(literal_advice(text))
-        }
-        Found::Name(_) => bare_remark(fault, fault.offset, Advice::Write("a number")),
+        Found::String => quoted_number_remark(fault),
+        Found::Name(name) => name_for_number_remark(fault, name),
         Found::Character(_) | Found::End => fault.plain(),
         _ => fault.remark(Advice::Write("a number")),
     }
+}
+
+/// What is said of a name where a number is expected.
+fn name_for_number_remark<'t>(fault: &Fault<'t>, name: &str) -> Remark<'t> {
+    let any = Advice::Write("a number");
+    match name {
+        "nan" | "NAN" | "Nan" | "inf" | "Inf" | "INF" | "infinity" => {
+            fault.remark(literal_advice(name).unwrap_or(any))
+        }
+        _ => bare_remark(fault, fault.offset, any),
+    }
+}
+
+/// What is said of a string where a number is expected.
+fn quoted_number_remark<'t>(fault: &Fault<'t>) -> Remark<'t> {
+    let text = unquoted(fault.word());
+    let digits = text.trim_start_matches(['+', '-', '.']);
+    if !digits.starts_with(|c: char| c.is_ascii_digit()) {
+        return fault.remark(Advice::Write("a number"));
+    }
+    if is_number(text) {
+        return fault.remark(Advice::DropQuotesOfNumber);
+    }
+    fault.remark(if text.contains(' ') {
+        Advice::Write("a number")
+    } else {
+        Advice::DropQuotesAndUnit
+    })
 }
 
 fn is_number(text: &str) -> bool {
