@@ -46,7 +46,7 @@ pub(crate) fn make(rt: &HostRuntime, call: Call, kind: Kind, text: &str) -> Resu
         Kind::Settings => make_as::<Vec<Settings>>(rt, call, text),
         Kind::SortedMap => make_as::<BTreeMap<&str, i64>>(rt, call, text),
         Kind::IndexedMap => make_as::<IndexMap<String, i64>>(rt, call, text),
-        Kind::Values => make_as::<Value>(rt, call, text),
+        Kind::Values | Kind::Document(_) => make_as::<Value>(rt, call, text),
     }
 }
 

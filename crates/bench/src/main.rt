@@ -1,16 +1,18 @@
 //! Measures how fast the library reads, passes over, writes and formats.
 //!
-//! `bench CALL SAMPLE MIB` makes an input of that many MiB, makes the call once, and prints how many bytes it read or wrote, in
-//! how many microseconds, how many MiB a second that is, and the most memory that the program held. Without words it makes each
-//! call on a short input of each sample, and prints how many bytes it read or wrote.
+//! `bench CALL SAMPLE MIB` makes an input of that many MiB, makes the call once, and prints how many bytes it read or
+//! wrote, in how many microseconds, how many MiB a second that is, and the most memory that the program held.
+//! `bench print SAMPLE MIB` prints the input, for other programs. Without words it makes each call on a short input of
+//! each sample, and prints how many bytes it read or wrote.
 #![tactic(auto)]
 
 mod calls;
+mod documents;
 mod samples;
 
 use anyhow::{Context, Result, bail};
 use calls::{CALLS, Call, Measured, make};
-use samples::{Sample, samples};
+use samples::{Kind, Sample, samples};
 use std::{env, fs};
 
 const MIB: usize = 1024 * 1024;
@@ -22,14 +24,22 @@ fn main(rt: HostRuntime) -> Result<()> {
     let words: Vec<String> = env::args(&rt)?.skip(1).collect(rt.alloc())?;
     match words.as_slice() {
         [] => make_each(&rt),
-        [call, sample, size] => measure(
-            &rt,
-            call_named(call.as_str())?,
-            sample_named(sample.as_str())?,
-            size.as_str().parse::<usize>()?,
-        ),
-        _ => bail!("usage: bench [CALL SAMPLE MIB]"),
+        [word, sample, size] => {
+            let sample = sample_named(sample.as_str())?;
+            answer(&rt, word.as_str(), sample, size.as_str().parse::<usize>()?)
+        }
+        _ => bail!("usage: bench [CALL|print SAMPLE MIB]"),
     }
+}
+
+/// Prints an input of so many MiB, or makes a call on it.
+fn answer(rt: &HostRuntime, word: &str, sample: Sample, size: usize) -> Result<()> {
+    let text = sample.text(rt.alloc(), size.saturating_mul(MIB))?;
+    if word == "print" {
+        print!(rt; "{text}")?;
+        return Ok(());
+    }
+    measure(rt, call_named(word)?, sample.kind, text.as_str())
 }
 
 /// Makes each call on a short input of each sample.
@@ -37,17 +47,18 @@ fn make_each(rt: &HostRuntime) -> Result<()> {
     for sample in samples() {
         let text = sample.text(rt.alloc(), SHORT)?;
         for (name, call) in CALLS {
-            let done = make(rt, call, sample.kind, text.as_str())?;
-            rt.println(format_args!("{name} {}: {} bytes", sample.name, done.bytes))?;
+            if sample.makes(call) {
+                let done = make(rt, call, sample.kind, text.as_str())?;
+                rt.println(format_args!("{name} {}: {} bytes", sample.name, done.bytes))?;
+            }
         }
     }
     Ok(())
 }
 
-/// Makes one call on an input of so many MiB, and prints what it took.
-fn measure(rt: &HostRuntime, call: Call, sample: Sample, size: usize) -> Result<()> {
-    let text = sample.text(rt.alloc(), size.saturating_mul(MIB))?;
-    let done = make(rt, call, sample.kind, text.as_str())?;
+/// Makes one call on an input, and prints what it took.
+fn measure(rt: &HostRuntime, call: Call, kind: Kind, text: &str) -> Result<()> {
+    let done = make(rt, call, kind, text)?;
     let micros = done.time.as_micros();
     let speed = mib_a_second(&done);
     let memory = most_memory(rt)?;

@@ -1,5 +1,8 @@
-//! The inputs that are measured: lists whose elements are alike, one long string, and objects of many keys.
+//! The inputs that are measured: lists whose elements are alike, one long string, objects of many keys, and documents
+//! of real shapes.
 
+use crate::calls::Call;
+use crate::documents::{CATALOG, COORDINATES, Document, GEOJSON, POSTS, SETTINGS_FILE, TWEETS};
 use std::alloc::{AllocError, Global};
 use std::fmt::Write;
 
@@ -16,9 +19,10 @@ pub(crate) enum Kind {
     SortedMap,
     IndexedMap,
     Values,
+    Document(Document),
 }
 
-/// An input made of the same elements again and again, and the type that it is read as.
+/// An input, and the type that it is read as. But for documents it is made of the same elements again and again.
 #[derive(Clone, Copy, Drop)]
 pub(crate) struct Sample {
     pub(crate) name: &'static str,
@@ -31,7 +35,7 @@ const SETTINGS: &str = "{host: 'localhost', port: 8080, label: 'main'},\n";
 const NESTED: &str = "[[[[[[[[[[[[[[[[[[[[[[[[[[[[[[[[]]]]]]]]]]]]]]]]]]]]]]]]]]]]]]]],";
 
 /// Every input that is measured.
-pub(crate) fn samples() -> [Sample; 16] {
+pub(crate) fn samples() -> [Sample; 22] {
     [
         Sample::new("short_integers", Kind::Integers, "1,22,333,"),
         Sample::new(
@@ -69,6 +73,12 @@ pub(crate) fn samples() -> [Sample; 16] {
         ),
         Sample::new("short_objects", Kind::Values, "{a:0},"),
         Sample::new("deep_arrays", Kind::Values, NESTED),
+        Sample::document("posts", POSTS),
+        Sample::document("catalog", CATALOG),
+        Sample::document("coordinates", COORDINATES),
+        Sample::document("geojson", GEOJSON),
+        Sample::document("tweets", TWEETS),
+        Sample::document("settings_file", SETTINGS_FILE),
     ]
 }
 
@@ -77,10 +87,20 @@ impl Sample {
         Sample { name, kind, items }
     }
 
+    fn document(name: &'static str, document: Document) -> Sample {
+        Sample::new(name, Kind::Document(document), "")
+    }
+
+    /// Whether the call is made on this input: a document is read as a `Value` alone, by `value`.
+    pub(crate) fn makes(&self, call: Call) -> bool {
+        !matches!((self.kind, call), (Kind::Document(_), Call::Read))
+    }
+
     /// An input of about so many bytes.
     pub(crate) fn text(&self, alloc: Global, size: usize) -> Result<String, AllocError> {
         match self.kind {
             Kind::SortedMap | Kind::IndexedMap => object(alloc, size / 16),
+            Kind::Document(document) => document.text(alloc, size),
             Kind::OneString => repeated(alloc, "\"", self.items, "\"", size),
             _ => repeated(alloc, "[", self.items, "]", size),
         }
