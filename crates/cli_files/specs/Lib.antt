@@ -1,5 +1,6 @@
 -- Lists the definitions of what the programs share.
 pub mod Failures
+pub mod Ignores
 pub mod Inputs
 pub mod JoinedTexts
 pub mod NameLists

@@ -38,6 +38,7 @@ abbrev pub reason_words : Reason → List ℕ
 reason_words reasons.NoFile = codes ": no such file"
 reason_words reasons.NotAllowed = codes ": not allowed"
 reason_words reasons.NameTooLong = codes ": its name is too long"
+reason_words reasons.NameNotUtf8 = codes ": its name isn't UTF-8"
 reason_words reasons.ReadOnly = codes ": the disk is read-only"
 reason_words reasons.NoRoom = codes ": the disk is full"
 reason_words reasons.Other = []

@@ -1,8 +1,11 @@
 //! Where files are opened by their names.
 
 use std::fs;
-use std::io::{self, Read};
+use std::io::{self, ErrorKind, Read};
 use std::rt::Files;
+
+/// What stands in a name for bytes that aren't UTF-8.
+const NOT_UTF8: char = '\u{FFFD}';
 
 /// Where files are opened by their names. `opens` says what is known of opening a file: None where it is refused, else what its
 /// reader has left, if that is known. Of the files of the system nothing is known, as no contract speaks of them.
@@ -17,7 +20,8 @@ pub trait Disk {
     ///
     /// # Errors
     ///
-    /// That of the system, if there is no such file or it can't be read.
+    /// That of the system, if there is no such file or it can't be read; `InvalidData`, if U+FFFD is in the name of one that isn't
+    /// there.
     fn open(&self, name: &str) -> io::Result<Self::File>
         ensures { MatchResult result (λ file. opens self.now name.now (Some (Self.File.remaining file))) (λ _. opens self.now name.now None) };
 }
@@ -31,6 +35,11 @@ impl<F: Files> Disk for F {
     ghost opens = { λ _ _ _. ⊤ };
 
     fn open(&self, name: &str) -> io::Result<F::File> {
-        fs::open(self, name)
+        match fs::open(self, name) {
+            Err(e) if e.kind() == ErrorKind::NotFound && name.contains(NOT_UTF8) => {
+                Err(io::Error::from(ErrorKind::InvalidData))
+            }
+            opened => opened,
+        }
     }
 }

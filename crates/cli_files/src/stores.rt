@@ -1,10 +1,12 @@
 //! Where files are found, read and replaced by their names.
 
 use crate::disk::Disk;
-use crate::names::push_name;
+use crate::failure::Failure;
+use crate::input::read_whole;
 use crate::replacing::replace_file;
 use crate::unwritten::Unwritten;
-use std::alloc::Global;
+use std::alloc::{AllocError, Global};
+use std::io::ErrorKind;
 use std::os::fd::AsFd;
 use std::rt::Files;
 use std::{fs, io};
@@ -38,11 +40,12 @@ pub trait Store: Disk {
     fn entry(&self, name: &str) -> Entry
         ensures { (known self.now).has_entry name.now result };
 
-    /// The names of what is in a folder, each with the folder's in front, in any order.
+    /// The names of what is in a folder, each with the folder's in front, in any order. In one that isn't UTF-8 U+FFFD stands for
+    /// what isn't, so that opening it says so.
     ///
     /// # Errors
     ///
-    /// That of the system, or of a name that isn't UTF-8.
+    /// That of the system.
     fn entries(&self, alloc: Global, folder: &str) -> io::Result<Vec<String>>
         ensures { MatchResult result (λ all. (known self.now).lists folder.now (Some (names_of all.items))) (λ _. (known self.now).lists folder.now None) };
 
@@ -113,15 +116,23 @@ where
 }
 
 /// The names of what is in a folder of the system, each with the folder's in front.
-fn entries_of<F: Files + AllocGlobal + Clone + Drop>(
-    files: &F,
-    alloc: Global,
-    folder: &str,
-) -> io::Result<Vec<String>> {
+fn entries_of<F: Files>(files: &F, alloc: Global, folder: &str) -> io::Result<Vec<String>> {
+    let mut path = String::from_str(alloc, folder)?;
+    if !folder.ends_with('/') {
+        path.push('/')?;
+    }
+    let mut dir = files.open_dir(path.as_str())?;
+    let bytes = match read_whole(alloc, &mut dir) {
+        Ok(bytes) => bytes,
+        Err(Failure::NoMemory) => return Err(io::Error::from(AllocError)),
+        Err(_) => return Err(io::Error::from(ErrorKind::Other)),
+    };
+    let text = String::from_utf8_lossy(alloc, bytes.as_slice())?;
     let mut names = Vec::new(alloc);
-    for entry in fs::read_dir(files, folder)? {
-        let entry = entry?;
-        push_name(alloc, &mut names, entry.path().as_str())?;
+    for name in text.as_str().split('\0') {
+        if !matches!(name, "" | "." | "..") {
+            names.push(format!(in alloc; "{}{name}", path.as_str())?)?;
+        }
     }
     Ok(names)
 }

@@ -5,7 +5,6 @@ use Rattle.std.specs.Prelude.{String, string_bytes}
 use Rattle.std.proofs.lemmas.List.{take_all, nil_from_length}
 use Rattle.cli_tidy.specs.declared.requests.FileRequest.{FileRequest}
 use Rattle.cli_tidy.specs.Files.{WorksThrough}
-use Rattle.cli_tidy.specs.Folders.{StandsFor}
 use Rattle.cli_files.specs.NameLists.{names_of}
 use Rattle.cli_tidy.specs.Names.{Stands, WorksBelow, worked, GoesThroughNames, next, WorksThroughNames, through, stopped}
 use Rattle.cli_files.specs.Stores.{Known}
@@ -38,13 +37,12 @@ module _ (known : Known) (request : FileRequest) (output errors : Option (List �
 pub some_file : (files : List (String Global)) (n : ℕ) → n ≡ length files → (n == 0) ≡ false → files ≢ []
 some_file files n e f is = true≢false (sym (ap (λ m. m == 0) (e ∙ ap length is)) ∙ f)
 
-module _ (known : Known) (request : FileRequest) (given : List (String Global)) (name : List ℕ) (files : List (String Global)) where
-  pub works_below : (output errors after said : Option (List ℕ)) (all : List (String Global)) (status : ℕ) (goes_on : Bool) → files ≢ [] → given ≡ request.options.endings.items → all ≡ files
-      → StandsFor known given name (names_of files) → WorksThrough known request output errors all after said status goes_on
+module _ (known : Known) (request : FileRequest) (name : List ℕ) (files : List (String Global)) where
+  pub works_below : (output errors after said : Option (List ℕ)) (all : List (String Global)) (status : ℕ) (goes_on : Bool) → files ≢ [] → all ≡ files
+      → Stands known request name (names_of files) → WorksThrough known request output errors all after said status goes_on
       → WorksBelow known request name output errors after said status goes_on
-  works_below output errors after said all status goes_on some same every stands k =
-      worked files some (subst (λ l. StandsFor known l name (names_of files)) same stands) (subst (λ l. WorksThrough known request output errors l after said status goes_on) every k)
+  works_below output errors after said all status goes_on some every stands k =
+      worked files some stands (subst (λ l. WorksThrough known request output errors l after said status goes_on) every k)
 
-  pub stands_for_none : given ≡ request.options.endings.items → length files ≡ 0 → StandsFor known given name (names_of files) → Stands known request name []
-  stands_for_none same empty stands =
-      subst (λ l. StandsFor known l name []) same (subst (λ l. StandsFor known given name (names_of l)) (nil_from_length files empty) stands)
+  pub stands_for_none : length files ≡ 0 → Stands known request name (names_of files) → Stands known request name []
+  stands_for_none empty stands = subst (λ l. Stands known request name (names_of l)) (nil_from_length files empty) stands

@@ -23,14 +23,18 @@ abbrev third : List ℕ → ℕ
 third (a ∷ b ∷ c ∷ rest) = c
 third rest = 0
 
+abbrev fifth : List ℕ → ℕ
+fifth (a ∷ b ∷ c ∷ d ∷ e ∷ rest) = e
+fifth rest = 0
+
 -- whether the third is that of an option with a value
 abbrev is_setting : List ℕ → Bool
 is_setting word = (third word == 105) || ((third word == 119) || ((third word == 108) || ((third word == 101) || (third word == 115))))
 
--- the option that the third byte is of
+-- the option that the third byte is of, and the fifth of two that begin alike
 abbrev setting_at : List ℕ → Setting
 setting_at word =
-    cond (third word == 105) settings.Indent (cond (third word == 119) settings.Width (cond (third word == 108) settings.LastCommas (cond (third word == 101) settings.Ext settings.StdinName)))
+    cond (third word == 105) settings.Indent (cond (third word == 119) settings.Width (cond (third word == 108) settings.LastCommas (cond (third word == 101) (cond (fifth word == 99) settings.Exclude settings.Ext) settings.StdinName)))
 
 abbrev flag_at : List ℕ → Flag
 flag_at word = cond (third word == 118) flags.Version (cond (third word == 110) flags.NoLastComma (cond (third word == 113) flags.Quiet flags.Help))
@@ -73,6 +77,7 @@ setting_found settings.Indent more = refl
 setting_found settings.Width more = refl
 setting_found settings.LastCommas more = refl
 setting_found settings.Ext more = refl
+setting_found settings.Exclude more = refl
 setting_found settings.StdinName more = refl
 
 setting_set : (s : Setting) (more : List ℕ) → is_setting (setting_word s ++ more) ≡ true
@@ -80,6 +85,7 @@ setting_set settings.Indent more = refl
 setting_set settings.Width more = refl
 setting_set settings.LastCommas more = refl
 setting_set settings.Ext more = refl
+setting_set settings.Exclude more = refl
 setting_set settings.StdinName more = refl
 
 setting_whole : (s : Setting) → has_equals (setting_word s) ≡ false
@@ -87,6 +93,7 @@ setting_whole settings.Indent = refl
 setting_whole settings.Width = refl
 setting_whole settings.LastCommas = refl
 setting_whole settings.Ext = refl
+setting_whole settings.Exclude = refl
 setting_whole settings.StdinName = refl
 
 joined_split : (s : Setting) (value : List ℕ) → has_equals (setting_word s ++ equals ∷ value) ≡ true
@@ -94,6 +101,7 @@ joined_split settings.Indent value = refl
 joined_split settings.Width value = refl
 joined_split settings.LastCommas value = refl
 joined_split settings.Ext value = refl
+joined_split settings.Exclude value = refl
 joined_split settings.StdinName value = refl
 
 joined_after : (s : Setting) (value : List ℕ) → after_equals (setting_word s ++ equals ∷ value) ≡ value
@@ -101,6 +109,7 @@ joined_after settings.Indent value = refl
 joined_after settings.Width value = refl
 joined_after settings.LastCommas value = refl
 joined_after settings.Ext value = refl
+joined_after settings.Exclude value = refl
 joined_after settings.StdinName value = refl
 
 -- nothing more stands behind it
@@ -145,6 +154,7 @@ setting_dashed settings.Indent more word e = dashed word minus (codes "indent" +
 setting_dashed settings.Width more word e = dashed word minus (codes "width" ++ more) e
 setting_dashed settings.LastCommas more word e = dashed word minus (codes "last-commas" ++ more) e
 setting_dashed settings.Ext more word e = dashed word minus (codes "ext" ++ more) e
+setting_dashed settings.Exclude more word e = dashed word minus (codes "exclude" ++ more) e
 setting_dashed settings.StdinName more word e = dashed word minus (codes "stdin-name" ++ more) e
 
 -- ---- a value sets one thing
@@ -180,6 +190,7 @@ sets_once settings.Indent value p q a b = a.2 ∙ ap indent (indent_once value a
 sets_once settings.Width value p q a b = a.2 ∙ ap width (a.1.1 ∙ sym b.1.1) ∙ sym b.2
 sets_once settings.LastCommas value p q a b = a.2 ∙ ap last_commas (commas_once value a.0 b.0 a.1 b.1) ∙ sym b.2
 sets_once settings.Ext value p q a b = a.2 ∙ ap ending (ending_once value a.0 b.0 a.1 b.1) ∙ sym b.2
+sets_once settings.Exclude value p q a b = a.1 ∙ sym b.1
 sets_once settings.StdinName value p q a b = a.1 ∙ sym b.1
 
 pub like_sets : (s t : Setting) (v u : List ℕ) (p : Part) → s ≡ t → v ≡ u → Sets s v p → Sets t u p

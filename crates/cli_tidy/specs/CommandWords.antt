@@ -57,6 +57,7 @@ setting_word settings.Indent = codes "--indent"
 setting_word settings.Width = codes "--width"
 setting_word settings.LastCommas = codes "--last-commas"
 setting_word settings.Ext = codes "--ext"
+setting_word settings.Exclude = codes "--exclude"
 setting_word settings.StdinName = codes "--stdin-name"
 
 -- ---- values
@@ -90,6 +91,7 @@ pub data Part : Type 0 where
   width : ℕ → Part
   last_commas : LastCommas → Part
   ending : List ℕ → Part
+  excluded : List ℕ → Part
   stdin_name : List ℕ → Part
 
 -- what the option says that is given this value
@@ -98,6 +100,7 @@ Sets settings.Indent value p = (n : ℕ) × IsIndent value n × (p ≡ indent n)
 Sets settings.Width value p = (n : ℕ) × IsCount 9999 value n × (p ≡ width n)
 Sets settings.LastCommas value p = (c : LastCommas) × (value ≡ commas_word c) × (p ≡ last_commas c)
 Sets settings.Ext value p = (e : List ℕ) × IsEnding value e × (p ≡ ending e)
+Sets settings.Exclude value p = (value ≢ []) × (p ≡ excluded value)
 Sets settings.StdinName value p = (value ≢ []) × (p ≡ stdin_name value)
 
 -- the words begin with this part, and these words are left
@@ -115,6 +118,7 @@ pub data Starts (words : List (List ℕ)) (p : Part) (left : List (List ℕ)) : 
 pub record Choices : Type 0 where
   pub style : ChosenStyle
   pub endings : List (List ℕ)
+  pub excluded : List (List ℕ)
   pub stdin_name : Option (List ℕ)
   pub is_quiet : Bool
   pub question : Option Question
@@ -122,9 +126,9 @@ pub record Choices : Type 0 where
   pub others : List (List ℕ)
 
 abbrev pub nothing_chosen : Choices
-nothing_chosen = record { style = nothing_asked; endings = []; stdin_name = None; is_quiet = false; question = None; others = [] }
+nothing_chosen = record { style = nothing_asked; endings = []; excluded = []; stdin_name = None; is_quiet = false; question = None; others = [] }
 
--- after one part more; of an option that is given twice the last counts, but each ending does
+-- after one part more; of an option that is given twice the last counts, but each ending and each glob does
 abbrev pub with_part : Part → Choices → Choices
 with_part (name word) c = record c { others = c.others ++ word ∷ [] }
 with_part (flag flags.Help) c = record c { question = Some questions.Help }
@@ -135,6 +139,7 @@ with_part (indent n) c = record c { style = record c.style { indent = asked n } 
 with_part (width n) c = record c { style = record c.style { width = asked n } }
 with_part (last_commas l) c = record c { style = record c.style { last_commas = l } }
 with_part (ending e) c = record c { endings = c.endings ++ e ∷ [] }
+with_part (excluded glob) c = record c { excluded = c.excluded ++ glob ∷ [] }
 with_part (stdin_name n) c = record c { stdin_name = Some n }
 
 -- after words that are no options
@@ -150,7 +155,7 @@ pub data Choose : Choices → (words : List (List ℕ)) → Choices → Type 0 w
 -- ---- requests
 
 abbrev pub HasOptions : Choices → Options → Type 0
-HasOptions c o = (o.style ≡ c.style) × (names_of o.endings.items ≡ c.endings) × (option_map string_bytes o.stdin_name ≡ c.stdin_name) × (o.is_quiet ≡ c.is_quiet)
+HasOptions c o = (o.style ≡ c.style) × (names_of o.endings.items ≡ c.endings) × (names_of o.excluded.items ≡ c.excluded) × (option_map string_bytes o.stdin_name ≡ c.stdin_name) × (o.is_quiet ≡ c.is_quiet)
 
 -- the name of standard input
 abbrev pub input_name : Options → List ℕ

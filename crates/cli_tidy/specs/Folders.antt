@@ -6,6 +6,7 @@ use Rattle.std.specs.List.{Any}
 use Rattle.std.specs.List.Sorted.{IsPermutation, IsSorted}
 use lib.Chars.{codes}
 use Rattle.cli_files.specs.declared.stores.Entry.TheVariants as entry
+use Rattle.cli_files.specs.Ignores.{HasRules}
 use Rattle.cli_files.specs.NameLists.{names_of}
 use Rattle.cli_files.specs.Stores.{Known}
 
@@ -30,7 +31,7 @@ EndsWith ending name = (front : List ℕ) × (name ≡ front ++ ending)
 abbrev pub IsPassedOver : List ℕ → Type 0
 IsPassedOver name = EndsWith (codes "/.git") name ⊎ EndsWith (codes "/node_modules") name
 
-module _ (known : Known) (endings : List (String Global)) where
+module _ (known : Known) (endings excluded : List (String Global)) where
   mutual
     -- the files that entries with these names stand for, in their order
     pub data AreBelow : (names found : List (List ℕ)) → Type 0 where
@@ -40,6 +41,8 @@ module _ (known : Known) (endings : List (String Global)) where
       unknown : {names found : List (List ℕ)} (name : List ℕ) → known.has_entry name entry.Unknown → AreBelow names found → AreBelow (name ∷ names) (name ∷ found)
       other : {names found : List (List ℕ)} (name : List ℕ) → known.has_entry name entry.Other → AreBelow names found → AreBelow (name ∷ names) found
       passed : {names found : List (List ℕ)} (name : List ℕ) → known.has_entry name entry.Folder → IsPassedOver name → AreBelow names found → AreBelow (name ∷ names) found
+      -- a word or a file may leave alone what has a name; nothing else does
+      left_alone : {names found : List (List ℕ)} (name : List ℕ) → HasRules known excluded → AreBelow names found → AreBelow (name ∷ names) found
       folder : {names inner found : List (List ℕ)} (name : List ℕ) → known.has_entry name entry.Folder → ¬ (IsPassedOver name) → IsBelow name inner → AreBelow names found → AreBelow (name ∷ names) (inner ++ found)
 
     -- the files below a folder, in the order of the names in it; a folder that can't be read is named itself
@@ -49,6 +52,6 @@ module _ (known : Known) (endings : List (String Global)) where
           → IsPermutation listed (names_of names) → IsSorted string_cmp names → AreBelow (names_of names) found → IsBelow folder found
 
 -- the files that a name stands for: those below it if it is a folder, and else the name itself
-pub data StandsFor (known : Known) (endings : List (String Global)) (name : List ℕ) : (found : List (List ℕ)) → Type 0 where
-  itself : known.is_folder name false → StandsFor known endings name (name ∷ [])
-  below : {found : List (List ℕ)} → known.is_folder name true → IsBelow known endings name found → StandsFor known endings name found
+pub data StandsFor (known : Known) (endings excluded : List (String Global)) (name : List ℕ) : (found : List (List ℕ)) → Type 0 where
+  itself : known.is_folder name false → StandsFor known endings excluded name (name ∷ [])
+  below : {found : List (List ℕ)} → known.is_folder name true → IsBelow known endings excluded name found → StandsFor known endings excluded name found

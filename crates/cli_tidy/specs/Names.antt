@@ -14,7 +14,7 @@ use Rattle.cli_tidy.specs.Troubles.{trouble_line}
 
 -- this name of the command line stands for these files
 abbrev pub Stands : Known → FileRequest → (name : List ℕ) → (found : List (List ℕ)) → Type 0
-Stands known request = StandsFor known request.options.endings.items
+Stands known request = StandsFor known request.options.endings.items request.options.excluded.items
 
 -- the work on all files that a name stands for, and whether it goes on; or there is none, which is said, or no memory for their names
 pub data WorksBelow (known : Known) (request : FileRequest) (name : List ℕ) (output errors : Option (List ℕ)) : Option (List ℕ) → Option (List ℕ) → ℕ → Bool → Type 0 where

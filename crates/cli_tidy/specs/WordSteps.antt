@@ -13,11 +13,11 @@ use Rattle.cli_files.specs.NameLists.{names_of}
 
 -- what was chosen so far
 abbrev pub choices_of : Words → Choices
-choices_of w = record { style = w.options.style; endings = names_of w.options.endings.items; stdin_name = option_map string_bytes w.options.stdin_name; is_quiet = w.options.is_quiet; question = w.question; others = names_of w.others.items }
+choices_of w = record { style = w.options.style; endings = names_of w.options.endings.items; excluded = names_of w.options.excluded.items; stdin_name = option_map string_bytes w.options.stdin_name; is_quiet = w.options.is_quiet; question = w.question; others = names_of w.others.items }
 
 -- the same where no question was asked
 abbrev pub unasked : Options → (others : List (String Global)) → Choices
-unasked options others = record { style = options.style; endings = names_of options.endings.items; stdin_name = option_map string_bytes options.stdin_name; is_quiet = options.is_quiet; question = None; others = names_of others }
+unasked options others = record { style = options.style; endings = names_of options.endings.items; excluded = names_of options.excluded.items; stdin_name = option_map string_bytes options.stdin_name; is_quiet = options.is_quiet; question = None; others = names_of others }
 
 -- one part more was taken, of those that are allowed
 abbrev pub Gains : (Part → Type 0) → (old new : Words) → Type 0

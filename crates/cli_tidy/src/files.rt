@@ -68,7 +68,7 @@ fn work_below<S: Store, W: Write, E: Write>(
     ensures { WorksBelow (S.known store.now) request.now name.now (W.contents w.old) (E.contents e.old)
         (W.contents w.new) (E.contents e.new) result.0 result.1 }
 {
-    let Ok(names) = files_of(store, alloc, request.options.endings.as_slice(), name) else {
+    let Ok(names) = files_of(store, alloc, &request.options, name) else {
         return (
             report_trouble(name, &FileTrouble::Failed(Failure::NoMemory), e),
             true,

@@ -9,7 +9,7 @@ use std::alloc::{AllocError, Global};
 use strsim::osa_distance;
 
 /// The words that are known.
-const KNOWN: [&str; 14] = [
+const KNOWN: [&str; 15] = [
     "check",
     "diff",
     "print",
@@ -20,6 +20,7 @@ const KNOWN: [&str; 14] = [
     "--last-commas",
     "--no-last-comma",
     "--ext",
+    "--exclude",
     "--stdin-name",
     "--quiet",
     "--help",

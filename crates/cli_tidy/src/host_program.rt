@@ -5,7 +5,7 @@ ghost use Rattle.cli_tidy.specs.CommandWords.{AsksNothing};
 
 use crate::answers::answer;
 use crate::reports::{no_memory, usage};
-use cli_files::given_words;
+use cli_files::given_names;
 use std::alloc::Global;
 use std::io::{BufWriter, ErrorKind};
 use std::process::ExitCode;
@@ -13,8 +13,7 @@ use std::process::ExitCode;
 /// How many bytes are written to standard output at once.
 const PIECE: usize = 64 * 1024;
 
-/// Runs the whole program: [`words`] of the words after its name, or the usage line where the system doesn't give them
-/// as text.
+/// Runs the whole program: [`words`] of the words after its name, or the usage line where the system doesn't give them.
 ///
 /// ```text
 /// fn main(rt: HostRuntime) -> ExitCode {
@@ -22,7 +21,7 @@ const PIECE: usize = 64 * 1024;
 /// }
 /// ```
 pub fn program(rt: &HostRuntime) -> ExitCode {
-    let status = match given_words(rt) {
+    let status = match given_names(rt) {
         Ok(list) => words(rt, rt.alloc(), list.as_slice()),
         Err(e) if e.kind() == ErrorKind::OutOfMemory => no_memory(&mut rt.stderr()),
         Err(_) => usage(rt.alloc(), &[], &mut rt.stderr()),

@@ -17,6 +17,8 @@ pub struct Options {
     pub style: ChosenStyle,
     /// The endings, without their points, of the files that are looked for below a folder, beside `json5`.
     pub endings: Vec<String>,
+    /// Globs of what is left alone below a folder.
+    pub excluded: Vec<String>,
     /// The name of standard input, if one was given: for the style, and in reports.
     pub stdin_name: Option<String>,
     /// Whether `write` doesn't name the files that it writes.
@@ -39,6 +41,7 @@ pub(crate) enum Setting {
     Width,
     LastCommas,
     Ext,
+    Exclude,
     StdinName,
 }
 
@@ -61,16 +64,18 @@ impl From<AllocError> for Fault {
 }
 
 impl Options {
-    /// No style, files that end in `.json5`, and standard input without a name.
+    /// No style, files that end in `.json5`, none of them left alone, and standard input without a name.
     pub(crate) fn usual(alloc: Global) -> Options
         ensures style { result.style ≡ nothing_asked }
         ensures endings { result.endings.items ≡ [] }
+        ensures excluded { result.excluded.items ≡ [] }
         ensures stdin_name { result.stdin_name ≡ None }
         ensures is_quiet { result.is_quiet ≡ false }
     {
         Options {
             style: ChosenStyle::none(),
             endings: Vec::new(alloc),
+            excluded: Vec::new(alloc),
             stdin_name: None,
             is_quiet: false,
         }
@@ -113,6 +118,7 @@ impl Setting {
             "--width" => Some(Setting::Width),
             "--last-commas" => Some(Setting::LastCommas),
             "--ext" => Some(Setting::Ext),
+            "--exclude" => Some(Setting::Exclude),
             "--stdin-name" => Some(Setting::StdinName),
             _ => None,
         }
@@ -157,7 +163,7 @@ pub(crate) fn indent_of(value: &str) -> Option<usize>
     count_of(value, 16)
 }
 
-/// The count of characters, from 1 to 9999.
+/// The count of columns, from 1 to 9999.
 pub(crate) fn width_of(value: &str) -> Option<usize>
     ensures { MatchOption result ((n : ℕ) → ¬ (IsCount 9999 value.now n)) (IsCount 9999 value.now) }
 {

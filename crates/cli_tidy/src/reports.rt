@@ -23,17 +23,19 @@ Lays JSON5 out anew, and keeps each comment and each token as it is spelled.
   json5_tidy style FILE...  writes the style of each file, and what chose it
 
 A folder stands for the files below it that end in .json5, in the order of their names.
-Folders named .git or node_modules are passed over, and links too.
+Folders named .git or node_modules are passed over, and links too; so is what the
+.gitignore and .ignore files of folders name.
 The style is as the words ask, else as .editorconfig files tell, else the indentation
 that the file has, or 2, and a width of 80.
 
   --indent N          N spaces a level, 1 to 16; tab: a tab
-  --width N           characters that a line may have, 1 to 9999
+  --width N           columns that a line may have, 1 to 9999
   --last-commas WHEN  a comma after the last of a collection over several lines:
                       always; never; or auto: in .json5 files, never in .json
                       and .jsonc files, in others if the text isn't JSON (auto)
   --no-last-comma     the same as --last-commas never
   --ext ENDING        in folders look for files with this ending too
+  --exclude GLOB      in folders pass over what it names, as a line of .ignore would
   --quiet             write doesn't name the files that it writes
   --stdin-name FILE   the name of standard input: for last commas and in reports
   --                  what follows is no option

@@ -36,7 +36,7 @@ pub struct ChosenSize {
 pub struct ChosenStyle {
     /// How many spaces a level is indented by; 0 for a tab.
     pub indent: Option<ChosenSize>,
-    /// How many characters a line may have.
+    /// How many columns a line may have.
     pub width: Option<ChosenSize>,
     pub last_commas: LastCommas,
 }

@@ -131,6 +131,7 @@ impl Words {
             Setting::Width => self.set_width(value),
             Setting::LastCommas => self.set_last_commas(value),
             Setting::Ext => self.add_ending(alloc, value),
+            Setting::Exclude => self.exclude(alloc, value),
             Setting::StdinName => self.name_stdin(alloc, value),
         }
     }
@@ -182,6 +183,17 @@ impl Words {
             return Err(Fault::Unknown);
         };
         push_name(alloc, &mut self.options.endings, ending)?;
+        Ok(())
+    }
+
+    fn exclude(&mut self, alloc: Global, value: &str) -> Result<(), Fault>
+        ensures set { OnOk result (Gains (Sets Setting.Exclude value.now) self.old self.new) }
+        ensures refused { IfErr result (Refuses (Sets Setting.Exclude value.now)) }
+    {
+        let Some(glob) = unless_empty(value) else {
+            return Err(Fault::Unknown);
+        };
+        push_name(alloc, &mut self.options.excluded, glob)?;
         Ok(())
     }
 

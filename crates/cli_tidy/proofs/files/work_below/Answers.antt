@@ -10,8 +10,8 @@ pub returns-then-is_empty : goal.returns-then-is_empty
 returns-then-is_empty g c =
     let none = eqb-true _ _ (sym c.if-is_empty.ensures) in
     rw c.report_trouble-then-is_empty.ensures.status
-    (no_file (stands_for_none (g.S.Store.known c.args.store.now) c.args.request.now c.as_slice.result.now c.args.name.now c.in-Ok.names.items c.as_slice.ensures.value (omega (arith, c.in-Ok.names.ok.0, none)) c.in-Ok.ensures) c.report_trouble-then-is_empty.ensures.line)
+    (no_file (stands_for_none (g.S.Store.known c.args.store.now) c.args.request.now c.args.name.now c.in-Ok.names.items (omega (arith, c.in-Ok.names.ok.0, none)) c.in-Ok.ensures) c.report_trouble-then-is_empty.ensures.line)
 
 pub returns : goal.returns
 returns g c =
-    works_below (g.S.Store.known c.args.store.now) c.args.request.now c.as_slice.result.now c.args.name.now c.in-Ok.names.items _ _ _ _ c.as_slice-2.result.now _ _ (some_file c.in-Ok.names.items c.in-Ok.names.len c.in-Ok.names.ok.0 (sym c.if-is_empty.ensures)) c.as_slice.ensures.value c.as_slice-2.ensures.value c.in-Ok.ensures c.work_on_each.ensures
+    works_below (g.S.Store.known c.args.store.now) c.args.request.now c.args.name.now c.in-Ok.names.items _ _ _ _ c.as_slice.result.now _ _ (some_file c.in-Ok.names.items c.in-Ok.names.len c.in-Ok.names.ok.0 (sym c.if-is_empty.ensures)) c.as_slice.ensures.value c.in-Ok.ensures c.work_on_each.ensures
