@@ -155,6 +155,8 @@ json_none x e (trouble.Edit m) k n = subst (λ z. ShowsNone view.Json x (trouble
 json_none x e (trouble.NoJson f) k n = not_memory (fits x) (is_json x) e k n
 json_none x e (trouble.Failed f) k n = n
 json_none x e (trouble.Unwritten u) k n = n
+json_none x e (trouble.NoPatch f) k n = elim n [ ]
+json_none x e (trouble.Operation f) k n = elim n [ ]
 
 -- the place is in the text
 pub place_there : (bytes : List ℕ) (steps : List Step) (p : Place) → Leads bytes steps (Some p) → HasPlace bytes p
