@@ -4,13 +4,15 @@ use Rattle.std.specs.declared.alloc.Global.{Global}
 use Rattle.std.specs.Prelude.{⊤, ◌≡◌, ◌≢◌, ◌⊎◌, ℕ, true, false, List, [], ◌∷◌, ◌++◌, Result, Ok, Err, String}
 use Rattle.std.specs.Str.{chars}
 use Rattle.json5_lexemes.specs.Lexemes.{HaveSameLexemes}
-use Rattle.json5_edit.specs.Changes.{IsInserted, IsPushed, IsPutIn, IsRekeyed, IsRemoved}
+use Rattle.json5_edit.specs.Changes.{ChangesBy, IsInserted, IsPushed, IsPutIn, IsRekeyed, IsRemoved}
 use Rattle.json5_edit.specs.Refusals.{RefusesInsert, RefusesPath, RefusesPush, RefusesPutIn, RefusesRename, RefusesSet}
 use Rattle.json5_edit.specs.Sets.{IsSet}
 use Rattle.json5_edit.specs.declared.faults.EditError.{EditError}
 use Rattle.json5_edit.specs.declared.faults.EditError.TheVariants as error
 use Rattle.json5_edit.specs.declared.paths.Step.{Step}
 use Rattle.json5_edit.specs.declared.paths.Step.TheVariants as step
+use Rattle.json5_edit_values.specs.Patches.{Patches}
+use Rattle.json5_edit_values.specs.declared.patch.operations.Operation.{Operation}
 use Rattle.cli_edit.specs.declared.requests.Command.{Command}
 use Rattle.cli_edit.specs.declared.requests.Command.TheVariants as work
 use Rattle.cli_edit.specs.declared.trouble.TextTrouble.{TextTrouble}
@@ -39,7 +41,11 @@ abbrev pub RefusesRemoving : List ℕ → List Step → EditError → Type 0
 RefusesRemoving text steps error.NoKey = steps ≡ []
 RefusesRemoving text steps e = RefusesPath text steps e
 
--- the work on this text, at these steps, with this value; of a patch nothing is said
+-- after some operations of a JSON Patch, one after the other
+abbrev pub IsPatched : List ℕ → List ℕ → Type 0
+IsPatched text made = (operations : List Operation) × ChangesBy (Patches operations) text made
+
+-- the work on this text, at these steps, with this value; of a merge patch nothing is said
 abbrev pub Makes : Command → List ℕ → List Step → List ℕ → List ℕ → Type 0
 Makes (work.Show v) text steps value made = IsShownAt v text steps made
 Makes work.Set text steps value made = IsSet text steps value made
@@ -49,7 +55,7 @@ Makes work.Put text steps value made = PutsAt false text steps value made
 Makes work.PutAbsent text steps value made = PutsAt true text steps value made
 Makes work.Rename text steps value made = IsRekeyed text steps value made
 Makes work.Remove text steps value made = IsRemoved text steps made
-Makes work.Apply text steps value made = ⊤
+Makes work.Apply text steps value made = IsPatched text made
 Makes work.Merge text steps value made = ⊤
 
 -- the same with this value; or, unless it is a key, with another that has its lexemes

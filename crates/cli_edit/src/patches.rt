@@ -1,5 +1,8 @@
 //! Patches that are made on a text.
 
+ghost use Rattle.std.specs.Prelude.{IfOk, string_bytes};
+ghost use Rattle.cli_edit.specs.Makes.{IsPatched};
+
 use crate::trouble::TextTrouble;
 use json5_edit::{EditError, Names};
 use json5_edit_values::patch::{Patch, PatchFault, apply_patch_in, merge_patch_in};
@@ -13,7 +16,9 @@ pub(crate) fn applied(
     text: &str,
     patch: &str,
     names: Names,
-) -> Result<String, TextTrouble> {
+) -> Result<String, TextTrouble>
+    ensures { IfOk result (λ made. IsPatched text.now (string_bytes made)) }
+{
     let patch = match Patch::parse(alloc, patch) {
         Ok(patch) => patch,
         Err(fault) => return Err(TextTrouble::NoPatch(fault)),

@@ -1,3 +1,4 @@
 -- Lists the lemmas about edits with values.
 pub mod ValuesSpelled
 pub mod Refused
+pub mod PatchesMade

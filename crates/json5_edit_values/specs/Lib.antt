@@ -2,3 +2,6 @@
 pub mod Spelled
 pub mod Trees
 pub mod Refusals
+pub mod Locations
+pub mod Patches
+pub mod News

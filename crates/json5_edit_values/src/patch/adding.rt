@@ -1,5 +1,16 @@
 //! A value that comes to where a pointer leads.
 
+ghost use Rattle.std.specs.Prelude.{◌≡◌, [], ◌++◌, ◌∷◌, IfOk, IfSome, IfErr, string_bytes};
+ghost use Rattle.std.specs.Str.{chars};
+ghost use Rattle.json5_grammar.specs.Language.Trees.{Tree};
+ghost use Rattle.json5_grammar.specs.Language.Values.{Val};
+ghost use Rattle.json5_edit.specs.Changes.{ChangesBy};
+ghost use Rattle.json5_edit.specs.Comparing.{IsWithAt, IsWithLast};
+ghost use Rattle.json5_edit_values.specs.Locations.{Becomes};
+ghost use Rattle.json5_edit_values.specs.News.{AddsKeyed, AddsNew, Brings, BringsAt, HasCount, IsNew};
+ghost use Rattle.json5_edit_values.specs.Patches.{Joins};
+ghost use Rattle.json5_read.specs.declared.brackets.BracketKind.TheVariants as kind;
+
 use crate::patch::new_values::{New, new_text};
 use crate::patch::steps::{is_array, part_at, steps_in};
 use crate::seats::Goes;
@@ -14,7 +25,10 @@ pub(crate) fn added(
     tokens: &[String],
     new: New<'_>,
     names: Names,
-) -> Result<String> {
+) -> Result<String>
+    requires { IsNew new }
+    ensures { IfOk result (λ made. ChangesBy (AddsNew new.entry tokens.now) text.now (string_bytes made)) }
+{
     let steps = steps_in(alloc, text, tokens)?;
     let Some((step, outer)) = steps.as_slice().split_last() else {
         return set_at(alloc, text, &[], new);
@@ -34,7 +48,10 @@ fn add_keyed(
     key: &str,
     new: New<'_>,
     names: Names,
-) -> Result<String> {
+) -> Result<String>
+    requires { IsNew new }
+    ensures { IfOk result (λ made. ChangesBy (AddsKeyed new.entry steps.now outer.now key.now) text.now (string_bytes made)) }
+{
     if key == "-" {
         if is_array(alloc, text, outer)? {
             return push_at(alloc, text, outer, new);
@@ -48,12 +65,10 @@ fn add_keyed(
 }
 
 /// The text with the value in the place of that to which the steps lead.
-pub(crate) fn set_at(
-    alloc: Global,
-    text: &str,
-    steps: &[Step<'_>],
-    new: New<'_>,
-) -> Result<String> {
+pub(crate) fn set_at(alloc: Global, text: &str, steps: &[Step<'_>], new: New<'_>) -> Result<String>
+    requires { IsNew new }
+    ensures { IfOk result (λ made. ChangesBy (BringsAt new.entry Becomes steps.now) text.now (string_bytes made)) }
+{
     let value = new_text(alloc, new, text, steps, Goes::Instead)?;
     set(alloc, text, steps, value.as_str())
 }
@@ -66,7 +81,10 @@ pub(crate) fn insert_at(
     key: &str,
     new: New<'_>,
     names: Names,
-) -> Result<String> {
+) -> Result<String>
+    requires { IsNew new }
+    ensures { IfOk result (λ made. ChangesBy (BringsAt new.entry (Joins key.now) steps.now) text.now (string_bytes made)) }
+{
     let value = new_text(
         alloc,
         new,
@@ -78,7 +96,10 @@ pub(crate) fn insert_at(
 }
 
 /// The text with the value as the last element of the array to which the steps lead.
-fn push_at(alloc: Global, text: &str, steps: &[Step<'_>], new: New<'_>) -> Result<String> {
+fn push_at(alloc: Global, text: &str, steps: &[Step<'_>], new: New<'_>) -> Result<String>
+    requires { IsNew new }
+    ensures { IfOk result (λ made. ChangesBy (BringsAt new.entry (IsWithLast kind.Array []) steps.now) text.now (string_bytes made)) }
+{
     let value = new_text(alloc, new, text, steps, Goes::Last(0))?;
     push(alloc, text, steps, value.as_str())
 }
@@ -90,7 +111,10 @@ fn add_element(
     steps: &[Step<'_>],
     index: usize,
     new: New<'_>,
-) -> Result<String> {
+) -> Result<String>
+    requires { IsNew new }
+    ensures { IfOk result (λ made. ChangesBy (BringsAt new.entry (IsWithAt index) steps.now) text.now (string_bytes made)) }
+{
     let Some(count) = count_at(alloc, text, steps)? else {
         return Err(EditError::NotArray);
     };
@@ -107,13 +131,18 @@ fn put_in_at(
     steps: &[Step<'_>],
     index: usize,
     new: New<'_>,
-) -> Result<String> {
+) -> Result<String>
+    requires { IsNew new }
+    ensures { IfOk result (λ made. ChangesBy (BringsAt new.entry (IsWithAt index) steps.now) text.now (string_bytes made)) }
+{
     let value = new_text(alloc, new, text, steps, Goes::Before(index))?;
     insert_element(alloc, text, steps, index, value.as_str())
 }
 
 /// How many entries the value has to which the steps lead, if it can have any.
-fn count_at(alloc: Global, text: &str, steps: &[Step<'_>]) -> Result<Option<usize>> {
+fn count_at(alloc: Global, text: &str, steps: &[Step<'_>]) -> Result<Option<usize>>
+    ensures { IfOk result (λ count. IfSome count (HasCount text.now steps.now)) }
+{
     let part = part_at(alloc, text, steps)?;
     match read_document(alloc, part) {
         Ok(value) => Ok(value.len()),

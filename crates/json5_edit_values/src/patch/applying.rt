@@ -1,5 +1,11 @@
 //! A patch that is made on a text.
 
+ghost use Rattle.std.specs.Prelude.{◌≡◌, [], IfOk, string_bytes};
+ghost use Rattle.std.specs.Bool.{OnTrue};
+ghost use Rattle.json5_edit.specs.Changes.{ChangesBy};
+ghost use Rattle.json5_edit_values.specs.News.{IsNew, ReplacesWith, edited};
+ghost use Rattle.json5_edit_values.specs.Patches.{Copies, Moves, Patches, Performs, RemovesFrom, TakesTo, Tests, is_within};
+
 use crate::patch::adding::{added, set_at};
 use crate::patch::faults::{PatchError, Trouble};
 use crate::patch::new_values::{New, owned};
@@ -28,7 +34,9 @@ pub fn apply_patch(
     alloc: Global,
     text: &str,
     patch: &Patch,
-) -> std::result::Result<String, PatchError> {
+) -> std::result::Result<String, PatchError>
+    ensures { IfOk result (λ made. ChangesBy (Patches patch.now.operations.items) text.now (string_bytes made)) }
+{
     apply_patch_in(alloc, Names::Quoted, text, patch)
 }
 
@@ -46,7 +54,9 @@ pub fn apply_patch_in(
     names: Names,
     text: &str,
     patch: &Patch,
-) -> std::result::Result<String, PatchError> {
+) -> std::result::Result<String, PatchError>
+    ensures { IfOk result (λ made. ChangesBy (Patches patch.now.operations.items) text.now (string_bytes made)) }
+{
     let mut made = match document(alloc, text) {
         Ok(made) => made,
         Err(error) => return Err(PatchError {
@@ -64,7 +74,9 @@ pub fn apply_patch_in(
 }
 
 /// The text itself, if it is a document.
-fn document(alloc: Global, text: &str) -> Result<String> {
+fn document(alloc: Global, text: &str) -> Result<String>
+    ensures { IfOk result (λ made. ChangesBy (Patches []) text.now (string_bytes made)) }
+{
     match check_document(alloc, text) {
         Ok(()) => owned(alloc, text),
         Err(error) => Err(EditError::of_text(error)),
@@ -77,7 +89,9 @@ fn performed(
     names: Names,
     text: &str,
     operation: &Operation,
-) -> std::result::Result<String, Trouble> {
+) -> std::result::Result<String, Trouble>
+    ensures { IfOk result (λ made. ChangesBy (Performs operation.now) text.now (string_bytes made)) }
+{
     match operation {
         Operation::Add { path, value } => {
             edited(added(
@@ -115,7 +129,9 @@ fn performed(
 }
 
 /// What an edit returned, as the operation's own.
-fn edited(made: Result<String>) -> std::result::Result<String, Trouble> {
+fn edited(made: Result<String>) -> std::result::Result<String, Trouble>
+    ensures { result ≡ edited made }
+{
     match made {
         Ok(new) => Ok(new),
         Err(error) => Err(Trouble::Edit(error)),
@@ -123,13 +139,18 @@ fn edited(made: Result<String>) -> std::result::Result<String, Trouble> {
 }
 
 /// The text without the entry at the location.
-fn removed(alloc: Global, text: &str, tokens: &[String]) -> Result<String> {
+fn removed(alloc: Global, text: &str, tokens: &[String]) -> Result<String>
+    ensures { IfOk result (λ made. ChangesBy (RemovesFrom tokens.now) text.now (string_bytes made)) }
+{
     let steps = steps_in(alloc, text, tokens)?;
     remove(alloc, text, steps.as_slice())
 }
 
 /// The text with the value in the place of that at the location.
-fn replaced(alloc: Global, text: &str, tokens: &[String], new: New<'_>) -> Result<String> {
+fn replaced(alloc: Global, text: &str, tokens: &[String], new: New<'_>) -> Result<String>
+    requires { IsNew new }
+    ensures { IfOk result (λ made. ChangesBy (ReplacesWith new.entry tokens.now) text.now (string_bytes made)) }
+{
     let steps = steps_in(alloc, text, tokens)?;
     set_at(alloc, text, steps.as_slice(), new)
 }
@@ -141,7 +162,9 @@ fn moved(
     text: &str,
     from: &[String],
     path: &[String],
-) -> std::result::Result<String, Trouble> {
+) -> std::result::Result<String, Trouble>
+    ensures { IfOk result (λ made. ChangesBy (Moves from.now path.now) text.now (string_bytes made)) }
+{
     if is_within(from, path) {
         return Err(Trouble::IntoItself);
     }
@@ -155,7 +178,9 @@ fn moved_out(
     text: &str,
     from: &[String],
     path: &[String],
-) -> Result<String> {
+) -> Result<String>
+    ensures { IfOk result (λ made. ChangesBy (TakesTo from.now path.now) text.now (string_bytes made)) }
+{
     let steps = steps_in(alloc, text, from)?;
     let part = part_at(alloc, text, steps.as_slice())?;
     let without = remove(alloc, text, steps.as_slice())?;
@@ -169,7 +194,9 @@ fn copied(
     text: &str,
     from: &[String],
     path: &[String],
-) -> Result<String> {
+) -> Result<String>
+    ensures { IfOk result (λ made. ChangesBy (Copies from.now path.now) text.now (string_bytes made)) }
+{
     let steps = steps_in(alloc, text, from)?;
     let part = part_at(alloc, text, steps.as_slice())?;
     added(alloc, text, path, New::Text(part), names)
@@ -177,7 +204,9 @@ fn copied(
 
 /// Whether the second location is within the first.
 #[cycle(is_within)]
-fn is_within(outer: &[String], inner: &[String]) -> bool {
+fn is_within(outer: &[String], inner: &[String]) -> bool
+    ensures { result ≡ is_within outer.now inner.now }
+{
     match (outer.split_first(), inner.split_first()) {
         (None, Some(_)) => true,
         (Some((first, outer)), Some((same, inner))) if first.as_str() == same.as_str() => {
@@ -193,7 +222,9 @@ fn tested(
     text: &str,
     tokens: &[String],
     value: &Value,
-) -> std::result::Result<String, Trouble> {
+) -> std::result::Result<String, Trouble>
+    ensures { IfOk result (λ made. ChangesBy (Tests tokens.now value.now) text.now (string_bytes made)) }
+{
     match is_there(alloc, text, tokens, value) {
         Ok(true) => edited(owned(alloc, text)),
         Ok(false) => Err(Trouble::Differs),
@@ -202,7 +233,9 @@ fn tested(
 }
 
 /// Whether the value at the location is this one.
-fn is_there(alloc: Global, text: &str, tokens: &[String], value: &Value) -> Result<bool> {
+fn is_there(alloc: Global, text: &str, tokens: &[String], value: &Value) -> Result<bool>
+    ensures { IfOk result (λ same. OnTrue same (ChangesBy (Tests tokens.now value.now) text.now text.now)) }
+{
     let steps = steps_in(alloc, text, tokens)?;
     let part = part_at(alloc, text, steps.as_slice())?;
     match read_document(alloc, part) {

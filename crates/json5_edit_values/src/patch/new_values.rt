@@ -1,5 +1,11 @@
 //! What a patch puts into a text.
 
+ghost use Rattle.std.specs.Prelude.{◌≡◌, IfOk, string_bytes};
+ghost use Rattle.std.specs.Str.{chars};
+ghost use Rattle.json5_grammar.specs.Language.Trees.{Tree};
+ghost use Rattle.json5_grammar.specs.Language.Values.{Val};
+ghost use Rattle.json5_edit_values.specs.News.{Brings, IsNew};
+
 use crate::laid_out::lays_out;
 use crate::seats::{Goes, seat_of};
 use crate::spelled::spelled;
@@ -22,7 +28,10 @@ pub(crate) fn new_text(
     text: &str,
     path: &[Step<'_>],
     goes: Goes,
-) -> Result<String> {
+) -> Result<String>
+    requires { IsNew new }
+    ensures { IfOk result (λ made. (v : Tree) → Val (chars (string_bytes made)) v → Brings new.entry v) }
+{
     match new {
         New::Value(value) => spelled(alloc, value, text, path, goes, None),
         New::Text(part) => lined(alloc, part, text, path, goes),
@@ -30,7 +39,9 @@ pub(crate) fn new_text(
 }
 
 /// The value with its lines indented for where it goes; as it is, if they can't be.
-fn lined(alloc: Global, part: &str, text: &str, path: &[Step<'_>], goes: Goes) -> Result<String> {
+fn lined(alloc: Global, part: &str, text: &str, path: &[Step<'_>], goes: Goes) -> Result<String>
+    ensures { (v : Tree) → Val (chars part.now) v → IfOk result (λ made. Val (chars (string_bytes made)) v) }
+{
     if let Some(made) = relined_at(alloc, part, text, path, goes) {
         if lays_out(alloc, part, made.as_str()) {
             return Ok(made);
@@ -40,7 +51,9 @@ fn lined(alloc: Global, part: &str, text: &str, path: &[Step<'_>], goes: Goes) -
 }
 
 /// A copy.
-pub(crate) fn owned(alloc: Global, text: &str) -> Result<String> {
+pub(crate) fn owned(alloc: Global, text: &str) -> Result<String>
+    ensures { IfOk result (λ made. string_bytes made ≡ text.now) }
+{
     match String::from_str(alloc, text) {
         Ok(made) => Ok(made),
         Err(_) => Err(EditError::NoMemory),

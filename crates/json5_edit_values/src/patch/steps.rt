@@ -1,15 +1,22 @@
 //! Which steps a pointer has in a text, and what is there.
 
+ghost use Rattle.std.specs.Prelude.{◌≡◌, ◌++◌, ◌∷◌, [], IfErr, IfOk, OnOk};
+ghost use Rattle.std.specs.Str.{chars};
+ghost use Rattle.json5_grammar.specs.Language.Values.{Val};
+ghost use Rattle.json5_types.specs.Pointers.{begins_index, index_in};
+ghost use Rattle.json5_edit.specs.Refusals.{Reaches, RefusesPath};
+ghost use Rattle.json5_edit.specs.declared.faults.EditError.TheVariants as edit_errors;
+ghost use Rattle.json5_edit_values.specs.Locations.{AreSteps, IsStep};
+
 use json5_edit::{EditError, Result, Step, find_place};
 use json5_read::read_document;
 use std::alloc::Global;
 
 /// The steps that the tokens are in the text: digits are an index where they come to an array, and a key elsewhere.
-pub(crate) fn steps_in<'p>(
-    alloc: Global,
-    text: &str,
-    tokens: &'p [String],
-) -> Result<Vec<Step<'p>>> {
+pub(crate) fn steps_in<'p>(alloc: Global, text: &str, tokens: &'p [String]) -> Result<Vec<Step<'p>>>
+    ensures steps { IfOk result (λ steps. AreSteps tokens.now steps.items) }
+    ensures refused { IfErr result (RefusesPath text.now []) }
+{
     let mut steps = Vec::new(alloc);
     for token in tokens {
         let step = step_in(alloc, text, steps.as_slice(), token.as_str())?;
@@ -19,7 +26,10 @@ pub(crate) fn steps_in<'p>(
 }
 
 /// Appends a step.
-fn push_step<'p>(steps: &mut Vec<Step<'p>>, step: Step<'p>) -> Result<()> {
+fn push_step<'p>(steps: &mut Vec<Step<'p>>, step: Step<'p>) -> Result<()>
+    ensures more { OnOk result (steps.new.items ≡ steps.old.items ++ step.entry ∷ []) }
+    ensures full { IfErr result (λ e. e ≡ edit_errors.NoMemory) }
+{
     match steps.push(step) {
         Ok(()) => Ok(()),
         Err(_) => Err(EditError::NoMemory),
@@ -27,7 +37,10 @@ fn push_step<'p>(steps: &mut Vec<Step<'p>>, step: Step<'p>) -> Result<()> {
 }
 
 /// The step that a token is from where the others lead.
-fn step_in<'p>(alloc: Global, text: &str, outer: &[Step<'_>], token: &'p str) -> Result<Step<'p>> {
+fn step_in<'p>(alloc: Global, text: &str, outer: &[Step<'_>], token: &'p str) -> Result<Step<'p>>
+    ensures step { IfOk result (IsStep token.now) }
+    ensures refused { IfErr result (RefusesPath text.now []) }
+{
     if !is_array(alloc, text, outer)? {
         return Ok(Step::Key(token));
     }
@@ -38,7 +51,9 @@ fn step_in<'p>(alloc: Global, text: &str, outer: &[Step<'_>], token: &'p str) ->
 }
 
 /// Whether the steps lead to an array.
-pub(crate) fn is_array(alloc: Global, text: &str, steps: &[Step<'_>]) -> Result<bool> {
+pub(crate) fn is_array(alloc: Global, text: &str, steps: &[Step<'_>]) -> Result<bool>
+    ensures { IfErr result (RefusesPath text.now []) }
+{
     match find_place(alloc, text, steps) {
         Ok(Some(place)) => Ok(text.as_bytes().get(place.start) == Some(&b'[')),
         Ok(None) => Ok(false),
@@ -70,7 +85,9 @@ pub(crate) fn further<'s>(
 }
 
 /// The index that is written so, if it is one.
-fn index_of(token: &str) -> Option<usize> {
+fn index_of(token: &str) -> Option<usize>
+    ensures { result ≡ index_in token.now }
+{
     if !begins_index(token.as_bytes()) {
         return None;
     }
@@ -78,7 +95,9 @@ fn index_of(token: &str) -> Option<usize> {
 }
 
 /// Whether it is `0` alone, or begins with a digit from 1 to 9.
-fn begins_index(token: &[u8]) -> bool {
+fn begins_index(token: &[u8]) -> bool
+    ensures { result ≡ begins_index token.now }
+{
     match token.first() {
         Some(b'0') => token.len() == 1,
         Some(first) => matches!(first, b'1'..=b'9'),
@@ -87,11 +106,14 @@ fn begins_index(token: &[u8]) -> bool {
 }
 
 /// The text of the value to which the steps lead.
-pub(crate) fn part_at<'t>(alloc: Global, text: &'t str, steps: &[Step<'_>]) -> Result<&'t str> {
+pub(crate) fn part_at<'t>(alloc: Global, text: &'t str, steps: &[Step<'_>]) -> Result<&'t str>
+    ensures part { IfOk result (λ part. Reaches (Val (chars part.now)) text.now steps.now) }
+    ensures refused { IfErr result (RefusesPath text.now steps.now) }
+{
     match find_place(alloc, text, steps) {
         Ok(Some(place)) => match text.get(place.start..place.end) {
             Some(part) => Ok(part),
-            None => Err(EditError::Nowhere),
+            None => unreachable!(),
         },
         Ok(None) => Err(EditError::Nowhere),
         Err(error) => Err(EditError::of_text(error)),

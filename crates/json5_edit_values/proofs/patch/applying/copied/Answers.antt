@@ -1,0 +1,13 @@
+use Rattle.std.proofs.Common.{refl, subst, sym, string_bytes}
+use Rattle.json5_edit.proofs.Placed.{ok_then}
+use Rattle.json5_edit_values.specs.Locations.{AreSteps}
+use Rattle.json5_edit_values.proofs.PatchesMade.{copied_to}
+use Rattle.json5_edit_values.proofs.patch.applying.copied.Goals as goal
+
+pub added-requires : goal.added-requires
+added-requires c = let r = c.in_ok-part.ensures.part in (r.value, r.such)
+
+pub returns : goal.returns
+returns c =
+    let are = subst (AreSteps c.args.from.now) (sym c.as_slice.ensures.value) c.in_ok-steps.ensures.steps in
+    ok_then c.added.result (λ made k. copied_to c.args.text.now c.in_ok-part.part.now c.args.from.now c.as_slice.result.now are c.in_ok-part.ensures.part c.in_ok-part.part refl c.args.path.now (string_bytes made) k) c.added.ensures

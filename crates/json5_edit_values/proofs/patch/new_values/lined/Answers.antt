@@ -1,0 +1,13 @@
+use Rattle.std.proofs.Common.{subst, sym}
+use Rattle.std.specs.Bool.{OnTrue}
+use Rattle.std.specs.Str.{chars}
+use Rattle.json5_grammar.specs.Language.Values.{Val}
+use Rattle.json5_edit.proofs.Placed.{ok_then}
+use Rattle.json5_edit_values.proofs.patch.new_values.lined.Goals as goal
+
+pub returns-then-lays_out : goal.returns-then-lays_out
+returns-then-lays_out c = λ v w.
+    subst (λ z. Val (chars z) v) c.as_str.ensures.value (subst (λ b. OnTrue b (Val (chars c.as_str.result.now) v)) c.if-lays_out.true (c.lays_out.ensures v w))
+
+pub returns : goal.returns
+returns c = λ v w. ok_then c.owned.result (λ made e. subst (λ z. Val (chars z) v) (sym e) w) c.owned.ensures
