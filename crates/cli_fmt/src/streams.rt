@@ -1,6 +1,6 @@
 //! One input, from a reader, and formatted to a writer.
 
-ghost use Rattle.std.specs.Prelude.{IfOk, IfErr, IfSome, OnOk};
+ghost use Rattle.std.specs.Prelude.{IfErr, IfSome, MatchResult, OnOk};
 ghost use Rattle.json5_write.specs.ValueTrees.{value_tree};
 ghost use Rattle.cli_files.specs.Inputs.{ReadFailure};
 ghost use Rattle.cli_fmt.specs.Runs.{HoldsValue, HoldsDocument, RunFailure, WritesFormatted, WritesLine};
@@ -58,8 +58,7 @@ pub fn check<R: Read>(alloc: Global, r: &mut R) -> Result<(), Failure>
 
 /// The value of all that is left of the reader. The input isn't kept.
 fn read_value<R: Read>(alloc: Global, r: &mut R) -> Result<Value, Failure>
-    ensures read { IfOk result (HoldsValue (R.remaining r.old)) }
-    ensures stopped { IfErr result (ReadFailure (R.remaining r.old)) }
+    ensures { MatchResult result (HoldsValue (R.remaining r.old)) (ReadFailure (R.remaining r.old)) }
 {
     let text = read_text(alloc, r)?;
     match read_document(alloc, text.as_str()) {
