@@ -1,5 +1,5 @@
 -- An enum by its variants, one plan: the name of each, and what is made of its content.
--- Private.
+-- A promise rests on this.
 use Rattle.std.specs.Prelude.{◌≡◌, ◌==◌, ◌+◌, if◌then◌else◌, ℕ, List, [], ◌∷◌, map, Option, Some, None, Result, IfOk}
 use Rattle.json5_grammar.specs.Language.Trees.{Tree}
 use Rattle.json5_types.specs.declared.error.Error.{Error}

@@ -1,5 +1,5 @@
 -- The steps of reading a value without its tree: what comes before and after the values in a bracket.
--- Private.
+-- A promise rests on this.
 use Rattle.std.specs.Prelude.{ℕ, suc, Bool, true, false, cond, ◌==◌, List, [], ◌∷◌, length, Option, Some, None}
 use Rattle.json5_grammar.specs.Language.Characters.{comma_sign}
 use Rattle.json5_grammar.specs.Faults.Codes.{EofParsingObject, ExpectedComma}
