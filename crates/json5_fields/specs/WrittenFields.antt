@@ -8,7 +8,7 @@ use Rattle.json5_ser.specs.WrittenTrees.{Written, Fields, field, named}
 use Rattle.json5_ser.specs.Writes.{SerializerState, WritesTree}
 use Rattle.json5_ser.specs.WrittenCollections.{serializer_of, reference_of, ExpectsKey}
 use Rattle.json5_ser.specs.declared.collection.SerializeCollection.{SerializeCollection}
-use Rattle.json5_ser.proofs.RemainingOutput.{Remains, fields}
+use Rattle.json5_ser.specs.RemainingOutput.{Remains, fields}
 
 -- a field of this name, before others
 abbrev pub field_named : List ℕ → Written → Fields → Fields

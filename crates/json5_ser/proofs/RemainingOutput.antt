@@ -1,4 +1,5 @@
--- What of a tree remains to be written in a collection.
+-- What of a tree remains to be written in a collection, step by step.
+pub use Rattle.json5_ser.specs.RemainingOutput.{Rest, elements, fields, value, is_of_list, is_value, rest_out, Remains}
 pub use Rattle.json5_write.proofs.OutputsJoined.{Wrote-at, RefusesBy-at, Refuses-at, Writes-at, then_assoc}
 use Rattle.std.proofs.Common.{◌≡◌, ℕ, ◌+◌, ◌-◌, [], ◌∷◌, Bool, true, false, Result, Ok, Err, refl, sym, ap, ◌∙◌, subst, arith}
 use Rattle.std.specs.Prelude.{⊤}
@@ -18,37 +19,6 @@ use Rattle.json5_write.specs.declared.brackets.Brackets.{Brackets}
 use Rattle.json5_write.specs.declared.brackets.Brackets.TheVariants as brackets
 use Rattle.json5_ser.specs.declared.collection.SerializeCollection.{SerializeCollection}
 use Rattle.json5_write.proofs.OutputsJoined.{Refuses-before, Writes-handed, Reaches, Reaches-refused, Reaches-first, Reaches-next, Reaches-last}
-
--- elements, fields, or the value of the key that was written last and the fields after it
-pub data Rest : Type 0 where
-  elements : Elements → Rest
-  fields : Fields → Rest
-  value : Written → Fields → Rest
-
-abbrev pub is_of_list : Rest → Bool
-is_of_list (elements ts) = true
-is_of_list (fields fs) = false
-is_of_list (value t fs) = false
-
-abbrev pub is_value : Rest → Bool
-is_value (elements ts) = false
-is_value (fields fs) = false
-is_value (value t fs) = true
-
--- its output in a collection within d others; the Bool says that something was written in it already
-abbrev pub rest_out : ℕ → Rest → ℕ → Bool → Out
-rest_out limit (elements ts) d started = elements_out limit ts d started
-rest_out limit (fields fs) d started = fields_out limit fs d started
-rest_out limit (value t fs) d started = value_part (out limit t (d + 1)) then fields_out limit fs d true
-
--- of the tree t, which was begun at `at`, this remains to be written in the collection, which holds the reference of this name
-pub record Remains {W : Type 0} (t : Written) (name : GName) (at : SerializerState) (c : SerializeCollection W) (r : Rest) : Type 0 where
-  pub same_reference : reference_of c ≡ name
-  pub reaches : Reaches (out at.limit t at.depth) at (at_depth at.depth (state_of c)) (within_variant (in_variant c) at.depth (rest_out at.limit r (inner (in_variant c) at.depth) (has_member c)))
-  pub depth : (state_of c).depth ≡ inner (in_variant c) at.depth + 1
-  pub limit : (state_of c).limit ≡ at.limit
-  pub list : is_list c ≡ is_of_list r
-  pub pending : key_pending c ≡ is_value r
 
 -- what closes a collection is refused, in a variant or not
 pub end_refused : (v : Bool) (d e : ℕ) (w : Out) (o n : SerializerState) (x : Error) → RefusesWrite w (at_depth e o) x n → RefusesWrite (within_variant v d w) (at_depth d o) x n

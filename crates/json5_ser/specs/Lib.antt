@@ -9,5 +9,6 @@ pub mod ValueTrees
 pub mod Brackets
 pub mod Stages
 pub mod WrittenCollections
+pub mod RemainingOutput
 pub mod WrittenKeys
 pub mod KeyLending

@@ -9,6 +9,7 @@ use Rattle.json5_types.specs.declared.error.Error.{Error}
 use Rattle.json5_types.specs.Errors.{FaultKind, kind_of, error_position}
 use Rattle.json5_write.specs.Out.{Out, Stop, whole, invalid_key, too_deep, no_number, followed_by, ◌then◌}
 use Rattle.json5_write.specs.Writes.{SerializerState, Wrote, Stopped, Broke, Refusal, by_key, by_depth, by_writer, by_refusal, by_none, refusal_of, RefusesBy, RefusesWrite, Writes, at_depth}
+pub use Rattle.json5_write.specs.Writes.{Reaches}
 
 pub after_whole : (a b : Out) → a.stop ≡ whole → a then b ≡ record { text = a.text ++ b.text; stop = b.stop }
 after_whole a b e = ap (λ s. followed_by a.text s b) e
@@ -94,11 +95,6 @@ Writes-handed w o n e (Err y) q p = subst (λ x. RefusesWrite w o x n) (sym q) p
 -- what a `?` forwards of a first part
 pub Writes-exit : {A : Type 0} (a b : Out) (o n : SerializerState) (e : Error) (r : Result A Error) → IsErrAnd r (λ y. y ≡ e) → RefusesWrite a o e n → Writes (a then b) o r n
 Writes-exit a b o n e r q p = Writes-handed (a then b) o n e r q (Refuses-before a b o n e p)
-
--- writing the rest completes the whole
-pub record Reaches (all : Out) (o m : SerializerState) (rest : Out) : Type 0 where
-  pub wrote : (n : SerializerState) → Wrote rest m n → Wrote all o n
-  pub refuses : (n : SerializerState) (r : Refusal) → RefusesBy rest m r n → RefusesBy all o r n
 
 pub Reaches-refused : (all rest : Out) (o m n : SerializerState) (e : Error) → Reaches all o m rest → RefusesWrite rest m e n → RefusesWrite all o e n
 Reaches-refused all rest o m n e h p = record { leaves = h.refuses n (refusal_of (kind_of e)) p.leaves; no_place = p.no_place }

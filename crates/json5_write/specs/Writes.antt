@@ -109,3 +109,8 @@ at_depth d s = record s { depth = d }
 -- the same with one bracket less open
 abbrev pub after_closing : SerializerState → SerializerState
 after_closing s = at_depth (s.depth - 1) s
+
+-- writing the rest completes the whole
+pub record Reaches (all : Out) (o m : SerializerState) (rest : Out) : Type 0 where
+  pub wrote : (n : SerializerState) → Wrote rest m n → Wrote all o n
+  pub refuses : (n : SerializerState) (r : Refusal) → RefusesBy rest m r n → RefusesBy all o r n

@@ -7,11 +7,12 @@ ghost use Rattle.json5_write.specs.ShortWrites.{MakesError, IsOfWriting, refusal
 
 use json5_types::ErrorCode;
 use json5_types::error::{Error, Result};
+use std::fmt;
 use std::io::{self, ErrorKind};
 
 /// Why a value wasn't written whole. It is small, so that the frame of a call that writes values holds no `Error`; `?` makes it the
 /// `Error` that says the same, without a position.
-#[derive(Clone, Copy)]
+#[derive(Clone, Copy, Debug)]
 pub enum Refused {
     /// A call was refused before.
     Before,
@@ -21,6 +22,14 @@ pub enum Refused {
     TooDeep,
     /// It was a key that can't be written.
     Key,
+}
+
+impl std::error::Error for Refused {}
+
+impl fmt::Display for Refused {
+    fn fmt<W: fmt::Write>(&self, f: &mut fmt::Formatter<W>) -> fmt::Result {
+        write!(f, "{}", Error::from(*self))
+    }
 }
 
 /// What a call returns that writes a piece or a value and makes no `Error`.
