@@ -84,7 +84,7 @@ pub trait Fields<I: Input>: Sized + Drop {
 }
 
 impl<I: Input> Deserializer<I> {
-    /// Reads the next key of an object as `read_member_key::<String>` does, and keeps its text. Says whether there was one, and
+    /// Reads the next key of an object as `next_key::<String>` does, and keeps its text. Says whether there was one, and
     /// puts into `start` how many bytes come before it. A key without an escape takes no memory.
     #[inline(always)]
     fn read_field_key(

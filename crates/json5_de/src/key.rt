@@ -211,36 +211,7 @@ impl<I: Input> Deserializer<I> {
         self.positioned_key(read, start)
     }
 
-    /// The next key of an object, or None if the closing brace is next.
-    #[inline(always)]
-    pub(crate) fn read_member_key<K: DeserializeKey<I>>(
-        &mut self,
-        comma_due: bool,
-    ) -> Result<Option<K>>
-        ensures { ReadsKeyOfMember K.content K.convert K.refuses comma_due self.old self.new result }
-    {
-        match self.advance_to_entry(BracketKind::Object, comma_due) {
-            Ok(true) => self.read_entry_key(),
-            Ok(false) => Ok(None),
-            Err(e) => Err(e),
-        }
-    }
-
-    /// The same as `read_entry_key`; the error of a refusal is left in `fault`.
-    #[inline(always)]
-    fn take_entry_key<K: DeserializeKey<I>>(&mut self, fault: &mut Error) -> Option<Option<K>>
-        ensures { ReadsKeyAtEntry K.content K.convert K.refuses self.old self.new (answered result fault.new) }
-    {
-        match self.read_entry_key::<K>() {
-            Ok(key) => Some(key),
-            Err(error) => {
-                *fault = error;
-                None
-            }
-        }
-    }
-
-    /// The same as `read_member_key`; the error of a refusal is left in `fault`.
+    /// Reads the next key of an object, or gives None if the closing brace is next. The error of a refusal is left in `fault`.
     #[inline(always)]
     pub(crate) fn take_member_key<K: DeserializeKey<I>>(
         &mut self,
@@ -250,7 +221,13 @@ impl<I: Input> Deserializer<I> {
         ensures { ReadsKeyOfMember K.content K.convert K.refuses comma_due self.old self.new (answered result fault.new) }
     {
         match self.take_step(BracketKind::Object, comma_due, fault) {
-            Some(true) => self.take_entry_key::<K>(fault),
+            Some(true) => match self.read_entry_key::<K>() {
+                Ok(key) => Some(key),
+                Err(error) => {
+                    *fault = error;
+                    None
+                }
+            },
             Some(false) => Some(None),
             None => None,
         }

@@ -14,8 +14,8 @@ use crate::key::DeserializeKey;
 use crate::stage::{AccessStage, Progress};
 use json5_read::brackets::BracketKind;
 use json5_tokens::input::Input;
-use json5_types::Position;
 use json5_types::error::{Error, Result};
+use json5_types::{ErrorCode, Position};
 use std::alloc::Global;
 
 /// The members of an object, one after another: a key, then its value.
@@ -117,20 +117,11 @@ impl<I: Input> Deserializer<I> {
         self.deserialize_map()
     }
 
-    /// A colon and the value after a key.
-    #[inline(always)]
-    fn read_member_value<V: Deserialize<I>>(&mut self) -> Result<V>
-        ensures reads { ReadsValueOfMember V.content V.convert V.refuses self.old self.new result }
-        ensures no_memory { CompletesFreeMemberValue V.convert V.allocation_free (bare_map self.old false true) result }
-    {
-        self.pass_colon()?;
-        V::deserialize(self)
-    }
-
-    /// The same as `read_member_value`; the error of a refusal is left in `fault`.
+    /// Reads a colon and the value after a key. The error of a refusal is left in `fault`.
     #[inline(always)]
     fn take_member_value<V: Deserialize<I>>(&mut self, fault: &mut Error) -> Option<V>
-        ensures { ReadsValueOfMember V.content V.convert V.refuses self.old self.new (answered result fault.new) }
+        ensures reads { ReadsValueOfMember V.content V.convert V.refuses self.old self.new (answered result fault.new) }
+        ensures no_memory { CompletesFreeMemberValue V.convert V.allocation_free (bare_map self.old false true) (answered result fault.new) }
     {
         match self.take_colon(fault) {
             Some(()) => match V::deserialize(self) {
@@ -177,14 +168,10 @@ impl<'a, I: Input> MapAccess<'a, I> {
         requires no_key { NoKeyPending self.old }
         ensures { ReadsNextKey K.content K.convert K.refuses self.old self.new result }
     {
-        self.de.set_failed(self.progress.failed);
-        match self.de.read_member_key(self.progress.stage.is_comma_due()) {
-            Ok(key) => {
-                self.de.set_failed(true);
-                self.progress.stage = self.progress.stage.with_key(key.is_some());
-                Ok(key)
-            }
-            Err(e) => Err(self.de.refuse_access(&mut self.progress, e)),
+        let mut fault = Error::new(ErrorCode::Failed);
+        match self.take_key::<K>(&mut fault) {
+            Some(key) => Ok(key),
+            None => Err(fault),
         }
     }
 
@@ -209,14 +196,10 @@ impl<'a, I: Input> MapAccess<'a, I> {
         ensures reads { ReadsNextValue V.content V.convert V.refuses self.old self.new result }
         ensures no_memory { ReadsValueFree V.convert V.allocation_free (map_state_of self.old) result }
     {
-        self.de.set_failed(self.progress.failed);
-        match self.de.read_member_value::<V>() {
-            Ok(value) => {
-                self.de.set_failed(true);
-                self.progress.stage = AccessStage::Started;
-                Ok(value)
-            }
-            Err(e) => Err(self.de.refuse_access(&mut self.progress, e)),
+        let mut fault = Error::new(ErrorCode::Failed);
+        match self.take_value::<V>(&mut fault) {
+            Some(value) => Ok(value),
+            None => Err(fault),
         }
     }
 
@@ -247,7 +230,8 @@ impl<'a, I: Input> MapAccess<'a, I> {
     #[inline(always)]
     pub(crate) fn take_value<V: Deserialize<I>>(&mut self, fault: &mut Error) -> Option<V>
         requires key { KeyPending self.old }
-        ensures { ReadsNextValue V.content V.convert V.refuses self.old self.new (answered result fault.new) }
+        ensures reads { ReadsNextValue V.content V.convert V.refuses self.old self.new (answered result fault.new) }
+        ensures no_memory { ReadsValueFree V.convert V.allocation_free (map_state_of self.old) (answered result fault.new) }
     {
         self.de.set_failed(self.progress.failed);
         match self.de.take_member_value::<V>(fault) {

@@ -16,8 +16,8 @@ use crate::de::{Deserialize, Deserializer};
 use crate::stage::Progress;
 use json5_read::brackets::BracketKind;
 use json5_tokens::input::Input;
-use json5_types::Position;
 use json5_types::error::{Error, Result};
+use json5_types::{ErrorCode, Position};
 use std::alloc::Global;
 
 /// The elements of an array, one after another.
@@ -57,23 +57,8 @@ impl<I: Input> Drop for SeqAccess<'_, I> {
 impl<I: Input> Deserializer<I> {
     ghost use Rattle.json5_de.specs.Lending.{OpensSeqAccess, lends_reader};
 
-    /// Reads the next element of an array, or returns None if the closing bracket is next.
-    #[inline(always)]
-    fn read_element<T: Deserialize<I>>(&mut self, comma_due: bool) -> Result<Option<T>>
-        ensures sound { IfOk result (λ o. GivesElement T.content T.convert (bare self.old comma_due) (bare self.new (comma_due || is_some o)) o) }
-        ensures complete { CompletesElement T.convert (bare self.old comma_due) result }
-        ensures closing { CompletesClose square (bare self.old comma_due) result }
-        ensures cause { IfErr result (λ e. RefusesElement T.refuses comma_due self.old e self.new) }
-        ensures steady { Steady self.old self.new result }
-    {
-        if self.advance_to_entry(BracketKind::Array, comma_due)? {
-            Ok(Some(T::deserialize(self)?))
-        } else {
-            Ok(None)
-        }
-    }
-
-    /// The same; the error of a refusal is left in `fault`.
+    /// Reads the next element of an array, or gives None if the closing bracket is next. The error of a refusal is left in
+    /// `fault`.
     #[inline(always)]
     fn take_element<T: Deserialize<I>>(
         &mut self,
@@ -185,14 +170,10 @@ impl<'a, I: Input> SeqAccess<'a, I> {
     pub fn next_element<T: Deserialize<I>>(&mut self) -> Result<Option<T>>
         ensures { ReadsNext T.content T.convert T.refuses self.old self.new result }
     {
-        self.de.set_failed(self.progress.failed);
-        match self.de.read_element(self.progress.stage.is_comma_due()) {
-            Ok(next) => {
-                self.de.set_failed(true);
-                self.progress.stage = self.progress.stage.with_element(next.is_some());
-                Ok(next)
-            }
-            Err(e) => Err(self.de.refuse_access(&mut self.progress, e)),
+        let mut fault = Error::new(ErrorCode::Failed);
+        match self.take_next::<T>(&mut fault) {
+            Some(next) => Ok(next),
+            None => Err(fault),
         }
     }
 

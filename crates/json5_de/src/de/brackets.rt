@@ -53,19 +53,8 @@ impl<I: Input> Deserializer<I> {
         Ok(start)
     }
 
-    /// Goes to the next element or member and returns true, or to the closing bracket and returns false.
-    #[inline(always)]
-    pub(crate) fn advance_to_entry(&mut self, kind: BracketKind, comma_due: bool) -> Result<bool>
-        ensures { Advances (brackets_of kind) comma_due self.old self.new result }
-    {
-        match self.short_step(kind, comma_due) {
-            ShortStep::Entry => Ok(true),
-            ShortStep::Closing => Ok(false),
-            ShortStep::Other => self.advance_slowly(kind, comma_due),
-        }
-    }
-
-    /// The same as `advance_to_entry`; the error of a refusal is left in `fault`.
+    /// Goes to the next element or member and gives true, or to the closing bracket and gives false. The error of a refusal is
+    /// left in `fault`.
     #[inline(always)]
     pub(crate) fn take_step(
         &mut self,
@@ -92,7 +81,7 @@ impl<I: Input> Deserializer<I> {
     ) -> Option<bool>
         ensures { Advances (brackets_of kind) comma_due self.old self.new (answered result fault.new) }
     {
-        match self.advance_slowly(kind, comma_due) {
+        match self.advance_to_entry(kind, comma_due) {
             Ok(more) => Some(more),
             Err(error) => {
                 *fault = error;
@@ -101,9 +90,9 @@ impl<I: Input> Deserializer<I> {
         }
     }
 
-    /// The same as `advance_to_entry`, whatever is in front.
+    /// Goes to the next element or member and returns true, or to the closing bracket and returns false, whatever is in front.
     #[inline(never)]
-    fn advance_slowly(&mut self, kind: BracketKind, comma_due: bool) -> Result<bool>
+    pub(crate) fn advance_to_entry(&mut self, kind: BracketKind, comma_due: bool) -> Result<bool>
         ensures { Advances (brackets_of kind) comma_due self.old self.new result }
     {
         self.check_not_failed()?;
@@ -166,20 +155,9 @@ impl<I: Input> Deserializer<I> {
         }
     }
 
-    /// Takes the colon after a key.
-    #[inline(always)]
-    pub(crate) fn pass_colon(&mut self) -> Result<()>
-        ensures { PassesColon self.old self.new result }
-    {
-        if self.short_colon() {
-            return Ok(());
-        }
-        self.pass_colon_slowly()
-    }
-
-    /// The same as `pass_colon`, whatever is in front.
+    /// Takes the colon after a key, whatever is in front.
     #[inline(never)]
-    fn pass_colon_slowly(&mut self) -> Result<()>
+    pub(crate) fn pass_colon(&mut self) -> Result<()>
         ensures { PassesColon self.old self.new result }
     {
         self.check_not_failed()?;
@@ -189,7 +167,7 @@ impl<I: Input> Deserializer<I> {
         }
     }
 
-    /// The same as `pass_colon`; the error of a refusal is left in `fault`.
+    /// Takes the colon after a key. The error of a refusal is left in `fault`.
     #[inline(always)]
     pub(crate) fn take_colon(&mut self, fault: &mut Error) -> Option<()>
         ensures { PassesColon self.old self.new (answered result fault.new) }
@@ -205,7 +183,7 @@ impl<I: Input> Deserializer<I> {
     fn take_colon_slowly(&mut self, fault: &mut Error) -> Option<()>
         ensures { PassesColon self.old self.new (answered result fault.new) }
     {
-        match self.pass_colon_slowly() {
+        match self.pass_colon() {
             Ok(()) => Some(()),
             Err(error) => {
                 *fault = error;

@@ -20,11 +20,11 @@ loop-next-preserved g c =
     let key = reads_key g.K.DeserializeKey.content g.V.Deserialize.content g.K.DeserializeKey.convert g.V.Deserialize.convert c.in-Some-next.key m.reading c.in-Some.ensures.access.start
     (rw c.in-Some-next.is at c.in-Some.ensures.read) (rw c.in-Some-next.is at c.in-Some.ensures.left) in
     record {
-      same_reference = c.in-Some-take_value.ensures.access.same_reference ∙ c.in-Some.ensures.access.same_reference ∙ m.same_reference;
+      same_reference = c.in-Some-take_value.ensures.reads.access.same_reference ∙ c.in-Some.ensures.access.same_reference ∙ m.same_reference;
       pairs = m.pairs ++ (c.in-Some-next.key, c.in-Some-take_value.value) ∷ [];
       gathered = c.in_ok-put.ensures.put m.pairs m.gathered;
-      reading = reads_value g.K.DeserializeKey.content g.V.Deserialize.content g.K.DeserializeKey.convert g.V.Deserialize.convert c.in-Some-next.key c.in-Some-take_value.value key refl c.in-Some-take_value.ensures.access.start
-          c.in-Some-take_value.ensures.read c.in-Some-take_value.ensures.left;
+      reading = reads_value g.K.DeserializeKey.content g.V.Deserialize.content g.K.DeserializeKey.convert g.V.Deserialize.convert c.in-Some-next.key c.in-Some-take_value.value key refl c.in-Some-take_value.ensures.reads.access.start
+          c.in-Some-take_value.ensures.reads.read c.in-Some-take_value.ensures.reads.left;
     }
 
 pub returns-in_err-map-clause-complete : goal.returns-in_err-map-clause-complete
@@ -40,13 +40,13 @@ pub returns-in_default-take_value-clause-complete : goal.returns-in_default-take
 returns-in_default-take_value-clause-complete g c =
     let key = reads_key g.K.DeserializeKey.content g.V.Deserialize.content g.K.DeserializeKey.convert g.V.Deserialize.convert c.in-Some-next.key c.loop-next.invariant.reading c.in-Some.ensures.access.start
     (rw c.in-Some-next.is at c.in-Some.ensures.read) (rw c.in-Some-next.is at c.in-Some.ensures.left) in
-    value_completes {U = Unit {0}} c.take_value.new.fault (Err c.take_value.new.fault) c.in-Some-next.key refl key c.in_default-take_value.ensures.left
+    value_completes {U = Unit {0}} c.take_value.new.fault (Err c.take_value.new.fault) c.in-Some-next.key refl key c.in_default-take_value.ensures.reads.left
 
 pub returns-in_default-take_value-clause-refused : goal.returns-in_default-take_value-clause-refused
 returns-in_default-take_value-clause-refused g c =
     let key = reads_key g.K.DeserializeKey.content g.V.Deserialize.content g.K.DeserializeKey.convert g.V.Deserialize.convert c.in-Some-next.key c.loop-next.invariant.reading c.in-Some.ensures.access.start
     (rw c.in-Some-next.is at c.in-Some.ensures.read) (rw c.in-Some-next.is at c.in-Some.ensures.left) in
-    value_faults {U = Unit {0}} (sides g.K.DeserializeKey.convert g.V.Deserialize.convert g.K.DeserializeKey.refuses g.V.Deserialize.refuses) c.take_value.new.fault (Err c.take_value.new.fault) _ c.in-Some-next.key refl key c.in_default-take_value.ensures.refused.cause (search rules)
+    value_faults {U = Unit {0}} (sides g.K.DeserializeKey.convert g.V.Deserialize.convert g.K.DeserializeKey.refuses g.V.Deserialize.refuses) c.take_value.new.fault (Err c.take_value.new.fault) _ c.in-Some-next.key refl key c.in_default-take_value.ensures.reads.refused.cause (search rules)
 
 pub returns-in_err-end-clause-complete : goal.returns-in_err-end-clause-complete
 returns-in_err-end-clause-complete g c =

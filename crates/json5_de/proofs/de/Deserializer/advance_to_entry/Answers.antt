@@ -9,7 +9,7 @@ use Rattle.json5_de.proofs.ReadSteps.{input_of}
 use Rattle.json5_de.proofs.TokenKinds.{refused_other}
 use Rattle.json5_de.proofs.BracketSteps.{nowhere}
 use Rattle.json5_de.proofs.ObjectMembers.{signs_of}
-use Rattle.json5_de.proofs.de.Deserializer.advance_slowly.Goals as goal
+use Rattle.json5_de.proofs.de.Deserializer.advance_to_entry.Goals as goal
 
 pub returns-in-Err : goal.returns-in-Err
 returns-in-Err g c =
