@@ -62,6 +62,29 @@ impl<'t> Json5<'t> {
         }
     }
 
+    /// The step to the first key of an object that is no struct's: an enum's, as a rule.
+    #[inline(never)]
+    fn first_key(&mut self, names: &[Name<'_>]) -> Step<Option<usize>> {
+        self.at_map = false;
+        let start = self.walk.offset();
+        if let Some(key) = self.walk.short_key() {
+            self.last = start;
+            return Ok(Some(self.found_name(names, key)));
+        }
+        self.long_next_key(names)
+    }
+
+    /// A step to a key that has no short way.
+    #[inline(never)]
+    fn long_next_key(&mut self, names: &[Name<'_>]) -> Step<Option<usize>> {
+        if self.short_end().is_some() || !self.goes_on(BracketKind::Object)? {
+            self.ended(names);
+            return Ok(None);
+        }
+        let key = self.key()?;
+        Ok(Some(self.found_name(names, key.as_str())))
+    }
+
     /// A text that has no short way.
     #[inline(never)]
     fn long_string(&mut self, alloc: Global) -> Step<String> {
@@ -94,6 +117,7 @@ impl<'t> Format for Json5<'t> {
         Ok(truth)
     }
 
+    #[inline(always)]
     fn i64(&mut self, _input: &[u8]) -> Step<i64> {
         if let Some(n) = self.short_whole(i64::MIN as i128, i64::MAX as i128) {
             if let Ok(n) = i64::try_from(n) {
@@ -103,6 +127,7 @@ impl<'t> Format for Json5<'t> {
         self.long_i64()
     }
 
+    #[inline(always)]
     fn u64(&mut self, _input: &[u8]) -> Step<u64> {
         if let Some(n) = self.short_whole(0, u64::MAX as i128) {
             if let Ok(n) = u64::try_from(n) {
@@ -167,6 +192,7 @@ impl<'t> Format for Json5<'t> {
         }
     }
 
+    #[inline(always)]
     fn string(&mut self, alloc: Global, _input: &[u8]) -> Step<String> {
         let Some(text) = self.short_text() else {
             return self.long_string(alloc);
@@ -225,7 +251,14 @@ impl<'t> Format for Json5<'t> {
         if self.at_key {
             return Ok(false);
         }
-        self.take_unit(input)
+        if self.take_unit(input)? {
+            return Ok(true);
+        }
+        if self.walk.peek().is_none() {
+            return Err(Fault::coded(ErrorCode::EofParsingValue, self.bracket()));
+        }
+        self.hold();
+        Ok(false)
     }
 
     fn begin_seq(&mut self, _input: &[u8]) -> Step<()> {
@@ -256,33 +289,37 @@ impl<'t> Format for Json5<'t> {
     }
 
     fn begin_map(&mut self, _input: &[u8]) -> Step<()> {
+        self.at_map = true;
         self.open(BracketKind::Object)
     }
 
     // A struct is an object alone.
-    fn begin_struct(&mut self, input: &[u8]) -> Step<bool> {
-        self.begin_map(input)?;
+    #[inline(always)]
+    fn begin_struct(&mut self, _input: &[u8]) -> Step<bool> {
+        self.at_map = false;
+        self.open(BracketKind::Object)?;
         Ok(false)
     }
 
     #[inline(always)]
     fn next_key(&mut self, _input: &[u8], names: &[Name<'_>]) -> Step<Option<usize>> {
-        if self.short_past() {
-            let start = self.walk.offset();
-            if let Some(key) = self.walk.short_key() {
-                self.last = start;
-                return Ok(Some(self.found(names, key)));
+        if !self.is_comma_due() {
+            if self.at_map {
+                return self.first_key(names);
             }
-        } else if self.short_end().is_some() {
-            self.ended(names);
-            return Ok(None);
+        } else if !self.walk.comma() {
+            if self.close() {
+                self.ended(names);
+                return Ok(None);
+            }
+            return self.long_next_key(names);
         }
-        if !self.goes_on(BracketKind::Object)? {
-            self.ended(names);
-            return Ok(None);
+        let start = self.walk.offset();
+        if let Some(key) = self.walk.short_key() {
+            self.last = start;
+            return Ok(Some(self.found(names, key)));
         }
-        let key = self.key()?;
-        Ok(Some(self.found_name(names, key.as_str())))
+        self.long_next_key(names)
     }
 
     fn next_entry(&mut self, _input: &[u8]) -> Step<bool> {
@@ -302,6 +339,7 @@ impl<'t> Format for Json5<'t> {
         if let Some(name) = self.short_text() {
             return Ok(self.found_variant(names, name));
         }
+        self.hold();
         let name = self.cow()?;
         Ok(self.found_variant(names, name.as_str()))
     }

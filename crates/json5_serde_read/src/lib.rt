@@ -13,6 +13,7 @@ mod fault;
 mod floats;
 mod format;
 mod messages;
+mod names;
 mod raw;
 mod read;
 mod reader;

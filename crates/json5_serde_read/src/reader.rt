@@ -4,6 +4,7 @@ ghost use Rattle.std.specs.Prelude.{OnOk};
 ghost use Rattle.json5_walk.specs.Walks.{IsDocumentWithin};
 
 use crate::fault::{Fault, Long, Saying, Wanted};
+use crate::names::find_name;
 use crate::texts::{is_of_digits, number_in};
 use json5_grammar::error_code::ErrorCode;
 use json5_read::brackets::BracketKind;
@@ -35,6 +36,8 @@ pub(crate) struct Json5<'t> {
     pub(crate) at_key: bool,
     /// Whether the text of the next value is asked for.
     pub(crate) at_raw: bool,
+    /// Whether an object that is no struct's was opened, and none of its keys is read yet.
+    pub(crate) at_map: bool,
     /// Where the last value or key begins, or the blanks before it.
     pub(crate) last: usize,
     /// Where the bracket begins that was closed last.
@@ -45,6 +48,9 @@ pub(crate) struct Json5<'t> {
     pub(crate) unknown: usize,
     /// Where the last value stands that named no variant. It may be the tag of an object, whose other keys are read after it.
     no_variant: usize,
+    /// Where the last value of an `Option`, or the last name of a variant, begins, or the blanks before it: a text that
+    /// ends in it is at fault there.
+    held: usize,
     /// Where an unknown name stands, or a bracket without a field, of which the fault is to tell more. Only a text that
     /// was refused is read for that; else it is `usize::MAX`.
     pub(crate) asked: usize,
@@ -69,11 +75,13 @@ impl<'t> Json5<'t> {
             is_full: false,
             at_key: false,
             at_raw: false,
+            at_map: false,
             last: 0,
             closed: 0,
             wanted: Wanted::Another,
             unknown: 0,
             no_variant: 0,
+            held: usize::MAX,
             asked: usize::MAX,
             field: None,
             expected: None,
@@ -134,46 +142,86 @@ impl<'t> Json5<'t> {
         }
     }
 
+    /// A fault of the walk's in a value or a key: where the text ends in one that is held, at its own place.
+    #[cold]
+    #[inline(never)]
+    fn broken(&self, error: Error) -> Fault {
+        let is_held = self.held != usize::MAX && self.past_blanks(self.held) == self.last;
+        match error.position() {
+            None if is_held => self.scanned(error.at(self.walk.position_of(self.last))),
+            _ => self.scanned(error),
+        }
+    }
+
+    /// Notes that a value or a name of a variant comes in which a text may end. What is looked at twice has no place of
+    /// its own.
+    #[inline(always)]
+    pub(crate) fn hold(&mut self) {
+        if self.marks.is_empty() {
+            self.held = self.walk.offset();
+        }
+    }
+
     /// What the walk took, or its fault.
     #[inline(always)]
     pub(crate) fn taken<T: Drop>(&self, answer: Result<T>) -> Step<T> {
         match answer {
             Ok(value) => Ok(value),
-            Err(error) => Err(self.scanned(error)),
+            Err(error) => Err(self.broken(error)),
         }
     }
 
     #[inline(always)]
     pub(crate) fn gap(&mut self) -> Step<()> {
         let answer = self.walk.gap();
-        self.taken(answer)
+        match answer {
+            Ok(()) => Ok(()),
+            Err(error) => Err(self.scanned(error)),
+        }
     }
 
-    /// Takes a colon, if one is next.
+    /// Takes a colon, if one is next. Most follow the key at once.
     #[inline(always)]
     pub(crate) fn past_colon(&mut self) {
         if let Next::Colon = self.walk.next() {
-            let _ = self.walk.short_colon();
+            if !self.walk.colon() {
+                self.far_colon();
+            }
         }
     }
 
-    /// Goes to the next member by a short way, and says whether one comes; None where there is no short way.
+    #[inline(never)]
+    fn far_colon(&mut self) {
+        let _ = self.walk.short_colon();
+    }
+
+    /// Goes to the next element by a short way, and says whether one comes; None where there is no short way.
     #[inline(always)]
     pub(crate) fn short_on(&mut self) -> Option<bool> {
         if self.is_comma_due() && !self.walk.comma() {
-            if let Some(comes) = self.short_end() {
-                return Some(comes);
-            }
-            if !self.walk.short_comma() {
-                return None;
-            }
+            return self.far_on();
         }
-        if let Some('0'..='9' | '"' | '\'' | '-' | '{' | '[' | 'a'..='z' | 'A'..='Z') = self
-            .walk
-            .peek()
-        {
-            return Some(true);
+        match self.walk.peek() {
+            Some('0'..='9' | '"' | '\'' | '-' | '{' | '[' | 'a'..='z' | 'A'..='Z') => Some(true),
+            _ => self.entry_or_end(),
         }
+    }
+
+    /// The same where a comma is due that isn't the next character.
+    #[inline(never)]
+    fn far_on(&mut self) -> Option<bool> {
+        if let Some(comes) = self.short_end() {
+            return Some(comes);
+        }
+        if !self.walk.short_comma() {
+            return None;
+        }
+        self.entry_or_end()
+    }
+
+    /// The same where no comma is due.
+    #[inline(never)]
+    fn entry_or_end(&mut self) -> Option<bool> {
         if let Some(comes) = self.short_end() {
             return Some(comes);
         }
@@ -184,25 +232,29 @@ impl<'t> Json5<'t> {
     }
 
     #[inline(always)]
-    fn is_comma_due(&self) -> bool {
+    pub(crate) fn is_comma_due(&self) -> bool {
         matches!(self.walk.next(), Next::Comma)
-    }
-
-    /// Takes the comma by a short way, if one is due, and says whether none is due any more. Most follow a value at once.
-    #[inline(always)]
-    pub(crate) fn short_past(&mut self) -> bool {
-        !self.is_comma_due() || self.walk.comma() || self.walk.short_comma()
     }
 
     /// Takes the closing bracket by a short way, and says that no member comes. Most have no blanks in front.
     #[inline(always)]
     pub(crate) fn short_end(&mut self) -> Option<bool> {
-        let bracket = match self.walk.close() {
-            Some(bracket) => bracket,
-            None => self.walk.short_close()?,
-        };
-        self.closed = bracket.start;
-        Some(false)
+        if self.close() || self.far_close() {
+            return Some(false);
+        }
+        None
+    }
+
+    /// Takes blanks and the closing bracket, and says whether it did.
+    #[inline(never)]
+    fn far_close(&mut self) -> bool {
+        match self.walk.short_close() {
+            Some(bracket) => {
+                self.closed = bracket.start;
+                true
+            }
+            None => false,
+        }
     }
 
     /// The first byte after ASCII blanks.
@@ -352,7 +404,7 @@ impl<'t> Json5<'t> {
     }
 
     /// Takes a key, and gives its text.
-    #[inline(always)]
+    #[inline(never)]
     pub(crate) fn key(&mut self) -> Step<CowStr<'t>> {
         self.gap()?;
         self.stand();
@@ -409,33 +461,32 @@ impl<'t> Json5<'t> {
     #[inline(always)]
     pub(crate) fn short_text(&mut self) -> Option<&'t str> {
         if self.at_key {
-            self.stand();
-            let key = self.walk.short_key()?;
-            self.at_key = false;
-            return Some(key);
+            return self.key_text();
         }
         self.past_colon();
         self.stand();
         self.walk.short_string()
     }
 
-    #[inline(always)]
-    pub(crate) fn open(&mut self, kind: BracketKind) -> Step<()> {
-        if self.short_open(kind) {
-            return Ok(());
-        }
-        self.open_slowly(kind)
+    #[inline(never)]
+    fn key_text(&mut self) -> Option<&'t str> {
+        self.stand();
+        let key = self.walk.short_key()?;
+        self.at_key = false;
+        Some(key)
     }
 
-    /// Opens a bracket after ASCII blanks, and says whether it did. Most have none in front.
+    /// Opens a bracket. Most have no blanks in front.
     #[inline(always)]
-    fn short_open(&mut self, kind: BracketKind) -> bool {
-        if self.at_key {
-            return false;
+    pub(crate) fn open(&mut self, kind: BracketKind) -> Step<()> {
+        if !self.at_key {
+            self.past_colon();
+            self.stand();
+            if self.walk.open(kind) {
+                return Ok(());
+            }
         }
-        self.past_colon();
-        self.stand();
-        self.walk.open(kind) || (self.short_begin() && self.walk.open(kind))
+        self.open_slowly(kind)
     }
 
     #[inline(never)]
@@ -550,14 +601,19 @@ impl<'t> Json5<'t> {
     pub(crate) fn found(&mut self, names: &[Name<'_>], key: &str) -> usize {
         let found = serde::find(names, key);
         if found == usize::MAX {
-            self.unknown = self.last;
-            if self.asked != usize::MAX {
-                self.note_names(names);
-            } else if names.is_empty() {
-                self.wanted = Wanted::Alone;
-            }
+            self.note_unknown(names);
         }
         found
+    }
+
+    #[inline(never)]
+    fn note_unknown(&mut self, names: &[Name<'_>]) {
+        self.unknown = self.last;
+        if self.asked != usize::MAX {
+            self.note_names(names);
+        } else if names.is_empty() {
+            self.wanted = Wanted::Alone;
+        }
     }
 
     #[cold]
@@ -568,10 +624,14 @@ impl<'t> Json5<'t> {
         }
     }
 
-    /// The same out of line: one search in line in each type is enough, and makes more searches fast.
+    /// The same where no call knows the names beforehand, as those of an enum.
     #[inline(never)]
     pub(crate) fn found_name(&mut self, names: &[Name<'_>], key: &str) -> usize {
-        self.found(names, key)
+        let found = find_name(names, key);
+        if found == usize::MAX {
+            self.note_unknown(names);
+        }
+        found
     }
 
     /// The same of a value that names a variant.
