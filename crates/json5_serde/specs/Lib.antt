@@ -1,3 +1,4 @@
--- Lists what contracts say of values that a type sends, and of bytes that it is read from.
+-- Lists what contracts say of values that a type sends, and of bytes and texts that it is read from.
 pub mod Bytes
+pub mod Spelled
 pub mod Values

@@ -14,6 +14,8 @@
 
 pub mod array;
 mod bytes;
+pub mod number;
+pub mod text;
 pub mod value;
 mod values;
 
