@@ -2,3 +2,5 @@
 pub mod ValuesSpelled
 pub mod Refused
 pub mod PatchesMade
+pub mod PathsJoined
+pub mod MergesMade

@@ -21,7 +21,6 @@ use Rattle.json5_read.specs.declared.brackets.BracketKind.TheVariants as kind
 use Rattle.json5_write.specs.EscapeFreeMarks.{unmarked}
 use Rattle.json5_write.specs.ValueTrees.{value_tree}
 use Rattle.json5_walk.specs.declared.place.Place.{Place}
-use Rattle.json5_walk.specs.Walks.{IsDocument}
 use Rattle.json5_edit.proofs.Placed.{ok_then, part_there, scalars_left, scalars_right}
 use Rattle.json5_edit.specs.Places.{HasPlace, Leads}
 use Rattle.json5_edit.specs.declared.faults.EditError.{EditError}
@@ -51,32 +50,19 @@ itself n = omega arith
 pub one_value : (x : List ℕ) (t u : Tree) → Val x t → Val x u → t ≡ u
 one_value x t u v w = one_tree (depth t) (depth u) x t u (alone (depth t) x t v (itself (depth t))) (alone (depth u) x u w (itself (depth u)))
 
+-- which is that of a document alone
+pub one_alone : (x : List ℕ) (t u : Tree) → Doc max_depth x t → Val x u → t ≡ u
+one_alone x t u d v = one_tree max_depth (depth u) x t u d (alone (depth u) x u v (itself (depth u)))
+
 pub one_document : (x : List ℕ) (t u : Tree) → Doc max_depth x t → Doc max_depth x u → t ≡ u
 one_document x t u = one_tree max_depth max_depth x t u
-
--- what was changed is a document
-pub document_made : (Change : Tree → Tree → Type 0) (bytes : List ℕ) (r : Result (String Global) EditError) → IfOk r (λ made. ChangesBy Change bytes (string_bytes made)) → IfOk r (λ made. IsDocument (string_bytes made))
-document_made Change bytes (Ok made) (t, u, d, e, k) = (u, e)
-document_made Change bytes (Err x) k = tt
-
-pub document_cut : (bytes made : List ℕ) (steps : List Step) → IsRemoved bytes steps made → IsDocument made
-document_cut bytes made steps (outer, s, is, c, cuts) = (put c.positions c.tree c.new_tree, c.still)
-
-pub document_left : (bytes : List ℕ) (steps : List Step) (r : Result (String Global) EditError) → IfOk r (λ made. IsRemoved bytes steps (string_bytes made)) → IfOk r (λ made. IsDocument (string_bytes made))
-document_left bytes steps (Ok made) (outer, s, is, c, cuts) = (put c.positions c.tree c.new_tree, c.still)
-document_left bytes steps (Err x) k = tt
-
-pub document_same : (bytes : List ℕ) (r : Result (String Global) EditError) → IsDocument bytes → IfOk r (λ made. string_bytes made ≡ bytes) → IfOk r (λ made. IsDocument (string_bytes made))
-document_same bytes (Ok made) d e = subst IsDocument (sym e) d
-document_same bytes (Err x) d e = tt
 
 braces_spelled : chars (codes "{}") ≡ codes "{}"
 unfolding chars
 braces_spelled = refl
 
-pub empty_document : IsDocument (123 ∷ 125 ∷ [])
-empty_document =
-    (object no_member, subst (λ z. Doc max_depth z (object no_member)) (sym braces_spelled) (alone max_depth (codes "{}") (object no_member) (is_empty_object empty) (omega arith)))
+pub empty_document : Doc max_depth (chars (codes "{}")) (object no_member)
+empty_document = subst (λ z. Doc max_depth z (object no_member)) (sym braces_spelled) (alone max_depth (codes "{}") (object no_member) (is_empty_object empty) (omega arith))
 
 -- ---- tokens
 

@@ -4,4 +4,5 @@ pub mod Trees
 pub mod Refusals
 pub mod Locations
 pub mod Patches
+pub mod Merges
 pub mod News

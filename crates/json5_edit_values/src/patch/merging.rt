@@ -1,5 +1,11 @@
 //! A merge patch (RFC 7396) that is made on a text.
 
+ghost use Rattle.std.specs.Prelude.{true, IfOk, string_bytes};
+ghost use Rattle.json5_types.specs.ValueMeanings.{value_of};
+ghost use Rattle.json5_edit.specs.Changes.{ChangesBy};
+ghost use Rattle.json5_edit_values.specs.Merges.{Merges};
+ghost use Rattle.json5_edit_values.specs.News.{IsMergedOf, IsTakenOut, JoinsMerged, LeadsSo, MergesFieldInto, MergesFieldsInto, MergesInto};
+
 use crate::patch::adding::{insert_at, set_at};
 use crate::patch::new_values::{New, owned};
 use crate::patch::steps::{further, is_object};
@@ -21,7 +27,9 @@ use std::alloc::Global;
 /// - `Text` with the fault of reading, if the text is no document.
 /// - `Value`, if a value is nested too deep for its place.
 /// - `NoMemory` where there is no memory for the text.
-pub fn merge_patch(alloc: Global, text: &str, patch: &Value) -> Result<String> {
+pub fn merge_patch(alloc: Global, text: &str, patch: &Value) -> Result<String>
+    ensures { IfOk result (λ made. ChangesBy (Merges (value_of patch.now)) text.now (string_bytes made)) }
+{
     merge_patch_in(alloc, Names::Quoted, text, patch)
 }
 
@@ -34,7 +42,9 @@ pub fn merge_patch(alloc: Global, text: &str, patch: &Value) -> Result<String> {
 /// # Errors
 ///
 /// As [`merge_patch`].
-pub fn merge_patch_in(alloc: Global, names: Names, text: &str, patch: &Value) -> Result<String> {
+pub fn merge_patch_in(alloc: Global, names: Names, text: &str, patch: &Value) -> Result<String>
+    ensures { IfOk result (λ new. ChangesBy (Merges (value_of patch.now)) text.now (string_bytes new)) }
+{
     match check_document(alloc, text) {
         Ok(()) => merged(alloc, names, text, &[], patch),
         Err(error) => Err(EditError::of_text(error)),
@@ -49,15 +59,16 @@ fn merged<'s>(
     text: &str,
     steps: &[Step<'s>],
     patch: &'s Value,
-) -> Result<String> {
-    let Value::Object(fields) = patch else {
+) -> Result<String>
+    ensures { IfOk result (λ made. ChangesBy (MergesInto patch.now steps.now) text.now (string_bytes made)) }
+{
+    let Some(fields) = patch.as_object() else {
         return set_at(alloc, text, steps, New::Value(patch));
     };
     if is_object(alloc, text, steps)? {
         return merged_fields(alloc, names, text, steps, fields);
     }
-    let made = merged_fields(alloc, names, "{}", &[], fields)?;
-    let new = value_in(alloc, made.as_str())?;
+    let new = merged_anew(alloc, names, fields)?;
     set_at(alloc, text, steps, New::Value(&new))
 }
 
@@ -69,53 +80,85 @@ fn merged_fields<'s>(
     text: &str,
     steps: &[Step<'s>],
     fields: &'s [(String, Value)],
-) -> Result<String> {
+) -> Result<String>
+    ensures { LeadsSo true text.now steps.now → IfOk result (λ made. ChangesBy (MergesFieldsInto fields.now steps.now) text.now (string_bytes made)) }
+{
     let mut made = owned(alloc, text)?;
     for (key, value) in fields {
-        let path = further(alloc, steps, Step::Key(key.as_str()))?;
-        made = match (value, leads(alloc, made.as_str(), path.as_slice())?) {
-            (Value::Null, true) => remove(alloc, made.as_str(), path.as_slice())?,
-            (Value::Null, false) => made,
-            (_, true) => merged(alloc, names, made.as_str(), path.as_slice(), value)?,
-            (Value::Object(inner), false) => {
-                let fresh = merged_fields(alloc, names, "{}", &[], inner)?;
-                let new = value_in(alloc, fresh.as_str())?;
-                joined(alloc, names, made.as_str(), path.as_slice(), &new)?
-            }
-            (_, false) => joined(alloc, names, made.as_str(), path.as_slice(), value)?,
-        };
+        made = merged_field(alloc, names, made.as_str(), steps, key.as_str(), value)?;
     }
     Ok(made)
 }
 
-/// Whether the steps lead somewhere.
-fn leads(alloc: Global, text: &str, steps: &[Step<'_>]) -> Result<bool> {
-    match find(alloc, text, steps) {
-        Ok(span) => Ok(span.is_some()),
-        Err(error) => Err(EditError::of_text(error)),
+/// The text with a member merged into the object to which the steps lead.
+#[cycle(merged)]
+fn merged_field<'s>(
+    alloc: Global,
+    names: Names,
+    text: &str,
+    steps: &[Step<'s>],
+    key: &'s str,
+    value: &'s Value,
+) -> Result<String>
+    ensures { LeadsSo true text.now steps.now → IfOk result (λ made. ChangesBy (MergesFieldInto key.now value.now steps.now) text.now (string_bytes made)) }
+{
+    let path = further(alloc, steps, Step::Key(key))?;
+    if value.is_null() {
+        return taken_out(alloc, text, path.as_slice());
     }
+    if leads(alloc, text, path.as_slice())? {
+        return merged(alloc, names, text, path.as_slice(), value);
+    }
+    joined(alloc, names, text, steps, key, value)
 }
 
-/// The text with the value as a member more, to which the last step goes.
+/// The text with what the value makes of nothing as a member more of the object to which the steps lead.
+#[cycle(merged)]
 fn joined(
     alloc: Global,
     names: Names,
     text: &str,
     steps: &[Step<'_>],
+    key: &str,
     value: &Value,
-) -> Result<String> {
-    match steps.split_last() {
-        Some((Step::Key(key), outer)) => {
-            insert_at(alloc, text, outer, key, New::Value(value), names)
-        }
-        _ => Err(EditError::NoKey),
+) -> Result<String>
+    ensures { IfOk result (λ made. ChangesBy (JoinsMerged key.now value.now steps.now) text.now (string_bytes made)) }
+{
+    let Some(fields) = value.as_object() else {
+        return insert_at(alloc, text, steps, key, New::Value(value), names);
+    };
+    let new = merged_anew(alloc, names, fields)?;
+    insert_at(alloc, text, steps, key, New::Value(&new), names)
+}
+
+/// What the members make of an empty object.
+#[cycle(merged)]
+fn merged_anew(alloc: Global, names: Names, fields: &[(String, Value)]) -> Result<Value>
+    ensures { IfOk result (IsMergedOf fields.now) }
+{
+    let made = merged_fields(alloc, names, "{}", &[], fields)?;
+    match read_document(alloc, made.as_str()) {
+        Ok(new) => Ok(new),
+        Err(_) => Err(EditError::NoMemory),
     }
 }
 
-/// The value of a text.
-fn value_in(alloc: Global, text: &str) -> Result<Value> {
-    match read_document(alloc, text) {
-        Ok(value) => Ok(value),
-        Err(_) => Err(EditError::NoMemory),
+/// The text without the entry to which the path leads, if it is there.
+fn taken_out(alloc: Global, text: &str, path: &[Step<'_>]) -> Result<String>
+    ensures { IfOk result (λ made. IsTakenOut text.now path.now (string_bytes made)) }
+{
+    if leads(alloc, text, path)? {
+        return remove(alloc, text, path);
+    }
+    owned(alloc, text)
+}
+
+/// Whether the steps lead somewhere.
+fn leads(alloc: Global, text: &str, steps: &[Step<'_>]) -> Result<bool>
+    ensures { IfOk result (λ is_there. LeadsSo is_there text.now steps.now) }
+{
+    match find(alloc, text, steps) {
+        Ok(span) => Ok(span.is_some()),
+        Err(error) => Err(EditError::of_text(error)),
     }
 }

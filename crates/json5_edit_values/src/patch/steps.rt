@@ -7,6 +7,7 @@ ghost use Rattle.json5_types.specs.Pointers.{begins_index, index_in};
 ghost use Rattle.json5_edit.specs.Refusals.{Reaches, RefusesPath};
 ghost use Rattle.json5_edit.specs.declared.faults.EditError.TheVariants as edit_errors;
 ghost use Rattle.json5_edit_values.specs.Locations.{AreSteps, IsStep};
+ghost use Rattle.json5_edit_values.specs.News.{LeadsToObject};
 
 use json5_edit::{EditError, Result, Step, find_place};
 use json5_read::read_document;
@@ -62,7 +63,9 @@ pub(crate) fn is_array(alloc: Global, text: &str, steps: &[Step<'_>]) -> Result<
 }
 
 /// Whether the steps lead to an object.
-pub(crate) fn is_object(alloc: Global, text: &str, steps: &[Step<'_>]) -> Result<bool> {
+pub(crate) fn is_object(alloc: Global, text: &str, steps: &[Step<'_>]) -> Result<bool>
+    ensures { IfOk result (λ is_object. LeadsToObject is_object text.now steps.now) }
+{
     let part = part_at(alloc, text, steps)?;
     match read_document(alloc, part) {
         Ok(value) => Ok(value.as_object().is_some()),
@@ -75,7 +78,9 @@ pub(crate) fn further<'s>(
     alloc: Global,
     steps: &[Step<'s>],
     step: Step<'s>,
-) -> Result<Vec<Step<'s>>> {
+) -> Result<Vec<Step<'s>>>
+    ensures { IfOk result (λ path. path.items ≡ steps.now ++ step.entry ∷ []) }
+{
     let mut path = Vec::new(alloc);
     for outer in steps {
         push_step(&mut path, *outer)?;
