@@ -40,8 +40,8 @@ pub fn tidy(alloc: Global, text: &str) -> Result<String>
 ///
 /// A text with a comment `json5-tidy-ignore-file` before its value is returned as it is.
 ///
-/// What was laid out is read again: where it weren't such a document, the answer would be a copy of the text. No test
-/// has met that.
+/// What was laid out is read again, unless it is the text: where it weren't such a document, the answer would be a copy
+/// of the text. No test has met that.
 ///
 /// ```text
 /// let style = Style { last_commas: LastCommas::Always, ..Style::usual() };
@@ -74,6 +74,9 @@ fn laid_out_document(alloc: Global, style: Style, text: &str) -> Result<String>
     let Ok(bytes) = laid_out(alloc, spacing, text.as_bytes()) else {
         return Err(Error::new(ErrorCode::OutOfMemory));
     };
+    if bytes.as_slice() == text.as_bytes() {
+        return copied(alloc, text);
+    }
     let Ok(tidy) = String::from_utf8(bytes) else {
         return copied(alloc, text);
     };

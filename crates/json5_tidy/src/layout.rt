@@ -9,7 +9,11 @@ mod columns;
 mod entries;
 mod lexemes;
 mod lines;
+mod made;
+mod measure;
+mod on_line;
 mod printer;
+mod runs;
 mod spacing;
 
 pub use asks::leaves_text;

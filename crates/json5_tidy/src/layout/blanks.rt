@@ -21,7 +21,9 @@ pub(crate) fn blank_len(bytes: &[u8], at: usize) -> usize
 
 /// The byte at this index; 0 past the end.
 #[inline(always)]
-pub(crate) fn byte_at(bytes: &[u8], at: usize) -> u8 {
+pub(crate) fn byte_at(bytes: &[u8], at: usize) -> u8
+    ensures { 0 < result → at < length bytes.now }
+{
     if at < bytes.len() { bytes[at] } else { 0 }
 }
 

@@ -3,7 +3,7 @@
 ghost use Rattle.std.specs.Prelude.{◌≤◌, length};
 ghost use Rattle.json5_tidy.specs.Lexemes.{IsWithin};
 
-use crate::layout::lexemes::{Kind, Lexeme, lexeme_at};
+use crate::layout::lexemes::{Kind, Lexeme, after_blanks, kind_and_end, lexeme_at};
 
 /// Whether an element or a member follows before the closing bracket.
 pub(crate) fn has_entry(bytes: &[u8], from: usize) -> bool
@@ -11,14 +11,13 @@ pub(crate) fn has_entry(bytes: &[u8], from: usize) -> bool
 {
     let mut at = from;
     loop {
-        let next = lexeme_at(bytes, at);
-        if next.is_end() {
+        let (start, _) = after_blanks(bytes, at);
+        if start >= bytes.len() {
             return false;
         }
-        match next.kind {
-            Kind::Close => return false,
-            Kind::Line | Kind::Block | Kind::Comma => at = next.end,
-            _ => return true,
+        match bytes[start] {
+            b'/' | b',' => at = kind_and_end(bytes, start).1,
+            byte => return !matches!(byte, b']' | b'}'),
         }
     }
 }

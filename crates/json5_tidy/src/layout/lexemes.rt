@@ -3,7 +3,9 @@
 ghost use Rattle.std.specs.Prelude.{◌≡◌, ◌≤◌, ◌<◌, length};
 ghost use Rattle.json5_tidy.specs.Lexemes.{IsLexeme, EndsWithin, is_end};
 
-use crate::layout::blanks::{blank_len, line_end_len};
+use crate::layout::blanks::{blank_len, byte_at, line_end_len};
+use crate::layout::runs::{line_len, spaces_len, string_len, word_len};
+use memchr::{memchr, memchr2};
 
 /// What kind of lexeme it is.
 #[derive(Clone, Copy, Debug, Drop)]
@@ -72,7 +74,7 @@ pub(crate) fn lexeme_at(bytes: &[u8], from: usize) -> Lexeme
 
 /// Where the blanks in front end, and how many line ends they hold.
 #[inline(always)]
-fn after_blanks(bytes: &[u8], from: usize) -> (usize, usize)
+pub(crate) fn after_blanks(bytes: &[u8], from: usize) -> (usize, usize)
     requires { from ≤ length bytes.now }
     ensures from { from ≤ result.0 }
     ensures within { result.0 ≤ length bytes.now }
@@ -86,6 +88,9 @@ fn after_blanks(bytes: &[u8], from: usize) -> (usize, usize)
         }
         if byte == b' ' {
             at += 1;
+            if byte_at(bytes, at) == b' ' {
+                at += spaces_len(&bytes[at..]);
+            }
             continue;
         }
         let line = line_end_len(bytes, at);
@@ -105,7 +110,7 @@ fn after_blanks(bytes: &[u8], from: usize) -> (usize, usize)
 
 /// The kind of the lexeme at this offset, where it ends, and whether an LF or a CR is in it.
 #[inline(always)]
-fn kind_and_end(bytes: &[u8], at: usize) -> (Kind, usize, bool)
+pub(crate) fn kind_and_end(bytes: &[u8], at: usize) -> (Kind, usize, bool)
     requires { at < length bytes.now }
     ensures { EndsWithin bytes.now at result.1 }
 {
@@ -150,20 +155,26 @@ fn string_and_end(bytes: &[u8], from: usize) -> (Kind, usize, bool)
     let mut at = from + 1;
     let mut is_broken = false;
     while at < bytes.len() {
-        let byte = bytes[at];
-        at += 1;
-        if byte >= b'a' && byte <= b'z' {
-            continue;
+        at += string_len(quote, &bytes[at..]);
+        if byte_at(bytes, at) != b'\\' {
+            return (Kind::Word, past(bytes, at), is_broken);
         }
-        if byte == quote {
-            return (Kind::Word, at, is_broken);
-        }
-        if byte == b'\\' && at < bytes.len() {
-            is_broken = is_broken || is_break(bytes[at]);
-            at += 1;
-        }
+        at = past(bytes, at);
+        is_broken = is_broken || is_break(byte_at(bytes, at));
+        at = past(bytes, at);
     }
     (Kind::Word, at, is_broken)
+}
+
+/// The next offset, if there is one.
+#[inline(always)]
+fn past(bytes: &[u8], at: usize) -> usize
+    requires { at ≤ length bytes.now }
+    ensures from { at ≤ result }
+    ensures within { result ≤ length bytes.now }
+    ensures progress { at < length bytes.now → at < result }
+{
+    if at < bytes.len() { at + 1 } else { at }
 }
 
 /// Where the `//` comment at this offset ends, without the blanks at its end.
@@ -171,24 +182,28 @@ fn line_comment_end(bytes: &[u8], from: usize) -> usize
     requires { from < length bytes.now }
     ensures { EndsWithin bytes.now from result }
 {
-    let mut at = from + 1;
-    let mut end = at;
-    while at < bytes.len() {
-        if bytes[at] > b' ' && bytes[at] < 128 {
-            at += 1;
-            end = at;
-            continue;
-        }
-        if line_end_len(bytes, at) > 0 {
-            return end;
-        }
-        let is_blank = blank_len(bytes, at) == 1;
-        at += 1;
-        if !is_blank {
-            end = at;
-        }
+    let mut end = line_end_after(bytes, from + 1);
+    while end > from + 1 && matches!(bytes[end - 1], b' ' | 9..=13) {
+        end -= 1;
     }
     end
+}
+
+/// Where the first line end from this offset on begins.
+fn line_end_after(bytes: &[u8], from: usize) -> usize
+    requires { from ≤ length bytes.now }
+    ensures from { from ≤ result }
+    ensures within { result ≤ length bytes.now }
+{
+    let mut at = from;
+    while at < bytes.len() {
+        at += line_len(&bytes[at..]);
+        if line_end_len(bytes, at) > 0 {
+            return at;
+        }
+        at = past(bytes, at);
+    }
+    at
 }
 
 /// The same of a `/* */` comment.
@@ -196,21 +211,24 @@ fn block_and_end(bytes: &[u8], from: usize) -> (Kind, usize, bool)
     requires { from < length bytes.now }
     ensures { EndsWithin bytes.now from result.1 }
 {
-    let mut at = from + 1;
-    let mut is_open = false;
-    let mut is_star = false;
-    let mut is_broken = false;
-    while at < bytes.len() {
-        let byte = bytes[at];
-        at += 1;
-        if byte == b'/' && is_star {
-            return (Kind::Block, at, is_broken);
+    let end = block_end(bytes, from);
+    let is_broken = memchr2(b'\n', b'\r', &bytes[from..end]).is_some();
+    (Kind::Block, end, is_broken)
+}
+
+/// Where the `/* */` comment at this offset ends.
+fn block_end(bytes: &[u8], from: usize) -> usize
+    requires { from < length bytes.now }
+    ensures { EndsWithin bytes.now from result }
+{
+    let mut at = past(bytes, from + 1);
+    while let Some(star) = memchr(b'*', &bytes[at..]) {
+        at += star + 1;
+        if byte_at(bytes, at) == b'/' {
+            return past(bytes, at);
         }
-        is_broken = is_broken || is_break(byte);
-        is_star = byte == b'*' && is_open;
-        is_open = true;
     }
-    (Kind::Block, at, is_broken)
+    bytes.len()
 }
 
 /// Where a number, a literal or a name ends: before a blank, a sign of punctuation, a quote or a slash.
@@ -221,40 +239,11 @@ fn word_end(bytes: &[u8], from: usize) -> usize
 {
     let mut at = from + 1;
     while at < bytes.len() {
-        let byte = bytes[at];
-        if byte >= b'a' && byte <= b'z' {
-            at += 1;
-            continue;
-        }
-        if byte < 128 && ends_word(byte) {
+        at += word_len(&bytes[at..]);
+        if byte_at(bytes, at) < 128 || blank_len(bytes, at) > 0 {
             return at;
         }
-        if byte >= 128 && blank_len(bytes, at) > 0 {
-            return at;
-        }
-        at += 1;
+        at = past(bytes, at);
     }
     at
-}
-
-/// Whether this byte below 128 is in no word.
-#[inline(always)]
-fn ends_word(byte: u8) -> bool {
-    matches!(
-        byte,
-        b'[' | b']'
-            | b'{'
-            | b'}'
-            | b':'
-            | b','
-            | b'"'
-            | b'\''
-            | b'/'
-            | b' '
-            | b'\t'
-            | b'\n'
-            | b'\r'
-            | 11
-            | 12
-    )
 }

@@ -3,9 +3,15 @@
 ghost use Rattle.std.specs.Prelude.{◌≤◌, length};
 
 use crate::layout::lexemes::lexeme_at;
+use memchr::memchr;
 
 /// Whether the first line end between lexemes is CR LF.
 pub(crate) fn has_crlf(bytes: &[u8]) -> bool {
+    memchr(b'\r', bytes).is_some() && begins_with_crlf(bytes)
+}
+
+/// The same, lexeme by lexeme.
+fn begins_with_crlf(bytes: &[u8]) -> bool {
     let mut at = 0;
     loop {
         let lexeme = lexeme_at(bytes, at);

@@ -4,18 +4,14 @@ ghost use Rattle.std.specs.Prelude.{◌≤◌, ◌<◌, IfOk, length};
 ghost use Rattle.json5_tidy.specs.Lexemes.{IsPast, IsWithin};
 
 use crate::layout::asks::is_ignore;
-use crate::layout::columns::{columns, fits, tabs_in_front};
+use crate::layout::columns::columns;
 use crate::layout::entries::{ends_line, entry_end, has_entry, is_in_rows};
 use crate::layout::lexemes::{Kind, Lexeme, lexeme_at};
-use crate::layout::lines::{has_crlf, line_start};
+use crate::layout::lines::has_crlf;
+use crate::layout::made::Made;
+use crate::layout::on_line::put_in_line;
 use crate::layout::spacing::Spacing;
 use std::alloc::{AllocError, Global};
-
-/// How many columns a tab has.
-const TAB: usize = 4;
-
-/// Spaces for the indentation of a line.
-const SPACES: [u8; 64] = [b' '; 64];
 
 /// Where a lexeme is.
 #[derive(Clone, Copy, Drop)]
@@ -30,17 +26,6 @@ enum Place {
     Ended,
 }
 
-/// How a collection is laid out.
-#[derive(Clone, Copy, Drop)]
-enum Shape {
-    /// On one line.
-    InLine,
-    /// Each entry is on a line of its own.
-    Lines,
-    /// Words alone, as many on a line as there were, and as fit.
-    Rows,
-}
-
 /// Whether an entry follows the value that ended.
 #[derive(Clone, Copy, Drop)]
 enum Next {
@@ -49,7 +34,7 @@ enum Next {
     NoEntry,
 }
 
-/// A collection, or the document itself.
+/// A collection over several lines, or the document itself.
 #[derive(Clone, Copy, Drop)]
 struct Frame {
     /// The level of the line that its opening bracket is on.
@@ -58,7 +43,9 @@ struct Frame {
     inner: usize,
     is_document: bool,
     is_object: bool,
-    shape: Shape,
+    /// Whether it is of words alone, as many on a line as there were, and as fit. Else each entry is on a line of its
+    /// own.
+    is_in_rows: bool,
 }
 
 #[derive(Drop)]
@@ -68,14 +55,14 @@ struct Printer {
     is_crlf: bool,
     frames: Vec<Frame>,
     frame: Frame,
-    out: Vec<u8>,
-    /// Where the current line begins in `out`.
-    line: usize,
+    made: Made,
     /// The level of the current line.
     level: usize,
     place: Place,
     /// The last lexeme that was written; `End` if none was.
     last: Kind,
+    /// Whether a comma was passed that is to be written if an entry follows.
+    comma_due: bool,
     /// Line ends before and after a comma that wasn't written where it was.
     lines: usize,
     next: Next,
@@ -99,8 +86,7 @@ pub fn laid_out(alloc: Global, style: Spacing, bytes: &[u8]) -> Result<Vec<u8>, 
     loop {
         let lexeme = lexeme_at(bytes, at);
         if lexeme.is_end() {
-            printer.line_end()?;
-            return Ok(printer.out);
+            return printer.made.finish(bytes, printer.is_crlf);
         }
         at = printer.put(bytes, lexeme)?;
     }
@@ -117,49 +103,143 @@ impl Printer {
             inner: 0,
             is_document: true,
             is_object: false,
-            shape: Shape::Lines,
+            is_in_rows: false,
         };
         Ok(Printer {
             style,
             is_crlf: has_crlf(bytes),
             frames: Vec::new(alloc),
             frame: document,
-            out: Vec::with_capacity(alloc, room)?,
-            line: 0,
+            made: Made::new(alloc, room)?,
             level: 0,
             place: Place::Entry,
             last: Kind::End,
+            comma_due: false,
             lines: 0,
             next: Next::NotSought,
             is_ignored: false,
         })
     }
 
-    /// Writes a lexeme, or the whole entry that begins with it if that is left as it is. Returns where what it wrote
-    /// ends.
+    /// Writes a lexeme, or the whole collection or entry that begins with it, if the first is on one line and the
+    /// second left as it is. Returns where what it wrote ends.
+    #[inline(always)]
     fn put(&mut self, bytes: &[u8], lexeme: Lexeme) -> Result<usize, AllocError>
         requires inside { IsWithin bytes.now lexeme }
         requires some { lexeme.start < lexeme.end }
         ensures { IfOk result (IsPast bytes.now lexeme) }
     {
-        let lines = lexeme.lines.saturating_add(self.lines);
-        if matches!(lexeme.kind, Kind::Comma) {
-            self.put_comma(bytes, lexeme.end, lines)?;
-            return Ok(lexeme.end);
+        match lexeme.kind {
+            Kind::Comma => self.put_comma(bytes, lexeme.lines)?,
+            Kind::Colon => self.put_colon(bytes, lexeme)?,
+            Kind::Close => self.put_close(bytes, lexeme)?,
+            Kind::Line | Kind::Block => self.put_comment(bytes, lexeme)?,
+            Kind::Open => return self.put_open(bytes, lexeme),
+            _ => return self.put_word(bytes, lexeme),
         }
-        self.lines = 0;
-        if self.is_left(lexeme.kind) {
-            return self.put_as_it_is(bytes, lexeme, lines);
-        }
-        self.put_before(bytes, lexeme, lines)?;
-        self.put_text(bytes, lexeme)?;
         Ok(lexeme.end)
     }
 
-    /// Whether the lexeme begins an entry that is left as it is.
     #[inline(always)]
-    fn is_left(&self, kind: Kind) -> bool {
-        self.is_ignored && matches!(kind, Kind::Word | Kind::Open)
+    fn put_colon(&mut self, bytes: &[u8], colon: Lexeme) -> Result<(), AllocError> {
+        if matches!(self.last, Kind::Line) {
+            self.start_line(bytes, self.frame.inner.saturating_add(1))?;
+        }
+        self.place = Place::Value;
+        self.part(bytes, colon)
+    }
+
+    fn put_close(&mut self, bytes: &[u8], close: Lexeme) -> Result<(), AllocError> {
+        self.comma_due = false;
+        self.lines = 0;
+        self.is_ignored = false;
+        if !matches!(self.last, Kind::Open) {
+            if matches!(self.place, Place::Ended) && self.style.last_comma {
+                self.comma(bytes)?;
+            }
+            self.start_line(bytes, self.frame.outer)?;
+        }
+        self.close();
+        self.part(bytes, close)
+    }
+
+    fn put_comment(&mut self, bytes: &[u8], comment: Lexeme) -> Result<(), AllocError>
+        requires { IsWithin bytes.now comment }
+    {
+        let is_followed = self.comma_due && self.is_followed(bytes, comment.end);
+        let lines = self.lines_before(bytes, comment.lines, is_followed)?;
+        self.before_comment(bytes, comment, lines)?;
+        self.part(bytes, comment)?;
+        self.note_lines(bytes, comment)
+    }
+
+    /// Writes a word, or the whole entry that begins with it if that is left as it is. Returns where it ends.
+    #[inline(always)]
+    fn put_word(&mut self, bytes: &[u8], word: Lexeme) -> Result<usize, AllocError>
+        requires inside { IsWithin bytes.now word }
+        requires some { word.start < word.end }
+        ensures { IfOk result (IsPast bytes.now word) }
+    {
+        let lines = self.lines_before(bytes, word.lines, self.comma_due)?;
+        if self.is_ignored {
+            return self.put_as_it_is(bytes, word, lines);
+        }
+        self.before_word(bytes, word, lines)?;
+        self.end_word();
+        self.part(bytes, word)?;
+        self.note_lines(bytes, word)?;
+        Ok(word.end)
+    }
+
+    /// Writes an opening bracket, and the whole collection that begins with it if that is on one line or left as it is.
+    /// Returns where what was written ends.
+    fn put_open(&mut self, bytes: &[u8], bracket: Lexeme) -> Result<usize, AllocError>
+        requires inside { IsWithin bytes.now bracket }
+        requires some { bracket.start < bracket.end }
+        ensures { IfOk result (IsPast bytes.now bracket) }
+    {
+        let lines = self.lines_before(bytes, bracket.lines, self.comma_due)?;
+        if self.is_ignored {
+            return self.put_as_it_is(bytes, bracket, lines);
+        }
+        self.before_word(bytes, bracket, lines)?;
+        self.part(bytes, bracket)?;
+        self.open(bytes, bracket)
+    }
+
+    /// Writes the lexeme.
+    #[inline(always)]
+    fn part(&mut self, bytes: &[u8], lexeme: Lexeme) -> Result<(), AllocError> {
+        self.last = lexeme.kind;
+        self.made.part(bytes, lexeme.start, lexeme.end)
+    }
+
+    /// Notes where the current line begins, after a lexeme that was written.
+    #[inline(always)]
+    fn note_lines(&mut self, bytes: &[u8], lexeme: Lexeme) -> Result<(), AllocError> {
+        if lexeme.is_broken {
+            self.made.note_lines(bytes, lexeme.start, lexeme.end)?;
+        }
+        Ok(())
+    }
+
+    /// How many line ends come before a lexeme that has so many, after the last that was written. The comma that was
+    /// passed is written if an entry follows.
+    #[inline(always)]
+    fn lines_before(
+        &mut self,
+        bytes: &[u8],
+        lines: usize,
+        is_followed: bool,
+    ) -> Result<usize, AllocError> {
+        let before = self.lines;
+        self.lines = 0;
+        self.comma_due = false;
+        if is_followed {
+            self.comma(bytes)?;
+            return Ok(lines);
+        }
+        Ok(lines.saturating_add(before))
     }
 
     /// Writes an entry as it is.
@@ -176,54 +256,12 @@ impl Printer {
     {
         let end = entry_end(bytes, lexeme.start, self.frame.is_object).max(lexeme.end);
         self.before_word(bytes, lexeme, lines)?;
-        self.text(&bytes[lexeme.start..end])?;
-        self.note_lines(&bytes[lexeme.start..end]);
+        self.made.part(bytes, lexeme.start, end)?;
+        self.made.note_lines(bytes, lexeme.start, end)?;
         self.end_value();
         self.last = Kind::Word;
         self.is_ignored = false;
         Ok(end)
-    }
-
-    /// Writes what stands before the lexeme.
-    #[inline(always)]
-    fn put_before(&mut self, bytes: &[u8], lexeme: Lexeme, lines: usize) -> Result<(), AllocError>
-        requires { IsWithin bytes.now lexeme }
-    {
-        match lexeme.kind {
-            Kind::Line | Kind::Block => self.before_comment(bytes, lexeme, lines),
-            Kind::Colon => self.before_colon(),
-            Kind::Close => self.before_close(),
-            _ => self.before_word(bytes, lexeme, lines),
-        }
-    }
-
-    /// Writes the lexeme.
-    #[inline(always)]
-    fn put_text(&mut self, bytes: &[u8], lexeme: Lexeme) -> Result<(), AllocError>
-        requires { IsWithin bytes.now lexeme }
-    {
-        self.lexeme_text(&bytes[lexeme.start..lexeme.end])?;
-        match lexeme.kind {
-            Kind::Open => self.open(bytes, lexeme)?,
-            Kind::Close => self.close(),
-            Kind::Colon => self.place = Place::Value,
-            Kind::Word => self.end_word(),
-            _ => {}
-        }
-        if lexeme.is_broken {
-            self.note_lines(&bytes[lexeme.start..lexeme.end]);
-        }
-        self.last = lexeme.kind;
-        Ok(())
-    }
-
-    /// Notes where the current line begins, after a text that may hold line ends.
-    fn note_lines(&mut self, text: &[u8]) {
-        let start = line_start(text);
-        if start > 0 {
-            let len = text.len().saturating_sub(start);
-            self.line = self.out.len().saturating_sub(len);
-        }
     }
 
     #[inline(always)]
@@ -241,47 +279,63 @@ impl Printer {
         self.next = Next::NotSought;
     }
 
-    fn open(&mut self, bytes: &[u8], lexeme: Lexeme) -> Result<(), AllocError>
-        requires { IsWithin bytes.now lexeme }
+    /// After an opening bracket: writes what follows up to the closing one, if all is on one line. Returns where what
+    /// was written ends.
+    fn open(&mut self, bytes: &[u8], lexeme: Lexeme) -> Result<usize, AllocError>
+        requires inside { IsWithin bytes.now lexeme }
+        requires some { lexeme.start < lexeme.end }
+        ensures { IfOk result (IsPast bytes.now lexeme) }
     {
         let is_object = bytes.get(lexeme.start).copied() == Some(b'{');
-        let shape = self.shape_of(bytes, lexeme.end, is_object);
+        let end = self.put_on_line(bytes, lexeme.end, is_object)?;
+        if end > lexeme.end {
+            self.last = Kind::Close;
+            self.end_value();
+            return Ok(end);
+        }
+        self.open_lines(is_object, !is_object && is_in_rows(bytes, end))?;
+        Ok(end)
+    }
+
+    /// Writes the collection whose bracket ends here, if there is room for it on the line. Returns where it ends, and
+    /// the same offset if it wasn't written.
+    fn put_on_line(
+        &mut self,
+        bytes: &[u8],
+        end: usize,
+        is_object: bool,
+    ) -> Result<usize, AllocError>
+        requires { end ≤ length bytes.now }
+        ensures { IfOk result (λ after. (end ≤ after) × (after ≤ length bytes.now)) }
+    {
+        let used = self
+            .made
+            .column(bytes)
+            .saturating_add(usize::from(!self.frame.is_document));
+        if used > self.style.width {
+            return Ok(end);
+        }
+        put_in_line(
+            &mut self.made,
+            bytes,
+            end,
+            self.style.width - used,
+            is_object,
+        )
+    }
+
+    /// Begins a collection over several lines.
+    fn open_lines(&mut self, is_object: bool, is_in_rows: bool) -> Result<(), AllocError> {
         self.frames.push(self.frame)?;
         self.frame = Frame {
             outer: self.level,
             inner: self.level.saturating_add(1),
             is_document: false,
             is_object,
-            shape,
+            is_in_rows,
         };
         self.place = Place::Entry;
-        self.is_ignored = false;
         Ok(())
-    }
-
-    /// The shape of the collection whose bracket, which was written, ends here.
-    fn shape_of(&self, bytes: &[u8], end: usize, is_object: bool) -> Shape
-        requires { end ≤ length bytes.now }
-    {
-        if !self.is_expanded() {
-            return Shape::InLine;
-        }
-        let used = self
-            .column()
-            .saturating_add(usize::from(!self.frame.is_document));
-        if used <= self.style.width && fits(bytes, end, self.style.width - used, is_object) {
-            return Shape::InLine;
-        }
-        if !is_object && is_in_rows(bytes, end) {
-            return Shape::Rows;
-        }
-        Shape::Lines
-    }
-
-    /// Whether the collection is over several lines.
-    #[inline(always)]
-    fn is_expanded(&self) -> bool {
-        !matches!(self.frame.shape, Shape::InLine)
     }
 
     fn close(&mut self) {
@@ -291,38 +345,36 @@ impl Printer {
         self.end_value();
     }
 
-    /// Writes the comma now if one is to follow the value, and drops it otherwise.
+    /// Writes the comma now if one is to follow any value, and else notes it.
     #[inline(always)]
-    fn put_comma(&mut self, bytes: &[u8], end: usize, lines: usize) -> Result<(), AllocError>
-        requires { end ≤ length bytes.now }
-    {
-        if matches!(self.place, Place::Ended) && self.wants_comma(bytes, end) {
-            self.lines = 0;
-            return self.comma();
+    fn put_comma(&mut self, bytes: &[u8], lines: usize) -> Result<(), AllocError> {
+        if matches!(self.place, Place::Ended) && !self.frame.is_document {
+            if self.style.last_comma {
+                self.lines = 0;
+                return self.comma(bytes);
+            }
+            self.comma_due = true;
         }
-        self.lines = lines;
+        self.lines = self.lines.saturating_add(lines);
         Ok(())
     }
 
-    fn comma(&mut self) -> Result<(), AllocError> {
-        self.byte(b',')?;
+    #[inline(always)]
+    fn comma(&mut self, bytes: &[u8]) -> Result<(), AllocError> {
+        self.made.comma(bytes)?;
         self.place = Place::Entry;
         self.last = Kind::Comma;
         Ok(())
     }
 
     /// Whether a comma is to follow the value that ended: always, if it isn't the last.
-    #[inline(always)]
     fn wants_comma(&mut self, bytes: &[u8], end: usize) -> bool
         requires { end ≤ length bytes.now }
     {
         if self.frame.is_document {
             return false;
         }
-        if self.is_expanded() && self.style.last_comma {
-            return true;
-        }
-        self.is_followed(bytes, end)
+        self.style.last_comma || self.is_followed(bytes, end)
     }
 
     /// Whether an entry follows the value that ended. It is sought once.
@@ -348,20 +400,17 @@ impl Printer {
     ) -> Result<(), AllocError>
         requires { IsWithin bytes.now comment }
     {
-        if !self.is_expanded() {
-            return self.space_in_line();
-        }
         let is_line = matches!(comment.kind, Kind::Line);
         let starts_line = self.starts_line(lines);
         if matches!(self.place, Place::Key | Place::Value) {
-            return self.line_or_space(starts_line);
+            return self.line_or_space(bytes, starts_line);
         }
         if matches!(self.place, Place::Ended) {
             if !is_line && !starts_line {
-                return self.byte(b' ');
+                return self.made.space(bytes);
             }
             if self.wants_comma(bytes, comment.end) {
-                self.comma()?;
+                self.comma(bytes)?;
             }
         }
         self.note_ignore(bytes, comment, starts_line);
@@ -395,9 +444,9 @@ impl Printer {
             return Ok(());
         }
         if !self.starts_line(lines) && self.stays_on_line(bytes, comment) {
-            return self.byte(b' ');
+            return self.made.space(bytes);
         }
-        self.entry_line(lines)
+        self.entry_line(bytes, lines)
     }
 
     /// Whether a comment between entries stays on the line that it is on: at its end, behind another comment, or in a
@@ -407,7 +456,7 @@ impl Printer {
     {
         match (self.last, comment.kind) {
             (Kind::Block, _) | (_, Kind::Line) => true,
-            (Kind::Comma, _) if self.is_in_rows() && !comment.is_broken => {
+            (Kind::Comma, _) if self.frame.is_in_rows && !comment.is_broken => {
                 ends_line(bytes, comment.end) || self.has_room_for_both(bytes, comment)
             }
             _ => ends_line(bytes, comment.end),
@@ -420,7 +469,7 @@ impl Printer {
     {
         let next = lexeme_at(bytes, comment.end);
         let word = columns(&bytes[next.start..next.end]).saturating_add(1);
-        self.has_room(&bytes[comment.start..comment.end], word)
+        self.has_room(bytes, &bytes[comment.start..comment.end], word)
     }
 
     /// Whether the lexeme after so many line ends begins a line.
@@ -429,168 +478,70 @@ impl Printer {
         lines > 0 || matches!(self.last, Kind::Line)
     }
 
-    #[inline(always)]
-    fn before_colon(&mut self) -> Result<(), AllocError> {
-        if matches!(self.last, Kind::Line) {
-            return self.start_line(self.frame.inner.saturating_add(1));
-        }
-        Ok(())
-    }
-
-    fn before_close(&mut self) -> Result<(), AllocError> {
-        self.is_ignored = false;
-        if matches!(self.last, Kind::Open) {
-            return Ok(());
-        }
-        if !self.is_expanded() {
-            return self.space_before_brace();
-        }
-        if matches!(self.place, Place::Ended) && self.style.last_comma {
-            self.comma()?;
-        }
-        self.start_line(self.frame.outer)
-    }
-
-    /// Writes a space if the collection, on one line, is an object.
-    #[inline(always)]
-    fn space_before_brace(&mut self) -> Result<(), AllocError> {
-        if self.frame.is_object {
-            return self.byte(b' ');
-        }
-        Ok(())
-    }
-
     /// Before an opening bracket, or any token that is no sign of punctuation.
     #[inline(always)]
     fn before_word(&mut self, bytes: &[u8], word: Lexeme, lines: usize) -> Result<(), AllocError>
         requires { IsWithin bytes.now word }
     {
-        if !self.is_expanded() {
-            return self.space_in_line();
-        }
         let starts_line = self.starts_line(lines);
         let last = self.last;
         if !matches!(self.place, Place::Entry) {
-            return self.line_or_space(starts_line && !matches!(last, Kind::Colon));
+            return self.line_or_space(bytes, starts_line && !matches!(last, Kind::Colon));
         }
         if matches!(last, Kind::End) {
             return Ok(());
         }
-        if !starts_line && self.goes_on(last, &bytes[word.start..word.end]) {
-            return self.byte(b' ');
+        if !starts_line && self.goes_on(bytes, last, word) {
+            return self.made.space(bytes);
         }
-        self.entry_line(lines)
+        self.entry_line(bytes, lines)
     }
 
     /// Whether the entry that begins with this token goes on the same line.
     #[inline(always)]
-    fn goes_on(&self, last: Kind, word: &[u8]) -> bool {
+    fn goes_on(&self, bytes: &[u8], last: Kind, word: Lexeme) -> bool
+        requires { IsWithin bytes.now word }
+    {
         match last {
             Kind::Block => true,
-            Kind::Comma => self.is_in_rows() && self.has_room(word, 0),
+            Kind::Comma => {
+                self.frame.is_in_rows && self.has_room(bytes, &bytes[word.start..word.end], 0)
+            }
             _ => false,
         }
     }
 
-    #[inline(always)]
-    fn is_in_rows(&self) -> bool {
-        matches!(self.frame.shape, Shape::Rows)
-    }
-
     /// Whether the text fits on the line, behind a space and with a comma, and so many columns after it.
-    fn has_room(&self, text: &[u8], more: usize) -> bool {
+    fn has_room(&self, bytes: &[u8], text: &[u8], more: usize) -> bool {
         let room = self.style.width.saturating_sub(more.saturating_add(2));
-        let len = self.out.len().saturating_sub(self.line);
         // No character takes more columns than it has bytes, but for tabs.
-        self.style.indent > 0 && len.saturating_add(text.len()) <= room
-            || self.column().saturating_add(columns(text)) <= room
-    }
-
-    /// What is before a lexeme of a collection on one line.
-    #[inline(always)]
-    fn space_in_line(&mut self) -> Result<(), AllocError> {
-        if matches!(self.last, Kind::Open) && !self.frame.is_object {
-            return Ok(());
-        }
-        self.byte(b' ')
+        self.style.indent > 0 && self.made.line_len().saturating_add(text.len()) <= room
+            || self.made.column(bytes).saturating_add(columns(text)) <= room
     }
 
     /// Within a member: a new line, one level further in, or a space.
     #[inline(always)]
-    fn line_or_space(&mut self, starts_line: bool) -> Result<(), AllocError> {
+    fn line_or_space(&mut self, bytes: &[u8], starts_line: bool) -> Result<(), AllocError> {
         if starts_line {
-            self.start_line(self.frame.inner.saturating_add(1))
+            self.start_line(bytes, self.frame.inner.saturating_add(1))
         } else {
-            self.byte(b' ')
+            self.made.space(bytes)
         }
     }
 
     /// A new line for an entry or a comment, after an empty one if there was one.
-    fn entry_line(&mut self, lines: usize) -> Result<(), AllocError> {
+    #[inline(always)]
+    fn entry_line(&mut self, bytes: &[u8], lines: usize) -> Result<(), AllocError> {
         if lines > 1 && !matches!(self.last, Kind::Open) {
-            self.line_end()?;
+            self.made.line_end(bytes, self.is_crlf)?;
         }
-        self.start_line(self.frame.inner)
+        self.start_line(bytes, self.frame.inner)
     }
 
-    fn start_line(&mut self, level: usize) -> Result<(), AllocError> {
-        self.line_end()?;
+    #[inline(always)]
+    fn start_line(&mut self, bytes: &[u8], level: usize) -> Result<(), AllocError> {
         self.level = level;
-        let width = level.saturating_mul(self.style.indent);
-        if width > 0 && width <= 64 {
-            return self.text(&SPACES[..width]);
-        }
-        for _ in 0..level {
-            self.indent()?;
-        }
-        Ok(())
-    }
-
-    /// Indents by one level.
-    fn indent(&mut self) -> Result<(), AllocError> {
-        if self.style.indent == 0 {
-            return self.byte(b'\t');
-        }
-        for _ in 0..self.style.indent {
-            self.byte(b' ')?;
-        }
-        Ok(())
-    }
-
-    fn line_end(&mut self) -> Result<(), AllocError> {
-        if self.is_crlf {
-            self.text(b"\r\n")?;
-        } else {
-            self.byte(b'\n')?;
-        }
-        self.line = self.out.len();
-        Ok(())
-    }
-
-    #[inline(always)]
-    fn lexeme_text(&mut self, text: &[u8]) -> Result<(), AllocError> {
-        if text.len() == 1 {
-            return self.byte(text[0]);
-        }
-        self.text(text)
-    }
-
-    #[inline(always)]
-    fn byte(&mut self, byte: u8) -> Result<(), AllocError> {
-        self.out.push(byte)?;
-        Ok(())
-    }
-
-    #[inline(always)]
-    fn text(&mut self, text: &[u8]) -> Result<(), AllocError> {
-        self.out.extend_from_slice(text)
-    }
-
-    /// How many columns the current line has.
-    fn column(&self) -> usize {
-        match self.out.as_slice().get(self.line..) {
-            Some(line) => columns(line).saturating_add(tabs_in_front(line).saturating_mul(TAB - 1)),
-            None => 0,
-        }
+        self.made
+            .start_line(bytes, self.is_crlf, self.style.indent, level)
     }
 }

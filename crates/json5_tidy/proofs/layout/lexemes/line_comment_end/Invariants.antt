@@ -1,8 +1,8 @@
-use Rattle.std.proofs.Common.{◌-◌, ◌≤◌, ◌<◌, length}
+use Rattle.std.proofs.Common.{◌≤◌, ◌<◌, length}
 use Rattle.json5_tidy.proofs.layout.lexemes.line_comment_end.Given as goal
 
-abbrev pub invariant-loop-at : goal.invariant-loop-at
-invariant-loop-at l = (l.fn.from < l.end) × (l.end ≤ l.at) × (l.at ≤ length l.bytes)
+abbrev pub invariant-loop-end : goal.invariant-loop-end
+invariant-loop-end l = (l.fn.from < l.end) × (l.end ≤ length l.bytes)
 
-abbrev pub decreases-loop-at : goal.decreases-loop-at
-decreases-loop-at l = length l.bytes - l.at
+abbrev pub decreases-loop-end : goal.decreases-loop-end
+decreases-loop-end l = l.end

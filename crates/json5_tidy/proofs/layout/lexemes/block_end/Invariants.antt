@@ -1,0 +1,8 @@
+use Rattle.std.proofs.Common.{◌-◌, ◌≤◌, ◌<◌, length}
+use Rattle.json5_tidy.proofs.layout.lexemes.block_end.Given as goal
+
+abbrev pub invariant-loop-star : goal.invariant-loop-star
+invariant-loop-star l = (l.fn.from < l.at) × (l.at ≤ length l.bytes)
+
+abbrev pub decreases-loop-star : goal.decreases-loop-star
+decreases-loop-star l = length l.bytes - l.at

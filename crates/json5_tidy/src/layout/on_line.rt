@@ -1,0 +1,111 @@
+//! Writes a collection on the rest of a line, where it fits.
+
+ghost use Rattle.std.specs.Prelude.{◌≤◌, IfOk, length};
+ghost use Rattle.json5_tidy.specs.Lexemes.{IsWithin};
+
+use crate::layout::asks::is_ignore;
+use crate::layout::columns::has_wide;
+use crate::layout::entries::has_entry;
+use crate::layout::lexemes::{Kind, Lexeme, lexeme_at};
+use crate::layout::made::Made;
+use crate::layout::measure::{Fit, Measure};
+use std::alloc::AllocError;
+
+/// Writes the collection whose opening bracket ends here, if it can be on one line, with so many columns after that
+/// bracket. It can't if a `//` comment or a line end in a lexeme is in it, or a comment that leaves an entry as it is,
+/// or a line ends between a bracket and its first token. Returns where it ends, and the same offset if it wasn't
+/// written.
+pub(crate) fn put_in_line(
+    made: &mut Made,
+    bytes: &[u8],
+    from: usize,
+    room: usize,
+    is_object: bool,
+) -> Result<usize, AllocError>
+    requires { from ≤ length bytes.now }
+    ensures { IfOk result (λ end. (from ≤ end) × (end ≤ length bytes.now)) }
+{
+    let mark = made.mark();
+    // Bytes are counted first, since most texts are ASCII.
+    let (fit, end) = put_counted(made, bytes, from, Measure::new(is_object, room, false))?;
+    if matches!(fit, Fit::Fits) {
+        return Ok(end);
+    }
+    made.take_back(mark);
+    if matches!(fit, Fit::Breaks) || !has_wide(&bytes[from..end]) {
+        return Ok(from);
+    }
+    let (fit, end) = put_counted(made, bytes, from, Measure::new(is_object, room, true))?;
+    if matches!(fit, Fit::Fits) {
+        return Ok(end);
+    }
+    made.take_back(mark);
+    Ok(from)
+}
+
+/// Writes as much of the collection as the measure takes, and returns where that ends.
+fn put_counted(
+    made: &mut Made,
+    bytes: &[u8],
+    from: usize,
+    measure: Measure,
+) -> Result<(Fit, usize), AllocError>
+    requires { from ≤ length bytes.now }
+    ensures { IfOk result (λ r. (from ≤ r.1) × (r.1 ≤ length bytes.now)) }
+{
+    let mut measure = measure;
+    let mut at = from;
+    loop {
+        let lexeme = lexeme_at(bytes, at);
+        if measure.is_broken_by(lexeme) || is_ignore_in_line(bytes, lexeme) {
+            return Ok((Fit::Breaks, at));
+        }
+        at = lexeme.end;
+        if !put_measured(made, bytes, &mut measure, lexeme)? {
+            return Ok((Fit::Wide, at));
+        }
+        if measure.is_over() {
+            return Ok((Fit::Fits, at));
+        }
+    }
+}
+
+/// Writes the lexeme, and what stands before it, if there is room for both.
+#[inline(always)]
+fn put_measured(
+    made: &mut Made,
+    bytes: &[u8],
+    measure: &mut Measure,
+    lexeme: Lexeme,
+) -> Result<bool, AllocError>
+    requires { IsWithin bytes.now lexeme }
+{
+    match lexeme.kind {
+        Kind::Comma => {
+            measure.pass_comma();
+            return Ok(true);
+        }
+        Kind::Block if measure.is_comma_due() && has_entry(bytes, lexeme.end) => {
+            made.comma(bytes)?;
+            if !measure.takes_comma() {
+                return Ok(false);
+            }
+        }
+        _ => {}
+    }
+    let byte = bytes.get(lexeme.start).copied().unwrap_or(0);
+    let gap = measure.gap(lexeme.kind, byte);
+    if !measure.takes(bytes, lexeme, byte, gap) {
+        return Ok(false);
+    }
+    made.part_behind(bytes, gap, lexeme.start, lexeme.end)?;
+    Ok(true)
+}
+
+/// Whether it is a comment that leaves an entry as it is.
+#[inline(always)]
+fn is_ignore_in_line(bytes: &[u8], lexeme: Lexeme) -> bool
+    requires { IsWithin bytes.now lexeme }
+{
+    matches!(lexeme.kind, Kind::Block) && is_ignore(bytes, lexeme)
+}
