@@ -1,8 +1,9 @@
 /* Stands between a program and the C library's calls of the system (LD_PRELOAD). Of the calls below, the one that FAILED_CALL
  * numbers is refused with EIO, without being made; before the one that KILLED_BEFORE numbers, or right after the one that
  * KILLED_AFTER numbers, the process is killed. With SHORT_PIECES no read or write moves more than so many bytes. With
- * REFUSED_LINKS no file gets a second name, as in a file system without hard links. At the end the count of calls is written
- * to the file that CALLS_FILE names. */
+ * REFUSED_LINKS no file gets a second name, and the error has this number: 1 as in a file system without hard links, 18 as of a
+ * file that is mounted by itself, which can't be renamed either. At the end the count of calls is written to the file that
+ * CALLS_FILE names. */
 #define _GNU_SOURCE
 #include <dlfcn.h>
 #include <errno.h>
@@ -18,7 +19,7 @@
 
 static unsigned long calls, failed, before, after;
 static size_t piece;
-static int refuses_links;
+static int link_error;
 
 static unsigned long number(const char *name) {
     const char *given = getenv(name);
@@ -30,7 +31,7 @@ __attribute__((constructor)) static void read_numbers(void) {
     before = number("KILLED_BEFORE");
     after = number("KILLED_AFTER");
     piece = number("SHORT_PIECES");
-    refuses_links = number("REFUSED_LINKS") != 0;
+    link_error = (int)number("REFUSED_LINKS");
 }
 
 __attribute__((destructor)) static void say_count(void) {
@@ -101,14 +102,22 @@ int ftruncate(int file, off_t length) { MAKE(-1, int, REAL("ftruncate", int, int
 off_t lseek(int file, off_t offset, int whence) { MAKE(-1, off_t, REAL("lseek", off_t, int, off_t, int)(file, offset, whence)); }
 
 int link(const char *from, const char *to) {
-    if (refuses_links) {
-        errno = EPERM;
+    if (link_error) {
+        errno = link_error;
         return -1;
     }
     MAKE(-1, int, REAL("link", int, const char *, const char *)(from, to));
 }
 
-int rename(const char *from, const char *to) { MAKE(-1, int, REAL("rename", int, const char *, const char *)(from, to)); }
+int flock(int file, int how) { MAKE(-1, int, REAL("flock", int, int, int)(file, how)); }
+
+int rename(const char *from, const char *to) {
+    if (link_error == EXDEV) {
+        errno = EBUSY;
+        return -1;
+    }
+    MAKE(-1, int, REAL("rename", int, const char *, const char *)(from, to));
+}
 
 int unlink(const char *path) { MAKE(-1, int, REAL("unlink", int, const char *)(path)); }
 

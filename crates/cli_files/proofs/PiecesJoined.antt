@@ -30,3 +30,14 @@ pub pushed_part : {A E : Type 0} (old mid new : Option (List ℕ)) (a b all rest
 pushed_part old mid new a b all rest (Ok x) h e p q = cc
 pushed_part old mid new a b all rest (Err x) h e p q =
     (a ++ q.0, q.1 ++ rest, e ∙ ap (λ l. (a ++ l) ++ rest) q.2 ∙ ap (λ l. l ++ rest) (sym (append_assoc a q.0 q.1)) ∙ append_assoc (a ++ q.0) q.1 rest, Appends-trans _ _ _ _ _ p q.3)
+
+-- a piece, and then another one
+
+pub front_pushed : {A E : Type 0} (old new : Option (List ℕ)) (a rest : List ℕ) (result : Result A E) → is_err result ≡ true → Pushes old new a result → Pushes old new (a ++ rest) result
+front_pushed old new a rest (Ok x) h p = cc
+front_pushed old new a rest (Err e) h p = (p.0, p.1 ++ rest, ap (λ l. l ++ rest) p.2 ∙ append_assoc p.0 p.1 rest, p.3)
+
+pub both_pushed : {A B E F : Type 0} (old mid new : Option (List ℕ)) (a b : List ℕ) (first : Result A E) (second : Result B F) → is_err first ≡ false → Pushes old mid a first → Pushes mid new b second → Pushes old new (a ++ b) second
+both_pushed old mid new a b (Ok x) (Ok y) h p q = Appends-trans _ _ _ _ _ p q
+both_pushed old mid new a b (Ok x) (Err e) h p q = (a ++ q.0, q.1, ap (λ l. a ++ l) q.2 ∙ sym (append_assoc a q.0 q.1), Appends-trans _ _ _ _ _ p q.3)
+both_pushed old mid new a b (Err e) second h p q = cc

@@ -6,4 +6,5 @@ pub mod JoinedTexts
 pub mod NameLists
 pub mod Reports
 pub mod Says
+pub mod ShownNames
 pub mod Stores

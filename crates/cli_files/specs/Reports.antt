@@ -11,10 +11,11 @@ use Rattle.cli_files.specs.declared.reason.Reason.{Reason}
 use Rattle.cli_files.specs.declared.reason.Reason.TheVariants as reasons
 use Rattle.cli_files.specs.declared.unwritten.Unwritten.{Unwritten}
 use Rattle.cli_files.specs.declared.unwritten.Unwritten.TheVariants as unwritten
+use Rattle.cli_files.specs.ShownNames.{shown_name}
 
--- the input's name, what is said of it, and one LF
+-- the input's name as it is shown, what is said of it, and one LF
 abbrev pub named_report : List ℕ → List ℕ → List ℕ
-named_report name words = name ++ (codes ": " ++ (words ++ line_feed ∷ []))
+named_report name words = shown_name name ++ (codes ": " ++ (words ++ line_feed ∷ []))
 
 abbrev pub fault_line : List ℕ → Error → List ℕ
 fault_line name e = named_report name (error_text e)
@@ -47,9 +48,9 @@ reason_words reasons.Other = []
 abbrev pub unwritten_words : Unwritten → List ℕ
 unwritten_words (unwritten.Refused why) = codes "cannot be written" ++ reason_words why
 unwritten_words unwritten.Changed = codes "changed meanwhile, and was left as it is"
-unwritten_words unwritten.Linked = codes "cannot be written: it has other hard links"
-unwritten_words (unwritten.Taken beside) = codes "cannot be written: " ++ (string_bytes beside ++ codes " is there")
-unwritten_words (unwritten.Remains beside) = codes "cannot be written, and " ++ (string_bytes beside ++ codes " remains")
+unwritten_words (unwritten.Taken beside) = codes "cannot be written: " ++ (shown_name (string_bytes beside) ++ codes " is there")
+unwritten_words (unwritten.Remains beside) = codes "cannot be written, and " ++ (shown_name (string_bytes beside) ++ codes " remains")
+unwritten_words (unwritten.Torn copy) = codes "was not written whole: " ++ (shown_name (string_bytes copy) ++ codes " has its old text")
 unwritten_words unwritten.NoMemory = codes "out of memory"
 
 abbrev pub unwritten_line : List ℕ → Unwritten → List ℕ

@@ -8,7 +8,8 @@ use Rattle.cli_files.specs.declared.unwritten.Unwritten.{Unwritten}
 abbrev pub Opening : Type 1
 Opening = Option (Option (List ℕ)) → Type 0
 
--- what comes of replacing the text of a file by another: None where the file holds the new text, else why it holds what it held
+-- what comes of replacing the text of a file by another: None where the file holds the new text, else why it holds what it held; where
+-- that is that it is torn, the file that is named holds it
 abbrev pub Replacing : Type 1
 Replacing = List ℕ → List ℕ → Option Unwritten → Type 0
 

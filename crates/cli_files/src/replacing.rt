@@ -3,45 +3,24 @@
 //! The file itself gets the new text, so that it keeps its owner, its permissions, its access control list and its
 //! extended attributes: no call that std has copies them. Meanwhile a copy with the old text has the file's name.
 
+use crate::leftovers::{FileNames, Texts, is_there, link_aside, new_copy};
+use crate::locks::Lock;
+use crate::open_files::{holds, is_at, keep_owner, open_file, sync_folder, write_text};
+use crate::stops::{Stop, stop_of};
+use crate::through::{copy_elsewhere, write_through};
 use crate::unwritten::Unwritten;
 use std::alloc::Global;
-use std::fs::{self, Metadata, OpenFile, OpenOptions};
-use std::io::{self, ErrorKind, Read, Seek, Write};
+use std::fs::{Metadata, OpenFile};
+use std::io::{self, Seek, Write};
 use std::os::fd::AsFd;
-use std::os::unix::fs::{MetadataExt, OpenOptionsExt, fchown};
-use std::path::Path;
+use std::os::unix::fs::MetadataExt;
 use std::rt::Files;
 
-/// What the system answers where a file system has no hard links.
-const NOT_PERMITTED: i32 = 1;
+/// How often it is begun anew, after another run or what one left.
+const ATTEMPTS: usize = 1000;
 
-/// How many bytes of a file are compared at once.
-const PIECE: usize = 64 * 1024;
-
-/// The name of the file, that of its copy, and the one that the file has while the copy has its name.
-#[derive(Drop)]
-struct FileNames {
-    path: String,
-    beside: String,
-    aside: String,
-}
-
-/// Where the work stopped, and why.
-#[derive(Drop)]
-enum Stop {
-    /// The copy is there, but the file has only its own name.
-    Copied(Unwritten),
-    /// The name that the file would have meanwhile is taken.
-    Taken,
-    /// The file has both names.
-    Linked(Unwritten),
-    /// The file has its name and its text again.
-    Restored(Unwritten),
-    /// The copy has the file's name, and the file the other one.
-    Aside,
-}
-
-/// Writes the text into the file, while a copy of the old one has its name. A link's target is written.
+/// Writes the text into the file, while a copy of the old one has its name, or is beside it where that can't be. A link's
+/// target is written.
 ///
 /// The file is read once more before that: if it doesn't hold the text that was read of it, it stays as it is.
 pub(crate) fn replace_file<F: Files>(
@@ -52,78 +31,117 @@ pub(crate) fn replace_file<F: Files>(
     after: &str,
 ) -> Result<(), Unwritten>
 where
-    F::File: AsFd,
+    F::File: AsFd + Lock,
 {
-    let names = FileNames::of(files, alloc, name)?;
-    let file = open_file(files, names.path.as_str())?;
-    let copy = match create_copy(files, names.beside.as_str()) {
-        Ok(copy) => copy,
-        Err(e) if e.kind() == ErrorKind::AlreadyExists => return Err(Unwritten::Taken(
-            names.beside,
-        )),
-        Err(e) => return Err(Unwritten::from(e)),
-    };
-    match replace_by(files, alloc, &names, file, copy, before, after) {
-        Ok(()) => Ok(()),
-        Err(stop) => Err(cleared(files, names, stop)),
-    }
-}
-
-impl FileNames {
-    fn of<F: Files>(files: &F, alloc: Global, name: &str) -> Result<FileNames, Unwritten> {
-        let path = files.canonicalize(alloc, name)?.into_string();
-        match (
-            format!(in alloc; "{}.json5_tidy", path.as_str()),
-            format!(in alloc; "{}.json5_tidy_aside", path.as_str()),
-        ) {
-            (Ok(beside), Ok(aside)) => Ok(FileNames {
-                path,
-                beside,
-                aside,
-            }),
-            _ => Err(Unwritten::NoMemory),
+    let texts = Texts { before, after };
+    for _ in 0..ATTEMPTS {
+        match attempt(files, alloc, name, texts) {
+            Ok(()) => return Ok(()),
+            Err(Stop::Failed(Unwritten::Changed)) if holds_now(files, alloc, name, after) => {
+                return Ok(());
+            }
+            Err(Stop::Failed(why)) => return Err(why),
+            Err(_) => {}
         }
     }
+    Err(Unwritten::Changed)
 }
 
-/// Opens the file, if it is one that may be written.
-fn open_file<F: Files>(files: &F, path: &str) -> io::Result<F::File> {
-    let file = OpenOptions::new().read(true).write(true).open(files, path)?;
-    if !file.metadata()?.is_file() {
-        return Err(io::Error::from(ErrorKind::InvalidInput));
+/// Whether the file with this name holds the text by now, as another run wrote it.
+fn holds_now<F: Files>(files: &F, alloc: Global, name: &str, text: &str) -> bool {
+    match open_file(files, name) {
+        Ok(mut file) => matches!(holds(alloc, &mut file, text), Ok(true)),
+        Err(_) => false,
     }
-    Ok(file)
 }
 
-/// Makes a new file that only its owner may open.
-fn create_copy<F: Files>(files: &F, beside: &str) -> io::Result<F::File> {
-    OpenOptions::new()
-        .read(true)
-        .write(true)
-        .create_new(true)
-        .mode(0o600)
-        .open(files, beside)
+/// Replaces the text once. What it made is gone again, unless the answer names it.
+fn attempt<F: Files>(files: &F, alloc: Global, name: &str, texts: Texts<'_>) -> Result<(), Stop>
+where
+    F::File: AsFd + Lock,
+{
+    let names = FileNames::of(files, alloc, name)?;
+    let mut file = open_file(files, names.path.as_str())?;
+    match new_copy(files, alloc, names.beside.as_str(), texts) {
+        Ok(copy) => {
+            let mut copy = copy;
+            let done = replace_by(files, alloc, &names, &mut file, &mut copy, texts);
+            cleared(files, names, &copy, done)
+        }
+        Err(Stop::Through) => replace_through(files, alloc, names, &mut file, texts),
+        Err(stop) => told(names, stop),
+    }
 }
 
-/// Replaces the text, with a copy that is still empty.
+/// Replaces the text with a copy that is still empty.
 fn replace_by<F: Files>(
     files: &F,
     alloc: Global,
     names: &FileNames,
-    file: F::File,
-    copy: F::File,
-    before: &str,
-    after: &str,
+    file: &mut F::File,
+    copy: &mut F::File,
+    texts: Texts<'_>,
 ) -> Result<(), Stop>
 where
-    F::File: AsFd,
+    F::File: AsFd + Lock,
 {
-    match files.hard_link(names.path.as_str(), names.aside.as_str()) {
-        Ok(()) => by_copy(files, alloc, names, file, copy, before, after),
-        Err(e) if e.kind() == ErrorKind::AlreadyExists => Err(Stop::Taken),
-        Err(e) if has_no_links(&e) => by_new(files, alloc, names, file, copy, before, after),
-        Err(e) => Err(Stop::Copied(Unwritten::from(e))),
+    let done = match keep_owner(copy, &file.metadata()?) {
+        Ok(()) => by_names(files, alloc, names, file, copy, texts),
+        Err(_) => Err(Stop::Through),
+    };
+    match done {
+        Err(Stop::Through) => {
+            let places = (names.path.as_str(), names.beside.as_str());
+            write_through(files, alloc, places, file, copy, texts)
+        }
+        done => done,
     }
+}
+
+/// Replaces the text with a copy that has the file's owner, by changes of names.
+fn by_names<F: Files>(
+    files: &F,
+    alloc: Global,
+    names: &FileNames,
+    file: &mut F::File,
+    copy: &mut F::File,
+    texts: Texts<'_>,
+) -> Result<(), Stop>
+where
+    F::File: Lock,
+{
+    match link_aside(files, alloc, names, file, texts) {
+        Ok(true) => by_copy(files, alloc, names, file, copy, texts),
+        Ok(false) => by_new(files, alloc, names, file, copy, texts),
+        Err(stop) => Err(stop),
+    }
+}
+
+/// Replaces the text with the copy in another folder.
+fn replace_through<F: Files>(
+    files: &F,
+    alloc: Global,
+    names: FileNames,
+    file: &mut F::File,
+    texts: Texts<'_>,
+) -> Result<(), Stop>
+where
+    F::File: Lock,
+{
+    let (mut copy, beside) = copy_elsewhere(files, alloc, file, texts)?;
+    let places = (names.path.as_str(), beside.as_str());
+    let done = write_through(files, alloc, places, file, &mut copy, texts);
+    let FileNames {
+        path,
+        beside: _,
+        aside,
+    } = names;
+    let names = FileNames {
+        path,
+        beside,
+        aside,
+    };
+    cleared(files, names, &copy, done)
 }
 
 /// Writes the new text into the file, while the copy has its name.
@@ -131,71 +149,50 @@ fn by_copy<F: Files>(
     files: &F,
     alloc: Global,
     names: &FileNames,
-    file: F::File,
-    copy: F::File,
-    before: &str,
-    after: &str,
-) -> Result<(), Stop>
-where
-    F::File: AsFd,
-{
-    let (mut file, mut copy) = (file, copy);
-    let known = match swap(files, alloc, names, &mut file, &mut copy, before) {
+    file: &mut F::File,
+    copy: &mut F::File,
+    texts: Texts<'_>,
+) -> Result<(), Stop> {
+    let known = match swap(files, alloc, names, file, copy, texts.before) {
         Ok(known) => known,
-        Err(why) => return Err(Stop::Linked(why)),
+        Err(stop) => return Err(unlinked(files, names, stop)),
     };
-    let written = match write_aside(files, names, &mut file, after) {
-        Ok(()) => take_back(files, alloc, names, &known, &mut copy, before),
-        Err(e) => Err(Unwritten::from(e)),
+    let written = match write_aside(files, names, file, texts.after) {
+        Ok(()) => take_back(files, alloc, names, &known, copy, texts.before),
+        Err(e) => Err(Stop::from(e)),
     };
-    let Err(why) = written else {
+    let Err(stop) = written else {
         let _ = sync_folder(files, names.path.as_str());
         return Ok(());
     };
-    match restore(files, alloc, names, &known, &mut file, &mut copy, before) {
-        Ok(()) => Err(Stop::Restored(why)),
+    match restore(files, alloc, names, &known, file, copy, texts.before) {
+        Ok(()) => Err(stop),
         Err(_) => Err(Stop::Aside),
     }
 }
 
-/// Whether this error says that a file can't have two names. Then it has no access control list either.
-fn has_no_links(e: &io::Error) -> bool {
-    e.raw_os_error() == Some(NOT_PERMITTED) || e.kind() == ErrorKind::Unsupported
+/// Takes the other name from the file.
+fn unlinked<F: Files>(files: &F, names: &FileNames, stop: Stop) -> Stop {
+    match files.remove_file(names.aside.as_str()) {
+        Ok(()) => stop,
+        Err(_) => Stop::Aside,
+    }
 }
 
-/// Lets a new file take the file's name, with its owner and permissions and with the new text.
+/// Lets a new file take the file's name, with its permissions and with the new text.
 fn by_new<F: Files>(
     files: &F,
     alloc: Global,
     names: &FileNames,
-    file: F::File,
-    new: F::File,
-    before: &str,
-    after: &str,
-) -> Result<(), Stop>
-where
-    F::File: AsFd,
-{
-    let (mut file, mut new) = (file, new);
-    let filled = match fill_new(&file, &mut new, after) {
-        Ok(()) => take_name(files, alloc, names, &mut file, &new, before),
-        Err(e) => Err(Unwritten::from(e)),
-    };
-    match filled {
-        Ok(()) => Ok(()),
-        Err(why) => Err(Stop::Copied(why)),
+    file: &mut F::File,
+    new: &mut F::File,
+    texts: Texts<'_>,
+) -> Result<(), Stop> {
+    if new.set_permissions(file.metadata()?.permissions()).is_err() {
+        return Err(Stop::Through);
     }
-}
-
-fn fill_new<F: Write + Seek + OpenFile + AsFd>(
-    file: &F,
-    new: &mut F,
-    after: &str,
-) -> io::Result<()> {
-    let known = file.metadata()?;
-    keep_owner(new, &known)?;
-    new.set_permissions(known.permissions())?;
-    write_text(new, after)
+    write_text(new, texts.after)?;
+    take_name(files, alloc, names, file, new, texts.before)
 }
 
 /// Fills the copy with the old text, and lets it take the file's name. Returns what is known of the file.
@@ -206,18 +203,14 @@ fn swap<F: Files>(
     file: &mut F::File,
     copy: &mut F::File,
     before: &str,
-) -> Result<Metadata, Unwritten>
-where
-    F::File: AsFd,
-{
+) -> Result<Metadata, Stop> {
     let known = file.metadata()?;
     if known.nlink() > 2 {
-        return Err(Unwritten::Linked);
+        return Err(Stop::Through);
     }
     if !is_aside(files, &known, names)? {
-        return Err(Unwritten::Changed);
+        return Err(Stop::Failed(Unwritten::Changed));
     }
-    keep_owner(copy, &known)?;
     write_text(copy, before)?;
     take_name(files, alloc, names, file, copy, before)?;
     Ok(known)
@@ -231,15 +224,17 @@ fn take_name<F: Files>(
     file: &mut F::File,
     new: &F::File,
     before: &str,
-) -> Result<(), Unwritten> {
+) -> Result<(), Stop> {
     if !holds(alloc, file, before)?
         || !is_at(files, &file.metadata()?, names.path.as_str())?
         || !is_at(files, &new.metadata()?, names.beside.as_str())?
     {
-        return Err(Unwritten::Changed);
+        return Err(Stop::Failed(Unwritten::Changed));
     }
-    files.rename(names.beside.as_str(), names.path.as_str())?;
-    Ok(())
+    match files.rename(names.beside.as_str(), names.path.as_str()) {
+        Ok(()) => Ok(()),
+        Err(e) => Err(stop_of(e)),
+    }
 }
 
 /// Writes the new text into the file, once it is on the disk that the copy has its name.
@@ -262,7 +257,7 @@ fn restore<F: Files>(
     file: &mut F::File,
     copy: &mut F::File,
     before: &str,
-) -> Result<(), Unwritten> {
+) -> Result<(), Stop> {
     if !holds(alloc, file, before)? {
         write_text(file, before)?;
     }
@@ -277,83 +272,15 @@ fn take_back<F: Files>(
     known: &Metadata,
     copy: &mut F::File,
     before: &str,
-) -> Result<(), Unwritten> {
+) -> Result<(), Stop> {
     if !holds(alloc, copy, before)?
         || !is_at(files, &copy.metadata()?, names.path.as_str())?
         || !is_aside(files, known, names)?
     {
-        return Err(Unwritten::Changed);
+        return Err(Stop::Failed(Unwritten::Changed));
     }
     files.rename(names.aside.as_str(), names.path.as_str())?;
     Ok(())
-}
-
-/// Why the file holds what it held, once the names that were made are removed, or couldn't be.
-fn cleared<F: Files>(files: &F, names: FileNames, stop: Stop) -> Unwritten {
-    match stop {
-        Stop::Copied(why) => removed(files, names.beside, why),
-        Stop::Taken => removed(files, names.beside, Unwritten::Taken(names.aside)),
-        Stop::Linked(why) => {
-            let why = removed(files, names.aside, why);
-            removed(files, names.beside, why)
-        }
-        Stop::Restored(why) => why,
-        Stop::Aside => Unwritten::Remains(names.aside),
-    }
-}
-
-fn removed<F: Files>(files: &F, name: String, why: Unwritten) -> Unwritten {
-    match files.remove_file(name.as_str()) {
-        Ok(()) => why,
-        Err(_) => Unwritten::Remains(name),
-    }
-}
-
-/// Gives the open file the owner and the group of the old one, if it has others. By its name it might be another file.
-fn keep_owner<F: OpenFile + AsFd>(new: &F, old: &Metadata) -> io::Result<()> {
-    let made = new.metadata()?;
-    if made.uid() == old.uid() && made.gid() == old.gid() {
-        return Ok(());
-    }
-    fchown(new.as_fd(), Some(old.uid()), Some(old.gid()))
-}
-
-/// Makes the text what the file holds, and waits until it is on the disk.
-fn write_text<F: Write + Seek + OpenFile>(file: &mut F, text: &str) -> io::Result<()> {
-    file.rewind()?;
-    file.write_all(text.as_bytes())?;
-    file.set_len(text.len() as u64)?;
-    file.sync_all()
-}
-
-/// Whether the file holds this text.
-fn holds<F: Read + Seek>(alloc: Global, file: &mut F, text: &str) -> io::Result<bool> {
-    let mut piece = Vec::new(alloc);
-    piece.resize(PIECE, 0)?;
-    file.rewind()?;
-    is_left(file, piece.as_mut_slice(), text.as_bytes())
-}
-
-/// Whether these bytes are what is left of the file, of which a piece is read at a time.
-fn is_left<F: Read>(file: &mut F, piece: &mut [u8], bytes: &[u8]) -> io::Result<bool> {
-    let mut left = bytes;
-    for _ in 0..u64::MAX {
-        let count = file.read(piece)?;
-        if count == 0 {
-            break;
-        }
-        let Some(after) = left.strip_prefix(&piece[..count]) else {
-            return Ok(false);
-        };
-        left = after;
-    }
-    Ok(left.is_empty())
-}
-
-/// Whether the file with this name is the one of which this is known.
-fn is_at<F: Files>(files: &F, known: &Metadata, path: &str) -> io::Result<bool> {
-    let named = fs::symlink_metadata(files, path)?;
-    Ok(named.dev() == known.dev() && named.ino() == known.ino())
 }
 
 /// Whether the file has the other name. Where a system doesn't count names, a file may have another number by each.
@@ -361,10 +288,35 @@ fn is_aside<F: Files>(files: &F, known: &Metadata, names: &FileNames) -> io::Res
     Ok(known.nlink() < 2 || is_at(files, known, names.aside.as_str())?)
 }
 
-/// Waits until the names in the file's folder are on the disk.
-fn sync_folder<F: Files>(files: &F, path: &str) -> io::Result<()> {
-    match Path::new(path).parent() {
-        Some(folder) => fs::open(files, folder)?.sync_all(),
-        None => Ok(()),
+/// The answer, once the copy is removed, if it has its own name and isn't needed, or couldn't be.
+fn cleared<F: Files>(
+    files: &F,
+    names: FileNames,
+    copy: &F::File,
+    done: Result<(), Stop>,
+) -> Result<(), Stop> {
+    if !matches!(done, Err(Stop::Torn)) && is_there(files, copy, names.beside.as_str()) {
+        let removed = files.remove_file(names.beside.as_str());
+        if done.is_err() && removed.is_err() {
+            return Err(Stop::Failed(Unwritten::Remains(names.beside)));
+        }
     }
+    match done {
+        Ok(()) => Ok(()),
+        Err(stop) => told(names, stop),
+    }
+}
+
+/// The stop as it is told, with the name that matters.
+fn told(names: FileNames, stop: Stop) -> Result<(), Stop> {
+    let why = match stop {
+        Stop::Again => return Err(Stop::Again),
+        Stop::Taken => Unwritten::Taken(names.beside),
+        Stop::TakenAside => Unwritten::Taken(names.aside),
+        Stop::Aside => Unwritten::Remains(names.aside),
+        Stop::Torn => Unwritten::Torn(names.beside),
+        Stop::Through => Unwritten::Changed,
+        Stop::Failed(why) => why,
+    };
+    Err(Stop::Failed(why))
 }

@@ -3,6 +3,7 @@
 use crate::disk::Disk;
 use crate::failure::Failure;
 use crate::input::read_whole;
+use crate::locks::Lock;
 use crate::replacing::replace_file;
 use crate::unwritten::Unwritten;
 use std::alloc::{AllocError, Global};
@@ -61,7 +62,7 @@ pub trait Store: Disk {
     ///
     /// # Errors
     ///
-    /// Why it wasn't replaced: then the file holds what it held before.
+    /// Why it wasn't replaced: then the file holds what it held before, or at `Torn` another one does.
     fn replace(&self, alloc: Global, name: &str, before: &str, after: &str) -> Result<(), Unwritten>
         ensures { (known self.now).replaces name.now before.now after.now (result_err result) };
 
@@ -72,7 +73,7 @@ pub trait Store: Disk {
 /// The files of the system.
 impl<F: Files + AllocGlobal + Clone + Drop> Store for F
 where
-    F::File: AsFd,
+    F::File: AsFd + Lock,
 {
     ghost use Rattle.cli_files.specs.Stores.{nothing_known};
 

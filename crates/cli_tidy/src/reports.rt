@@ -6,7 +6,7 @@ ghost use Rattle.cli_tidy.specs.Troubles.{SaysUsage, memory_line, trouble_line, 
 
 use crate::hints::hint;
 use crate::trouble::FileTrouble;
-use cli_files::{report, report_unwritten, say};
+use cli_files::{report, report_unwritten, say, say_of};
 use std::alloc::Global;
 use std::io::Write;
 
@@ -68,7 +68,7 @@ pub(crate) fn no_memory<E: Write>(e: &mut E) -> u8
     ensures status { result ≡ 2 }
     ensures line { AppendsFront (E.contents e.old) (E.contents e.new) memory_line }
 {
-    say(e, &["json5_tidy: out of memory\n"]);
+    say_of(e, "json5_tidy", &[": out of memory\n"]);
     2
 }
 
@@ -85,12 +85,12 @@ pub(crate) fn report_trouble<E: Write>(name: &str, trouble: &FileTrouble, e: &mu
         }
         FileTrouble::Unreported(failure, _) => report(name, failure, e),
         FileTrouble::Unopened(why) => {
-            say(e, &[name, ": cannot be read", why.words(), "\n"]);
+            say_of(e, name, &[": cannot be read", why.words(), "\n"]);
             2
         }
         FileTrouble::Unwritten(unwritten) => report_unwritten(name, unwritten, e),
         FileTrouble::NoFile => {
-            say(e, &[name, ": no file to tidy is in it\n"]);
+            say_of(e, name, &[": no file to tidy is in it\n"]);
             2
         }
     }
