@@ -11,6 +11,7 @@ use Rattle.json5_report.specs.Reports.{IsReportOf, IsReportOfWrong, report_text}
 use Rattle.cli_files.specs.declared.failure.Failure.{Failure}
 use Rattle.cli_files.specs.declared.failure.Failure.TheVariants as failure
 use Rattle.cli_files.specs.Inputs.{RefusesInput}
+use Rattle.cli_files.specs.ShownNames.{shown_name}
 use Rattle.json5_tidy.specs.declared.style.LastCommas.{LastCommas}
 use Rattle.cli_tidy.specs.declared.tidied.Tidied.{Tidied}
 use Rattle.cli_tidy.specs.declared.trouble.FileTrouble.{FileTrouble}
@@ -25,12 +26,12 @@ printed_report Those report (Ok s) those e = (report, those, e)
 printed_report Those report (Err memory) those k = k
 
 module _ (name bytes : List ℕ) where
-  pub wrong_trouble : (shown : Result (String Global) Error) → ¬ (IsUtf8 bytes) → MatchResult shown (λ s. ShowsReport (IsReportOfWrong name bytes) (string_bytes s)) LacksMemory
+  pub wrong_trouble : (shown : Result (String Global) Error) → ¬ (IsUtf8 bytes) → MatchResult shown (λ s. ShowsReport (IsReportOfWrong (shown_name name) bytes) (string_bytes s)) LacksMemory
       → IsFaultOf name bytes (reported failure.NotUtf8 shown)
   wrong_trouble (Ok s) none k = wrong k
   wrong_trouble (Err memory) none k = (none, k)
 
-  pub text_trouble : (e : Error) (shown : Result (String Global) Error) → ¬ (IsOutOfMemory e) → RefusesInput e bytes → MatchResult shown (λ s. ShowsReport (IsReportOf name bytes e) (string_bytes s)) LacksMemory
+  pub text_trouble : (e : Error) (shown : Result (String Global) Error) → ¬ (IsOutOfMemory e) → RefusesInput e bytes → MatchResult shown (λ s. ShowsReport (IsReportOf (shown_name name) bytes e) (string_bytes s)) LacksMemory
       → IsFaultOf name bytes (reported (failure.Text e) shown)
   text_trouble e (Ok s) other refuses k = refused e other refuses k
   text_trouble e (Err memory) other refuses k = ((other, refuses), k)

@@ -10,6 +10,7 @@ use Rattle.cli_files.specs.declared.failure.Failure.TheVariants as failure
 use Rattle.cli_files.specs.declared.reason.Reason.{Reason}
 use Rattle.cli_files.specs.declared.unwritten.Unwritten.{Unwritten}
 use Rattle.cli_files.specs.Stores.{Opening}
+use Rattle.cli_files.specs.ShownNames.{shown_name}
 use Rattle.cli_tidy.specs.declared.files.Outcome.{Outcome}
 use Rattle.cli_tidy.specs.declared.files.Outcome.TheVariants as outcome
 use Rattle.cli_tidy.specs.declared.requests.FileRequest.{FileRequest}
@@ -24,7 +25,7 @@ use Rattle.cli_tidy.specs.Tidies.{Tidies}
 use Rattle.cli_tidy.specs.Troubles.{trouble_line, trouble_status}
 
 abbrev pub name_line : List ℕ → List ℕ
-name_line name = name ++ codes "\n"
+name_line name = shown_name name ++ codes "\n"
 
 -- the texts were written, or a prefix of them was
 abbrev pub PutsTexts : Outcome → List ℕ → (old new : Option (List ℕ)) → Result Outcome FileTrouble → Type 0

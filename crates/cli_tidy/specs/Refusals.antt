@@ -11,6 +11,7 @@ use Rattle.json5_report.specs.Reports.{IsReportOf, IsReportOfWrong, report_text}
 use Rattle.cli_files.specs.declared.failure.Failure.{Failure}
 use Rattle.cli_files.specs.declared.failure.Failure.TheVariants as failure
 use Rattle.cli_files.specs.Inputs.{IsReadFault, ReadFailure, RefusesInput}
+use Rattle.cli_files.specs.ShownNames.{shown_name}
 use Rattle.cli_tidy.specs.declared.trouble.FileTrouble.{FileTrouble}
 use Rattle.cli_tidy.specs.declared.trouble.FileTrouble.TheVariants as trouble
 
@@ -18,10 +19,10 @@ use Rattle.cli_tidy.specs.declared.trouble.FileTrouble.TheVariants as trouble
 abbrev pub ShowsReport : (Report → Type 0) → List ℕ → Type 0
 ShowsReport Those shown = (report : Report) × Those report × (shown ≡ report_text report)
 
--- why bytes with this name are no document is shown: a report of the first that is in no character, or of the text's fault
+-- why bytes with this name are no document is shown, with the name as it is shown: a report of the first that is in no character, or of the text's fault
 pub data ShowsFault (name bytes shown : List ℕ) : Type 0 where
-  wrong : ShowsReport (IsReportOfWrong name bytes) shown → ShowsFault name bytes shown
-  refused : (e : Error) → ¬ (IsOutOfMemory e) → RefusesInput e bytes → ShowsReport (IsReportOf name bytes e) shown → ShowsFault name bytes shown
+  wrong : ShowsReport (IsReportOfWrong (shown_name name) bytes) shown → ShowsFault name bytes shown
+  refused : (e : Error) → ¬ (IsOutOfMemory e) → RefusesInput e bytes → ShowsReport (IsReportOf (shown_name name) bytes e) shown → ShowsFault name bytes shown
 
 -- why what was read is no document: no read failed, and memory didn't run out
 abbrev pub IsCauseOf : (input : Option (List ℕ)) → Failure → Type 0

@@ -19,14 +19,17 @@ const FILE: &str = ".editorconfig";
 struct Config {
     path: String,
     text: String,
+    /// Whether those further up don't count.
+    is_root: bool,
 }
 
-/// Those that hold for the files of the folder that was asked for last. One that can't be read counts as none.
+/// Those of the folder that was asked for last and of those above it. One that can't be read counts as none. Each is read once, until
+/// a file of a folder that it isn't in is asked for.
 #[derive(Drop)]
 pub(crate) struct Configs {
     /// The folder, as it was named.
     name: String,
-    /// Its path, with a slash behind it.
+    /// Its path, with a slash behind it, as far as it was looked for them.
     path: String,
     /// The nearest is the last.
     list: Vec<Config>,
@@ -86,7 +89,11 @@ impl Configs {
         self.enter(store, alloc, folder)?;
         let path = format!(in alloc; "{}{file}", self.path.as_str())?;
         let mut told = Told::nothing();
+        let first = self.list.iter().rposition(|config| config.is_root);
         for (index, config) in self.list.iter().enumerate() {
+            if index < first.unwrap_or(0) {
+                continue;
+            }
             let folder = config.path.strip_suffix(FILE).unwrap_or("");
             let below = path.strip_prefix(folder).unwrap_or("");
             told.read(alloc, config.text.as_str(), below, Chooser::Config(index))?;
@@ -94,7 +101,7 @@ impl Configs {
         Ok(told)
     }
 
-    /// Reads the .editorconfig files that hold for the files of this folder, unless it was asked for last.
+    /// Looks for the .editorconfig files that hold for the files of this folder, where that wasn't done yet.
     fn enter<S: Store>(
         &mut self,
         store: &S,
@@ -104,23 +111,60 @@ impl Configs {
         if self.name.as_str() == folder {
             return Ok(());
         }
-        *self = Configs::none(alloc);
+        self.name.clear();
         let path = match store.real_path(alloc, folder) {
             Ok(path) => path,
             Err(e) if e.kind() == ErrorKind::OutOfMemory => return Err(AllocError),
-            Err(_) => return Ok(()),
+            Err(_) => {
+                *self = Configs::none(alloc);
+                return Ok(());
+            }
         };
-        for part in path.as_str().trim_end_matches('/').split('/') {
-            self.path.push_str(part)?;
-            self.path.push('/')?;
-            self.read_config(store, alloc)?;
-        }
+        self.enter_path(store, alloc, path.as_str().trim_end_matches('/'))?;
         self.name.push_str(folder)
     }
 
-    /// Reads the .editorconfig at the path, if there is one.
-    fn read_config<S: Store>(&mut self, store: &S, alloc: Global) -> Result<(), AllocError> {
-        let path = format!(in alloc; "{}{FILE}", self.path.as_str())?;
+    /// The same of the folder with this path.
+    fn enter_path<S: Store>(
+        &mut self,
+        store: &S,
+        alloc: Global,
+        path: &str,
+    ) -> Result<(), AllocError> {
+        let path = format!(in alloc; "{path}/")?;
+        let known = common_len(self.path.as_str(), path.as_str());
+        self.keep(alloc, known)?;
+        let rest = path.as_str().get(known..).unwrap_or("");
+        for part in rest.split_inclusive('/') {
+            let folder = format!(in alloc; "{}{part}", self.path.as_str())?;
+            self.read_config(store, alloc, folder.as_str())?;
+            self.path = folder;
+        }
+        Ok(())
+    }
+
+    /// Forgets the files of folders whose path is longer.
+    fn keep(&mut self, alloc: Global, len: usize) -> Result<(), AllocError> {
+        let path = String::from_str(alloc, self.path.as_str().get(..len).unwrap_or(""))?;
+        let most = len.saturating_add(FILE.len());
+        let count = self
+            .list
+            .iter()
+            .filter(|config| config.path.len() <= most)
+            .count();
+        self.list.truncate(count);
+        self.path = path;
+        Ok(())
+    }
+
+    /// Reads the .editorconfig in this folder, if there is one.
+    fn read_config<S: Store>(
+        &mut self,
+        store: &S,
+        alloc: Global,
+        folder: &str,
+    ) -> Result<(), AllocError> {
+        let path = format!(in alloc; "{folder}{FILE}")?;
         let Ok(mut file) = store.open(path.as_str()) else {
             return Ok(());
         };
@@ -129,10 +173,26 @@ impl Configs {
             Err(Failure::NoMemory) => return Err(AllocError),
             Err(_) => return Ok(()),
         };
-        if is_root(text.as_str()) {
-            self.list.clear();
-        }
-        self.list.push(Config { path, text })?;
+        let is_root = is_root(text.as_str());
+        self.list.push(Config {
+            path,
+            text,
+            is_root,
+        })?;
         Ok(())
     }
+}
+
+/// How long the path is of the nearest folder that these are both in or are. A slash is behind each path.
+fn common_len(path: &str, other: &str) -> usize {
+    let mut len = 0;
+    for ((at, byte), same) in path.bytes().enumerate().zip(other.bytes()) {
+        if byte != same {
+            return len;
+        }
+        if byte == b'/' {
+            len = at.saturating_add(1);
+        }
+    }
+    len
 }

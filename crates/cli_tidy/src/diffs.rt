@@ -5,7 +5,7 @@ ghost use Rattle.cli_tidy.specs.Files.{DiffFailure};
 
 use crate::blocks::{Block, blocks};
 use crate::hunks::{Texts, hunk_len, write_hunk};
-use cli_files::{Failure, write_texts};
+use cli_files::{Failure, write_named, write_texts};
 use std::alloc::Global;
 use std::io::{self, Write};
 
@@ -51,7 +51,9 @@ fn write_diff<W: Write>(
     if found.is_empty() {
         return Ok(());
     }
-    write_texts(w, &["--- ", name, "\n+++ ", name, "\n"])?;
+    write_texts(w, &["--- "])?;
+    write_named(w, name, &["\n+++ "])?;
+    write_named(w, name, &["\n"])?;
     let mut rest = found;
     for _ in 0..u64::MAX {
         if rest.is_empty() {

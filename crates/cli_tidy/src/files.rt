@@ -1,8 +1,9 @@
 //! One file after another.
 
 ghost use Rattle.std.specs.Prelude.{string_bytes};
+ghost use Rattle.json5_write.specs.Pieces.{Pushes};
 ghost use Rattle.cli_files.specs.JoinedTexts.{joined_texts};
-ghost use Rattle.cli_tidy.specs.Files.{PutsDiff, PutsFile, PutsStyle, PutsTexts, WorksOnFile, WorksOnTidied, WorksThrough};
+ghost use Rattle.cli_tidy.specs.Files.{PutsDiff, PutsFile, PutsStyle, PutsTexts, WorksOnFile, WorksOnTidied, WorksThrough, name_line};
 ghost use Rattle.cli_tidy.specs.Names.{WorksBelow, WorksThroughNames};
 
 use crate::configs::Configs;
@@ -14,9 +15,9 @@ use crate::styles::{TextStyle, style_line};
 use crate::tidied::{Tidied, read_tidied};
 use crate::trouble::FileTrouble;
 use crate::work::FileWork;
-use cli_files::{Failure, Reason, Store, put_texts};
+use cli_files::{Failure, Reason, Store, put_texts, write_named};
 use std::alloc::Global;
-use std::io::Write;
+use std::io::{self, Write};
 
 /// What came of the work on a file.
 #[derive(Clone, Copy, Drop)]
@@ -151,7 +152,7 @@ fn work_on_texts<S: Store, W: Write>(
         FileWork::Style => put_style(alloc, name, configs, tidied.style, w),
         FileWork::Print => put(w, &[tidied.after.as_str()], Outcome::Tidy),
         _ if tidied.is_tidy() => Ok(Outcome::Tidy),
-        FileWork::Check => put(w, &[name, "\n"], Outcome::Untidy),
+        FileWork::Check => put_name(w, name, Outcome::Untidy),
         FileWork::Diff => put_diff(alloc, name, tidied, w),
         FileWork::Write => put_file(store, alloc, request, name, tidied, w),
     }
@@ -165,6 +166,23 @@ fn put<W: Write>(w: &mut W, texts: &[&str], outcome: Outcome) -> Result<Outcome,
         Ok(()) => Ok(outcome),
         Err(failure) => Err(FileTrouble::Failed(failure)),
     }
+}
+
+/// Writes the name as it is shown, on a line.
+fn put_name<W: Write>(w: &mut W, name: &str, outcome: Outcome) -> Result<Outcome, FileTrouble>
+    ensures { PutsTexts outcome (name_line name.now) (W.contents w.old) (W.contents w.new) result }
+{
+    match write_line(w, name) {
+        Ok(()) => Ok(outcome),
+        Err(_) => Err(FileTrouble::Failed(Failure::Write)),
+    }
+}
+
+fn write_line<W: Write>(w: &mut W, name: &str) -> io::Result<()>
+    ensures { Pushes (W.contents w.old) (W.contents w.new) (name_line name.now) result }
+{
+    write_named(w, name, &["\n"])?;
+    w.flush()
 }
 
 /// Writes the style that holds for the file, and what chose each size.
@@ -218,7 +236,7 @@ fn put_file<S: Store, W: Write>(
 {
     match store.replace(alloc, name, tidied.before.as_str(), tidied.after.as_str()) {
         Ok(()) if request.options.is_quiet => Ok(Outcome::Tidy),
-        Ok(()) => put(w, &[name, "\n"], Outcome::Tidy),
+        Ok(()) => put_name(w, name, Outcome::Tidy),
         Err(unwritten) => Err(FileTrouble::Unwritten(unwritten)),
     }
 }

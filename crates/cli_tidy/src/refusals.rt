@@ -5,10 +5,11 @@ ghost use Rattle.std.specs.Str.{IsUtf8};
 ghost use Rattle.json5_report.specs.Reports.{IsReportOf, IsReportOfWrong, report_text};
 ghost use Rattle.json5_types.specs.Errors.{LacksMemory};
 ghost use Rattle.cli_files.specs.Inputs.{RefusesInput};
+ghost use Rattle.cli_files.specs.ShownNames.{shown_name};
 ghost use Rattle.cli_tidy.specs.Refusals.{IsFaultOf, ShowsReport, reported};
 
 use crate::trouble::FileTrouble;
-use cli_files::Failure;
+use cli_files::{Failure, shown};
 use json5_report::Report;
 use json5_types::error::{Error, Result};
 use std::alloc::Global;
@@ -48,9 +49,10 @@ fn reported(failure: Failure, shown: Result<String>) -> FileTrouble
 /// The report of bytes that are no text.
 fn bytes_shown(alloc: Global, name: &str, bytes: &[u8]) -> Result<String>
     requires { ¬ (IsUtf8 bytes.now) }
-    ensures { MatchResult result (λ shown. ShowsReport (IsReportOfWrong name.now bytes.now) (string_bytes shown)) LacksMemory }
+    ensures { MatchResult result (λ shown. ShowsReport (IsReportOfWrong (shown_name name.now) bytes.now) (string_bytes shown)) LacksMemory }
 {
-    match Report::of_bytes(alloc, name, bytes)? {
+    let name = shown(alloc, name)?;
+    match Report::of_bytes(alloc, name.as_str(), bytes)? {
         Some(report) => printed(alloc, &report),
         None => unreachable!(),
     }
@@ -58,9 +60,10 @@ fn bytes_shown(alloc: Global, name: &str, bytes: &[u8]) -> Result<String>
 
 /// The report of an error of reading this text.
 fn text_shown(alloc: Global, name: &str, text: &str, error: &Error) -> Result<String>
-    ensures { MatchResult result (λ shown. ShowsReport (IsReportOf name.now text.now error.now) (string_bytes shown)) LacksMemory }
+    ensures { MatchResult result (λ shown. ShowsReport (IsReportOf (shown_name name.now) text.now error.now) (string_bytes shown)) LacksMemory }
 {
-    let report = Report::new(alloc, name, text, error)?;
+    let name = shown(alloc, name)?;
+    let report = Report::new(alloc, name.as_str(), text, error)?;
     printed(alloc, &report)
 }
 

@@ -8,6 +8,7 @@ ghost use Rattle.json5_tidy.specs.declared.style.LastCommas.TheVariants as comma
 use crate::configs::Configs;
 use crate::endings::last_commas_for;
 use crate::indents::own_indent;
+use cli_files::shown;
 use json5_tidy::{LastCommas, Style};
 use std::alloc::{AllocError, Global};
 
@@ -107,8 +108,9 @@ pub(crate) fn style_line(
         configs.name_of(chosen.indent_by),
         configs.name_of(chosen.width_by),
     );
-    let width = chosen.style.width;
+    let (name, width) = (shown(alloc, name)?, chosen.style.width);
     format!(in alloc;
-        "{name}: --indent {indent} ({by}), --width {width} ({width_by}), --last-commas {commas}\n"
+        "{}: --indent {indent} ({by}), --width {width} ({width_by}), --last-commas {commas}\n",
+        name.as_str(),
     )
 }

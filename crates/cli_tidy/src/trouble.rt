@@ -7,9 +7,10 @@ ghost use Rattle.cli_tidy.specs.Troubles.{trouble_status};
 
 use cli_files::{Failure, Reason, Unwritten};
 use json5_types::error::Error;
+use std::fmt;
 
 /// Why the work on a file ended.
-#[derive(Drop)]
+#[derive(Debug, Drop)]
 pub enum FileTrouble {
     /// Memory ran out, or a stream failed.
     Failed(Failure),
@@ -44,5 +45,20 @@ impl FileTrouble {
         ensures no { result ≡ false → self.now ≢ troubles.Failed failures.Write }
     {
         matches!(self, FileTrouble::Failed(Failure::Write))
+    }
+}
+
+impl std::error::Error for FileTrouble {}
+
+impl fmt::Display for FileTrouble {
+    fn fmt<W: fmt::Write>(&self, f: &mut fmt::Formatter<W>) -> fmt::Result {
+        match self {
+            FileTrouble::Failed(failure) => write!(f, "{failure}"),
+            FileTrouble::Refused(shown) => f.write_str(shown.as_str()),
+            FileTrouble::Unreported(failure, _) => write!(f, "{failure}"),
+            FileTrouble::Unopened(why) => write!(f, "cannot be read{}", why.words()),
+            FileTrouble::Unwritten(unwritten) => write!(f, "{unwritten}"),
+            FileTrouble::NoFile => f.write_str("no file to tidy is in it"),
+        }
     }
 }
