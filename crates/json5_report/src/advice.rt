@@ -2,6 +2,11 @@
 //!
 //! Plain code, of which no promise is made but that it is safe and ends: change it by the rows of reports, which judge it.
 
+use crate::member_advice::MemberAdvice;
+use crate::number_advice::NumberAdvice;
+use crate::text_advice::TextAdvice;
+use crate::value_advice::ValueAdvice;
+use crate::wording::Quoted;
 use json5_read::brackets::BracketKind;
 use std::fmt;
 
@@ -33,20 +38,16 @@ pub(crate) enum Advice<'t> {
     DropCommentEnd,
     DropElement,
     DropEquals,
-    DropLeadingZero,
-    DropQuotesAndUnit,
     DropQuotesOfBool,
     DropQuotesOfNumber,
-    DropUnderscore,
-    DropUnit(&'t str),
     DropUnseen(char),
     /// The line of the comment.
     EndComment(u128),
     EscapeBackslash,
     EscapeFourDigits,
-    EscapeLineEnd,
     EscapeQuote(char),
     EscapeTwoDigits,
+    Fence,
     Foreign(&'static str),
     /// The digits, with commas or blanks between them.
     JoinDigits(&'t str),
@@ -55,6 +56,7 @@ pub(crate) enum Advice<'t> {
     MergeMarks,
     /// The text that a quote is missing behind.
     MissingQuote(&'t str),
+    Member(MemberAdvice<'t>),
     /// What is missing before the place.
     Missing(&'static str),
     /// The name, which holds a value.
@@ -67,13 +69,13 @@ pub(crate) enum Advice<'t> {
     /// The bracket.
     NeverClosed(&'t str),
     NoExpressions,
-    NoFraction,
     NoHexDigit(char),
     /// What to write in place of null.
     NoNull(&'static str),
     NoNumber(&'t str),
     NoValue,
     NoVariables,
+    Number(NumberAdvice<'t>),
     OneAlone,
     OneQuote,
     OneValue,
@@ -83,7 +85,7 @@ pub(crate) enum Advice<'t> {
     QuoteKey(&'t str),
     QuoteText(&'t str),
     QuoteTexts,
-    /// Where it may belong.
+    /// What it may be.
     RemoveOrMove(Elsewhere<'t>),
     /// The name of the field, and the line of the first.
     Repeated(&'t str, u128),
@@ -93,6 +95,7 @@ pub(crate) enum Advice<'t> {
     /// The bracket, its line, and the line that it is to be closed before.
     StillOpenBefore(BracketKind, u128, u128),
     Surrogate,
+    Text(TextAdvice<'t>),
     TooDeep,
     /// By how much, and the least that is taken.
     TooSmall(u128, &'t str),
@@ -110,6 +113,7 @@ pub(crate) enum Advice<'t> {
     /// The digits, with a comma between them.
     UsePoint(&'t str),
     Utf16,
+    Value(ValueAdvice<'t>),
     Write(&'static str),
     /// The number, its sign, and its digits.
     WrittenAs(&'t str, &'static str, u128),
@@ -140,10 +144,6 @@ impl fmt::Display for Advice<'_> {
                 )
             }
             Advice::DidYouMean(name) => write!(f, "did you mean `{name}`?"),
-            Advice::DropUnit(word) => {
-                let text = Quoted(word);
-                write!(f, "a number has no unit, and a text needs quotes: {text}")
-            }
             Advice::DropUnseen(c) => {
                 write!(
                     f,
@@ -151,12 +151,20 @@ impl fmt::Display for Advice<'_> {
                     *c as u32
                 )
             }
-            Advice::EndComment(line) => write!(f, "the comment of line {line} is never closed"),
+            Advice::EndComment(line) => write!(
+                f,
+                "the comment of line {line} is never closed: write `*/` behind it"
+            ),
             Advice::EscapeQuote(quote) => write!(
                 f,
                 "a `{quote}` within a text is written `\\{quote}`"
             ),
-            Advice::Foreign(kind) => write!(f, "this looks like {kind}: JSON5 begins with {{ or ["),
+            Advice::Foreign(kind) => {
+                write!(
+                    f,
+                    "this looks like {kind}: in JSON5 it is {{ key: 'value', .. }}"
+                )
+            }
             Advice::JoinDigits(digits) => {
                 let part = match digits.chars().find(|c| !c.is_ascii_digit()) {
                     Some(',') => "commas",
@@ -170,6 +178,7 @@ impl fmt::Display for Advice<'_> {
                 let c = char::from(*byte);
                 write!(f, "0x{byte:02X} is {c} in Latin-1: save the file as UTF-8")
             }
+            Advice::Member(advice) => write!(f, "{advice}"),
             Advice::Missing(part) => write!(f, "{part} is missing before this"),
             Advice::MissingQuote(text) => write!(f, "a quote is missing behind `{text}`"),
             Advice::NameHolds(name) => write!(f, "`{name}` holds a value: {{ {name}: .. }}"),
@@ -186,15 +195,19 @@ impl fmt::Display for Advice<'_> {
                 let text = Quoted(word);
                 write!(f, "this is no number, and a text needs quotes: {text}")
             }
+            Advice::Number(advice) => write!(f, "{advice}"),
             Advice::OtherQuote(quote) => {
                 write!(f, "a text ends with the quote that it begins with: {quote}")
             }
             Advice::QuoteKey(key) => write!(f, "this key needs quotes: '{key}'"),
             Advice::QuoteText(text) => write!(f, "a text needs quotes: {}", Quoted(text)),
-            Advice::RemoveOrMove(place) => {
-                write!(f, "remove it, or move it to where it belongs{place}")
+            Advice::RemoveOrMove(place) => write!(f, "{place}"),
+            Advice::Repeated(name, line) => {
+                write!(
+                    f,
+                    "`{name}` stands on line {line} already: remove one of them"
+                )
             }
-            Advice::Repeated(name, line) => write!(f, "`{name}` stands on line {line} already"),
             Advice::StillOpen(kind, stands) => {
                 let (opening, closing) = (kind.brackets().opening, kind.brackets().closing);
                 write!(f, "the `{opening}` of {stands} is still open: ")?;
@@ -205,6 +218,7 @@ impl fmt::Display for Advice<'_> {
                 write!(f, "the `{opening}` of line {line} is still open: ")?;
                 write!(f, "a `{closing}` is missing before line {other}")
             }
+            Advice::Text(advice) => write!(f, "{advice}"),
             Advice::TooLarge(0, most) => write!(f, "too large: at most {most}"),
             Advice::TooLarge(by, most) => write!(f, "too large by {by}: at most {most}"),
             Advice::TooSmall(by, least) => write!(f, "too small by {by}: at least {least}"),
@@ -218,6 +232,7 @@ impl fmt::Display for Advice<'_> {
                 write!(f, "a number has a point, and no comma: ")?;
                 write_digits(f, digits, Some('.'))
             }
+            Advice::Value(advice) => write!(f, "{advice}"),
             Advice::Write(word) => write!(f, "write {word}"),
             Advice::WrittenAs(word, sign, digits) => {
                 write!(f, "{word} is written as {sign}{digits} here")
@@ -235,33 +250,29 @@ impl Advice<'_> {
             Advice::CommentSign => "a comment begins with `//`",
             Advice::CutCharacter => "a character is cut off here",
             Advice::DiffMark => "this is a mark of a diff: remove it",
-            Advice::DropBracket => "no bracket is open here",
+            Advice::DropBracket => "no bracket is open here: remove this",
             Advice::DropByteOrderMark => "a byte order mark (U+FEFF) stands before this",
             Advice::DropByteOrderMarkBehind => "a byte order mark (U+FEFF) stands after this",
-            Advice::DropClosing => "a bracket too many",
+            Advice::DropClosing => "a bracket too many: remove this",
             Advice::DropColon => "a colon too many",
             Advice::DropComma => "a comma too many",
-            Advice::DropCommentEnd => "no comment is open here",
+            Advice::DropCommentEnd => "no comment is open here: comments are not nested",
             Advice::DropElement => "an element too many",
             Advice::DropEquals => "a `=` too many",
-            Advice::DropLeadingZero => "a number does not begin with 0",
-            Advice::DropQuotesAndUnit => "a number has no quotes and no unit",
             Advice::DropQuotesOfBool => "true and false are written without quotes",
             Advice::DropQuotesOfNumber => "numbers are written without quotes",
-            Advice::DropUnderscore => "a number has no `_` in it",
             Advice::EscapeBackslash => "there is no such escape; a backslash itself is `\\\\`",
             Advice::EscapeFourDigits => {
                 "`\\u` takes four hexadecimal digits; a backslash itself is `\\\\`"
             }
-            Advice::EscapeLineEnd => "a text goes on in the next line after a backslash",
             Advice::EscapeTwoDigits => {
                 "`\\x` takes two hexadecimal digits; a backslash itself is `\\\\`"
             }
+            Advice::Fence => "this line is of Markdown: remove it",
             Advice::MergeMarks =>
                 "this is a mark of a merge: keep one of its two sides, without the marks",
             Advice::Ndjson => "this looks like NDJSON: a JSON5 file holds one value",
             Advice::NoExpressions => "a file has no expressions: write the value itself",
-            Advice::NoFraction => "a whole number has no fraction",
             Advice::NoValue => "the file holds no value",
             Advice::NoVariables => "a file has no variables: write the value itself",
             Advice::OneAlone => "one key alone may stand in this object",
@@ -299,47 +310,51 @@ impl fmt::Display for Stands {
     }
 }
 
-/// Where an unknown field may belong: in an object around its own, or in one that is a member of its own.
+/// What an unknown field may be: another one that isn't there, or one of an object around its own, or of one within.
 #[derive(Clone, Copy)]
 pub(crate) struct Elsewhere<'t> {
+    /// The first two fields that aren't there.
+    pub(crate) free: [Option<&'t str>; 2],
+    pub(crate) has_more_free: bool,
     pub(crate) is_inner: bool,
-    /// The key of the first such member.
+    /// The key of the first member that holds an object.
     pub(crate) section: Option<&'t str>,
     pub(crate) has_more: bool,
 }
 
 impl fmt::Display for Elsewhere<'_> {
     fn fmt<W: fmt::Write>(&self, f: &mut fmt::Formatter<W>) -> fmt::Result {
-        match (self.is_inner, self.section, self.has_more) {
-            (false, None, _) => Ok(()),
-            (true, None, _) => f.write_str(", perhaps one level up"),
-            (true, Some(section), _) => write!(f, ", perhaps one level up or into `{section}`"),
-            (false, Some(section), true) => write!(
+        match self.free {
+            [None, _] => f.write_str("remove it")?,
+            [Some(name), None] => write!(f, "rename it to `{name}`")?,
+            [Some(name), Some(other)] if self.has_more_free => write!(
                 f,
-                ", perhaps into `{section}` or another section"
-            ),
-            (false, Some(section), false) => write!(f, ", perhaps into `{section}`"),
+                "rename it to `{name}`, `{other}` or another of these"
+            )?,
+            [Some(name), Some(other)] => write!(f, "rename it to `{name}` or `{other}`")?,
+        }
+        self.write_places(f)?;
+        match self.free {
+            [None, _] => Ok(()),
+            _ => f.write_str(", or remove it"),
         }
     }
 }
 
-/// A text in quotes.
-#[derive(Clone, Copy)]
-struct Quoted<'t>(&'t str);
-
-/// Prints the text in quotes that aren't in it, if it has but one kind of them, and with each backslash twice.
-impl fmt::Display for Quoted<'_> {
-    fn fmt<W: fmt::Write>(&self, f: &mut fmt::Formatter<W>) -> fmt::Result {
-        let Quoted(text) = self;
-        let quote = if text.contains('\'') { '"' } else { '\'' };
-        f.write_char(quote)?;
-        for c in text.chars() {
-            if c == '\\' {
-                f.write_char(c)?;
-            }
-            f.write_char(c)?;
+impl Elsewhere<'_> {
+    /// The objects that it may belong to.
+    fn write_places<W: fmt::Write>(self, f: &mut fmt::Formatter<W>) -> fmt::Result {
+        let lead = match self.free {
+            [None, _] => ", or move it",
+            _ => ", move it",
+        };
+        match (self.is_inner, self.section, self.has_more) {
+            (false, None, _) => Ok(()),
+            (true, None, _) => write!(f, "{lead} one level up"),
+            (true, Some(section), _) => write!(f, "{lead} one level up or into `{section}`"),
+            (false, Some(section), true) => write!(f, "{lead} into `{section}` or another section"),
+            (false, Some(section), false) => write!(f, "{lead} into `{section}`"),
         }
-        f.write_char(quote)
     }
 }
 

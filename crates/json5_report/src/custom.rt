@@ -5,11 +5,14 @@
 use crate::advice::{Advice, Elsewhere};
 use crate::fault::{Fault, Remark};
 use crate::hints::adjacent_advice;
-use crate::lexemes::{Kind, Lexeme, lexeme_at};
+use crate::lexemes::{Kind, Lexeme, lexeme_at, line_len};
+use crate::member_advice::MemberAdvice;
 use crate::members::{member_key, member_keys};
 use crate::near::{name_in, near_name};
 use crate::numbers::range_advice;
-use crate::path::unquoted;
+use crate::path::{is_named, unquoted};
+use crate::unclosed::close_of;
+use crate::value_advice::ValueAdvice;
 use crate::values::bare_remark;
 use json5_tokens::char::is_json5_identifier;
 use std::alloc::{AllocError, Global};
@@ -30,6 +33,10 @@ pub(crate) fn custom_remark<'t>(
             advice: Some(Advice::Surrogate),
         });
     }
+    if fault.message.contains("` holds a value: ") {
+        let name = name_in(fault.message).unwrap_or("");
+        return Ok(fault.remark(Advice::Value(ValueAdvice::WithValue(name))));
+    }
     if fault.message == "invalid number" {
         return Ok(bare_remark(fault, fault.offset, Advice::NoNumber("")));
     }
@@ -37,7 +44,7 @@ pub(crate) fn custom_remark<'t>(
         return Ok(fault.plain());
     };
     if fault.message.starts_with("missing field `") {
-        return Ok(fault.remark(Advice::AddField(name)));
+        return Ok(fault.remark(missing_advice(fault, name)));
     }
     if fault.message.starts_with("duplicate field `") {
         return repeated_remark(alloc, fault, name);
@@ -63,7 +70,7 @@ fn name_advice<'t>(fault: &Fault<'t>) -> Option<Advice<'t>> {
             Some(Advice::NameHolds(unquoted(text)))
         }
         Kind::Text if rest.starts_with(|c| is_json5_identifier(c) || matches!(c, '\'' | '"')) => {
-            adjacent_advice(text)
+            adjacent_advice(fault, token)
         }
         Kind::Word if rest.starts_with('\u{feff}') => Some(Advice::DropByteOrderMarkBehind),
         _ => None,
@@ -82,9 +89,23 @@ fn names_advice<'t>(fault: &Fault<'t>) -> Option<Advice<'t>> {
     if is_name {
         return named_value(fault)
             .map(Advice::NameHolds)
-            .or(Some(Advice::Write("one of these names")));
+            .or(listed_names(fault));
     }
     None
+}
+
+/// The names that may stand here: in quotes where a text stands, and else as the message has them.
+fn listed_names<'t>(fault: &Fault<'t>) -> Option<Advice<'t>> {
+    let (_, rest) = fault
+        .message
+        .rsplit_once(", expected ")
+        .or(fault.message.split_once(": "))?;
+    let is_value = match fault.token() {
+        Some(token) => token.kind == Kind::Text && !fault.is_key(token),
+        None => false,
+    };
+    let quote = if is_value { '\'' } else { '`' };
+    Some(Advice::Value(ValueAdvice::Names(rest, quote)))
 }
 
 /// The known name that is the value of one that isn't, if other keys follow: `s3` of `{ kind: 's3', .. }`.
@@ -108,6 +129,61 @@ fn named_value<'t>(fault: &Fault<'t>) -> Option<&'t str> {
     None
 }
 
+/// What is said of a field that is missing: that its object is closed too early, or how another object has it.
+fn missing_advice<'t>(fault: &Fault<'t>, name: &'t str) -> Advice<'t> {
+    if let Some(advice) = early_advice(fault, name) {
+        return advice;
+    }
+    match example_of(fault.text, name) {
+        Some(part) => {
+            let line = fault.line_of(part.start);
+            Advice::Member(MemberAdvice::AddAs(name, part.of(fault.text), line))
+        }
+        None => Advice::AddField(name),
+    }
+}
+
+/// What is said of an object that is closed before the field: the field follows it, or something follows the document's.
+fn early_advice<'t>(fault: &Fault<'t>, name: &str) -> Option<Advice<'t>> {
+    let open = fault.token()?;
+    if open.kind != Kind::Open {
+        return None;
+    }
+    let close = close_of(fault.text, open);
+    let next = lexeme_at(fault.text, close.end);
+    let member = if next.kind == Kind::Comma {
+        lexeme_at(fault.text, next.end)
+    } else {
+        next
+    };
+    let is_last = matches!(next.kind, Kind::End | Kind::Comment) || fault.depth > 0;
+    if is_named(fault.text, member, name) || !is_last && next.kind != Kind::Open {
+        return Some(Advice::Member(MemberAdvice::ClosesEarly(fault.line_of(close.start))));
+    }
+    if is_last { None } else { Some(Advice::Ndjson) }
+}
+
+/// A member with this key whose value has no brackets, if the text has one.
+fn example_of(text: &str, name: &str) -> Option<Lexeme> {
+    let mut token = lexeme_at(text, 0);
+    for _ in 0..text.len() {
+        let colon = lexeme_at(text, token.end);
+        if is_named(text, token, name) && colon.kind == Kind::Colon {
+            let value = lexeme_at(text, colon.end);
+            let is_plain = matches!(value.kind, Kind::Text | Kind::Word);
+            return is_plain.then_some(Lexeme {
+                end: value.end,
+                ..token
+            });
+        }
+        if token.kind == Kind::End {
+            break;
+        }
+        token = colon;
+    }
+    None
+}
+
 /// The key that is unknown, and a known one that is near, or where it may belong.
 fn unknown_remark<'t>(
     alloc: Global,
@@ -122,11 +198,28 @@ fn unknown_remark<'t>(
         Kind::Word => key.of(fault.text),
         _ => name,
     };
+    if let Some(advice) = torn_advice(fault, key) {
+        return Ok(Remark::of(key, advice));
+    }
     let advice = match near_name(alloc, word, fault.message)? {
-        Some(near) => Advice::DidYouMean(near),
-        None => stray_advice(alloc, fault, key, name)?,
+        Some(near) if !word.contains('.') => Advice::DidYouMean(near),
+        _ => stray_advice(alloc, fault, key, name)?,
     };
     Ok(Remark::of(key, advice))
+}
+
+/// What is said of a key in quotes that has its colon, or its value too, within them.
+fn torn_advice<'t>(fault: &Fault<'t>, key: Lexeme) -> Option<Advice<'t>> {
+    let behind = lexeme_at(fault.text, key.end);
+    if key.kind != Kind::Text || behind.kind == Kind::Colon {
+        return None;
+    }
+    let (name, value) = unquoted(key.of(fault.text)).split_once(':')?;
+    Some(match value.trim() {
+        "" if behind.start == key.end => Advice::MissingQuote(name),
+        "" => Advice::Member(MemberAdvice::ColonBehindQuote(name)),
+        value => Advice::Member(MemberAdvice::QuotedTogether(name, value)),
+    })
 }
 
 /// What is said of the key of an unknown field that is near to none.
@@ -139,9 +232,22 @@ fn stray_advice<'t>(
     if let Some((section, field)) = name.split_once('.') {
         return Ok(Advice::Nest(section, field));
     }
-    let behind = lexeme_at(fault.text, key.end).kind;
-    if key.kind == Kind::Text && matches!(behind, Kind::Comma | Kind::Close) {
+    let behind = lexeme_at(fault.text, key.end);
+    if key.kind == Kind::Text && matches!(behind.kind, Kind::Comma | Kind::Close) {
         return Ok(Advice::Missing("a key with its colon"));
+    }
+    let rest = fault.text.get(key.start..).unwrap_or("");
+    let line = rest.get(..line_len(rest)).unwrap_or("");
+    if line.contains("*/") {
+        return Ok(Advice::DropCommentEnd);
+    }
+    if name.starts_with('_') || name.starts_with("//") {
+        return Ok(Advice::CommentSign);
+    }
+    let is_sign = behind.of(fault.text).starts_with(['=', '-', ':']);
+    let is_word = matches!(behind.kind, Kind::Word | Kind::Text);
+    if key.kind == Kind::Word && is_word && !is_sign && !fault.is_key(behind) {
+        return Ok(Advice::Member(MemberAdvice::NoColon));
     }
     Ok(Advice::RemoveOrMove(elsewhere(alloc, fault, key)?))
 }
@@ -156,6 +262,8 @@ fn elsewhere<'t>(
     let keys = member_keys(alloc, fault.text, start)?;
     let own = usize::from(start == fault.offset);
     let mut place = Elsewhere {
+        free: [None, None],
+        has_more_free: false,
         is_inner: fault.depth.saturating_add(own) > 1,
         section: None,
         has_more: false,
@@ -166,7 +274,34 @@ fn elsewhere<'t>(
             place.section = place.section.or(Some(unquoted(other.of(fault.text))));
         }
     }
+    add_free(&mut place, fault, &keys);
     Ok(place)
+}
+
+/// Adds the known names that none of the keys has.
+fn add_free<'t>(place: &mut Elsewhere<'t>, fault: &Fault<'t>, keys: &[Lexeme]) {
+    let (_, known) = fault.message.split_once(", expected ").unwrap_or(("", ""));
+    let mut is_known = false;
+    for name in known.split('`') {
+        if is_known && !has_key(fault.text, keys, name) {
+            match place.free {
+                [None, _] => place.free = [Some(name), None],
+                [first, None] => place.free = [first, Some(name)],
+                _ => place.has_more_free = true,
+            }
+        }
+        is_known = !is_known;
+    }
+}
+
+/// Whether one of the keys has this name.
+fn has_key(text: &str, keys: &[Lexeme], name: &str) -> bool {
+    for key in keys {
+        if is_named(text, *key, name) {
+            return true;
+        }
+    }
+    false
 }
 
 /// Whether the value of the key is an object.

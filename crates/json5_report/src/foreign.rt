@@ -10,7 +10,9 @@ use json5_tokens::char::{is_json5_identifier, is_json5_whitespace};
 use json5_walk::next::Next;
 
 /// What begins a file of JavaScript.
-const JAVASCRIPT: [&str; 8] = [
+const JAVASCRIPT: [&str; 10] = [
+    "import ",
+    "function ",
     "module.exports",
     "exports.",
     "export default",
@@ -49,6 +51,13 @@ fn mark_remark<'t>(fault: &Fault<'t>) -> Option<Remark<'t>> {
             });
         }
     }
+    if line.starts_with("```") {
+        return Some(Remark {
+            start,
+            end: start.saturating_add(line_len(line)),
+            advice: Some(Advice::Fence),
+        });
+    }
     let rest = line.strip_prefix(['+', '-']).unwrap_or("-");
     let is_key = matches!(fault.due, Next::Key) && !rest.starts_with('-');
     let is_sign = is_key || rest.starts_with(is_json5_whitespace);
@@ -73,6 +82,12 @@ fn kind_of(text: &str) -> Option<&'static str> {
         if first.starts_with(word) && first.contains(['=', '{']) {
             return Some("JavaScript");
         }
+    }
+    if first.starts_with("export ") && first.contains('=') {
+        return Some("a shell script");
+    }
+    if first.ends_with(" {") && !first.contains([':', '=', '(', ',']) {
+        return Some("a file of nginx or HCL");
     }
     let is_section = first.starts_with('[') && first.ends_with(']') && is_word_before(second, '=');
     if is_section || is_word_before(first, '=') && !second.is_empty() {

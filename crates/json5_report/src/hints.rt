@@ -10,9 +10,14 @@ use crate::foreign::foreign_remark;
 use crate::found::Found;
 use crate::keys::{colon_remark, key_remark};
 use crate::lexemes::{Kind, Lexeme, first_token, lexeme_at, line_len};
-use crate::numbers::{number_remark, parts_remark};
+use crate::member_advice::MemberAdvice;
+use crate::numbers::{number_remark, parts_remark, unit_advice};
+use crate::path::unquoted;
 use crate::place::line_start;
+use crate::text_advice::TextAdvice;
+use crate::texts::bare_text;
 use crate::unclosed::{Unclosed, closed_after, left_open};
+use crate::value_advice::ValueAdvice;
 use crate::values::{bare_remark, member_advice, value_remark};
 use crate::widths::is_seen;
 use json5_read::brackets::BracketKind;
@@ -91,7 +96,7 @@ fn end_remark<'t>(fault: &Fault<'t>) -> Remark<'t> {
     let around = Around::of(fault.text, fault.text.len());
     match (fault.code, around.comment, around.last) {
         (Some(ErrorCode::EofParsingComment), Some(comment), _) => {
-            fault.remark(Advice::EndComment(fault.line_of(comment.start)))
+            fault.remark(comment_advice(fault, comment))
         }
         (_, _, None) => fault.remark(Advice::NoValue),
         (Some(ErrorCode::EofParsingString | ErrorCode::EofParsingEscapeSequence), _, Some(last))
@@ -105,6 +110,20 @@ fn end_remark<'t>(fault: &Fault<'t>) -> Remark<'t> {
             _ => fault.plain(),
         },
     }
+}
+
+/// What is said of a comment that isn't closed: it may be a part of a key or of a text.
+fn comment_advice<'t>(fault: &Fault<'t>, comment: Lexeme) -> Advice<'t> {
+    let line = fault.line_of(comment.start);
+    let front = fault.text.get(..comment.start).unwrap_or("");
+    if front.ends_with(|c: char| c.is_alphanumeric() || c == '/') {
+        return Advice::Member(MemberAdvice::CommentWithin(line));
+    }
+    let rest = fault.text.get(comment.start..).unwrap_or("");
+    if rest.starts_with("/*:") || rest.starts_with("/*,") {
+        return Advice::Member(MemberAdvice::CommentWithin(line));
+    }
+    Advice::EndComment(line)
 }
 
 /// The part at fault of a text that doesn't end too early, by the fault's code.
@@ -161,17 +180,36 @@ fn sign_advice<'t>(fault: &Fault<'t>) -> Option<Advice<'t>> {
     if token.kind != Kind::Word {
         return None;
     }
-    let is_note = text.starts_with(';') && !matches!(fault.due, Next::Comma | Next::Colon);
-    if is_note || text.starts_with('#') || text.starts_with("--") || text.starts_with("<!--") {
+    if is_note(fault, text) {
         return Some(Advice::CommentSign);
     }
     match text.chars().next() {
-        Some('\u{2018}'..='\u{201f}' | '«' | '»' | '`' | '´') => Some(Advice::PlainQuotes),
+        Some(c) if is_other_quote(c) => Some(quotes_advice(fault, c)),
         Some('\u{ff0c}' | '\u{ff1b}') => Some(Advice::UseComma),
         Some('\u{ff1a}') => Some(Advice::UseColon),
         Some('\u{2212}' | '\u{2013}') => Some(Advice::Write("a minus as -")),
         Some('*') if text.starts_with("*/") => Some(Advice::DropCommentEnd),
+        Some(')') => Some(paren_advice(fault)),
         _ => None,
+    }
+}
+
+/// Whether the word begins a comment of another language.
+fn is_note(fault: &Fault<'_>, text: &str) -> bool {
+    let is_value = matches!(fault.due, Next::Value | Next::Element)
+        && !fault.gap().contains(is_json5_line_terminator)
+        && fault.open.is_some();
+    let is_hash = text.starts_with('#') && !(is_value && text.len() > 1);
+    let is_dashes = text.starts_with("--") && !(is_value && text.len() > 2);
+    let is_semicolon = text.starts_with(';') && !matches!(fault.due, Next::Comma | Next::Colon);
+    is_hash || is_dashes || is_semicolon || text.starts_with("<!--")
+}
+
+/// What is said of a closing parenthesis.
+fn paren_advice<'t>(fault: &Fault<'t>) -> Advice<'t> {
+    match fault.open {
+        Some(open) => Advice::CloseAs(open.kind, fault.stands(open.start)),
+        None => Advice::DropBracket,
     }
 }
 
@@ -196,6 +234,13 @@ fn bracket_advice<'t>(fault: &Fault<'t>, closing: &str) -> Option<Advice<'t>> {
 }
 
 fn comma_remark<'t>(fault: &Fault<'t>) -> Remark<'t> {
+    if let (Some(_), Found::Character(')')) = (fault.word_inside(), fault.found) {
+        return Remark {
+            end: fault.offset.saturating_add(1),
+            advice: Some(paren_advice(fault)),
+            ..fault.plain()
+        };
+    }
     if let Some(word) = fault.word_inside() {
         return word_remark(fault, word);
     }
@@ -209,11 +254,49 @@ fn comma_remark<'t>(fault: &Fault<'t>) -> Remark<'t> {
             Some(last) => bare_remark(fault, last.start, Advice::QuoteText("")),
             None => fault.plain(),
         },
-        Found::Character('+' | '-' | '*' | '|' | '&' | '?' | '<' | '>' | '.' | '(') => {
+        Found::Character('*') => product_remark(fault),
+        Found::Character('+' | '.') if joined_remark(fault, 1).is_some() => {
+            joined_remark(fault, 1).unwrap_or(fault.plain())
+        }
+        Found::Character('+' | '-' | '|' | '&' | '?' | '<' | '>' | '.' | '(') => {
             fault.remark(Advice::NoExpressions)
         }
         Found::Character(_) => fault.plain(),
         _ => entry_remark(fault),
+    }
+}
+
+/// What is said of two strings, the second of which begins so far behind the fault, that are to be one.
+fn joined_remark<'t>(fault: &Fault<'t>, behind: usize) -> Option<Remark<'t>> {
+    let first = fault.around.last?;
+    let second = lexeme_at(fault.text, fault.offset.saturating_add(behind));
+    let (one, other) = (
+        unquoted(first.of(fault.text)),
+        unquoted(second.of(fault.text)),
+    );
+    let is_sum = lexeme_at(fault.text, second.end)
+        .of(fault.text)
+        .starts_with(['+', '.']);
+    let are_texts = first.kind == Kind::Text && second.kind == Kind::Text;
+    if !are_texts || is_sum || one.contains('\'') || other.contains('\'') {
+        return None;
+    }
+    Some(Remark {
+        start: first.start,
+        end: second.end,
+        advice: Some(Advice::Text(TextAdvice::Joined(one, other))),
+    })
+}
+
+/// What is said of a number that another one is to be multiplied with.
+fn product_remark<'t>(fault: &Fault<'t>) -> Remark<'t> {
+    let last = match fault.around.last {
+        Some(last) if last.kind == Kind::Word => last,
+        _ => return fault.remark(Advice::NoExpressions),
+    };
+    match bare_text(fault, last.start) {
+        Some(part) => Remark::of(part, unit_advice(part.of(fault.text))),
+        None => fault.remark(Advice::NoExpressions),
     }
 }
 
@@ -227,23 +310,87 @@ fn entry_remark<'t>(fault: &Fault<'t>) -> Remark<'t> {
         return word_remark(fault, last);
     }
     if is_apart || fault.array_line().is_some() {
-        return fault.remark(Advice::Missing("a comma"));
+        return fault.remark(missing_comma(fault, last));
     }
-    fault.plain()
+    match joined_remark(fault, 0) {
+        Some(remark) => remark,
+        None => fault.remark(Advice::Missing("a comma, or a comma and a key,")),
+    }
+}
+
+/// What is said of a comma that is missing: where it is due, if that is on another line.
+fn missing_comma<'t>(fault: &Fault<'t>, last: Lexeme) -> Advice<'t> {
+    let line = fault.line_of(last.start);
+    if line == fault.line_of(fault.offset) {
+        return Advice::Missing("a comma");
+    }
+    Advice::Member(MemberAdvice::CommaBehind(last.of(fault.text), line))
 }
 
 /// What is said of a string that something is right after: a quote within the text, or two or three on each side.
-pub(crate) fn adjacent_advice<'t>(text: &'t str) -> Option<Advice<'t>> {
-    if text.len() == 2 {
-        return Some(Advice::OneQuote);
-    }
+pub(crate) fn adjacent_advice<'t>(fault: &Fault<'t>, string: Lexeme) -> Option<Advice<'t>> {
+    let text = string.of(fault.text);
     let quote = text.chars().next()?;
+    if text.len() == 2 {
+        return Some(single_advice(fault, string.end, quote));
+    }
     let other = if quote == '"' { '\'' } else { '"' };
     let end = text.find(|c| c == ',' || c == other).or(text.find(": "));
     match end {
-        Some(end) => Some(Advice::MissingQuote(text.get(1..end)?)),
-        None => Some(Advice::EscapeQuote(quote)),
+        Some(end) => {
+            let inner = text.get(1..end)?.trim_end_matches([']', '}', ' ']);
+            Some(Advice::MissingQuote(inner))
+        }
+        None => Some(inside_advice(fault, string.start, quote)),
     }
+}
+
+/// What is said of a text with several quotes on each side.
+fn single_advice<'t>(fault: &Fault<'t>, start: usize, quote: char) -> Advice<'t> {
+    let rest = fault
+        .text
+        .get(start..)
+        .unwrap_or("")
+        .trim_start_matches(quote);
+    let line = rest.get(..line_len(rest)).unwrap_or("");
+    match line.split_once(quote) {
+        Some((text, _)) => Advice::Text(TextAdvice::Single(text)),
+        None => Advice::OneQuote,
+    }
+}
+
+/// What is said of a text in which its own quotes stand: the other quotes go around it, if it is all that is on its line.
+fn inside_advice<'t>(fault: &Fault<'t>, start: usize, quote: char) -> Advice<'t> {
+    let rest = fault.text.get(start.saturating_add(1)..).unwrap_or("");
+    let line = rest.get(..line_len(rest)).unwrap_or("");
+    let other = if quote == '"' { '\'' } else { '"' };
+    match line
+        .trim_end_matches([',', ' ', '}', ']'])
+        .strip_suffix(quote)
+    {
+        Some(text) if !text.contains([',', ':', '\\', other]) => {
+            Advice::Text(TextAdvice::Inside(text))
+        }
+        _ => Advice::EscapeQuote(quote),
+    }
+}
+
+/// What is said of quotes that are none of JSON5.
+fn quotes_advice<'t>(fault: &Fault<'t>, quote: char) -> Advice<'t> {
+    let start = fault.offset.saturating_add(quote.len_utf8());
+    let rest = fault.text.get(start..).unwrap_or("");
+    let line = rest.get(..line_len(rest)).unwrap_or("");
+    match line.split_once(is_other_quote) {
+        Some((text, _)) if !text.contains(['\'', '"', ',']) => Advice::Text(TextAdvice::Plain(
+            text,
+        )),
+        _ => Advice::PlainQuotes,
+    }
+}
+
+/// Whether the character is a quote that JSON5 doesn't have.
+fn is_other_quote(c: char) -> bool {
+    matches!(c, '\u{2018}'..='\u{201f}' | '«' | '»' | '`' | '´')
 }
 
 /// The same, where the comma after the string is due.
@@ -254,7 +401,7 @@ fn adjacent_remark<'t>(fault: &Fault<'t>) -> Option<Remark<'t>> {
     }
     match fault.found {
         Found::Character(',' | ':' | ';' | '+' | '}' | ']' | '.') => None,
-        _ => Some(fault.remark(adjacent_advice(last.of(fault.text))?)),
+        _ => Some(fault.remark(adjacent_advice(fault, last)?)),
     }
 }
 
@@ -339,13 +486,28 @@ fn quote_remark<'t>(fault: &Fault<'t>) -> Remark<'t> {
         return Remark::of(last, Advice::OtherQuote(quote));
     }
     let next = fault.text.get(fault.offset..).unwrap_or("").trim_start();
-    let (begun, rest) = next.split_once(['\'', '"']).unwrap_or(("", ""));
-    let rest = rest.get(..line_len(rest)).unwrap_or("");
+    let (begun, _) = next.split_once(['\'', '"']).unwrap_or(("", ""));
     let is_whole = last.of(fault.text).trim_end().ends_with([',', ']', '}']);
-    if is_whole || begun.is_empty() || begun.contains([':', '\n']) || rest.contains(['\'', '"']) {
-        return Remark::of(last, Advice::CloseQuote);
+    if is_whole || begun.is_empty() || begun.contains(": ") || begun.contains('\n') {
+        return Remark::of(last, close_advice(last.of(fault.text)));
     }
-    Remark::of(last, Advice::EscapeLineEnd)
+    Remark::of(last, Advice::Value(ValueAdvice::EndOrGoOn))
+}
+
+/// What is said of a string that is to be closed before the signs at the end of its line.
+fn close_advice<'t>(text: &'t str) -> Advice<'t> {
+    let inner = text
+        .get(1..)
+        .unwrap_or("")
+        .trim_end_matches([',', ' ', '}', ']']);
+    if inner.is_empty()
+        || inner.contains([',', '\\'])
+        || inner.contains(": ")
+        || inner.contains(" /")
+    {
+        return Advice::CloseQuote;
+    }
+    Advice::Text(TextAdvice::Close(inner))
 }
 
 /// The quote that a string of one line begins with, if it ends with the other one.

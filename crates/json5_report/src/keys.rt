@@ -6,7 +6,9 @@ use crate::advice::Advice;
 use crate::fault::{Fault, Remark};
 use crate::found::Found;
 use crate::lexemes::{Kind, Lexeme, lexeme_at};
+use crate::member_advice::MemberAdvice;
 use crate::numbers::parts_remark;
+use crate::unclosed::closed_after;
 use json5_tokens::char::{is_json5_identifier, is_json5_line_terminator};
 
 /// What is said where a key is expected: a word before a colon needs quotes, and a comma is too many.
@@ -23,7 +25,20 @@ pub(crate) fn key_remark<'t>(fault: &Fault<'t>) -> Remark<'t> {
     match fault.found {
         Found::Character(',') => fault.remark(Advice::DropComma),
         Found::Character('(') => fault.remark(Advice::CommentSign),
-        Found::Character('.' | '@') => fault.remark(Advice::NoExpressions),
+        Found::Character('.' | '@') => fault.remark(Advice::Write(
+            "the fields themselves: a file includes no other",
+        )),
+        Found::Character(':') => fault.remark(Advice::DropColon),
+        Found::Character('%') => fault.remark(Advice::CommentSign),
+        Found::Object if fault.is_after(Kind::Open) && fault.gap().is_empty() => {
+            fault.remark(Advice::DropClosing)
+        }
+        Found::Array if bracketed_key(fault, token).is_some() => {
+            fault.advised(bracketed_key(fault, token))
+        }
+        Found::Object | Found::Array if closed_after(fault.text, fault.offset) > fault.depth => {
+            fault.remark(Advice::Member(MemberAdvice::BracketBefore))
+        }
         Found::Object | Found::Array | Found::Number if fault.is_after(Kind::Comma) => {
             fault.remark(Advice::Missing("a key with its colon"))
         }
@@ -36,6 +51,16 @@ pub(crate) fn key_remark<'t>(fault: &Fault<'t>) -> Remark<'t> {
         }
         _ => fault.plain(),
     }
+}
+
+/// What is said of a key in brackets.
+fn bracketed_key<'t>(fault: &Fault<'t>, open: Lexeme) -> Option<Advice<'t>> {
+    let key = lexeme_at(fault.text, open.end);
+    let close = lexeme_at(fault.text, key.end);
+    if close.kind != Kind::Close || !fault.is_key(close) {
+        return None;
+    }
+    Some(Advice::Member(MemberAdvice::DropBrackets(key.of(fault.text))))
 }
 
 /// What is said where a colon is expected.
@@ -54,8 +79,12 @@ pub(crate) fn colon_remark<'t>(fault: &Fault<'t>) -> Remark<'t> {
         && !fault.is_key(next)
         && !behind.contains(is_json5_line_terminator);
     match fault.found {
-        Found::Character('=' | '\u{ff1a}') => fault.remark(Advice::UseColon),
-        Found::Character(',') if is_value => fault.remark(Advice::UseColon),
+        Found::Character('=' | '\u{ff1a}') => fault.remark(sign_advice(fault, key, next)),
+        Found::Character('-') if token.of(fault.text) == "->" => {
+            fault.remark(sign_advice(fault, key, next))
+        }
+        Found::Character(',') if next.kind == Kind::Colon => fault.remark(Advice::DropComma),
+        Found::Character(',') if is_value => fault.remark(sign_advice(fault, key, next)),
         Found::Character(',' | '}') if last.kind == Kind::Word => fault.remark(Advice::AddValueOf(
             key,
         )),
@@ -75,8 +104,23 @@ pub(crate) fn colon_remark<'t>(fault: &Fault<'t>) -> Remark<'t> {
                 ..Remark::of(last, Advice::QuoteKey(key))
             }
         }
+        Found::String | Found::Number => fault.remark(Advice::Member(MemberAdvice::MissingColon(
+            key,
+            fault.word(),
+        ))),
         _ => fault.remark(Advice::Missing("a colon")),
     }
+}
+
+/// What is said of another sign in place of the colon after a key.
+fn sign_advice<'t>(fault: &Fault<'t>, key: &'t str, value: Lexeme) -> Advice<'t> {
+    let shown = match value.kind {
+        Kind::Word if value.of(fault.text) == "=" => return Advice::UseColon,
+        Kind::Text | Kind::Word => value.of(fault.text),
+        Kind::Open => "..",
+        _ => return Advice::UseColon,
+    };
+    Advice::Member(MemberAdvice::Colon(key, shown))
 }
 
 /// What is said of a key whose first characters are a name: it needs quotes, or names a field of a section.

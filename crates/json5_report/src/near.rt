@@ -35,7 +35,32 @@ pub(crate) fn near_name<'m>(
         }
         is_known = !is_known;
     }
-    Ok(near)
+    Ok(near.or(begun_name(name, known)))
+}
+
+/// The only known name that begins as this one does, or that this one begins with: three letters are the same at least.
+fn begun_name<'m>(name: &str, known: &'m str) -> Option<&'m str> {
+    let mut found = None;
+    let mut is_known = false;
+    for part in known.split('`') {
+        if is_known && is_begun(name, part) {
+            if found.is_some() {
+                return None;
+            }
+            found = Some(part);
+        }
+        is_known = !is_known;
+    }
+    found
+}
+
+/// Whether one of the names begins with the other, which has three letters at least.
+fn is_begun(name: &str, known: &str) -> bool {
+    let len = name.len().min(known.len());
+    match (name.get(..len), known.get(..len)) {
+        (Some(name), Some(known)) => len >= 3 && name.eq_ignore_ascii_case(known),
+        _ => false,
+    }
 }
 
 /// How many letters the names differ in; 0 if only in case.

@@ -4,8 +4,9 @@
 
 use crate::advice::Advice;
 use crate::fault::{Fault, Remark};
-use crate::lexemes::Lexeme;
+use crate::lexemes::{Lexeme, line_len};
 use crate::message::range_in;
+use crate::number_advice::{NumberAdvice, number_and_unit};
 use crate::texts::bare_text;
 
 /// What a number that is written in parts is of.
@@ -17,19 +18,92 @@ const PARTS: [char; 13] = [
 pub(crate) fn number_remark<'t>(fault: &Fault<'t>, word: Lexeme) -> Remark<'t> {
     let text = word.of(fault.text);
     if text.contains('_') {
-        return Remark::of(word, Advice::DropUnderscore);
+        return Remark::of(word, Advice::Number(NumberAdvice::Underscores(text)));
     }
-    let digits = text.trim_start_matches(['+', '-']);
-    if let Some(hex) = digits.strip_prefix("0x").or(digits.strip_prefix("0X")) {
-        let end = hex.trim_start_matches(|c: char| c.is_ascii_hexdigit());
-        return match end.chars().next() {
-            Some(c) => Remark::of(word, Advice::NoHexDigit(c)),
-            None => fault.plain(),
-        };
+    if let Some(number) = based_number(text) {
+        return Remark::of(word, Advice::Number(NumberAdvice::Based(text, number)));
+    }
+    if let Some(c) = wrong_digit(text) {
+        return Remark::of(word, Advice::NoHexDigit(c));
     }
     match bare_text(fault, word.start) {
-        Some(part) => Remark::of(part, Advice::DropUnit(part.of(fault.text))),
+        Some(part) => Remark::of(part, unit_advice(part.of(fault.text))),
         None => fault.plain(),
+    }
+}
+
+/// The number that is written with the base 8 or 2, such as `0o17`.
+fn based_number(text: &str) -> Option<u128> {
+    if let Some(digits) = text.strip_prefix("0o") {
+        return u128::from_str_radix(digits, 8).ok();
+    }
+    u128::from_str_radix(text.strip_prefix("0b")?, 2).ok()
+}
+
+/// The first character of a hexadecimal number that is no digit of one.
+fn wrong_digit(text: &str) -> Option<char> {
+    let digits = text.trim_start_matches(['+', '-']);
+    let hex = digits.strip_prefix("0x").or(digits.strip_prefix("0X"))?;
+    let rest = hex.trim_start_matches(|c: char| c.is_ascii_hexdigit());
+    rest.chars().next()
+}
+
+/// What is said of a number that goes on as an expression or with a unit.
+pub(crate) fn unit_advice(text: &str) -> Advice<'_> {
+    if let Some(number) = product_of(text) {
+        return Advice::Number(NumberAdvice::Product(number));
+    }
+    if let Some(number) = text.strip_prefix("--") {
+        return Advice::Number(NumberAdvice::Signed('-', number));
+    }
+    let (_, unit) = number_and_unit(text);
+    let is_sign = unit.starts_with(['*', '+', '<', '>', '?', '|', '&', '=']);
+    if is_sign
+        || unit.starts_with('/') && !unit.contains(|c: char| !c.is_ascii_digit() && c != '/')
+    {
+        return Advice::NoExpressions;
+    }
+    Advice::Number(NumberAdvice::Unit(text))
+}
+
+/// The product of whole numbers, such as `10 * 1024`.
+fn product_of(text: &str) -> Option<u128> {
+    let (first, rest) = text.split_once('*')?;
+    let mut product = first.trim().parse::<u128>().ok()?;
+    for part in rest.split('*') {
+        product = product.checked_mul(part.trim().parse::<u128>().ok()?)?;
+    }
+    Some(product)
+}
+
+/// What is said of a number that begins with 0: it may be octal.
+pub(crate) fn zero_advice<'t>(word: &'t str) -> Advice<'t> {
+    let digits = word.trim_start_matches(['+', '-']).trim_start_matches('0');
+    Advice::Number(match u128::from_str_radix(digits, 8) {
+        Ok(octal) if octal > 7 && word.starts_with('0') && !word.starts_with("00") => {
+            NumberAdvice::Octal(digits, octal)
+        }
+        _ => NumberAdvice::Zeros(digits),
+    })
+}
+
+/// What is said of signs in place of a number, or before one.
+pub(crate) fn signs_advice<'t>(fault: &Fault<'t>) -> Advice<'t> {
+    let rest = fault.text.get(fault.offset..).unwrap_or("");
+    let rest = rest.get(..line_len(rest)).unwrap_or("");
+    let number = rest.trim_start_matches(|c: char| !c.is_ascii_digit()
+        && !matches!(c, ',' | '}' | ']'));
+    let len = number
+        .find(|c: char| !c.is_ascii_digit() && c != '.')
+        .unwrap_or(number.len());
+    let number = number.get(..len).unwrap_or("");
+    let front = fault.text.get(..fault.offset).unwrap_or("");
+    if number.is_empty() {
+        Advice::Write("a number")
+    } else if front.ends_with('-') || rest.starts_with("--") {
+        Advice::Number(NumberAdvice::Signed('-', number))
+    } else {
+        Advice::Number(NumberAdvice::Alone(number))
     }
 }
 
@@ -88,7 +162,7 @@ pub(crate) fn range_advice<'t>(fault: &Fault<'t>) -> Option<Advice<'t>> {
     let range = range_in(fault.message);
     let Some((sign, number)) = whole_of(word) else {
         return match range {
-            _ if word.contains('.') => Some(Advice::NoFraction),
+            _ if word.contains('.') => fraction_advice(word),
             Some((_, most)) if !word.contains(|c: char| !c.is_ascii_digit()) => {
                 Some(Advice::TooLarge(0, most))
             }
@@ -104,6 +178,13 @@ pub(crate) fn range_advice<'t>(fault: &Fault<'t>) -> Option<Advice<'t>> {
     } else {
         None
     })
+}
+
+/// What is said of a number with a fraction where a whole one is expected.
+fn fraction_advice<'t>(word: &'t str) -> Option<Advice<'t>> {
+    let (whole, _) = word.split_once('.')?;
+    let below = whole.parse::<u128>().unwrap_or(0);
+    Some(Advice::Number(NumberAdvice::Whole(below)))
 }
 
 /// By how much a number is outside of a range.

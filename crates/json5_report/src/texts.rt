@@ -47,3 +47,35 @@ fn bare_front(text: &str) -> &str {
     }
     text.trim_end()
 }
+
+/// The values from the offset on that commas part, up to a key, a bracket or the end of the line.
+pub(crate) fn values_at(fault: &Fault<'_>, start: usize) -> Lexeme {
+    let mut end = value_end(fault, start);
+    for _ in start..fault.text.len() {
+        let comma = lexeme_at(fault.text, end);
+        let next = lexeme_at(fault.text, comma.end);
+        let behind = fault.text.get(end..next.start).unwrap_or("");
+        let is_value = matches!(next.kind, Kind::Text | Kind::Word) && !fault.is_key(next);
+        if comma.kind != Kind::Comma || !is_value || behind.contains(is_json5_line_terminator) {
+            break;
+        }
+        end = value_end(fault, next.start);
+    }
+    Lexeme {
+        kind: Kind::Word,
+        start,
+        end,
+    }
+}
+
+/// Where the text in quotes or without them ends that begins at the offset.
+fn value_end(fault: &Fault<'_>, start: usize) -> usize {
+    let token = lexeme_at(fault.text, start);
+    if token.kind == Kind::Text {
+        return token.end;
+    }
+    match bare_text(fault, start) {
+        Some(text) => text.end,
+        None => token.end,
+    }
+}

@@ -136,3 +136,22 @@ pub(crate) fn closed_after(text: &str, from: usize) -> usize {
     }
     count
 }
+
+/// The bracket that closes the one that is given; an empty lexeme at the text's end if none does.
+pub(crate) fn close_of(text: &str, open: Lexeme) -> Lexeme {
+    let mut depth: usize = 0;
+    let mut token = open;
+    for _ in open.start..text.len() {
+        match token.kind {
+            Kind::End => break,
+            Kind::Open => depth = depth.saturating_add(1),
+            Kind::Close => depth = depth.saturating_sub(1),
+            _ => {}
+        }
+        if depth == 0 {
+            return token;
+        }
+        token = lexeme_at(text, token.end);
+    }
+    lexeme_at(text, text.len())
+}

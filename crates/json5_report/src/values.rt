@@ -6,14 +6,51 @@ use crate::advice::Advice;
 use crate::fault::{Fault, Remark};
 use crate::found::Found;
 use crate::lexemes::{Kind, Lexeme, lexeme_at, line_len};
-use crate::numbers::whole_of;
+use crate::number_advice::{NumberAdvice, number_and_unit};
+use crate::numbers::{signs_advice, whole_of, zero_advice};
 use crate::path::unquoted;
 use crate::place::line_start;
-use crate::texts::bare_text;
-use crate::unclosed::closed_after;
+use crate::text_advice::TextAdvice;
+use crate::texts::{bare_text, values_at};
+use crate::unclosed::{close_of, closed_after};
+use crate::value_advice::ValueAdvice;
 use json5_tokens::char::{is_json5_identifier, is_json5_line_terminator, is_json5_whitespace};
 use json5_types::ErrorCode;
 use json5_walk::next::Next;
+
+/// What people write for true and false.
+const BOOLS: [(&str, &str); 14] = [
+    ("true", "true"),
+    ("yes", "true"),
+    ("on", "true"),
+    ("1", "true"),
+    ("enabled", "true"),
+    ("y", "true"),
+    ("t", "true"),
+    ("false", "false"),
+    ("no", "false"),
+    ("off", "false"),
+    ("0", "false"),
+    ("disabled", "false"),
+    ("n", "false"),
+    ("f", "false"),
+];
+
+/// What people write for nothing.
+const NOTHING: [&str; 12] = [
+    "",
+    "none",
+    "null",
+    "nil",
+    "undefined",
+    "false",
+    "off",
+    "no",
+    "auto",
+    "default",
+    "unlimited",
+    "~",
+];
 
 /// The part at fault where a value of some kind is expected, and a hint if one is certain.
 pub(crate) fn value_remark<'t>(fault: &Fault<'t>, code: ErrorCode) -> Remark<'t> {
@@ -28,30 +65,27 @@ pub(crate) fn value_remark<'t>(fault: &Fault<'t>, code: ErrorCode) -> Remark<'t>
     }
     let is_sign = matches!(fault.found, Found::Character(_));
     match code {
-        ErrorCode::LeadingZero => fault.remark(Advice::DropLeadingZero),
+        ErrorCode::LeadingZero => fault.remark(zero_advice(fault.word())),
         ErrorCode::TooDeep => fault.remark(Advice::TooDeep),
         ErrorCode::ExpectedClosingBrace if !is_sign => fault.remark(Advice::OneAlone),
         ErrorCode::ExpectedClosingBracket if !is_sign => fault.remark(Advice::DropElement),
-        ErrorCode::ExpectedOpeningBrace => fault.remark(Advice::UseBraces),
-        ErrorCode::ExpectedOpeningBracket => {
-            let is_unopened = closed_after(fault.text, fault.offset) > fault.depth;
-            fault.remark(if is_unopened {
-                Advice::Missing("a `[`")
-            } else {
-                Advice::UseBrackets
-            })
-        }
-        ErrorCode::ExpectedBool if matches!(unquoted(fault.word()), "true" | "false") => {
-            fault.remark(Advice::DropQuotesOfBool)
-        }
-        ErrorCode::ExpectedBool => {
-            let any = Advice::Write("true or false");
-            fault.remark(literal_advice(fault.word()).unwrap_or(any))
-        }
+        _ => kind_remark(fault, code),
+    }
+}
+
+/// What is said of a value of another kind than the one that is expected.
+fn kind_remark<'t>(fault: &Fault<'t>, code: ErrorCode) -> Remark<'t> {
+    match code {
+        ErrorCode::ExpectedOpeningBrace => fault.remark(object_advice(fault)),
+        ErrorCode::ExpectedOpeningBracket => array_remark(fault),
+        ErrorCode::ExpectedBool => fault.remark(bool_advice(fault)),
         ErrorCode::ExpectedNumber => number_remark(fault),
         ErrorCode::ExpectedString | ErrorCode::ExpectedStringOrObject | ErrorCode::ExpectedValue =>
             { text_remark(fault) }
         ErrorCode::ExpectedNull if fault.word_inside().is_some() => number_remark(fault),
+        ErrorCode::ExpectedNull => fault.remark(Advice::Write(
+            "null, or the name alone in place of the object",
+        )),
         _ => fault.plain(),
     }
 }
@@ -62,19 +96,50 @@ fn sign_advice<'t>(fault: &Fault<'t>) -> Option<Advice<'t>> {
         return None;
     };
     match c {
-        ',' | '}' | ']' if fault.is_after(Kind::Colon) => Some(Advice::Missing("a value")),
+        ',' | '}' | ']' if fault.is_after(Kind::Colon) => Some(Advice::Missing(kind_of(fault))),
         ',' => Some(Advice::DropComma),
         ':' if fault.is_after(Kind::Colon) => Some(Advice::DropColon),
         '=' if fault.is_after(Kind::Colon) => Some(Advice::DropEquals),
-        '(' if fault.code == Some(ErrorCode::ExpectedOpeningBrace) => Some(Advice::UseBraces),
-        '(' => Some(Advice::UseBrackets),
+        '(' if fault.code == Some(ErrorCode::ExpectedOpeningBrace) => Some(paren_advice(fault)),
+        '(' if takes_array(fault) => Some(Advice::UseBrackets),
+        '(' => Some(Advice::NoExpressions),
         _ => None,
     }
 }
 
+/// What is expected.
+fn kind_of(fault: &Fault<'_>) -> &'static str {
+    match fault.code {
+        Some(ErrorCode::ExpectedBool) => "true or false",
+        Some(ErrorCode::ExpectedNumber) => "a number",
+        Some(ErrorCode::ExpectedOpeningBrace) => "an object, { .. },",
+        Some(ErrorCode::ExpectedOpeningBracket) => "an array, [ .. ],",
+        Some(ErrorCode::ExpectedString) => "a text in quotes",
+        _ => "a value",
+    }
+}
+
+/// What is said of a parenthesis where an object is expected.
+fn paren_advice<'t>(fault: &Fault<'t>) -> Advice<'t> {
+    let next = lexeme_at(fault.text, fault.offset.saturating_add(1));
+    if next.of(fault.text) == "{" {
+        Advice::Write("the object without parentheses around it")
+    } else {
+        Advice::UseBraces
+    }
+}
+
+/// Whether an array may stand here.
+fn takes_array(fault: &Fault<'_>) -> bool {
+    matches!(
+        fault.code,
+        Some(ErrorCode::ExpectedOpeningBracket | ErrorCode::ExpectedValue)
+    )
+}
+
 /// What is said of null in place of a member's value of some kind.
 fn null_advice<'t>(fault: &Fault<'t>, code: ErrorCode) -> Option<Advice<'t>> {
-    if !matches!(fault.due, Next::Value) || fault.word() != "null" || fault.open.is_none() {
+    if fault.word() != "null" || !is_of_member(fault) {
         return None;
     }
     match code {
@@ -84,6 +149,120 @@ fn null_advice<'t>(fault: &Fault<'t>, code: ErrorCode) -> Option<Advice<'t>> {
         ErrorCode::ExpectedOpeningBracket => Some(Advice::NoNull("an array: [ .. ]")),
         ErrorCode::ExpectedString => Some(Advice::NoNull("a text in quotes")),
         _ => None,
+    }
+}
+
+/// Whether the fault is at the value of a member.
+fn is_of_member(fault: &Fault<'_>) -> bool {
+    matches!(fault.due, Next::Value) && fault.open.is_some()
+}
+
+/// What is to be written, or that the member may be left out if the fault is at its value.
+fn missing_advice<'t>(fault: &Fault<'t>, kind: &'static str) -> Advice<'t> {
+    if is_of_member(fault) {
+        Advice::NoNull(kind)
+    } else {
+        Advice::Write(kind)
+    }
+}
+
+/// Whether the word, perhaps in quotes, says that there is nothing.
+fn is_nothing(word: &str) -> bool {
+    let text = unquoted(word);
+    for nothing in NOTHING {
+        if text.eq_ignore_ascii_case(nothing) {
+            return true;
+        }
+    }
+    false
+}
+
+/// What is said of something else where true or false is expected.
+fn bool_advice<'t>(fault: &Fault<'t>) -> Advice<'t> {
+    let text = unquoted(fault.word());
+    if matches!(text, "true" | "false") {
+        return Advice::DropQuotesOfBool;
+    }
+    for (word, literal) in BOOLS {
+        if text.eq_ignore_ascii_case(word) {
+            return Advice::Write(literal);
+        }
+    }
+    Advice::Write("true or false")
+}
+
+/// What is said of something else where an object is expected.
+fn object_advice<'t>(fault: &Fault<'t>) -> Advice<'t> {
+    if matches!(fault.found, Found::Array) {
+        return object_of_array(fault);
+    }
+    if fault.open.is_none() || !matches!(fault.due, Next::Value) {
+        return Advice::UseBraces;
+    }
+    match fault.found {
+        Found::String | Found::Number | Found::Literal(_) if is_nothing(fault.word()) => {
+            Advice::NoNull("an object: { .. }")
+        }
+        Found::Literal(_) => Advice::NoNull("an object: { .. }"),
+        Found::String | Found::Number => Advice::Value(ValueAdvice::ObjectWith(fault.word())),
+        _ => Advice::UseBraces,
+    }
+}
+
+/// What is said of an array where an object is expected.
+fn object_of_array<'t>(fault: &Fault<'t>) -> Advice<'t> {
+    let first = lexeme_at(fault.text, fault.offset.saturating_add(1));
+    match first.kind {
+        Kind::Open if is_alone(fault.text, first) => Advice::Value(ValueAdvice::ObjectAlone),
+        Kind::Open => Advice::Write("an object in place of the array: { name: { .. }, .. }"),
+        Kind::Text => Advice::Value(ValueAdvice::ObjectWith(first.of(fault.text))),
+        _ => Advice::UseBraces,
+    }
+}
+
+/// Whether the array ends behind the object that this opens.
+fn is_alone(text: &str, open: Lexeme) -> bool {
+    let mut token = lexeme_at(text, close_of(text, open).end);
+    if token.kind == Kind::Comma {
+        token = lexeme_at(text, token.end);
+    }
+    token.of(text) == "]"
+}
+
+/// What is said of something else where an array is expected.
+fn array_remark<'t>(fault: &Fault<'t>) -> Remark<'t> {
+    if closed_after(fault.text, fault.offset) > fault.depth {
+        return fault.remark(Advice::Missing("a `[`"));
+    }
+    match fault.found {
+        Found::Object => fault.remark(braces_advice(fault)),
+        Found::Literal(_) | Found::String | Found::Name(_) if is_nothing(fault.word()) => {
+            fault.remark(missing_advice(fault, "an array: [ .. ]"))
+        }
+        Found::String | Found::Number | Found::Name(_) if fault.open.is_some() => {
+            let run = values_at(fault, fault.offset);
+            let elements = match run.of(fault.text) {
+                text if text == fault.word() && text.contains(',') => unquoted(text),
+                text => text,
+            };
+            Remark::of(run, Advice::Value(ValueAdvice::Array(elements)))
+        }
+        _ => fault.remark(Advice::UseBrackets),
+    }
+}
+
+/// What is said of an object where an array is expected: elements have brackets in place of its braces.
+fn braces_advice<'t>(fault: &Fault<'t>) -> Advice<'t> {
+    let first = lexeme_at(fault.text, fault.offset.saturating_add(1));
+    let is_element = match first.kind {
+        Kind::Open => true,
+        Kind::Text | Kind::Word => !fault.is_key(first),
+        _ => false,
+    };
+    if is_element {
+        Advice::Value(ValueAdvice::SquareBrackets)
+    } else {
+        Advice::Value(ValueAdvice::Array("{ .. }"))
     }
 }
 
@@ -120,10 +299,23 @@ fn number_remark<'t>(fault: &Fault<'t>) -> Remark<'t> {
         return fault.remark(Advice::Write("a number in quotes"));
     }
     match fault.found {
-        Found::String => quoted_number_remark(fault),
+        Found::String => fault.remark(quoted_number_advice(fault)),
         Found::Name(name) => name_for_number_remark(fault, name),
-        Found::Character(_) | Found::End => fault.plain(),
+        Found::Character(_) => fault.remark(signs_advice(fault)),
+        Found::Array => fault.remark(first_advice(fault, "a number")),
+        Found::End => fault.plain(),
         _ => fault.remark(Advice::Write("a number")),
+    }
+}
+
+/// What is said of an array where a value without brackets is expected.
+fn first_advice<'t>(fault: &Fault<'t>, kind: &'static str) -> Advice<'t> {
+    let first = lexeme_at(fault.text, fault.offset.saturating_add(1));
+    match first.kind {
+        Kind::Text | Kind::Word if !fault.is_key(first) => {
+            Advice::Value(ValueAdvice::First(first.of(fault.text)))
+        }
+        _ => Advice::Write(kind),
     }
 }
 
@@ -134,25 +326,27 @@ fn name_for_number_remark<'t>(fault: &Fault<'t>, name: &str) -> Remark<'t> {
         "nan" | "NAN" | "Nan" | "inf" | "Inf" | "INF" | "infinity" => {
             fault.remark(literal_advice(name).unwrap_or(any))
         }
+        _ if is_nothing(name) => fault.remark(missing_advice(fault, "a number")),
         _ => bare_remark(fault, fault.offset, any),
     }
 }
 
 /// What is said of a string where a number is expected.
-fn quoted_number_remark<'t>(fault: &Fault<'t>) -> Remark<'t> {
+fn quoted_number_advice<'t>(fault: &Fault<'t>) -> Advice<'t> {
     let text = unquoted(fault.word());
     let digits = text.trim_start_matches(['+', '-', '.']);
     if !digits.starts_with(|c: char| c.is_ascii_digit()) {
-        return fault.remark(Advice::Write("a number"));
+        return missing_advice(fault, "a number");
     }
     if is_number(text) {
-        return fault.remark(Advice::DropQuotesOfNumber);
+        return Advice::DropQuotesOfNumber;
     }
-    fault.remark(if text.contains(' ') {
+    let (_, unit) = number_and_unit(text);
+    if unit.contains(|c: char| !c.is_alphabetic() && c != '%') {
         Advice::Write("a number")
     } else {
-        Advice::DropQuotesAndUnit
-    })
+        Advice::Number(NumberAdvice::UnitInQuotes(text))
+    }
 }
 
 fn is_number(text: &str) -> bool {
@@ -167,7 +361,7 @@ fn inside_remark<'t>(fault: &Fault<'t>, word: Lexeme) -> Remark<'t> {
     let number = crate::numbers::number_remark(fault, word);
     let is_told = matches!(
         number.advice,
-        Some(Advice::NoHexDigit(_) | Advice::DropUnit(_))
+        Some(Advice::NoHexDigit(_) | Advice::Number(_) | Advice::NoExpressions)
     );
     if is_told { number } else { fault.plain() }
 }
@@ -175,19 +369,66 @@ fn inside_remark<'t>(fault: &Fault<'t>, word: Lexeme) -> Remark<'t> {
 /// What is said where a text, or any value, is expected.
 fn text_remark<'t>(fault: &Fault<'t>) -> Remark<'t> {
     let is_any = fault.code == Some(ErrorCode::ExpectedValue);
+    if !is_any && !matches!(fault.found, Found::String) && is_null_word(fault.word()) {
+        return fault.remark(missing_advice(fault, "a text in quotes"));
+    }
     match fault.found {
         Found::Number if is_number(fault.word()) && !is_part(fault) => {
-            fault.remark(Advice::QuoteTexts)
+            fault.remark(Advice::QuoteText(fault.word()))
         }
+        Found::Name(name) if is_before_quote(fault, name) => fault.remark(prefix_advice(name)),
+        Found::Name(_) if !is_any && is_of_member(fault) => listed_remark(fault),
         Found::Name(_) | Found::Number => bare_remark(fault, fault.offset, Advice::QuoteText("")),
-        Found::Character('~' | '.' | '*' | '@' | '%' | '<' | '^' | '&') => {
+        Found::Character('~' | '.' | '*' | '@' | '%' | '<' | '^' | '&' | '#') => {
             bare_remark(fault, fault.offset, Advice::QuoteText(""))
         }
-        Found::Object | Found::Array | Found::Literal(_) if !is_any => {
-            fault.remark(Advice::Write("a text in quotes"))
-        }
+        Found::Literal(word) if !is_any => fault.remark(Advice::QuoteText(word)),
+        Found::Array if !is_any => fault.remark(first_advice(fault, "a text in quotes")),
+        Found::Object if !is_any => fault.remark(Advice::Write("a text in quotes")),
+        Found::Character(c) => character_remark(fault, c),
         _ => fault.plain(),
     }
+}
+
+/// Whether a quote follows the name, as it does in other languages for texts of some kinds.
+fn is_before_quote(fault: &Fault<'_>, name: &str) -> bool {
+    let behind = fault.offset.saturating_add(name.len());
+    let rest = fault.text.get(behind..).unwrap_or("");
+    let inner = rest.get(1..).unwrap_or("");
+    let line = inner.get(..line_len(inner)).unwrap_or("");
+    name.len() <= 2 && rest.starts_with(['\'', '"']) && line.contains(['\'', '"'])
+}
+
+fn prefix_advice<'t>(name: &'t str) -> Advice<'t> {
+    Advice::Text(TextAdvice::Prefix(name))
+}
+
+/// What is said of words in place of a member's text: those behind commas that begin no member belong to it.
+fn listed_remark<'t>(fault: &Fault<'t>) -> Remark<'t> {
+    let run = values_at(fault, fault.offset);
+    let text = run.of(fault.text);
+    if text.contains(',') && !text.contains(['\'', '"', '$']) {
+        return Remark::of(run, Advice::QuoteText(text));
+    }
+    bare_remark(fault, fault.offset, Advice::QuoteText(""))
+}
+
+/// What is said of a character that begins no text.
+fn character_remark<'t>(fault: &Fault<'t>, c: char) -> Remark<'t> {
+    match c {
+        '\\' => fault.remark(Advice::Write("quotes without a backslash before them")),
+        '|' | '>' => fault.remark(Advice::Write("a text in quotes, with \\n where a line ends")),
+        '!' => fault.remark(Advice::NoVariables),
+        _ => fault.plain(),
+    }
+}
+
+/// Whether the word stands for null in another language.
+fn is_null_word(word: &str) -> bool {
+    matches!(
+        word,
+        "null" | "None" | "Null" | "NULL" | "nil" | "undefined" | "~"
+    )
 }
 
 /// Whether the number at the fault goes on behind a colon, as a time does.
@@ -206,10 +447,8 @@ fn slash_remark<'t>(fault: &Fault<'t>) -> Remark<'t> {
     let is_first = lexeme_at(fault.text, line_start(fault.text, start)).start == start;
     match (fault.due, fault.word_inside()) {
         (Next::Comma, Some(word)) if word.start < start => inside_remark(fault, word),
-        (Next::Comma, _) => fault.remark(Advice::NoExpressions),
-        (Next::Key, Some(word)) if fault.is_key(word) => {
-            Remark::of(word, Advice::QuoteKey(word.of(fault.text)))
-        }
+        (Next::Comma, _) if !is_first => fault.remark(Advice::NoExpressions),
+        (Next::Key, Some(_)) if !is_apart => slash_key_remark(fault, start),
         _ if is_apart && (is_first || rest.trim_start().starts_with(is_json5_identifier)) => {
             Remark {
                 start,
@@ -222,16 +461,31 @@ fn slash_remark<'t>(fault: &Fault<'t>) -> Remark<'t> {
     }
 }
 
+/// What is said of a key that begins with a slash, up to its colon.
+fn slash_key_remark<'t>(fault: &Fault<'t>, start: usize) -> Remark<'t> {
+    let rest = fault.text.get(start..).unwrap_or("");
+    let line = rest.get(..line_len(rest)).unwrap_or("");
+    match line.split_once(':') {
+        Some((key, _)) if !key.contains([',', '\'', '"']) => Remark {
+            start,
+            end: start.saturating_add(key.len()),
+            advice: Some(Advice::QuoteKey(key.trim_end())),
+        },
+        _ => fault.plain(),
+    }
+}
+
 /// What is said of a text without quotes that begins at the offset. The hint gets the text.
 pub(crate) fn bare_remark<'t>(fault: &Fault<'t>, start: usize, advice: Advice<'t>) -> Remark<'t> {
     let rest = fault.text.get(start..).unwrap_or("");
     let line = rest.get(..line_len(rest)).unwrap_or("");
-    if line.starts_with('$') || line.contains("${") {
-        return fault.remark(Advice::NoVariables);
-    }
+    let is_variable = line.starts_with('$') || line.contains("${");
     let Some(part) = bare_text(fault, start) else {
-        return fault.plain();
+        return fault.advised(is_variable.then_some(Advice::NoVariables));
     };
+    if is_variable {
+        return variable_remark(fault, part);
+    }
     let text = part.of(fault.text);
     let len = text.trim_end_matches(['\'', '"']).len();
     let inner = Lexeme {
@@ -252,6 +506,15 @@ pub(crate) fn bare_remark<'t>(fault: &Fault<'t>, start: usize, advice: Advice<'t
         other => other,
     };
     Remark::of(part, advice)
+}
+
+/// What is said of a variable: where a text is expected, the program may replace it there.
+fn variable_remark<'t>(fault: &Fault<'t>, part: Lexeme) -> Remark<'t> {
+    if fault.code == Some(ErrorCode::ExpectedString) {
+        let word = part.of(fault.text);
+        return Remark::of(part, Advice::Text(TextAdvice::Variable(word)));
+    }
+    Remark::of(part, Advice::NoVariables)
 }
 
 /// Whether it is an expression of another language.
