@@ -280,6 +280,7 @@ written("quote_inside", ["text"], "<quote>the shop<quote>s<quote>", "<quote>rock
 written("backslashes_single", ["text"], "<quote><value><quote>", where=lambda piece: "\\" in piece.value)
 swapped("text_over_two_lines", ["text"], lambda piece: piece.text[:3] + "\n    " + piece.text[3:])
 swapped("texts_added", ["text"], lambda piece: piece.text[:2] + piece.text[0] + " + " + piece.text[0] + piece.text[2:])
+written("quote_with_prefix", TEXTS, "r<text>", "f<text>", "b<text>", "u<text>")
 written("number_for_text", ["text"], "80", "8443", "1.5", "0x50")
 written("true_for_text", ["text"], "true", "false")
 written("other_for_text", ["text"], "{}", "[]", "{ name: <text> }", "[<text>]")
@@ -295,6 +296,8 @@ written("number_with_exponent", NUMBER, "1e3", "8.192e3", "<value>e0", "<value>e
 written("number_with_fraction", NUMBER, "<value>.5", "<value>.25", "<value>.125")
 swapped("number_of_hex_misspelled", NUMBER, lambda piece: hex(piece.value) + chance.choice("GgOlhz"))
 written("number_with_two_points", NUMBER, "<value>.0.1", "1.<value>.3", "<value>.0.0")
+swapped("number_in_other_base", NUMBER, lambda piece: chance.choice([oct, bin])(piece.value))
+written("number_with_sign", NUMBER, "--<value>", "- <value>", ">=<value>", "~<value>", "#<value>")
 written("null", VALUES, "null")
 written("null_of_others", VALUES, "None", "nil", "undefined", "NULL", "~")
 written("yes_and_true", VALUES, "yes", "no", "on", "off", "True", "False")
@@ -315,6 +318,7 @@ written("control_character", ("key", "number", "comma", "open"), *[form for sign
 swapped("comment_by_hash", COMMENT, lambda piece: "# " + piece.text[3:], lambda piece: piece.text[1] == "/")
 swapped("comment_of_others", COMMENT, lambda piece: chance.choice(["-- ", "; ", "<!-- "]) + piece.text[3:], lambda piece: piece.text[1] == "/")
 swapped("comment_by_one_slash", COMMENT, lambda piece: piece.text[1:], lambda piece: piece.text[1] == "/")
+swapped("comment_without_sign", COMMENT, lambda piece: piece.text[3:], lambda piece: piece.text[1] == "/")
 swapped("comment_not_closed", COMMENT, lambda piece: piece.text[:-2], lambda piece: piece.text[1] == "*")
 
 
@@ -329,6 +333,16 @@ def one_for_list(good):
         return None
     first = next(inner for inner in good.entries if inner.path == entry.path + (0,))
     return good.made({i: "" for i in range(entry.value, entry.end) if not first.value <= i < first.end})
+
+
+@way
+def elements_without_brackets(good):
+    entry = good.entry(lambda entry: entry.type == ("list", METHODS))
+    if entry is None:
+        return None
+    texts = [piece.value for piece in good.pieces[entry.value:entry.end] if piece.kind == "enum"]
+    new = chance.choice(["'%s'" % ", ".join(texts), ", ".join("'%s'" % text for text in texts), ", ".join(texts)])
+    return good.made({i: new if i == entry.value else "" for i in range(entry.value, entry.end)})
 
 
 @way
@@ -387,6 +401,15 @@ def field_missing(good):
         owner = good.pieces[entry.owner].type
         return owner[0] == "struct" and owner[1][entry.path[-1]][1]
     return good.made(good.without(good.entry(is_required)))
+
+
+@way
+def quotes_around_both(good):
+    entry = good.entry(lambda entry: is_field(entry) and entry.end - entry.value == 1 and entry.type[0] == "enum")
+    if entry is None:
+        return None
+    new = "'%s: %s'" % (entry.path[-1], good.pieces[entry.value].value)
+    return good.made({i: new if i == entry.start else "" for i in range(entry.start, entry.end)})
 
 
 @way

@@ -165,32 +165,38 @@ def closed_at(text, place, bracket):
 
 CLOSING = {"[": "]", "{": "}"}
 
-at_place("a comma is missing (?:here|before this)", ",")
-at_place("a colon is missing (?:here|before this)", ":")
+at_place("a comma is missing (?:here|before this)(?:, behind `.*` of line \\d+)?", ",")
+at_place("a colon is missing before this(?:: .*)?", ":")
 at_place("a `{` is missing before this", "{")
 at_place("a `\\[` is missing before this", "[")
 instead("write `,` between entries", lambda part: ",")
-instead("write `:` between a key and its value", lambda part: ":")
+instead("write `:` between a key and its value(?:: .+)?", lambda part: ":")
 instead("a comment begins with `//`", lambda part: re.sub(r"^(#+|--|;|%|/|<!--)?", "//", part, count=1))
 instead("this key needs quotes: ('.*'|\".*\")", lambda part, new: new)
 instead("write (true|false|null|NaN|Infinity)", lambda part, new: new)
 instead("write true or false", lambda part: "true")
-instead(r"a number has no `_` in it", lambda part: part.replace("_", ""))
-instead("a number does not begin with 0", lambda part: re.sub(r"^([+-]?)0+(?=\d)", r"\1", part))
+instead(r"a number has no `_` in it: (\S+)", lambda part, new: new)
+instead(r"a number does not begin with 0: write (\d+)(?:, or \d+ if this is octal)?", lambda part, new: new)
+instead(r"a file has no expressions: write (\d+)", lambda part, new: new)
+instead(r"write (?:the number alone: )?([+-]?\d\S*)", lambda part, new: new)
 instead("(?:numbers are|true and false are) written without quotes", lambda part: part.strip("'\""))
-instead("no bracket is open here", lambda part: "")
+instead("no bracket is open here: remove this", lambda part: "")
 instead(r"(\S+) is written as (\S+?)(?: here)?", lambda part, old, new: new)
 instead(r"a number has no (?:blanks|commas|quotes) in it: (\S+)", lambda part, new: new)
 instead("a comma too many", lambda part: part.replace(",", "", 1))
-instead("a bracket too many|no comment is open here", lambda part: "")
+instead("a bracket too many: remove this|no comment is open here: comments are not nested", lambda part: "")
+instead("this line is of Markdown: remove it", lambda part: "")
+instead("nothing stands before a quote: remove `.+`", lambda part: "")
+instead("a text is not put together: write (.+)", lambda part, new: new)
+instead("write null, or the name alone in place of the object", lambda part: "null")
 instead("write a minus as -", lambda part: re.sub(r"^[^\d.]+", "-", part))
 instead("a `=` too many", lambda part: part.replace("=", "", 1))
 instead("a colon too many", lambda part: part.replace(":", "", 1))
 instead("this is a mark of a diff: remove it", lambda part: "")
 instead(r"this character \(U\+(\w+)\).*: remove it", lambda part, code: part.replace(chr(int(code, 16)), ""))
 instead("write `([]}])`: this closes the `.` of (?:line|column) \\d+", lambda part, bracket: bracket)
-instead("a number has no quotes and no unit", lambda part: re.match(r"[+-]?[\d.]*", part.strip("'\""))[0])
-instead("a whole number has no fraction", lambda part: re.sub(r"\.\d*", "", part))
+instead(r"a number has no quotes and no unit: write ([^\s,]+)(?:, or .*)?", lambda part, new: new)
+instead(r"a whole number has no fraction: write (\d+) or \d+", lambda part, new: new)
 instead("`(.)` is no hexadecimal digit", lambda part, digit: part.replace(digit, "", 1))
 instead(r"a number has a point, and no comma: (\S+)", lambda part, new: new)
 
@@ -219,7 +225,7 @@ def whole_value(text, place):
     return start, start + len(text[start:end].rstrip())
 
 
-@form("a file has no (?:expressions|variables): write the value itself")
+@form("a file has no (?:expressions|variables): write the value itself(?:, or .* if the program puts it in)?")
 def value_itself(case, said):
     start, end = whole_value(case.text, said.start)
     return put(case.text, start, end, fits(case, said))
@@ -235,7 +241,7 @@ def first_value(case, said):
     return case.text[:said.start] + "\n" if case.way == "ndjson" else None
 
 
-@form("this looks like (.+): JSON5 begins with .*")
+@form("this looks like (.+): in JSON5 it is .*")
 def other_kind(case, said, kind):
     # a person who is told the right kind writes the file anew
     return case.good.text if re.fullmatch(KINDS.get(case.way, ""), kind) else None
@@ -261,13 +267,7 @@ def mark_behind(case, said):
     return case.text[:said.start] + case.text[said.start:].replace("\ufeff", "", 1)
 
 
-@form("a text goes on in the next line after a backslash")
-def goes_on(case, said):
-    found = LINE.search(case.text, said.start)
-    return put(case.text, found.start(), found.start(), "\\") if found else None
-
-
-@form("(?:there are no triple quotes: )?a text has one quote on each side")
+@form("a text has one quote on each side(?:: .*)?")
 def one_quote(case, said):
     for quote in "'\"":
         if quote * 3 in case.text:
@@ -302,9 +302,8 @@ def nested(case, said, owner, name):
     return put_into(rest, owner, member) or put(rest, said.start, said.start, "%s: { %s }, " % (owner, member))
 
 
-@form("write one of these names")
-def first_name(case, said):
-    first = re.findall("`([^`]+)`", said.message.split(", expected ")[-1])[0]
+@form("write (?:one of )?(?:(['`])([^'`]+)['`])(?:(?:, | or )['`][^'`]+['`])*")
+def first_name(case, said, quote, first):
     return put(case.text, said.start, max(said.end, value_end(case.text, said.start)), "'%s'" % first)
 
 
@@ -386,7 +385,7 @@ def same_quote(case, said, quote):
     return put(case.text, said.start + len(part) - 1, said.start + len(part), quote)
 
 
-@form("remove it, or move it to where it belongs(?:, perhaps .*)?")
+@form("remove it(?:, or move it .*)?|rename it to `.+`.*, or remove it")
 def remove_or_move(case, said):
     rest, member = without_member(case.text, said.start)
     name, fields = next(lexemes(member))[0].strip("'\""), case.schema[1]
@@ -424,17 +423,15 @@ def close_quote_of(case, said, line):
     return close_quote(case, said._replace(start=open_texts[0].start()))
 
 
-@form("a value is missing before this")
+@form("(?:a (?:value|number|text in quotes)|true or false|an (?:object|array), .*,) is missing before this")
 def value_before(case, said):
     return put(case.text, said.start, said.start, fits(case, said))
 
 
-@form("a number has no unit(?:, and a text needs quotes: '.*')?")
-def no_unit(case, said):
-    part, type = case.text[said.start:said.end], type_at(case.schema, said.path)
-    if type and type[0] in ("text", "enum"):
-        return put(case.text, said.start, said.end, "'%s'" % part)
-    return put(case.text, said.start, said.end, re.match(r"[+-]?(?:0[xX][0-9a-fA-F]+|[\d.]*)", part)[0])
+@form("a number has no unit: write ([^\\s,;]+)(?:, or \\d+ if .* here)?; a text needs quotes: ('.*'|\".*\")")
+def no_unit(case, said, number, text):
+    type = type_at(case.schema, said.path)
+    return put(case.text, said.start, said.end, text if type and type[0] in ("text", "enum") else number)
 
 
 @form("this quote is not closed on its line")
@@ -449,13 +446,16 @@ def close_quote(case, said):
     return put(case.text, end, end, case.text[said.start:said.start + 1])
 
 
-@form("a text (?:stands|ends) on (?:one|its) line.*")
-def one_line(case, said):
+@form("close this quote on its line, or end the line with a backslash")
+def close_or_go_on(case, said):
+    # a text goes on where the next line ends it
     end = LINE.search(case.text, said.start)
-    return put(case.text, end.start(), end.start(), "\\") if end else None
+    if case.way == "text_over_two_lines" and end:
+        return put(case.text, end.start(), end.start(), "\\")
+    return close_quote(case, said)
 
 
-@form("quotes are ' or \"")
+@form("quotes are ' or \"(?:: .*)?")
 def plain_quotes(case, said):
     curly = "[\u2018-\u201f\u00ab\u00bb`\u00b4]"
     line = re.match(r"[^\n\r]*", case.text[said.start:])[0]
@@ -495,7 +495,7 @@ def close_before(case, said, bracket):
     return closed_at(case.text, said.start, bracket)
 
 
-@form("(?:this comment|the comment of line (\\d+)) is never closed")
+@form("the comment of line (\\d+) is never closed: write `\\*/` behind it")
 def close_comment(case, said, line):
     start = case.text.find("/*", line_start(case.text, line)) if line else said.start
     end = start + len(LINE.split(case.text[start:], maxsplit=1)[0])
@@ -544,8 +544,10 @@ def is_element(type, part):
     return part[0] in "'\"" or re.match(r"""\{\s*(\w+|'[^']*'|"[^"]*")\s*:""", part)
 
 
-@form("an array is written in brackets: \\[ .. \\]")
-def in_brackets(case, said):
+@form("an array is written in brackets: (\\[.*\\])")
+def in_brackets(case, said, new):
+    if ".." not in new:
+        return put(case.text, said.start, said.end, new)
     found = next(lexemes(case.text, said.start), None)
     if found and found[0] == "(":
         return other_bracket(case.text, found.start(), "[")
@@ -566,12 +568,111 @@ def meant(case, said, name):
     return put(case.text, said.start, said.end, quote + name + quote)
 
 
-@form("`(.*)` stands on line (\\d+) already")
+@form("`(.*)` stands on line (\\d+) already: remove one of them")
 def only_first(case, said, name, line):
     return without_member(case.text, said.start)[0]
 
 
-@form("add `(.*): ..` to this object")
+@form("add `(.*): ..` to this object(?:, as on line \\d+: .*)?")
 def add_field(case, said, name):
     type = type_at(case.schema, (said.path + "." if said.path else "") + name)
     return put(case.text, said.start + 1, said.start + 1, " %s: %s," % (name, fitting(type) if type else "0"))
+
+
+@form("write one value, without brackets: (.+)")
+def first_of_array(case, said, new):
+    return put(case.text, said.start, value_end(case.text, said.start), new)
+
+
+@form("write \\[ and \\] in place of these braces")
+def brackets_for_braces(case, said):
+    return other_bracket(case.text, said.start, "[")
+
+
+@form("write the object without brackets around it")
+def object_alone(case, said):
+    closing = closing_of(case.text, said.start)
+    rest = put(case.text, closing, closing + 1, "")
+    return put(rest, said.start, said.start + 1, "")
+
+
+@form("write an object that has this in a field: .*")
+def object_with(case, said):
+    return put(case.text, said.start, said.end, fits(case, said))
+
+
+@form("the bracket of line \\d+ closes this object, and more follows: remove it")
+def closes_early(case, said):
+    closing = closing_of(case.text, said.start)
+    return put(case.text, closing, closing + 1, "")
+
+
+@form("the colon stands behind the quote: ('.*'): ..")
+def colon_behind(case, said, key):
+    return put(case.text, said.start, said.end, key + ":")
+
+
+@form("`/\\*` begins a comment on line (\\d+): a key or a text with it needs quotes")
+def quote_comment(case, said, line):
+    start = line_start(case.text, line)
+    part = re.match(r"(\s*(?:['\"\w]+:\s*)?)(\S*?/\*[^,:\n\r]*)", case.text[start:])
+    return put(case.text, start + part.end(1), start + part.end(2), "'%s'" % part[2]) if part else None
+
+
+@form("a key has a colon and a value; a comment begins with `//`")
+def key_or_comment(case, said):
+    return put(case.text, said.start, said.start, "// ")
+
+
+@form("the key and the value have quotes apart: (.+)")
+def quoted_apart(case, said, member):
+    return put(case.text, said.start, said.end, member)
+
+
+@form("a key has no brackets: (.+)")
+def key_alone(case, said, key):
+    return put(case.text, said.start, value_end(case.text, said.start), key)
+
+
+@form("write quotes without a backslash before them")
+def no_backslash(case, said):
+    return put(case.text, said.start, said.end, case.text[said.start:said.end].replace("\\", ""))
+
+
+@form("a comma, or a comma and a key, is missing before this")
+def comma_and_key(case, said):
+    # what isn't a key is one value too many
+    after = next(lexemes(case.text, value_end(case.text, said.start)), None)
+    if after and after[0] == ":":
+        return put(case.text, said.start, said.start, ",")
+    return put(case.text, said.start, value_end(case.text, said.start), "")
+
+
+@form("this quote is not closed on its line: (.+)")
+def close_text(case, said, new):
+    end = said.start + 1 + len(new.replace("\\\\", "\\")) - 2
+    return put(case.text, end, end, case.text[said.start])
+
+
+@form("write the text in other quotes: (.+)")
+def other_quotes(case, said, new):
+    old = ("'" if new[0] == '"' else '"')
+    return case.text.replace(old + new[1:-1] + old, new, 1)
+
+
+@form("write \\{ .+: \\.\\. \\} here|write an object in place of the array: .*")
+def other_object(case, said):
+    return put(case.text, said.start, value_end(case.text, said.start), fits(case, said))
+
+
+@form("write the object without parentheses around it")
+def no_parentheses(case, said):
+    closing = closing_of(case.text, said.start)
+    rest = put(case.text, closing, closing + 1, "")
+    return put(rest, said.start, said.start + 1, "")
+
+
+@form("a bracket too many stands before this: remove it")
+def bracket_before(case, said):
+    place = max(case.text.rfind("}", 0, said.start), case.text.rfind("]", 0, said.start))
+    return put(case.text, place, place + 1, "")
