@@ -82,8 +82,26 @@ pub fn entry_indentation(
     collection: &Collection<'_>,
     index: usize,
 ) -> Result<String> {
+    indentation_before(alloc, collection, Which::Index(index))
+}
+
+/// Returns the same where the new entry comes before this one, or at the end, if there is none.
+///
+/// ```text
+/// let map = Collection { document: "{\n  a: 1,\n}", start: 0, end: 11, names: Names::Quoted };
+/// indentation_before(alloc, &map, Which::Key("a"))?    // two blanks
+/// ```
+///
+/// # Errors
+///
+/// As [`entry_indentation`].
+pub fn indentation_before(
+    alloc: Global,
+    collection: &Collection<'_>,
+    which: Which<'_>,
+) -> Result<String> {
     let text = collection.text();
-    let around = find_around(alloc, text, Which::Index(index))?;
+    let around = find_around(alloc, text, which)?;
     if let Some(here) = around.here {
         return joined(alloc, &[collection.indentation_at(here.start)]);
     }
@@ -108,26 +126,70 @@ pub fn entry_indentation(
 /// - `Failed`, if there is no such element.
 /// - As reading, if the text is no value; `OutOfMemory` where there is no memory for the text.
 pub fn growth_before(alloc: Global, collection: &Collection<'_>, index: usize) -> Result<Growth> {
+    growth_at(alloc, collection, Which::Index(index), None)
+}
+
+/// Returns what comes into the object's text with one more member before this one, as [`growth_before`] says it of an
+/// element. The key is spelled like the object's other keys.
+///
+/// ```text
+/// let map = Collection { document: "{ b: 2 }", start: 0, end: 8, names: Names::Quoted };
+/// member_growth_before(alloc, &map, Which::Key("b"), "a")?    // the name `a: `, and a comma and a blank after it
+/// ```
+///
+/// # Errors
+///
+/// As [`growth_before`].
+pub fn member_growth_before(
+    alloc: Global,
+    collection: &Collection<'_>,
+    which: Which<'_>,
+    key: &str,
+) -> Result<Growth> {
+    growth_at(alloc, collection, which, Some(key))
+}
+
+/// What comes before this entry: an element, or a member with this key.
+fn growth_at(
+    alloc: Global,
+    collection: &Collection<'_>,
+    which: Which<'_>,
+    key: Option<&str>,
+) -> Result<Growth> {
     let text = collection.text();
-    let around = find_around(alloc, text, Which::Index(index))?;
+    let around = find_around(alloc, text, which)?;
     let Some(here) = around.here else {
         return Err(Error::new(ErrorCode::Failed));
     };
+    let mut growth = before_entry(alloc, collection, around, here)?;
+    growth.count = around.index;
+    if let Some(key) = key {
+        growth.name = name_like(alloc, collection, Some(here), key)?;
+    }
+    Ok(growth)
+}
+
+/// Puts it before the entry and the comments that belong to that.
+fn before_entry(
+    alloc: Global,
+    collection: &Collection<'_>,
+    around: Around,
+    here: Spot,
+) -> Result<Growth> {
+    let text = collection.text();
     let from = match around.before {
         Some(spot) => spot.full_end(),
         None => 1,
     };
     let gap = Gap::of(text, from, here.start);
-    let mut growth = if here.begins_line(text) {
+    if here.begins_line(text) {
         let trail = joined(alloc, &[",", collection.line_end()])?;
         let indent = indentation(text, here.start);
         put(alloc, gap.lead, gap.lead, indent, trail.as_str())
     } else {
         let trail = joined(alloc, &[",", blank_before(text, here)])?;
         put(alloc, gap.own, gap.own, "", trail.as_str())
-    }?;
-    growth.count = index;
-    Ok(growth)
+    }
 }
 
 /// The key of what is added, and the colon with its blanks; nothing in an array.
@@ -140,8 +202,18 @@ fn name(
     let BracketKind::Object = added.kind else {
         return Ok(String::new(alloc));
     };
-    let key = key_for(alloc, collection, added.key)?;
-    let colon = match around.before {
+    name_like(alloc, collection, around.before, added.key)
+}
+
+/// A key, and the colon with the blanks that this member has around its own.
+fn name_like(
+    alloc: Global,
+    collection: &Collection<'_>,
+    other: Option<Spot>,
+    key: &str,
+) -> Result<String> {
+    let key = key_for(alloc, collection, key)?;
+    let colon = match other {
         Some(spot) => colon_like(between(collection.text(), spot.key_end, spot.value)),
         None => ": ",
     };

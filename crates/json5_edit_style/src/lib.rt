@@ -16,11 +16,14 @@ mod removing;
 mod spots;
 mod value_lines;
 
-pub use adding::{Added, Growth, entry_indentation, growth_before, growth_for};
+pub use adding::{
+    Added, Growth, entry_indentation, growth_before, growth_for, indentation_before,
+    member_growth_before,
+};
 pub use collection::Collection;
 pub use habits::{Names, has_last_commas, step_of};
 pub use keys::{Respelling, respelling_for};
 pub use lines::{indentation, line_end};
-pub use removing::{Cut, cut_for};
+pub use removing::{Cut, cut_alone_for, cut_for};
 pub use spots::Which;
 pub use value_lines::relined;

@@ -34,9 +34,27 @@ pub struct Cut {
 /// - `Failed`, if there is no such entry.
 /// - As reading, if the text is no value; `OutOfMemory` where there is no memory for a key with an escape.
 pub fn cut_for(alloc: Global, text: &str, which: Which<'_>) -> Result<Cut> {
+    found_cut(alloc, text, which, false)
+}
+
+/// Returns what goes with this entry where the comments before it stay. Those after it on its line go.
+///
+/// ```text
+/// cut_alone_for(alloc, "{ a: 1, /* b */ b: 2 }", Which::Key("b"))?    // leaves { a: 1 /* b */ }
+/// ```
+///
+/// # Errors
+///
+/// As [`cut_for`].
+pub fn cut_alone_for(alloc: Global, text: &str, which: Which<'_>) -> Result<Cut> {
+    found_cut(alloc, text, which, true)
+}
+
+/// What goes with this entry, where the comments before it go or stay.
+fn found_cut(alloc: Global, text: &str, which: Which<'_>, keeps: bool) -> Result<Cut> {
     let around = find_around(alloc, text, which)?;
     match around.here {
-        Some(here) => Ok(cut_of(text, around, here)),
+        Some(here) => Ok(cut_of(text, around, here, keeps)),
         None => Err(Error::new(ErrorCode::Failed)),
     }
 }
@@ -50,7 +68,7 @@ pub(crate) fn joined(alloc: Global, parts: &[&str]) -> Result<String> {
 }
 
 /// What goes with the entry.
-fn cut_of(text: &str, around: Around, here: Spot) -> Cut {
+fn cut_of(text: &str, around: Around, here: Spot, keeps: bool) -> Cut {
     let from = match around.before {
         Some(spot) => spot.full_end(),
         None => 1,
@@ -61,7 +79,11 @@ fn cut_of(text: &str, around: Around, here: Spot) -> Cut {
     };
     let left = Gap::of(text, from, here.start);
     let right = Gap::of(text, here.full_end(), until);
-    let (start, end) = part(text, around, from, left, right);
+    let (start, end) = if keeps && left.own < here.start {
+        part_alone(around, here, left, right)
+    } else {
+        part(text, around, from, left, right)
+    };
     if around.count == 1 && !has_comment(text, 1, start) && !has_comment(text, end, around.close) {
         return Cut {
             index: around.index,
@@ -93,6 +115,17 @@ fn part(text: &str, around: Around, from: usize, left: Gap, right: Gap) -> (usiz
         (Some(_), None) => (left.own, right.tail),
         (None, Some(_)) => (from, right.tail),
         (None, None) => (from, right.tail),
+    }
+}
+
+/// From where to where it goes after comments that stay.
+fn part_alone(around: Around, here: Spot, left: Gap, right: Gap) -> (usize, usize) {
+    let follows_comment = left.mark > left.last_line;
+    match right.line_end {
+        Some(_) if !follows_comment => (left.last_line, right.next_line),
+        None if around.after.is_some() => (here.start, right.first),
+        _ if follows_comment => (left.mark, right.tail),
+        _ => (here.start, right.tail),
     }
 }
 
