@@ -14,10 +14,12 @@ use Rattle.json5_read.specs.declared.brackets.BracketKind.TheVariants as kind
 use Rattle.json5_walk.specs.Moves.{EndsEntries}
 use Rattle.json5_walk.specs.Walks.{Walked, Trail, IsAt, Moved, Ends}
 use Rattle.json5_walk.proofs.Rests.{append_nil}
-use Rattle.json5_edit.specs.Changes.{ChangesBy, Gains, GainsAt}
-use Rattle.json5_edit.specs.Comparing.{With, EndsToo, BothPass, PassesPair, PassesFront, PassesRest, LacksKey, Lacks, IsOther, IsWithout, IsRenamed, GoesTo, step_kind, step_key, step_place}
+use Rattle.json5_edit.specs.Changes.{ChangesBy, Gains, GainsAt, GainsMember}
+use Rattle.json5_edit.specs.Comparing.{With, EndsToo, BothPass, PassesPair, PassesFront, PassesRest, PassesAfter, FitsFront, MayPrecede, ComesBetween, LacksKey, Lacks, IsOther, IsWithout, IsRenamed, GoesTo, step_kind, step_key, step_place}
 use Rattle.json5_edit.specs.Entries.{entries, kind_of, empty_of, read_in, TakesEntry, Holds}
 use Rattle.json5_edit.specs.declared.entries.Entry.{Entry}
+use Rattle.json5_edit.specs.declared.paths.Before.{Before}
+use Rattle.json5_edit.specs.declared.paths.Before.TheVariants as before_place
 use Rattle.json5_edit.specs.declared.paths.Step.{Step}
 use Rattle.json5_edit.specs.declared.paths.Step.TheVariants as step
 use Rattle.json5_edit.proofs.EntriesPassed.{closes, is_document}
@@ -265,6 +267,61 @@ renamed {x = x} {y = y} k n key value name other new h g front one two same same
         now = from_empty kind.Object ((es ++ new_mid) ++ fs) right ∙ append_assoc es new_mid fs ∙ ap (λ z. es ++ ((z, came.tree) ∷ fs)) same_name ∙ ap (λ z. es ++ ((new, z) ∷ fs)) tree;
         last = lacks;
       },
+    )
+
+-- ---- one more member before others
+
+pub after_first : {v w left right : Walked} → PassesRest (step.Index 0) v w left right → PassesAfter before_place.First v w left right
+after_first rest = λ x y t u h k. let (es, close, lacks) = rest x y t u h k in (es, close, tt)
+
+pub after_key : {v w l r left right : Walked} (k : Bor (List ℕ)) (key value : List ℕ) → Moved (TakesEntry key value) v l → Moved (TakesEntry key value) w r → key ≡ k.now → PassesRest (step.Key k) l r left right → PassesAfter (before_place.Key k) v w left right
+after_key k key value p q same rest = λ x y t u h g.
+    let (e, one) = both_one key value h g p q in
+    let (es, close, lacks) = rest x y one.left one.right one.left_holds one.right_holds in
+    let mid : List (List ℕ × Tree) = (key, e) ∷ [] in (
+      (key, e) ∷ es,
+      record {
+        left = close.left;
+        right = close.right;
+        left_with = with_more mid es one.left_with close.left_with;
+        right_with = with_more mid es one.right_with close.right_with;
+        left_closed = close.left_closed;
+        right_closed = close.right_closed;
+      },
+      (e, es, ap (λ z. (z, e) ∷ es) same, lacks),
+    )
+
+comes_between : (b : Before) (front after : List (List ℕ × Tree)) → FitsFront b (length front) → MayPrecede b after → ComesBetween b front after
+comes_between before_place.First [] after n p = refl
+comes_between before_place.First (e ∷ es) after n p = absurd (omega (arith, n))
+comes_between (before_place.Key k) front after n p = p
+
+pub member_put_in : {x y : List ℕ} {l1 r1 l2 r2 r3 l4 r4 : Walked} (b : Before) (n : ℕ) (key value name spelled : List ℕ) → FitsFront b n → Holds x (empty_of kind.Object) l1 → Holds y (empty_of kind.Object) r1 → PassesFront n l1 r1 l2 r2 → Moved (TakesEntry key value) r2 r3 → key ≡ name → value ≡ spelled → PassesAfter b l2 r3 l4 r4 → ((t : Trail) → IsAt l4 t → Ends l4 t) → ((t : Trail) → IsAt r4 t → Ends r4 t) → ChangesBy (GainsMember b name spelled) x y
+member_put_in {x = x} {y = y} b n key value name spelled fits h k front one same same_text rest end_left end_right =
+    let e = empty_of kind.Object in
+    let (es, both, size) = front.passed x y e e h k in
+    let came = passes key value both.right_holds one in
+    let (fs, close, precedes) = rest x y both.left came.all both.left_holds came.holds in
+    let mid : List (List ℕ × Tree) = (key, came.tree) ∷ [] in
+    let left = with_more es fs both.left_with close.left_with in
+    let right = with_more (es ++ mid) fs (with_more es mid both.right_with came.one) close.right_with in (
+      close.left,
+      close.right,
+      is_document close.left_closed end_left,
+      is_document close.right_closed end_right,
+      (
+        came.tree,
+        subst (λ z. Val (chars z) came.tree) same_text came.is_value,
+        record {
+          was_kind = left.same_kind;
+          kind = right.same_kind;
+          before = es;
+          after = fs;
+          was = from_empty kind.Object (es ++ fs) left;
+          now = from_empty kind.Object ((es ++ mid) ++ fs) right ∙ append_assoc es mid fs ∙ ap (λ z. es ++ ((z, came.tree) ∷ fs)) same;
+          there = comes_between b es fs (subst (FitsFront b) (sym size) fits) precedes;
+        },
+      ),
     )
 
 -- ---- pairs

@@ -13,7 +13,8 @@ use Rattle.json5_walk.proofs.Calls.{bytes_joined}
 use Rattle.json5_read.specs.declared.brackets.BracketKind.{BracketKind as Kind}
 use Rattle.json5_walk.specs.Seams.{WholeTokens, then_blanks}
 use Rattle.json5_walk.proofs.Rests.{append_nil}
-use Rattle.json5_edit.specs.Pieces.{IsComma, IsCommaBetween, IsSpace, IsNameAlone, IsEntryAlone, Cuts, Grows, IsKeyText, SplitsKey, Respells, IsWithComments}
+use Rattle.json5_edit.specs.Pieces.{IsComma, IsCommaBetween, IsSpace, IsNameAlone, IsEntryAlone, Grows, IsKeyText, SplitsKey, Respells, CutsWith, GoesWith}
+use Rattle.json5_edit.specs.declared.belongings.Lead.{Lead}
 use Rattle.json5_edit.specs.Spots.{EndTokens, IsAroundComma}
 use Rattle.json5_edit.proofs.Placed.{scalars_left, bytes_cut}
 use Rattle.json5_edit.proofs.StepsSurveyed.{found_some}
@@ -42,23 +43,26 @@ module _ (x before front blank middle more : List ℕ) (n : Option ℕ) (ends : 
   between (inl e) = inl e
   between (inr (e, at, b, l)) = inr (e, tokens at b, l)
 
-pub cuts : (x y head before gone back front blank middle : List ℕ) (n : Option ℕ) → EndTokens x n → x ≡ head ++ back → head ≡ before ++ gone → IsAroundComma before n front blank middle → IsWithComments before gone back → y ≡ front ++ (blank ++ (middle ++ back)) → Cuts x y
-cuts x y head before gone back front blank middle n ends e f a b h =
+pub cuts : (l : Lead) (x y head before gone back front blank middle : List ℕ) (n : Option ℕ) → EndTokens x n → x ≡ head ++ back → head ≡ before ++ gone → IsAroundComma before n front blank middle → GoesWith l before gone back → y ≡ front ++ (blank ++ (middle ++ back)) → CutsWith l x y
+cuts l x y head before gone back front blank middle n ends e f a b h =
     let was : x ≡ before ++ (gone ++ back) = e ∙ ap (λ z. z ++ back) f ∙ append_assoc before gone back in
     let is = around x before front blank middle (gone ++ back) n ends a was in
-    record {
-      front = front ++ blank;
-      comma = a.comma;
-      middle = middle;
-      gone = gone;
-      back = back;
-      was =
-          was ∙ ap (λ z. z ++ (gone ++ back)) is
-          ∙ append_assoc (front ++ blank) (a.comma ++ middle) (gone ++ back) ∙ ap (λ z. (front ++ blank) ++ z) (append_assoc a.comma middle (gone ++ back));
-      now = h ∙ sym (append_assoc front blank (middle ++ back));
-      is_comma = between x before front blank middle (gone ++ back) n ends a was a.is_comma;
-      belongs = subst (λ z. IsWithComments z gone back) is b;
-    }
+    let with_comments = subst (λ z. GoesWith l z gone back) is b in (
+      record {
+        front = front ++ blank;
+        comma = a.comma;
+        middle = middle;
+        gone = gone;
+        back = back;
+        was =
+            was ∙ ap (λ z. z ++ (gone ++ back)) is
+            ∙ append_assoc (front ++ blank) (a.comma ++ middle) (gone ++ back) ∙ ap (λ z. (front ++ blank) ++ z) (append_assoc a.comma middle (gone ++ back));
+        now = h ∙ sym (append_assoc front blank (middle ++ back));
+        is_comma = between x before front blank middle (gone ++ back) n ends a was a.is_comma;
+        belongs = with_comments.0;
+      },
+      with_comments.1,
+    )
 
 pub entry_alone : (k : Kind) (value x lead name trail : List ℕ) → IsSpace lead → IsNameAlone k name → IsSpace trail → x ≡ lead ++ (name ++ (value ++ trail)) → IsEntryAlone k value x
 entry_alone k value x lead name trail l n t e = record { lead = lead; name = name; trail = trail; split = e; is_lead = l; is_name = n; is_trail = t }

@@ -1,11 +1,12 @@
 -- A plain collection keeps plain with one plain entry more.
-use Rattle.std.proofs.Common.{◌≡◌, ℕ, ◌-◌, Bool, true, false, List, [], ◌∷◌, ◌++◌, refl, ap, sym, ◌∙◌, subst, drop}
+use Rattle.std.proofs.Common.{◌≡◌, ℕ, ◌-◌, Bool, true, false, List, [], ◌∷◌, ◌++◌, refl, ap, sym, ◌∙◌, append_assoc, subst, drop}
 use Rattle.std.specs.Str.{chars, IsUtf8, encode_utf8_all}
 use Rattle.std.proofs.lemmas.List.{append-nil}
 use Rattle.std.proofs.lemmas.Str.{chars-encodes, chars-append}
 use Rattle.json5_grammar.specs.Language.Blanks.{Blanks}
 use Rattle.json5_grammar.specs.Language.Characters.{comma_sign}
 use Rattle.json5_grammar.specs.Language.Trees.{Tree}
+use Rattle.json5_grammar.proofs.ValueHeads.{key_spelling}
 use Rattle.json5_styles.specs.Json.{JsonString}
 use Rattle.json5_lexemes.specs.Plain.{Plain, KeepsPlain, PlainText, StaysPlain}
 use Rattle.json5_lexemes.specs.Plain as plain
@@ -21,13 +22,15 @@ use Rattle.json5_read.specs.declared.brackets.BracketKind.TheVariants as kind
 use Rattle.json5_edit.specs.Entries.{entries}
 use Rattle.json5_edit.specs.Places.{IsValue}
 use Rattle.json5_edit.specs.Pieces.{SpellsKey}
-use Rattle.json5_edit.specs.Spots.{Goes, HasEntry, HasEnd, Parts, first_element, SpellsEntry, spells_element, spells_member, AddsPlainly, comma_for}
+use Rattle.json5_edit.specs.Spots.{Goes, HasEntry, HasEnd, HasMember, Parts, first_element, first_member, SpellsEntry, spells_element, spells_member, AddsPlainly, comma_for}
+use Rattle.json5_edit.specs.declared.paths.Before.{Before}
 use Rattle.json5_edit.specs.declared.paths.Step.TheVariants as step
 use Rattle.json5_edit.specs.declared.plain.End.{End}
 use Rattle.json5_edit.proofs.Placed.{encoded}
 use Rattle.json5_edit.proofs.PlainPlaces.{Spanned, spanned, apart, entry_ends}
-use Rattle.json5_edit.proofs.PlainlyEdited.{goes_closed, cut_there, ahead, rest_there, ascii_comma, ascii_utf8, comma_utf8, member_chars, last_closed}
+use Rattle.json5_edit.proofs.PlainlyEdited.{goes_closed, cut_there, ahead, first_of, rest_there, same_rest, ascii_comma, ascii_utf8, comma_utf8, member_chars, last_closed, utf8_both}
 use Rattle.json5_edit.proofs.Seams.{goes_ends}
+use Rattle.json5_edit.proofs.Spotted.{IsOf, entries_joined, spells_value}
 
 -- ---- an entry alone
 
@@ -52,7 +55,7 @@ turned : {k : Bool} {x : List ℕ} (m : LastToken) → BeginsFree x → Plain k 
 turned {k = k} {x = x} m f p = subst (Plain k m) (append-nil x) (free_turn m [] f refl (subst (Plain k last.sign) (sym (append-nil x)) p))
 
 -- a string of JSON, a colon and a plain value are plain
-member_plain : {k : Bool} {name value : List ℕ} → JsonString name → Plain k last.sign value → Plain k last.sign (name ++ 58 ∷ value)
+pub member_plain : {k : Bool} {name value : List ℕ} → JsonString name → Plain k last.sign value → Plain k last.sign (name ++ 58 ∷ value)
 member_plain s p = plain.string s (plain.colon p)
 
 -- ---- at the end
@@ -133,6 +136,36 @@ element_plain i limit n bytes new front back value utf8 value_utf8 h front_is ba
     ∙ ap (λ z. p.front ++ (chars value ++ (comma_sign ∷ z))) rest_is in
     subst (Plain comments last.sign) (sym spelled)
     (entry_put_before e.rest s.spans (apart s _) (apart s _) (f.spans s.kind) e.is_blank e.begins (subst (λ z. Plain comments last.sign (p.front ++ z)) rest_is (subst (Plain comments last.sign) p.split was)) (turned s.kind (value_begins val) came))
+
+-- ---- before a member
+
+member_ahead : {u t r : Tree} {x : List ℕ} → Parts kind.Object u t r → Goes false u x → ElementAhead x
+member_ahead (first_member u b t qs) (y, z, k, v, tl) = record { blank = k.front; phrase = k.spelling; rest = y; split = k.split; is_blank = k.blank; begins = key_begins (key_spelling k.key) }
+
+-- what goes on there begins with a member
+member_there : {b : Before} {limit n : ℕ} {bytes : List ℕ} → (h : HasMember b limit bytes n) → ElementAhead h.spot.rest
+member_there {limit = limit} {bytes = bytes} h =
+    let kt : IsOf kind.Object h.before = h.same_kind ∙ h.kind in
+    let (u, same, goes, small, joins) = h.spot.back h.tree (spells_value limit (chars bytes) h.tree h.value h.shallow) in
+    let ku : IsOf kind.Object u = same ∙ kt in
+    let left : entries u ≡ (h.key, h.next) ∷ h.after = same_rest (entries h.before) (entries u) ((h.key, h.next) ∷ h.after) (sym (entries_joined kind.Object h.before u kt ku) ∙ sym (ap entries joins) ∙ h.all) in
+    member_ahead (first_of kind.Object u h.next h.key h.after ku left).parts goes
+
+pub member_plain_there : (b : Before) (limit n : ℕ) (bytes new front back key name value : List ℕ) → IsUtf8 bytes → IsUtf8 name → IsUtf8 value → (h : HasMember b limit bytes n) → front ≡ encode_utf8_all h.spot.front → back ≡ encode_utf8_all h.spot.rest → (v : Tree) → SpellsEntry kind.Object key v (chars (name ++ value)) → new ≡ front ++ (name ++ (value ++ ((44 ∷ []) ++ back))) → (comments : Bool) → PlainText comments bytes → PlainText comments (name ++ value) → PlainText comments new
+member_plain_there b limit n bytes new front back key name value utf8 name_utf8 value_utf8 h front_is back_is v spells now comments was came =
+    let p = h.spot in
+    let (whole, scalar_front, scalar_rest) = cut_there utf8 p in
+    let e = member_there h in
+    let s = spanned p.passed in
+    let f = entry_alone spells in
+    let entry : List ℕ = name ++ value in
+    let spelled : chars new ≡ p.front ++ (chars entry ++ (comma_sign ∷ (e.blank ++ (e.phrase ++ e.rest)))) =
+    ap chars (now ∙ ap (λ z. front ++ z) (sym (append_assoc name value ((44 ∷ []) ++ back))))
+    ∙ four_chars front entry (44 ∷ []) back p.front p.rest (encoded p.front scalar_front) (utf8_both name value name_utf8 value_utf8) ascii_utf8 front_is back_is (chars-encodes p.front scalar_front) (chars-encodes p.rest scalar_rest)
+    ∙ ap (λ z. p.front ++ (chars entry ++ (z ++ p.rest))) ascii_comma
+    ∙ ap (λ z. p.front ++ (chars entry ++ (comma_sign ∷ z))) e.split in
+    subst (Plain comments last.sign) (sym spelled)
+    (entry_put_before e.rest s.spans (apart s _) (apart s _) (f.alone.spans s.kind) e.is_blank e.begins (subst (λ z. Plain comments last.sign (p.front ++ z)) e.split (subst (Plain comments last.sign) p.split was)) (turned s.kind f.begins came))
 
 -- what stays as plain as a collection stays as plain as the document around it
 pub stays_within : (text old value new : List ℕ) → KeepsPlain text old → StaysPlain old value new → StaysPlain text value new

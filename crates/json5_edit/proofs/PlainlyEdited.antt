@@ -197,7 +197,7 @@ pub record WithFirst (k : Kind) (key : List ℕ) (v u : Tree) (x : List ℕ) : T
   pub fits : (limit : ℕ) → depth v + 1 ≤ limit → depth u ≤ limit → depth all ≤ limit
   pub goes : (z : List ℕ) → Goes true u z → Goes false all (x ++ z)
 
-with_first : {k : Kind} {key x : List ℕ} {v : Tree} (u : Tree) → SpellsEntry k key v x → IsOf k u → WithFirst k key v u x
+pub with_first : {k : Kind} {key x : List ℕ} {v : Tree} (u : Tree) → SpellsEntry k key v x → IsOf k u → WithFirst k key v u x
 with_first (array us) (spells_element v x p) e = record {
   all = array (more v us);
   same_kind = refl;
@@ -222,11 +222,11 @@ with_first (number n) s e = absurd (cc)
 with_first (text t b) s e = absurd (cc)
 
 -- no part of a text is blank
-no_part : HaveSameLexemes (chars []) []
+pub no_part : HaveSameLexemes (chars []) []
 no_part = subst (λ x. HaveSameLexemes x []) (sym no_characters) (record { lexemes = []; left = no_lexeme; right = no_lexeme })
 
 -- a text with a part put into it at a spot
-grows_there : (k : Kind) (value bytes front back comma came new : List ℕ) → IsComma comma → IsEntryAlone k value came → bytes ≡ front ++ back → new ≡ front ++ (comma ++ (came ++ back)) → Grows k value bytes new
+pub grows_there : (k : Kind) (value bytes front back comma came new : List ℕ) → IsComma comma → IsEntryAlone k value came → bytes ≡ front ++ back → new ≡ front ++ (comma ++ (came ++ back)) → Grows k value bytes new
 grows_there k value bytes front back comma came new c a was now = record { front = front; middle = []; gone = []; back = back; comma = comma; came = came; was = was; now = now; is_comma = c; blank = no_part; alone = a }
 
 -- what a part that was put in at a spot makes
@@ -234,7 +234,7 @@ pub record Made (limit : ℕ) (old new : List ℕ) (w : Tree) : Type 0 where
   pub value : Val (chars new) w
   pub shallow : depth w ≤ limit
 
-made_there : {k : Kind} {limit n : ℕ} {bytes new : List ℕ} {w t : Tree} {due : Bool} (part : List ℕ) → IsUtf8 bytes → IsUtf8 part → Val (chars bytes) w → depth w ≤ limit → IsOf k w → IsOf k t → (p : Spot limit bytes t due n) → new ≡ encode_utf8_all p.front ++ (part ++ encode_utf8_all p.rest) → (u : Tree) → IsOf k u → Goes due u (chars part ++ p.rest) → depth u ≤ limit → Made limit bytes new (joined t u)
+pub made_there : {k : Kind} {limit n : ℕ} {bytes new : List ℕ} {w t : Tree} {due : Bool} (part : List ℕ) → IsUtf8 bytes → IsUtf8 part → Val (chars bytes) w → depth w ≤ limit → IsOf k w → IsOf k t → (p : Spot limit bytes t due n) → new ≡ encode_utf8_all p.front ++ (part ++ encode_utf8_all p.rest) → (u : Tree) → IsOf k u → Goes due u (chars part ++ p.rest) → depth u ≤ limit → Made limit bytes new (joined t u)
 made_there {t = t} part utf8 part_utf8 v d kw kt p now u ku g small =
     let (whole, scalar_front, scalar_rest) = cut_there utf8 p in
     let (val, shallow) = makes v d kw kt p u (chars part ++ p.rest) ku g small in
@@ -262,7 +262,7 @@ chars_both x y a b = chars-append x y a
 pub utf8_both : (x y : List ℕ) → IsUtf8 x → IsUtf8 y → IsUtf8 (x ++ y)
 utf8_both x y a b = IsUtf8-append x y a b
 
-comma_space : IsSpace (44 ∷ [])
+pub comma_space : IsSpace (44 ∷ [])
 comma_space = subst (λ x. HaveSameLexemes x []) (sym ascii_comma) (record { lexemes = []; left = separator refl no_lexeme; right = no_lexeme })
 
 -- before the element that begins at the offset

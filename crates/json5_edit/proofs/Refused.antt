@@ -198,7 +198,7 @@ at_new P room new error.Failed n m k = absurd k
 -- ---- a path that is refused
 
 -- the outer path leads nowhere
-outer_nowhere : (bytes : List ℕ) (path outer : List Step) (s : Step) → path ≡ outer ++ (s ∷ []) → LeadsNowhere bytes outer → LeadsNowhere bytes path
+pub outer_nowhere : (bytes : List ℕ) (path outer : List Step) (s : Step) → path ≡ outer ++ (s ∷ []) → LeadsNowhere bytes outer → LeadsNowhere bytes path
 outer_nowhere bytes path outer s is (t, d, n) = (t, d, ap (λ z. positions_of z t) is ∙ nowhere_on outer (s ∷ []) t n)
 
 pub path_set : (bytes new : List ℕ) (path : List Step) (e : EditError) → RefusesPath bytes path e → RefusesSet bytes path new e
@@ -271,7 +271,7 @@ module _ (bytes old : List ℕ) (path : List Step) (p : Place) (u : IsUtf8 bytes
   reaches_key key t d k = reaches bytes path p leads (HasKey key) (subst (HasKey key) (tree_there t d) k)
 
   -- the step goes to no entry
-  nowhere_in : (whole : List Step) (s : Step) → whole ≡ path ++ (s ∷ []) → LeadsNowhere old (s ∷ []) → LeadsNowhere bytes whole
+  pub nowhere_in : (whole : List Step) (s : Step) → whole ≡ path ++ (s ∷ []) → LeadsNowhere old (s ∷ []) → LeadsNowhere bytes whole
   nowhere_in whole s is (t, d, n) =
       let q = leads.placed in (
         leads.tree,

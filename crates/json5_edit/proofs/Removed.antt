@@ -2,7 +2,9 @@
 use Rattle.std.proofs.Common.{◌≡◌, ℕ, ◌≤◌, Bool, true, false, List, [], ◌∷◌, ◌++◌, length, Option, Some, None, refl, ap, sym, ◌∙◌, append_assoc, subst, inl, inr, ◌⊎◌, take, drop, Result, Ok, Err, arith}
 use Rattle.std.specs.Prelude.{IfOk, OnOk, MatchOption, String, string_bytes}
 use Rattle.std.specs.declared.alloc.Global.{Global}
-use Rattle.json5_edit.specs.Pieces.{Cuts}
+use Rattle.json5_edit.specs.Pieces.{CutsWith, MayGo}
+use Rattle.json5_edit.specs.declared.belongings.Lead.{Lead}
+use Rattle.json5_edit.specs.declared.belongings.Lead.TheVariants as leads
 use Rattle.json5_edit.specs.declared.faults.EditError.{EditError}
 use Rattle.std.specs.Str.{chars, IsUtf8, IsCharBoundary, all_scalars, encode_utf8_all}
 use Rattle.std.proofs.Math.Seq.{drop-append_seam, take-append_seam}
@@ -37,7 +39,7 @@ use Rattle.json5_edit.proofs.PlainCuts.{cut_after_value, cut_alone, cut_with_com
 use Rattle.json5_edit.proofs.PlainlyEdited.{HasFirst, ascii_comma, ascii_utf8, back_there, chars_both, chars_joined, cut_in_two, cut_there, first_of, front_there, makes, rest_there, rest_utf8, same_rest, utf8_both}
 use Rattle.json5_edit.proofs.Spotted.{IsOf, entries_joined, joined_kind, not_nothing, spells_value, value_document}
 use Rattle.json5_edit.proofs.PiecesJoined.{no_characters}
-use Rattle.json5_edit.proofs.TakenApart.{alone, entry_there}
+use Rattle.json5_edit.proofs.TakenApart.{alone_goes, entry_there}
 
 -- ---- what comes at a spot before the entry
 
@@ -136,7 +138,7 @@ is_ahead rest is_kind utf8 h is =
     record { all = r.all; gone = h.entry.gone; others = f.rest; parts = subst (λ k. Parts k r.all h.entry.gone f.rest) (sym is_kind) f.parts; goes = subst (Goes false r.all) (sym chars_rest) r.goes; fits = omega (arith, fits, small); solid = subst Solid (sym chars_rest) h.entry.solid }
 
 -- it goes with the comma after it, or without one if it is the only entry
-pub removed_here : {s : Step} {limit n : ℕ} {kd : Kind} (bytes new front rest gone back : List ℕ) (len : EntryLen) → kd ≡ step_kind s → limit ≤ max_depth → IsUtf8 bytes → (h : HasEntry s limit bytes n) → front ≡ take n bytes → rest ≡ drop n bytes → (m : Measures kd limit rest len) → gone ≡ take len.whole rest → back ≡ drop len.whole rest → (m.end ≡ [] → entries h.entry.before ≡ []) → new ≡ front ++ (back ++ []) → Removes s limit bytes new
+pub removed_here : {s : Step} {limit n : ℕ} {kd : Kind} (bytes new front rest gone back : List ℕ) (len : EntryLen) → kd ≡ step_kind s → limit ≤ max_depth → IsUtf8 bytes → (h : HasEntry s limit bytes n) → front ≡ take n bytes → rest ≡ drop n bytes → (m : Measures kd limit rest len) → gone ≡ take len.whole rest → back ≡ drop len.whole rest → (m.end ≡ [] → entries h.entry.before ≡ []) → new ≡ front ++ (back ++ []) → Removes s leads.Stays limit bytes new
 removed_here {s = s} {limit = limit} {n = n} bytes new front rest gone back len is_kind small utf8 h front_take rest_drop m gone_take back_drop first now =
     let p = h.entry.spot in
     let (whole, scalar_front, scalar_rest) = cut_there utf8 p in
@@ -152,19 +154,23 @@ removed_here {s = s} {limit = limit} {n = n} bytes new front rest gone back len 
     let goes = measured_goes is_kind r (subst (Goes false r.all) (sym chars_rest) r.goes) m in
     let made = taken_out new m.rest small utf8 h p r spelled goes.1 in
     let old_is : chars bytes ≡ p.front ++ ((m.name ++ m.value) ++ (m.end ++ m.rest)) = p.split ∙ ap (λ z. p.front ++ z) (sym chars_rest ∙ m.split) in
-    let entry = entry_there rest gone len.whole utf8_rest (whole_entry m) gone_take in (
+    let entry = entry_there rest gone len.whole utf8_rest (whole_entry m) gone_take in
+    let away = alone_goes (front ++ []) gone back entry in (
       made.0,
-      record {
-        front = front;
-        comma = [];
-        middle = [];
-        gone = gone;
-        back = back;
-        was = cut_in_two n front_take rest_drop ∙ ap (λ z. front ++ z) (cut_in_two len.whole gone_take back_drop);
-        now = joined_now;
-        is_comma = inl refl;
-        belongs = alone (front ++ []) gone back entry;
-      },
+      (
+        record {
+          front = front;
+          comma = [];
+          middle = [];
+          gone = gone;
+          back = back;
+          was = cut_in_two n front_take rest_drop ∙ ap (λ z. front ++ z) (cut_in_two len.whole gone_take back_drop);
+          now = joined_now;
+          is_comma = inl refl;
+          belongs = away.0;
+        },
+        away.1,
+      ),
       made.1,
       λ k q. subst (Plain k last.sign) (sym spelled) (cut r.first.rest goes m.is_end (subst (Plain k last.sign) old_is q)),
     )
@@ -222,7 +228,7 @@ is_ahead_later following before after rest is_kind utf8 (h, l) is t =
     record { all = r.all; gone = h.entry.gone; others = f.rest; parts = subst (λ k. Parts k r.all h.entry.gone f.rest) (sym is_kind) f.parts; goes = goes_past_comma (chars before) (chars after) (chars rest) p.rest r.all t.is_before (Gap.blanks t.is_after) t.solid (sym chars_text ∙ comma_chars following before after rest t) r.goes; fits = omega (arith, fits, small); solid = t.solid }
 
 -- it goes with the comma before it
-pub removed_after : {s : Step} {limit n j : ℕ} {kd : Kind} (bytes new front following before after rest gone back : List ℕ) (len : EntryLen) → kd ≡ step_kind s → limit ≤ max_depth → IsUtf8 bytes → (h : HasBefore s limit bytes n j) → front ≡ take j bytes → following ≡ drop j bytes → TakesCommaAhead following before after rest → Measures kd limit rest len → gone ≡ take len.bare rest → back ≡ drop len.bare rest → new ≡ front ++ (before ++ (after ++ back)) → Removes s limit bytes new
+pub removed_after : {s : Step} {limit n j : ℕ} {kd : Kind} (bytes new front following before after rest gone back : List ℕ) (len : EntryLen) → kd ≡ step_kind s → limit ≤ max_depth → IsUtf8 bytes → (h : HasBefore s limit bytes n j) → front ≡ take j bytes → following ≡ drop j bytes → TakesCommaAhead following before after rest → Measures kd limit rest len → gone ≡ take len.bare rest → back ≡ drop len.bare rest → new ≡ front ++ (before ++ (after ++ back)) → Removes s leads.Stays limit bytes new
 removed_after {s = s} {limit = limit} {n = n} {j = j} bytes new front following before after rest gone back len is_kind small utf8 (h, l) front_take text_drop t m gone_take back_drop now =
     let p = l.spot in
     let (whole, scalar_front, scalar_rest) = cut_there utf8 p in
@@ -249,19 +255,23 @@ removed_after {s = s} {limit = limit} {n = n} {j = j} bytes new front following 
     let old_is : chars bytes ≡ p.front ++ (chars before ++ (44 ∷ (chars after ++ (part ++ left)))) =
     p.split ∙ ap (λ x. p.front ++ x) (sym chars_text ∙ comma ∙ ap (λ x. chars before ++ (44 ∷ (chars after ++ x))) m.split) in
     let entry = entry_there rest gone len.bare t.rest_text (bare_entry m) gone_take in
+    let away = alone_goes ((front ++ before) ++ ((44 ∷ []) ++ after)) gone back entry in
     let cut_rest : rest ≡ gone ++ back = cut_in_two len.bare gone_take back_drop in (
       made.0,
-      record {
-        front = front ++ before;
-        comma = 44 ∷ [];
-        middle = after;
-        gone = gone;
-        back = back;
-        was = cut_in_two j front_take text_drop ∙ ap (λ x. front ++ x) (t.split ∙ ap (λ x. before ++ (44 ∷ (after ++ x))) cut_rest) ∙ sym (append_assoc front before (44 ∷ (after ++ (gone ++ back))));
-        now = now ∙ sym (append_assoc front before (after ++ back));
-        is_comma = inr (refl, subst (WholeTokens true) (sym (chars_both front before front_text t.before_text ∙ ap (λ x. x ++ chars before) (ap chars front_is ∙ chars-encodes p.front scalar_front))) (then_blanks p.passed t.is_before), LastBlanks.blanks t.is_after);
-        belongs = alone _ gone back entry;
-      },
+      (
+        record {
+          front = front ++ before;
+          comma = 44 ∷ [];
+          middle = after;
+          gone = gone;
+          back = back;
+          was = cut_in_two j front_take text_drop ∙ ap (λ x. front ++ x) (t.split ∙ ap (λ x. before ++ (44 ∷ (after ++ x))) cut_rest) ∙ sym (append_assoc front before (44 ∷ (after ++ (gone ++ back))));
+          now = now ∙ sym (append_assoc front before (after ++ back));
+          is_comma = inr (refl, subst (WholeTokens true) (sym (chars_both front before front_text t.before_text ∙ ap (λ x. x ++ chars before) (ap chars front_is ∙ chars-encodes p.front scalar_front))) (then_blanks p.passed t.is_before), LastBlanks.blanks t.is_after);
+          belongs = away.0;
+        },
+        away.1,
+      ),
       made.1,
       λ k q. subst (Plain k last.sign) (sym spelled) (cut_after_value left m.name r.first.rest l.ends t.is_before t.is_after m.is_name m.is_value goes.0 (subst (Plain k last.sign) old_is q)),
     )
@@ -381,6 +391,14 @@ comma_there x front rest blank rest_after comma middle gap left before n b len e
       is_comma = inr (refl, b ∙ ap Some (sym len), gap_blanks 44 (chars middle) (subst (Gap (chars blank)) later_is before_gap), subst (λ z. LastBlanks (chars z)) middle_is (last_gap (chars gap) (chars left) (ap chars none ∙ no_characters) after_gap));
     }
 
-pub kept_removed : {s : Step} (limit : ℕ) (old new : List ℕ) (r : Result (String Global) EditError) → IfOk r (λ made. string_bytes made ≡ new) → OnOk r (IsValue limit (chars new)) → OnOk r (KeepsPlain old new) → ChangesBy (IsWithout s) old new → Cuts old new → IfOk r (λ made. Removes s limit old (string_bytes made))
-kept_removed {s = s} limit old new (Ok made) same fits plain change how = subst (Removes s limit old) (sym same) (change, how, fits, plain)
-kept_removed limit old new (Err e) same fits plain change how = tt
+pub kept_removed : {s : Step} (l : Lead) (limit : ℕ) (old new : List ℕ) (r : Result (String Global) EditError) → IfOk r (λ made. string_bytes made ≡ new) → OnOk r (IsValue limit (chars new)) → OnOk r (KeepsPlain old new) → ChangesBy (IsWithout s) old new → CutsWith l old new → IfOk r (λ made. Removes s l limit old (string_bytes made))
+kept_removed {s = s} l limit old new (Ok made) same fits plain change how = subst (Removes s l limit old) (sym same) (change, how, fits, plain)
+kept_removed l limit old new (Err e) same fits plain change how = tt
+
+-- where no comment goes, no other one does
+may_go : (l : Lead) (x : List ℕ) → MayGo leads.Stays x → MayGo l x
+may_go leads.Goes x m = tt
+may_go leads.Stays x m = m
+
+pub loosened : {s : Step} {limit : ℕ} {old new : List ℕ} (l : Lead) → Removes s leads.Stays limit old new → Removes s l limit old new
+loosened l (change, (cuts, none), fits, plain) = (change, (cuts, may_go l cuts.belongs.lead none), fits, plain)

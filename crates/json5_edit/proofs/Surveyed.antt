@@ -108,7 +108,7 @@ not_opened {k = k} {v = v} {bytes = bytes} {limit = limit} start value n = no_br
 pub whole : (limit : ℕ) (bytes : List ℕ) (value : IsValue limit (chars bytes)) → Spells value_end limit (chars bytes) value.0
 whole limit bytes (t, v, d) = spells_value limit (chars bytes) t v d
 
-is_within : {limit : ℕ} {bytes : List ℕ} (v : Walked) → IsValue limit (chars bytes) → v.text ≡ bytes → v.limit ≡ limit → IsDocumentWithin v.limit v.text
+pub is_within : {limit : ℕ} {bytes : List ℕ} (v : Walked) → IsValue limit (chars bytes) → v.text ≡ bytes → v.limit ≡ limit → IsDocumentWithin v.limit v.text
 is_within {limit = limit} {bytes = bytes} v (t, val, d) same_text same_limit =
     subst (λ l. IsDocumentWithin l v.text) (sym same_limit) (subst (λ x. IsDocumentWithin limit x) (sym same_text) (t, value_document limit (chars bytes) t val d))
 
@@ -186,7 +186,7 @@ entry_inside h entry =
     let (read, frames) = still_read is in
     record { same_text = entry.parted.text ∙ h.same_text; same_limit = entry.parted.limit ∙ h.same_limit; now = b; marked = h.marked; is_at = g; inside = inner; read = read ∙ h.read; outermost = frames ∙ h.outermost; is_due = due }
 
-awaits : {limit : ℕ} {bytes : List ℕ} {t : Tree} {due : Bool} {v : Walked} → Inside limit bytes t due v → AwaitsEntry v
+pub awaits : {limit : ℕ} {bytes : List ℕ} {t : Tree} {due : Bool} {v : Walked} → Inside limit bytes t due v → AwaitsEntry v
 awaits h = record { trail = record { now = h.now; marked = h.marked }; is_at = h.is_at; inside = h.inside }
 
 -- ---- an entry
@@ -251,7 +251,7 @@ pub record Valued (limit : ℕ) (bytes : List ℕ) (t : Tree) (key : List ℕ) (
   pub one_more : entries tree ≡ entries t ++ ((key, value) ∷ [])
   pub ends : (front : List ℕ) → chars bytes ≡ front ++ v.unread → EndsWithValue front
 
-valued : {limit : ℕ} {bytes : List ℕ} {t : Tree} {key : List ℕ} {v w : Walked} → Before limit bytes t key v → Moved (PassesValue v w) v w → Valued limit bytes t key w
+pub valued : {limit : ℕ} {bytes : List ℕ} {t : Tree} {key : List ℕ} {v w : Walked} → Before limit bytes t key v → Moved (PassesValue v w) v w → Valued limit bytes t key w
 valued {bytes = bytes} {v = v} {w = w} b p =
     let (a, is, g) = p.leads (record { now = b.now; marked = b.marked }) b.is_at in
     let (u, x, at, d, split, val, small) = value_taken is in
@@ -347,7 +347,7 @@ passing_ends {s = s} {first = first} {end = end} {found = found} {before = befor
 
 -- ---- refusals
 
-within : {limit : ℕ} {bytes : List ℕ} {t : Tree} {due : Bool} {v : Walked} → Inside limit bytes t due v → IsValue limit (chars bytes) → IsDocumentWithin v.limit v.text
+pub within : {limit : ℕ} {bytes : List ℕ} {t : Tree} {due : Bool} {v : Walked} → Inside limit bytes t due v → IsValue limit (chars bytes) → IsDocumentWithin v.limit v.text
 within {v = v} h value = is_within v value h.same_text h.same_limit
 
 pub entry_spares : {s : Step} {first now : Walked} {n end : ℕ} {found : Option Found} {before : Option ℕ} {e : Error} → Passing s first now n found before end → IsValue first.limit (chars first.text) → (AwaitsEntry now → NeedsMemory now e) → LacksMemory e

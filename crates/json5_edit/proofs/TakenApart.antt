@@ -9,10 +9,13 @@ use Rattle.json5_grammar.specs.Language.Characters.{no_char}
 use Rattle.json5_tokens.specs.Outcome.{bytes_in}
 use Rattle.json5_walk.proofs.Calls.{bytes_joined}
 use Rattle.json5_walk.proofs.Rests.{append_nil}
-use Rattle.json5_edit.specs.Pieces.{IsEntryText, IsWithComments}
+use Rattle.json5_edit.specs.Pieces.{GoesWith, IsEntryText, IsWithComments, MayGo}
+use Rattle.json5_edit.specs.declared.belongings.Lead.{Lead}
+use Rattle.json5_edit.specs.declared.belongings.Lead.TheVariants as leads
 use Rattle.json5_edit.specs.Spots.{BeginsWithEntry}
 use Rattle.json5_edit.proofs.PiecesJoined.{no_characters}
 use Rattle.json5_edit.proofs.Placed.{scalars_left, scalars_right, bytes_cut}
+use Rattle.json5_edit.proofs.PlainlyEdited.{no_part}
 
 -- ---- a text in two parts
 
@@ -46,16 +49,19 @@ gap_there bytes w y part rest n u e size gap cut is =
 pub entry_there : (bytes part : List ℕ) (n : ℕ) → IsUtf8 bytes → BeginsWithEntry (chars bytes) n → part ≡ take n bytes → IsEntryText (chars part)
 entry_there bytes part n u (x, y, e, size, entry) is = subst IsEntryText (sym (front_spelled bytes x y part n u e size is)) entry
 
-pub belongs : (before gone after lead rest entry trail : List ℕ) → gone ≡ lead ++ rest → rest ≡ entry ++ trail → IsLead (chars before) (chars lead) → IsEntryText (chars entry) → IsTrail (chars after) (chars trail) → IsWithComments before gone after
-belongs before gone after lead rest entry trail e f is_lead is_entry is_trail = record {
-  lead = lead;
-  entry = entry;
-  trail = trail;
-  split = e ∙ ap (λ z. lead ++ z) f;
-  is_lead = is_lead;
-  is_entry = is_entry;
-  is_trail = is_trail;
-}
+pub belongs : (l : Lead) (before gone after lead rest entry trail : List ℕ) → gone ≡ lead ++ rest → rest ≡ entry ++ trail → IsLead (chars before) (chars lead) → IsEntryText (chars entry) → IsTrail (chars after) (chars trail) → MayGo l lead → GoesWith l before gone after
+belongs l before gone after lead rest entry trail e f is_lead is_entry is_trail may_go = (
+  record {
+    lead = lead;
+    entry = entry;
+    trail = trail;
+    split = e ∙ ap (λ z. lead ++ z) f;
+    is_lead = is_lead;
+    is_entry = is_entry;
+    is_trail = is_trail;
+  },
+  may_go,
+)
 
 -- an entry alone
 pub alone : (before entry after : List ℕ) → IsEntryText (chars entry) → IsWithComments before entry after
@@ -68,3 +74,8 @@ alone before entry after is_entry = record {
   is_entry = is_entry;
   is_trail = inl (rw no_characters no_char);
 }
+
+-- and so it may go where the comments before it stay
+pub alone_goes : (before entry after : List ℕ) → IsEntryText (chars entry) → GoesWith leads.Stays before entry after
+unfolding alone
+alone_goes before entry after is_entry = (alone before entry after is_entry, no_part)

@@ -8,13 +8,16 @@ use Rattle.json5_grammar.specs.Language.Trees.{Tree}
 use Rattle.json5_grammar.specs.Language.Values.{Val}
 use Rattle.json5_edit_style.specs.declared.habits.Names.{Names}
 use Rattle.json5_edit_style.specs.declared.habits.Names.TheVariants as names
-use Rattle.json5_lexemes.specs.Plain.{StaysPlain}
+use Rattle.json5_lexemes.specs.Plain.{KeepsPlain, StaysPlain}
 use Rattle.json5_read.specs.declared.brackets.BracketKind.{BracketKind as Kind}
 use Rattle.json5_read.specs.declared.brackets.BracketKind.TheVariants as kind
-use Rattle.json5_edit.specs.Comparing.{IsWithout, IsWithLast, IsWithAt, IsRenamed}
+use Rattle.json5_edit.specs.Comparing.{IsWithout, IsWithLast, IsWithAt, IsWithMember, IsRenamed}
 use Rattle.json5_edit.specs.Parts.{part, put, positions_of}
-use Rattle.json5_edit.specs.Pieces.{Cuts, Grows, Respells}
+use Rattle.json5_edit.specs.Pieces.{Cuts, CutsWith, Grows, Respells}
 use Rattle.json5_edit.specs.Refusals.{IsFree}
+use Rattle.json5_edit.specs.declared.belongings.Lead.{Lead}
+use Rattle.json5_edit.specs.declared.belongings.Lead.TheVariants as leads
+use Rattle.json5_edit.specs.declared.paths.Before.{Before}
 use Rattle.json5_edit.specs.declared.paths.Step.{Step}
 use Rattle.json5_edit.specs.declared.paths.Step.TheVariants as step
 
@@ -31,6 +34,10 @@ Gains k key value t u = (v : Tree) × Val (chars value) v × IsWithLast k key v 
 -- one element more, before that with this index, with the value that these bytes spell
 abbrev pub GainsAt : ℕ → List ℕ → Tree → Tree → Type 0
 GainsAt i value t u = (v : Tree) × Val (chars value) v × IsWithAt i v t u
+
+-- one member more, which comes there, with the value that these bytes spell
+abbrev pub GainsMember : Before → List ℕ → List ℕ → Tree → Tree → Type 0
+GainsMember b key value t u = (v : Tree) × Val (chars value) v × IsWithMember b key v t u
 
 -- ---- whole texts
 
@@ -59,6 +66,14 @@ pub record IsChanged (Change : Tree → Tree → Type 0) (text : List ℕ) (path
 abbrev pub IsRemoved : List ℕ → List Step → List ℕ → Type 0
 IsRemoved text path made = (outer : List Step) × (s : Step) × (path ≡ outer ++ (s ∷ [])) × (c : IsChanged (IsWithout s) text outer made) × Cuts c.old c.new
 
+-- the same, where the comments before the entry go or stay; as plain as before
+abbrev pub RemovesWith : Lead → List ℕ → List Step → List ℕ → Type 0
+RemovesWith l text path made = ((outer : List Step) × (s : Step) × (path ≡ outer ++ (s ∷ [])) × (c : IsChanged (IsWithout s) text outer made) × CutsWith l c.old c.new) × KeepsPlain text made
+
+-- where they stay
+abbrev pub IsRemovedAlone : List ℕ → List Step → List ℕ → Type 0
+IsRemovedAlone text path made = RemovesWith leads.Stays text path made
+
 -- with one more element at the end of the array that the path leads to: it comes alone, and perhaps a comma before it
 abbrev pub IsPushed : List ℕ → List Step → List ℕ → List ℕ → Type 0
 IsPushed text path value made = (c : IsChanged (Gains kind.Array [] value) text path made) × Grows kind.Array value c.old c.new
@@ -78,3 +93,7 @@ IsRekeyed text path key made = (outer : List Step) × (k : Bor (List ℕ)) × (p
 -- made is as plain as the text where the value is so too, if a name stands between quotes as the first key
 abbrev pub StaysPlainQuoted : Names → List ℕ → List ℕ → List ℕ → Type 0
 StaysPlainQuoted first text value made = first ≡ names.Quoted → StaysPlain text value made
+
+-- with one more member that comes before others, where none had the key; as plain as the text, as said above
+abbrev pub InsertsBefore : Before → Names → List ℕ → List Step → List ℕ → List ℕ → List ℕ → Type 0
+InsertsBefore b first text path key value made = ((c : IsChanged (GainsMember b key value) text path made) × Grows kind.Object value c.old c.new × IsFree key c.old) × StaysPlainQuoted first text value made

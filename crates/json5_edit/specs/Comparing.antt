@@ -8,6 +8,8 @@ use Rattle.json5_read.specs.declared.brackets.BracketKind.TheVariants as kind
 use Rattle.json5_walk.specs.Moves.{EndsEntries}
 use Rattle.json5_walk.specs.Walks.{Walked, Moved}
 use Rattle.json5_edit.specs.Entries.{entries, kind_of, TakesEntry, Holds, Closed}
+use Rattle.json5_edit.specs.declared.paths.Before.{Before}
+use Rattle.json5_edit.specs.declared.paths.Before.TheVariants as before_place
 use Rattle.json5_edit.specs.declared.paths.Step.{Step}
 use Rattle.json5_edit.specs.declared.paths.Step.TheVariants as step
 use Rattle.json5_edit.specs.declared.entries.Entry.{Entry}
@@ -67,6 +69,26 @@ pub record BothClose (x y : List ℕ) (t u : Tree) (v w : Walked) (es : List (Li
 abbrev pub PassesRest : Step → Walked → Walked → Walked → Walked → Type 0
 PassesRest s v w left right = (x y : List ℕ) (t u : Tree) → Holds x t v → Holds y u w → (es : List (List ℕ × Tree)) × BothClose x y t u left right es × Lacks s es
 
+-- ---- what one more member comes before
+
+-- so many members may come before one there
+abbrev pub FitsFront : Before → ℕ → Type 0
+FitsFront before_place.First n = n ≡ 0
+FitsFront (before_place.Key k) n = ⊤
+
+-- a member may come before these: before any, or before the last one with this key
+abbrev pub MayPrecede : Before → List (List ℕ × Tree) → Type 0
+MayPrecede before_place.First es = ⊤
+MayPrecede (before_place.Key k) es = (next : Tree) × (rest : List (List ℕ × Tree)) × (es ≡ (k.now, next) ∷ rest) × LacksKey k.now rest
+
+-- a member comes between these: before all others, or before the last one with this key
+abbrev pub ComesBetween : Before → List (List ℕ × Tree) → List (List ℕ × Tree) → Type 0
+ComesBetween before_place.First before after = before ≡ []
+ComesBetween (before_place.Key k) before after = MayPrecede (before_place.Key k) after
+
+abbrev pub PassesAfter : Before → Walked → Walked → Walked → Walked → Type 0
+PassesAfter b v w left right = (x y : List ℕ) (t u : Tree) → Holds x t v → Holds y u w → (es : List (List ℕ × Tree)) × BothClose x y t u left right es × MayPrecede b es
+
 -- ---- what a step goes to
 
 abbrev pub step_kind : Step → Kind
@@ -115,6 +137,16 @@ pub record IsWithAt (i : ℕ) (value : Tree) (t u : Tree) : Type 0 where
   pub was : entries t ≡ before ++ after
   pub now : entries u ≡ before ++ (([], value) ∷ after)
   pub there : length before ≡ i
+
+-- the object u is t with one member more, which comes there: with this key and this value
+pub record IsWithMember (b : Before) (key : List ℕ) (value : Tree) (t u : Tree) : Type 0 where
+  pub was_kind : kind_of t ≡ Some kind.Object
+  pub kind : kind_of u ≡ Some kind.Object
+  pub before : List (List ℕ × Tree)
+  pub after : List (List ℕ × Tree)
+  pub was : entries t ≡ before ++ after
+  pub now : entries u ≡ before ++ ((key, value) ∷ after)
+  pub there : ComesBetween b before after
 
 -- the object u is t with another key for its last member that has this one
 pub record IsRenamed (name key : List ℕ) (t u : Tree) : Type 0 where

@@ -1,6 +1,6 @@
 -- Two texts that differ by a part, and perhaps by a comma before it.
 -- A promise rests on this.
-use Rattle.std.specs.Prelude.{◌≡◌, ◌⊎◌, ℕ, Bool, true, List, [], ◌∷◌, ◌++◌}
+use Rattle.std.specs.Prelude.{⊤, ◌≡◌, ◌⊎◌, ℕ, Bool, true, List, [], ◌∷◌, ◌++◌}
 use Rattle.std.specs.Str.{chars, encode_utf8_all}
 use Rattle.json5_edit_style.specs.Comments.{IsLead, IsTrail}
 use Rattle.json5_grammar.specs.Language.Blanks.{Blanks, LastBlanks}
@@ -11,6 +11,8 @@ use Rattle.json5_lexemes.specs.Lexemes.{HaveSameLexemes}
 use Rattle.json5_read.specs.declared.brackets.BracketKind.{BracketKind as Kind}
 use Rattle.json5_read.specs.declared.brackets.BracketKind.TheVariants as kind
 use Rattle.json5_walk.specs.Seams.{WholeTokens}
+use Rattle.json5_edit.specs.declared.belongings.Lead.{Lead}
+use Rattle.json5_edit.specs.declared.belongings.Lead.TheVariants as leads
 
 -- a comma, or nothing
 abbrev pub IsComma : List ℕ → Type 0
@@ -57,6 +59,14 @@ pub record IsWithComments (before gone after : List ℕ) : Type 0 where
   pub is_entry : IsEntryText (chars entry)
   pub is_trail : IsTrail (chars after) (chars trail)
 
+-- what stands before an entry may go with it: where the comments there stay, there is none
+abbrev pub MayGo : Lead → List ℕ → Type 0
+MayGo leads.Goes x = ⊤
+MayGo leads.Stays x = IsSpace x
+
+abbrev pub GoesWith : Lead → List ℕ → List ℕ → List ℕ → Type 0
+GoesWith l before gone after = (w : IsWithComments before gone after) × MayGo l w.lead
+
 -- y is x without one entry, the comments that belong to it, and perhaps the comma before it: all other bytes are the same
 pub record Cuts (x y : List ℕ) : Type 0 where
   pub front : List ℕ
@@ -68,6 +78,10 @@ pub record Cuts (x y : List ℕ) : Type 0 where
   pub now : y ≡ front ++ (middle ++ back)
   pub is_comma : IsCommaBetween front comma middle
   pub belongs : IsWithComments (front ++ (comma ++ middle)) gone back
+
+-- the same, where the comments before the entry go or stay
+abbrev pub CutsWith : Lead → List ℕ → List ℕ → Type 0
+CutsWith l x y = (c : Cuts x y) × MayGo l c.belongs.lead
 
 -- what comes before an entry's value: in an object a key and a colon, with no comment, and in an array nothing
 abbrev pub IsNameAlone : Kind → List ℕ → Type 0

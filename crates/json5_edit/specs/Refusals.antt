@@ -18,6 +18,8 @@ use Rattle.json5_edit.specs.Parts.{part, member_of, positions_of}
 use Rattle.json5_edit.specs.Places.{IsValue, LeadsNowhere}
 use Rattle.json5_edit.specs.declared.faults.EditError.{EditError}
 use Rattle.json5_edit.specs.declared.faults.EditError.TheVariants as error
+use Rattle.json5_edit.specs.declared.paths.Before.{Before}
+use Rattle.json5_edit.specs.declared.paths.Before.TheVariants as before_place
 use Rattle.json5_edit.specs.declared.paths.Step.{Step}
 use Rattle.json5_edit.specs.declared.paths.Step.TheVariants as step
 
@@ -103,6 +105,11 @@ RefusesInsert text path key value error.Taken = Reaches (HasKey key) text path
 RefusesInsert text path key value (error.Value e) = Misfits 1 text path value
 RefusesInsert text path key value e = RefusesPath text path e
 
+-- `insert_before`: no member has the key of the other
+abbrev pub RefusesBefore : Before → List ℕ → List Step → List ℕ → List ℕ → EditError → Type 0
+RefusesBefore (before_place.Key k) text path key value error.Nowhere = LeadsNowhere text (path ++ (step.Key k ∷ []))
+RefusesBefore b text path key value e = RefusesInsert text path key value e
+
 -- `rename`: the member's object has the new key
 abbrev pub RefusesRename : List ℕ → List Step → List ℕ → EditError → Type 0
 RefusesRename text path key error.NoKey = EndsInNoKey path
@@ -126,6 +133,12 @@ abbrev pub RefusesStep : List ℕ → Step → EditError → Type 0
 RefusesStep old s error.Nowhere = LeadsNowhere old (s ∷ [])
 RefusesStep old s error.NoMemory = ⊤
 RefusesStep old s _ = ⊥
+
+-- no member has the key of the other
+abbrev pub RefusesStart : Before → List ℕ → EditError → Type 0
+RefusesStart (before_place.Key k) old error.Nowhere = LeadsNowhere old (step.Key k ∷ [])
+RefusesStart b old error.NoMemory = ⊤
+RefusesStart b old _ = ⊥
 
 -- a key that a member has
 abbrev pub RefusesKey : List ℕ → List ℕ → EditError → Type 0

@@ -1,10 +1,12 @@
 -- Where an entry stands in the text of a collection, and where one more may stand.
 -- Private.
-use Rattle.std.specs.Prelude.{◌≡◌, ◌⊎◌, ℕ, ◌+◌, ◌≤◌, Bool, true, false, nat_eq, List, [], ◌∷◌, ◌++◌, length, Option, Some, MatchOption, take, ⊤}
+use Rattle.std.specs.declared.alloc.Global.{Global}
+use Rattle.std.specs.Prelude.{◌≡◌, ◌⊎◌, ℕ, ◌+◌, ◌-◌, ◌≤◌, IfErr, IfOk, Result, String, string_bytes, Bool, true, false, List, [], ◌∷◌, ◌++◌, length, Option, Some, MatchOption, take, ⊤}
 use Rattle.std.specs.Str.{chars, IsUtf8, encode_utf8_all}
 use Rattle.json5_grammar.specs.Language.Blanks.{Blanks, Gap, LastBlanks, Solid}
 use Rattle.json5_grammar.specs.Language.Characters.{comma_sign, colon_sign}
-use Rattle.json5_grammar.specs.Language.Trees.{Tree, null, boolean, number, text, array, object, Trees, Members, more, member, depth}
+use Rattle.json5_grammar.specs.Language.Documents.{max_depth}
+use Rattle.json5_grammar.specs.Language.Trees.{Tree, null, boolean, number, text, array, object, Trees, Members, more, no_member, member, depth}
 use Rattle.json5_grammar.specs.Language.Values.{Val, KeyText, Reads}
 use Rattle.json5_grammar.specs.Model.Collections.{IsKeyValue, Tail, MembersTail, joined_trees, joined_members}
 use Rattle.json5_lexemes.specs.Plain.{KeepsPlain, StaysPlain}
@@ -16,11 +18,17 @@ use Rattle.json5_walk.specs.Frames.{Frame, value_end, Spells, At, at_value, at_e
 use Rattle.json5_walk.specs.Entries.{is_inside}
 use Rattle.json5_walk.specs.Seams.{WholeTokens}
 use Rattle.json5_walk.specs.Walks.{Walked, IsAt}
-use Rattle.json5_edit.specs.Changes.{ChangesBy}
-use Rattle.json5_edit.specs.Comparing.{LacksKey, GoesTo, IsWithout, IsWithLast, step_kind, step_key}
+use Rattle.json5_edit.specs.Changes.{ChangesBy, GainsMember, StaysPlainQuoted}
+use Rattle.json5_edit.specs.Comparing.{LacksKey, GoesTo, ComesBetween, IsWithout, IsWithLast, step_kind, step_key}
 use Rattle.json5_edit.specs.Entries.{entries, kind_of, read_in, around}
-use Rattle.json5_edit.specs.Pieces.{Cuts, Grows, IsEnd, IsEntryText, IsName}
+use Rattle.json5_edit.specs.Pieces.{CutsWith, Grows, IsEnd, IsEntryText, IsName}
 use Rattle.json5_edit.specs.Places.{IsValue}
+use Rattle.json5_edit_style.specs.declared.collection.Collection.{Collection}
+use Rattle.json5_edit.specs.declared.belongings.Lead.{Lead}
+use Rattle.json5_edit.specs.declared.faults.EditError.{EditError}
+use Rattle.json5_edit.specs.declared.faults.EditError.TheVariants as error
+use Rattle.json5_edit.specs.declared.paths.Before.{Before}
+use Rattle.json5_edit.specs.declared.paths.Before.TheVariants as before_place
 use Rattle.json5_edit.specs.declared.paths.Step.{Step}
 use Rattle.json5_edit.specs.declared.paths.Step.TheVariants as step
 use Rattle.json5_edit.specs.declared.plain.CommaSpan.{CommaSpan}
@@ -152,13 +160,55 @@ pub record HasEnd (k : Kind) (limit : ℕ) (bytes : List ℕ) (e : End) : Type 0
   pub kind : kind_of tree ≡ Some k
   pub end : Spot limit bytes tree e.comma e.at
 
--- without the entry that the step goes to, and as plain as before
-abbrev pub Removes : Step → ℕ → List ℕ → List ℕ → Type 0
-Removes s limit old new = ChangesBy (IsWithout s) old new × Cuts old new × IsValue limit (chars new) × KeepsPlain old new
+-- without the entry that the step goes to, where the comments before it go or stay, and as plain as before
+abbrev pub Removes : Step → Lead → ℕ → List ℕ → List ℕ → Type 0
+Removes s l limit old new = ChangesBy (IsWithout s) old new × CutsWith l old new × IsValue limit (chars new) × KeepsPlain old new
 
 -- so changed, by one entry more, with this value
 abbrev pub Adds : Kind → List ℕ → (Tree → Tree → Type 0) → ℕ → List ℕ → List ℕ → Type 0
 Adds k value Change limit old new = ChangesBy Change old new × Grows k value old new × IsValue limit (chars new)
+
+-- the text is an object that fits
+abbrev pub IsObject : ℕ → List ℕ → Type 0
+IsObject limit bytes = (limit ≤ max_depth) × (t : Tree) × Val (chars bytes) t × (depth t ≤ limit) × (kind_of t ≡ Some kind.Object)
+
+-- the text is an object that fits, and the member begins at the offset before which another may come
+pub record HasMember (b : Before) (limit : ℕ) (bytes : List ℕ) (n : ℕ) : Type 0 where
+  pub tree : Tree
+  pub value : Val (chars bytes) tree
+  pub shallow : depth tree ≤ limit
+  pub kind : kind_of tree ≡ Some kind.Object
+  pub before : Tree
+  pub same_kind : kind_of before ≡ kind_of tree
+  pub key : List ℕ
+  pub next : Tree
+  pub after : List (List ℕ × Tree)
+  pub all : entries tree ≡ entries before ++ ((key, next) ∷ after)
+  pub there : ComesBetween b (entries before) ((key, next) ∷ after)
+  pub spot : Spot limit bytes before false n
+
+-- the same; or the object has no member, and the first is meant
+abbrev pub StartsBefore : Before → ℕ → List ℕ → Option ℕ → Type 0
+StartsBefore b limit bytes start = MatchOption start ((b ≡ before_place.First) × Val (chars bytes) (object no_member)) (HasMember b limit bytes)
+
+-- with one member more, which comes there, and as plain as the document where the value is
+abbrev pub AddsMember : Before → (key value : List ℕ) → ℕ → (document old new : List ℕ) → Type 0
+AddsMember b key value limit document old new = Adds kind.Object value (GainsMember b key value) limit old new × StaysPlain document value new
+
+-- the same; or memory ran out
+abbrev pub PutsMember : Before → (key value : List ℕ) → ℕ → (document old : List ℕ) → Result (String Global) EditError → Type 0
+PutsMember b key value limit document old result = IfOk result (λ made. AddsMember b key value limit document old (string_bytes made)) × IfErr result (λ e. e ≡ error.NoMemory)
+
+-- the same, where a name as the first key of a document may make it less plain
+abbrev pub PutsThere : Before → (key value : List ℕ) → ℕ → Collection → (old : List ℕ) → Result (String Global) EditError → Type 0
+PutsThere b key value limit c old result = IfOk result (λ made. Adds kind.Object value (GainsMember b key value) limit old (string_bytes made) × StaysPlainQuoted c.names c.document.now value (string_bytes made)) × IfErr result (λ e. e ≡ error.NoMemory)
+
+-- the value may be put there
+abbrev pub MayComeBefore : Before → ℕ → (document old : List ℕ) → ℕ → List ℕ → Type 0
+MayComeBefore b limit document old n value = (limit ≤ max_depth) × HasMember b limit old n × IsValue (limit - 1) (chars value) × KeepsPlain document old
+
+abbrev pub MayComeThere : Before → ℕ → Collection → List ℕ → Option ℕ → End → List ℕ → Type 0
+MayComeThere b limit c old start end value = (limit ≤ max_depth) × StartsBefore b limit old start × HasEnd kind.Object limit old end × IsValue (limit - 1) (chars value) × KeepsPlain c.document.now old
 
 -- these characters are an entry with this key and value
 pub data SpellsEntry : Kind → List ℕ → Tree → List ℕ → Type 0 where

@@ -1,31 +1,39 @@
 //! What goes with an entry: the comments that belong to it, and no others.
 
-ghost use Rattle.std.specs.Prelude.{◌≡◌, ◌≤◌, ◌++◌, IfOk, IfErr, OnOk};
+ghost use Rattle.std.specs.Prelude.{◌≡◌, ◌≤◌, ◌++◌, IfOk, IfErr, IsTrue, OnOk};
 ghost use Rattle.std.specs.Str.{chars};
-ghost use Rattle.json5_edit.specs.Pieces.{IsEntryText, IsWithComments};
+ghost use Rattle.json5_edit.specs.Pieces.{GoesWith, IsEntryText, MayGo};
 ghost use Rattle.json5_edit.specs.Refusals.{IsOwn};
 ghost use Rattle.json5_grammar.specs.Language.Blanks.{Gap, Solid};
 ghost use Rattle.json5_grammar.specs.Language.Documents.{max_depth};
 
 use crate::faults::{EditError, Result};
-use crate::pieces::split;
+use crate::pieces::{is_blank, split};
 use crate::plain::entry_len;
 use json5_edit_style::comments::{is_lead, is_trail};
 use json5_read::brackets::BracketKind;
 use json5_tokens::scanner::Scanner;
 use std::alloc::Global;
 
-/// Refuses what isn't an entry with comments that belong to it, between the other texts.
+/// Whether the comments before an entry go with it.
+#[derive(Clone, Copy, Drop)]
+pub(crate) enum Lead {
+    Goes,
+    Stays,
+}
+
+/// Refuses what isn't an entry with comments that go with it, between the other texts.
 pub(crate) fn check_gone(
     alloc: Global,
     before: &str,
     gone: &str,
     after: &str,
     kind: BracketKind,
+    leads: Lead,
     room: usize,
 ) -> Result<()>
     requires { room ≤ max_depth }
-    ensures belongs { OnOk result (IsWithComments before.now gone.now after.now) }
+    ensures belongs { OnOk result (GoesWith leads before.now gone.now after.now) }
     ensures own { IfErr result IsOwn }
 {
     let (lead, rest) = split_blanks(alloc, gone)?;
@@ -36,7 +44,20 @@ pub(crate) fn check_gone(
     if !is_trail(alloc, trail, after) {
         return Err(EditError::Failed);
     }
+    if !may_go(leads, lead) {
+        return Err(EditError::Failed);
+    }
     Ok(())
+}
+
+/// Whether what stands before an entry may go with it.
+fn may_go(leads: Lead, lead: &str) -> bool
+    ensures { IsTrue result → MayGo leads lead.now }
+{
+    match leads {
+        Lead::Goes => true,
+        Lead::Stays => is_blank(lead),
+    }
 }
 
 /// The blanks and comments in front of the text, and what follows them.

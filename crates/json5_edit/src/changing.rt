@@ -1,7 +1,7 @@
 //! Adds, removes and renames the entries of a collection.
 
 ghost use Rattle.std.specs.Prelude.{◌≡◌, ◌≤◌, ◌-◌, ℕ, List, [], false, IfOk, IfErr, OnOk, string_bytes};
-ghost use Rattle.json5_edit.specs.Changes.{ChangesBy, Gains, GainsAt, IsRemoved, IsPushed, IsPutIn, IsInserted, IsRekeyed, StaysPlainQuoted};
+ghost use Rattle.json5_edit.specs.Changes.{ChangesBy, Gains, GainsAt, IsRemoved, IsRemovedAlone, RemovesWith, IsPushed, IsPutIn, IsInserted, IsRekeyed, StaysPlainQuoted};
 ghost use Rattle.json5_edit.specs.Pieces.{Grows};
 ghost use Rattle.json5_edit.specs.Places.{HasPlace, IsPart, IsValue};
 ghost use Rattle.json5_edit.specs.Refusals.{RefusesRemove, RefusesPush, RefusesPutIn, RefusesInsert, RefusesRename, RefusesKind, RefusesKey, RefusesValue, IsFree, IsOwn, BeginsNo};
@@ -16,6 +16,7 @@ ghost use Rattle.json5_walk.specs.Walks.{IsDocument};
 ghost use Rattle.std.specs.Str.{chars, encode_utf8_all};
 
 use crate::as_plain::fitting_as_plain;
+use crate::belongings::Lead;
 use crate::comparing::{check_added, check_put_in, check_removed, kind};
 use crate::faults::{EditError, Result};
 use crate::paths::Step;
@@ -28,7 +29,9 @@ use crate::plain::{
 use crate::renaming::renamed;
 use crate::setting::{check_value, place_of, put_made, splice};
 use crate::survey::Found;
-use json5_edit_style::{Added, Collection, Names, Which, cut_for, growth_before, growth_for};
+use json5_edit_style::{
+    Added, Collection, Cut, Names, Which, cut_alone_for, cut_for, growth_before, growth_for,
+};
 use json5_lexemes::keeps_plain;
 use json5_read::brackets::BracketKind;
 use json5_tokens::scanner::Scanner;
@@ -54,13 +57,38 @@ pub fn remove(alloc: Global, text: &str, path: &[Step<'_>]) -> Result<String>
     ensures plain { IfOk result (λ made. KeepsPlain text.now (string_bytes made)) }
     ensures refused { IfErr result (RefusesRemove text.now path.now) }
 {
+    removed_with(alloc, text, path, Lead::Goes)
+}
+
+/// Returns the text without the element or the member that the path leads to, as [`remove`], where the comments before it
+/// stay. Those after it on its line go.
+///
+/// ```text
+/// remove_alone(alloc, "{ host: 'a', /* web */ port: 80 }", &[Step::Key("port")])?    // { host: 'a' /* web */ }
+/// ```
+///
+/// # Errors
+///
+/// As [`remove`].
+pub fn remove_alone(alloc: Global, text: &str, path: &[Step<'_>]) -> Result<String>
+    ensures removed { IfOk result (λ made. IsRemovedAlone text.now path.now (string_bytes made)) }
+    ensures refused { IfErr result (RefusesRemove text.now path.now) }
+{
+    removed_with(alloc, text, path, Lead::Stays)
+}
+
+/// The text without the entry that the path leads to.
+fn removed_with(alloc: Global, text: &str, path: &[Step<'_>], leads: Lead) -> Result<String>
+    ensures removed { IfOk result (λ made. RemovesWith leads text.now path.now (string_bytes made)) }
+    ensures refused { IfErr result (RefusesRemove text.now path.now) }
+{
     let Some((step, outer)) = path.split_last() else {
         return Err(EditError::Nowhere);
     };
     let place = place_of(alloc, text, outer)?;
     let old = part_text(text, place);
     let found = entry_found(alloc, old, *step, place.room)?;
-    let new = removed(alloc, old, *step, found, place.room)?;
+    let new = removed(alloc, old, *step, found, leads, place.room)?;
     splice(alloc, text, place, new.as_str())
 }
 
@@ -231,7 +259,7 @@ pub fn rename(alloc: Global, text: &str, path: &[Step<'_>], key: &str) -> Result
 }
 
 /// The text in the place.
-fn part_text(text: &str, place: Place) -> &str
+pub(crate) fn part_text(text: &str, place: Place) -> &str
     requires { HasPlace text.now place }
     ensures { (before old after : List ℕ) → IsPart text.now place before old after → result.now ≡ encode_utf8_all old }
 {
@@ -275,13 +303,20 @@ fn check_key(alloc: Global, old: &str, key: &str) -> Result<()>
 
 /// The collection without the entry that was found: without its lines and comments, if that reads so, or else without it
 /// and a comma alone.
-fn removed(alloc: Global, old: &str, step: Step<'_>, found: Found, room: usize) -> Result<String>
+fn removed(
+    alloc: Global,
+    old: &str,
+    step: Step<'_>,
+    found: Found,
+    leads: Lead,
+    room: usize,
+) -> Result<String>
     requires small { room ≤ max_depth }
     requires entry { HasFound step room old.now found }
-    ensures removed { IfOk result (λ new. Removes step.entry room old.now (string_bytes new)) }
+    ensures removed { IfOk result (λ new. Removes step.entry leads room old.now (string_bytes new)) }
     ensures full { IfErr result (λ e. e ≡ edit_errors.NoMemory) }
 {
-    match removed_by_lines(alloc, old, step, found, room) {
+    match removed_by_lines(alloc, old, step, found, leads, room) {
         Ok(new) => Ok(new),
         Err(EditError::NoMemory) => Err(EditError::NoMemory),
         Err(_) => without_entry(alloc, old, step, found, room),
@@ -294,17 +329,31 @@ fn removed_by_lines(
     old: &str,
     step: Step<'_>,
     found: Found,
+    leads: Lead,
     room: usize,
 ) -> Result<String>
     requires small { room ≤ max_depth }
     requires entry { HasFound step room old.now found }
-    ensures { IfOk result (λ new. Removes step.entry room old.now (string_bytes new)) }
+    ensures { IfOk result (λ new. Removes step.entry leads room old.now (string_bytes new)) }
 {
-    let gone = laid(cut_for(alloc, old, which(step)))?;
-    let new = cut(alloc, old, gone, found.before, kind(step), room)?;
+    let gone = laid(cut_with(alloc, old, which(step), leads))?;
+    let new = cut(alloc, old, gone, found.before, kind(step), leads, room)?;
     match check_removed(alloc, old, new.as_str(), step, gone.index) {
         Ok(()) => kept_plain(alloc, old, new, room),
         Err(error) => Err(EditError::of_made(error)),
+    }
+}
+
+/// What goes with the entry, as the layout says it.
+fn cut_with(
+    alloc: Global,
+    old: &str,
+    which: Which<'_>,
+    leads: Lead,
+) -> json5_types::error::Result<Cut> {
+    match leads {
+        Lead::Goes => cut_for(alloc, old, which),
+        Lead::Stays => cut_alone_for(alloc, old, which),
     }
 }
 
@@ -360,7 +409,7 @@ fn pushed(
 }
 
 /// The object with one more member: with its lines and comments, if that reads so, or else at its end alone.
-fn inserted(
+pub(crate) fn inserted(
     alloc: Global,
     collection: &Collection<'_>,
     old: &str,
@@ -480,7 +529,7 @@ pub(crate) fn laid<T: Drop>(said: json5_types::error::Result<T>) -> Result<T>
 }
 
 /// Refuses what isn't a value alone that fits within the place.
-fn check_entry(alloc: Global, value: &str, place: Place) -> Result<()>
+pub(crate) fn check_entry(alloc: Global, value: &str, place: Place) -> Result<()>
     requires { place.room ≤ max_depth }
     ensures value { OnOk result (IsValue (place.room - 1) (chars value.now)) }
     ensures refused { IfErr result (RefusesValue (place.room - 1) value.now) }
@@ -492,7 +541,7 @@ fn check_entry(alloc: Global, value: &str, place: Place) -> Result<()>
 }
 
 /// The collection in the place.
-fn collection(text: &str, place: Place) -> Collection<'_>
+pub(crate) fn collection(text: &str, place: Place) -> Collection<'_>
     ensures names { result.names ≡ layout_names.Quoted }
     ensures document { result.document.now ≡ text.now }
 {

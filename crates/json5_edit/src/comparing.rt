@@ -5,11 +5,11 @@ ghost use Rattle.json5_types.specs.Cows.{cow_bytes};
 ghost use Rattle.json5_walk.specs.Moves.{Opens};
 ghost use Rattle.json5_walk.specs.Walks.{Moved};
 ghost use Rattle.json5_edit.specs.Entries.{TakesEntry};
-ghost use Rattle.json5_edit.specs.Comparing.{EndsToo, PassesPair, PassesFront, PassesRest, IsOther, IsWithout, IsRenamed, step_kind, step_key, step_place};
-ghost use Rattle.json5_edit.specs.Changes.{ChangesBy, Gains, GainsAt};
+ghost use Rattle.json5_edit.specs.Comparing.{EndsToo, PassesPair, PassesFront, PassesRest, IsOther, IsWithout, IsRenamed, FitsFront, PassesAfter, step_kind, step_key, step_place};
+ghost use Rattle.json5_edit.specs.Changes.{ChangesBy, Gains, GainsAt, GainsMember};
 
 use crate::entries::{Entry, failed, next_entry};
-use crate::paths::Step;
+use crate::paths::{Before, Step};
 use json5_read::brackets::BracketKind;
 use json5_types::error::Result;
 use json5_types::nesting::Limit;
@@ -89,6 +89,35 @@ pub(crate) fn check_put_in(
         return Err(failed());
     }
     same_rest(&mut left, &mut right, Step::Index(index))?;
+    left.finish()?;
+    right.finish()
+}
+
+/// Refuses a new text that isn't the old one with one more member there, of which so many come before it, with this key
+/// and this value.
+pub(crate) fn check_inserted(
+    alloc: Global,
+    old: &str,
+    new: &str,
+    before: Before<'_>,
+    count: usize,
+    key: &str,
+    value: &str,
+) -> Result<()>
+    ensures { OnOk result (ChangesBy (GainsMember before.entry key.now value.now) old.now new.now) }
+{
+    let mut left = Walk::new(alloc, old, Limit::full());
+    let mut right = Walk::new(alloc, new, Limit::full());
+    open_both(&mut left, &mut right, BracketKind::Object)?;
+    same_front(&mut left, &mut right, front_count(before, count))?;
+    let came = some_entry(&mut right)?;
+    if !has_key(&came, key) {
+        return Err(failed());
+    }
+    if !has_value(&came, value) {
+        return Err(failed());
+    }
+    same_after(&mut left, &mut right, before)?;
     left.finish()?;
     right.finish()
 }
@@ -183,6 +212,35 @@ fn same_rest(left: &mut Walk<'_>, right: &mut Walk<'_>, step: Step<'_>) -> Resul
         }
     }
     Err(failed())
+}
+
+/// How many members come before one there: so many, or none.
+fn front_count(before: Before<'_>, count: usize) -> usize
+    ensures { FitsFront before.entry result }
+{
+    match before {
+        Before::First => 0,
+        Before::Key(_) => count,
+    }
+}
+
+/// Passes over the members that are left, which are the same in both texts and those before which another goes, and over
+/// the closing brackets.
+fn same_after(left: &mut Walk<'_>, right: &mut Walk<'_>, before: Before<'_>) -> Result<()>
+    ensures { OnOk result (PassesAfter before.entry left.old right.old left.new right.new) }
+{
+    match before {
+        Before::First => same_rest(left, right, Step::Index(0)),
+        Before::Key(next) => {
+            let Some(entry) = pass_pair(left, right)? else {
+                return Err(failed());
+            };
+            if !has_key(&entry, next) {
+                return Err(failed());
+            }
+            same_rest(left, right, Step::Key(next))
+        }
+    }
 }
 
 /// Passes over an entry that is the same in both texts, or over the closing brackets, where it returns None.

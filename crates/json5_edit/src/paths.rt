@@ -12,3 +12,16 @@ pub enum Step<'p> {
     /// To the element that so many others come before.
     Index(usize),
 }
+
+/// Where a member comes that isn't the last.
+///
+/// ```text
+/// Before::Key("port")    // of `{ host: 'a', port: 80 }` between the two
+/// ```
+#[derive(Clone, Copy, Drop)]
+pub enum Before<'k> {
+    /// Before all others.
+    First,
+    /// Before the last member with this key.
+    Key(&'k str),
+}

@@ -2,14 +2,14 @@
 
 ghost use Rattle.std.specs.Prelude.{◌≡◌, ◌≤◌, ◌++◌, IfOk, IfErr, OnOk, IsTrue, [], length, string_bytes, take};
 ghost use Rattle.std.specs.Str.{chars};
-ghost use Rattle.json5_edit.specs.Pieces.{Cuts, Grows, Respells, IsComma, IsEntryAlone, IsNameAlone, SplitsKey};
+ghost use Rattle.json5_edit.specs.Pieces.{CutsWith, Grows, Respells, IsComma, IsEntryAlone, IsNameAlone, SplitsKey};
 ghost use Rattle.json5_edit.specs.Refusals.{IsOwn};
 ghost use Rattle.json5_edit.specs.Spots.{EndTokens, IsAroundComma};
 ghost use Rattle.json5_edit.specs.declared.faults.EditError.TheVariants as edit_errors;
 ghost use Rattle.json5_grammar.specs.Language.Documents.{max_depth};
 ghost use Rattle.json5_lexemes.specs.Lexemes.{HaveSameLexemes};
 
-use crate::belongings::{check_gone, split_blanks};
+use crate::belongings::{Lead, check_gone, split_blanks};
 use crate::faults::{EditError, Result};
 use crate::plain::join_four;
 use crate::setting::join;
@@ -19,7 +19,7 @@ use json5_read::brackets::BracketKind;
 use json5_tokens::scanner::Scanner;
 use std::alloc::Global;
 
-/// The text without what goes, where that is an entry of such a collection with the comments that belong to it, and
+/// The text without what goes, where that is an entry of such a collection with the comments that go with it, and
 /// perhaps the comma after the value that ends at the offset.
 pub(crate) fn cut(
     alloc: Global,
@@ -27,16 +27,17 @@ pub(crate) fn cut(
     cut: Cut,
     before: Option<usize>,
     kind: BracketKind,
+    leads: Lead,
     room: usize,
 ) -> Result<String>
     requires small { room ≤ max_depth }
     requires tokens { EndTokens text.now before }
-    ensures cuts { IfOk result (λ new. Cuts text.now (string_bytes new)) }
+    ensures cuts { IfOk result (λ new. CutsWith leads text.now (string_bytes new)) }
     ensures own { IfErr result IsOwn }
 {
     let (head, back) = split(text, cut.end)?;
     let (head, gone) = split(head, cut.start)?;
-    check_gone(alloc, head, gone, back, kind, room)?;
+    check_gone(alloc, head, gone, back, kind, leads, room)?;
     let (front, blank, middle) = around_comma(alloc, head, cut.comma, before)?;
     join_four(alloc, front, blank, middle, back)
 }
@@ -199,7 +200,7 @@ fn comma_if(wanted: bool) -> &'static str
 }
 
 /// Whether there is no token and no comment in the text; a comma may be.
-fn is_blank(text: &str) -> bool
+pub(crate) fn is_blank(text: &str) -> bool
     ensures { IsTrue result → HaveSameLexemes (chars text.now) [] }
 {
     same_lexemes(text, "")

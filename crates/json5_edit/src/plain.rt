@@ -12,14 +12,15 @@ ghost use Rattle.json5_edit.specs.Changes.{Gains, GainsAt};
 ghost use Rattle.json5_edit.specs.Pieces.{IsNameAlone};
 ghost use Rattle.json5_edit.specs.Places.{IsValue};
 ghost use Rattle.json5_edit.specs.Refusals.{IsFree, RefusesFree, RefusesKind, RefusesStep};
-ghost use Rattle.json5_edit.specs.Spots.{Adds, AddsEntry, AddsPlainly, Goes, HasEnd, HasEntry, HasFound, HasBefore, IsAhead, BeginsWithComma, IsCommaSpan, TakesCommaAhead, IsColonBefore, IsNameBefore, Measures, Parts, PassedBefore, ReadsColon, ReadsThen, Removes, comma_for};
+ghost use Rattle.json5_edit.specs.Spots.{Adds, AddsEntry, AddsPlainly, Goes, HasEnd, HasEntry, HasFound, HasBefore, IsAhead, BeginsWithComma, IsCommaSpan, TakesCommaAhead, IsColonBefore, IsNameBefore, MayComeBefore, Measures, Parts, PassedBefore, PutsMember, ReadsColon, ReadsThen, Removes, comma_for};
+ghost use Rattle.json5_edit.specs.declared.belongings.Lead.TheVariants as lead_place;
 ghost use Rattle.json5_edit.specs.declared.faults.EditError.TheVariants as edit_errors;
 ghost use Rattle.json5_edit.specs.declared.paths.Step.TheVariants as step;
 
 use crate::comparing::kind;
 use crate::entries::failed;
 use crate::faults::{EditError, Result};
-use crate::paths::Step;
+use crate::paths::{Before, Step};
 use crate::pieces::join_five;
 use crate::setting::join;
 use crate::spelled::json_key;
@@ -107,7 +108,7 @@ pub(crate) fn without_entry(
 ) -> Result<String>
     requires small { room ≤ max_depth }
     requires entry { HasFound step room old.now found }
-    ensures removed { IfOk result (λ new. Removes step.entry room old.now (string_bytes new)) }
+    ensures removed { IfOk result (λ new. Removes step.entry lead_place.Stays room old.now (string_bytes new)) }
     ensures full { IfErr result (λ e. e ≡ edit_errors.NoMemory) }
 {
     let (front, rest) = old.split_at(found.start);
@@ -133,7 +134,7 @@ fn without_last(
 ) -> Result<String>
     requires small { room ≤ max_depth }
     requires entry { HasBefore step room old.now found.start end }
-    ensures removed { IfOk result (λ new. Removes step.entry room old.now (string_bytes new)) }
+    ensures removed { IfOk result (λ new. Removes step.entry lead_place.Stays room old.now (string_bytes new)) }
     ensures full { IfErr result (λ e. e ≡ edit_errors.NoMemory) }
 {
     let (front, text) = old.split_at(end);
@@ -274,6 +275,25 @@ pub(crate) fn with_member(
         BracketKind::Object,
         room,
     )
+}
+
+/// The object with the member before that which begins at the offset.
+pub(crate) fn with_member_before(
+    alloc: Global,
+    old: &str,
+    before: Before<'_>,
+    start: usize,
+    key: &str,
+    value: &str,
+    room: usize,
+) -> Result<String>
+    requires { MayComeBefore before room old.now old.now start value.now }
+    ensures { PutsMember before.entry key.now value.now room old.now old.now result }
+{
+    let (front, back) = old.split_at(start);
+    let key = json_key(alloc, key)?;
+    let name = join(alloc, key.as_str(), ":", "")?;
+    join_five(alloc, front, name.as_str(), value, ",", back)
 }
 
 /// The four texts one after another.

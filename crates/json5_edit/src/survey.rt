@@ -92,7 +92,7 @@ fn latest(same: bool, now: Found, before: Option<Found>) -> Option<Found>
 }
 
 /// The limit with so much room.
-fn limit_of(room: usize) -> Limit
+pub(crate) fn limit_of(room: usize) -> Limit
     requires { room ≤ max_depth }
     ensures { result ≡ room }
 {

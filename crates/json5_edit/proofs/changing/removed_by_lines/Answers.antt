@@ -8,4 +8,4 @@ pub cut-requires-clause-tokens : goal.cut-requires-clause-tokens
 cut-requires-clause-tokens c = end_tokens c.args.found c.utf8.old c.requires.entry
 
 pub returns-in-Ok : goal.returns-in-Ok
-returns-in-Ok c = kept_removed c.args.room c.args.old.now (string_bytes c.in_ok-new.new) c.kept_plain.result c.kept_plain.ensures.same c.kept_plain.ensures.value c.kept_plain.ensures.plain (subst (ChangesBy (IsWithout c.args.step) c.args.old.now) c.as_str.ensures.value c.in-Ok.ensures) c.in_ok-new.ensures.cuts
+returns-in-Ok c = kept_removed c.args.leads c.args.room c.args.old.now (string_bytes c.in_ok-new.new) c.kept_plain.result c.kept_plain.ensures.same c.kept_plain.ensures.value c.kept_plain.ensures.plain (subst (ChangesBy (IsWithout c.args.step) c.args.old.now) c.as_str.ensures.value c.in-Ok.ensures) c.in_ok-new.ensures.cuts

@@ -1,0 +1,70 @@
+use Rattle.std.proofs.Common.{string_bytes, subst, sym}
+use Rattle.std.proofs.lemmas.Result.{err_from_is_err_and}
+use Rattle.json5_lexemes.specs.Plain.{KeepsPlain, StaysPlain}
+use Rattle.json5_edit.specs.Changes.{GainsMember}
+use Rattle.json5_edit.specs.Pieces.{Grows}
+use Rattle.json5_edit.specs.Refusals.{IsFree, RefusesBefore}
+use Rattle.json5_read.specs.declared.brackets.BracketKind.TheVariants as kind
+use Rattle.json5_edit.proofs.Placed.{ok_then}
+use Rattle.json5_edit.proofs.Changed.{has_place, is_small, changed_within}
+use Rattle.json5_edit.proofs.MembersBefore.{before_refused, start_refused}
+use Rattle.json5_edit.proofs.PlainPlaces.{part_stays, plain_within}
+use Rattle.json5_edit.proofs.Refused.{lacking, path_insert, free_insert, new_insert, value_fits}
+use Rattle.json5_edit.proofs.inserting.insert_before.Goals as goal
+
+pub part_text-old-requires : goal.part_text-old-requires
+part_text-old-requires c = has_place c.in_ok-place.ensures.found
+
+pub splice-requires : goal.splice-requires
+splice-requires c = has_place c.in_ok-place.ensures.found
+
+pub check_entry-requires : goal.check_entry-requires
+check_entry-requires c = is_small c.in_ok-place.ensures.found
+
+pub free_end-requires-clause-small : goal.free_end-requires-clause-small
+free_end-requires-clause-small c = is_small c.in_ok-place.ensures.found
+
+pub free_end-requires-clause-value : goal.free_end-requires-clause-value
+free_end-requires-clause-value c = value_fits c.args.text.now c.part_text-old.result.now c.args.path.now c.in_ok-place.place c.utf8.text c.in_ok-place.ensures.found c.part_text-old.ensures
+
+pub start_before-requires : goal.start_before-requires
+start_before-requires c = let h = c.in_ok-end.ensures.found in (is_small c.in_ok-place.ensures.found, h.tree, h.value, h.shallow, h.kind)
+
+pub put_there-requires : goal.put_there-requires
+put_there-requires c = (is_small c.in_ok-place.ensures.found, c.in_ok-start.ensures.found, c.in_ok-end.ensures.found, c.in_ok-check_entry.ensures.value, subst (λ z. KeepsPlain z c.part_text-old.result.now) (sym c.collection-collection.ensures.document) (part_stays c.args.text.now c.part_text-old.result.now c.args.path.now c.in_ok-place.place c.utf8.text c.in_ok-place.ensures.found c.part_text-old.ensures))
+
+pub returns-in_err-place-clause-refused : goal.returns-in_err-place-clause-refused
+returns-in_err-place-clause-refused c =
+    let (y, is, from) = err_from_is_err_and c.from_residual.result c.from_residual.ensures.1 in
+    rw (is, from) (before_refused c.args.before c.args.text.now c.args.key.now c.args.value.now c.args.path.now c.in_err-place.field-0.0 (path_insert c.args.text.now c.args.key.now c.args.value.now c.args.path.now c.in_err-place.field-0.0 c.in_err-place.ensures.refused))
+
+pub returns-in_err-end-clause-refused : goal.returns-in_err-end-clause-refused
+returns-in_err-end-clause-refused c =
+    let (y, is, from) = err_from_is_err_and c.from_residual-in_err-end.result c.from_residual-in_err-end.ensures.1 in
+    rw (is, from) (before_refused c.args.before c.args.text.now c.args.key.now c.args.value.now c.args.path.now c.in_err-end.field-0.0 (free_insert c.args.text.now c.part_text-old.result.now c.args.path.now c.in_ok-place.place c.utf8.text c.in_ok-place.ensures.found c.part_text-old.ensures c.args.key.now c.args.value.now c.in_err-end.field-0.0 c.in_err-end.ensures.refused))
+
+pub returns-in_err-check_entry-clause-refused : goal.returns-in_err-check_entry-clause-refused
+returns-in_err-check_entry-clause-refused c =
+    let (y, is, from) = err_from_is_err_and c.from_residual-in_err-check_entry.result c.from_residual-in_err-check_entry.ensures.1 in
+    rw (is, from) (before_refused c.args.before c.args.text.now c.args.key.now c.args.value.now c.args.path.now c.in_err-check_entry.field-0.0 (new_insert c.args.text.now c.args.path.now c.in_ok-place.place c.in_ok-place.ensures.found c.args.key.now c.args.value.now c.in_err-check_entry.field-0.0 c.in_err-check_entry.ensures.refused))
+
+pub returns-in_err-start-clause-refused : goal.returns-in_err-start-clause-refused
+returns-in_err-start-clause-refused c =
+    let (y, is, from) = err_from_is_err_and c.from_residual-in_err-start.result c.from_residual-in_err-start.ensures.1 in
+    rw (is, from) (start_refused c.args.before c.args.text.now c.part_text-old.result.now c.args.path.now c.in_ok-place.place c.utf8.text c.in_ok-place.ensures.found c.part_text-old.ensures c.args.key.now c.args.value.now c.in_err-start.field-0.0 c.in_err-start.ensures.refused)
+
+pub returns-in_err-new-clause-refused : goal.returns-in_err-new-clause-refused
+returns-in_err-new-clause-refused c =
+    let (y, is, from) = err_from_is_err_and c.from_residual-in_err-new.result c.from_residual-in_err-new.ensures.1 in
+    rw (is, from, c.in_err-new.ensures.1) (before_refused c.args.before c.args.text.now c.args.key.now c.args.value.now c.args.path.now _ tt)
+
+pub returns-clause-inserted : goal.returns-clause-inserted
+returns-clause-inserted c = ok_then c.splice.result (λ made k.
+    let m = c.in_ok-new.ensures.0 in
+    let q = changed_within (λ x y. Grows kind.Object c.args.value.now x y × IsFree c.args.key.now x) (GainsMember c.args.before c.args.key.now c.args.value.now) c.args.text.now c.part_text-old.result.now c.as_str.result.now (string_bytes c.in_ok-new.new) (string_bytes made) c.args.path.now c.in_ok-place.place c.utf8.text c.as_str.utf8 c.as_str.ensures.value c.in_ok-place.ensures.found c.part_text-old.ensures (m.0.0, (m.0.1, c.in_ok-end.ensures.free), m.0.2) k in (
+      (q.0, q.1.0, q.1.1),
+      λ quoted. plain_within c.args.text.now c.args.value.now c.as_str.result.now (string_bytes c.in_ok-new.new) (string_bytes made) c.args.path.now c.in_ok-place.place c.utf8.text c.as_str.utf8 c.as_str.ensures.value c.in_ok-place.ensures.found m.0.2 (subst (λ z. StaysPlain z c.args.value.now (string_bytes c.in_ok-new.new)) c.collection-collection.ensures.document (m.1 quoted)) k,
+    )) c.splice.ensures.spliced
+
+pub returns-clause-refused : goal.returns-clause-refused
+returns-clause-refused c = lacking (RefusesBefore c.args.before c.args.text.now c.args.path.now c.args.key.now c.args.value.now) c.splice.result (before_refused c.args.before c.args.text.now c.args.key.now c.args.value.now c.args.path.now _ tt) c.splice.ensures.full
