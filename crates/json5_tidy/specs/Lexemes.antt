@@ -33,6 +33,10 @@ pub record IsLexeme (bytes : List ℕ) (at : ℕ) (x : Lexeme) : Type 0 where
 abbrev pub FitsAt : (bytes : List ℕ) (at count : ℕ) → Type 0
 FitsAt bytes at count = at + count ≤ length bytes
 
+-- the offset isn't before the other one, within the text
+abbrev pub IsFurther : (bytes : List ℕ) (from end : ℕ) → Type 0
+IsFurther bytes from end = (from ≤ end) × (end ≤ length bytes)
+
 -- the offset is after the start of the lexeme, within the text
 abbrev pub IsPast : (bytes : List ℕ) (x : Lexeme) (end : ℕ) → Type 0
 IsPast bytes x end = (x.start < end) × (end ≤ length bytes)

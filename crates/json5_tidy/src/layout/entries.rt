@@ -1,7 +1,7 @@
 //! What lies ahead in a collection.
 
 ghost use Rattle.std.specs.Prelude.{◌≤◌, length};
-ghost use Rattle.json5_tidy.specs.Lexemes.{IsWithin};
+ghost use Rattle.json5_tidy.specs.Lexemes.{IsFurther, IsWithin};
 
 use crate::layout::lexemes::{Kind, Lexeme, after_blanks, kind_and_end, lexeme_at};
 
@@ -134,8 +134,7 @@ fn is_number(bytes: &[u8], word: Lexeme) -> bool
 /// Where the element or the member ends that begins here: after its value.
 pub(crate) fn entry_end(bytes: &[u8], from: usize, is_member: bool) -> usize
     requires { from ≤ length bytes.now }
-    ensures from { from ≤ result }
-    ensures within { result ≤ length bytes.now }
+    ensures { IsFurther bytes.now from result }
 {
     let mut at = from;
     let mut depth: usize = 0;

@@ -1,10 +1,10 @@
 //! The lexemes of a document: its tokens and its comments, one after another.
 
 ghost use Rattle.std.specs.Prelude.{◌≡◌, ◌≤◌, ◌<◌, length};
-ghost use Rattle.json5_tidy.specs.Lexemes.{IsLexeme, EndsWithin, is_end};
+ghost use Rattle.json5_tidy.specs.Lexemes.{IsLexeme, IsFurther, EndsWithin, is_end};
 
 use crate::layout::blanks::{blank_len, byte_at, line_end_len};
-use crate::layout::runs::{line_len, spaces_len, string_len, word_len};
+use crate::layout::runs::Run;
 use memchr::{memchr, memchr2};
 
 /// What kind of lexeme it is.
@@ -89,7 +89,7 @@ pub(crate) fn after_blanks(bytes: &[u8], from: usize) -> (usize, usize)
         if byte == b' ' {
             at += 1;
             if byte_at(bytes, at) == b' ' {
-                at += spaces_len(&bytes[at..]);
+                at += Run::Spaces.len(&bytes[at..]);
             }
             continue;
         }
@@ -155,7 +155,7 @@ fn string_and_end(bytes: &[u8], from: usize) -> (Kind, usize, bool)
     let mut at = from + 1;
     let mut is_broken = false;
     while at < bytes.len() {
-        at += string_len(quote, &bytes[at..]);
+        at += Run::Quoted(quote).len(&bytes[at..]);
         if byte_at(bytes, at) != b'\\' {
             return (Kind::Word, past(bytes, at), is_broken);
         }
@@ -192,12 +192,11 @@ fn line_comment_end(bytes: &[u8], from: usize) -> usize
 /// Where the first line end from this offset on begins.
 fn line_end_after(bytes: &[u8], from: usize) -> usize
     requires { from ≤ length bytes.now }
-    ensures from { from ≤ result }
-    ensures within { result ≤ length bytes.now }
+    ensures { IsFurther bytes.now from result }
 {
     let mut at = from;
     while at < bytes.len() {
-        at += line_len(&bytes[at..]);
+        at += Run::Line.len(&bytes[at..]);
         if line_end_len(bytes, at) > 0 {
             return at;
         }
@@ -239,7 +238,7 @@ fn word_end(bytes: &[u8], from: usize) -> usize
 {
     let mut at = from + 1;
     while at < bytes.len() {
-        at += word_len(&bytes[at..]);
+        at += Run::Word.len(&bytes[at..]);
         if byte_at(bytes, at) < 128 || blank_len(bytes, at) > 0 {
             return at;
         }

@@ -4,6 +4,49 @@ ghost use Rattle.std.specs.Prelude.{◌≤◌, length};
 
 use std::simd::prelude::*;
 
+/// A run of bytes in front of a text.
+#[derive(Clone, Copy, Drop)]
+pub(crate) enum Run {
+    /// Spaces.
+    Spaces,
+    /// What comes before this quote or a backslash.
+    Quoted(u8),
+    /// Bytes that surely end no word.
+    Word,
+    /// Bytes that surely end no line.
+    Line,
+}
+
+impl Run {
+    /// Which of the bytes may end the run.
+    #[inline(always)]
+    fn ends(self, bytes: u8x16) -> u64 {
+        match self {
+            Run::Spaces => solids(bytes),
+            Run::Quoted(quote) => string_stops(quote, bytes),
+            Run::Word => word_stops(bytes),
+            Run::Line => line_stops(bytes),
+        }
+    }
+
+    /// How many bytes of the run are in front.
+    #[inline(always)]
+    pub(crate) fn len(self, bytes: &[u8]) -> usize
+        ensures { result ≤ length bytes.now }
+    {
+        let mut at = 0;
+        while bytes.len() - at >= 16 {
+            let found = self.ends(u8x16::from_slice(&bytes[at..]));
+            if found != 0 {
+                return at + first(found, 16);
+            }
+            at += 16;
+        }
+        let found = self.ends(u8x16::load_or_default(&bytes[at..]));
+        at + first(found, bytes.len() - at)
+    }
+}
+
 /// Which of the bytes are no spaces.
 #[inline(always)]
 fn solids(bytes: u8x16) -> u64 {
@@ -46,78 +89,4 @@ fn first(found: u64, len: usize) -> usize
 {
     let place = found.trailing_zeros() as usize;
     if place < len { place } else { len }
-}
-
-/// How many spaces are in front.
-#[inline(always)]
-pub(crate) fn spaces_len(bytes: &[u8]) -> usize
-    ensures { result ≤ length bytes.now }
-{
-    let mut at = 0;
-    while bytes.len() - at >= 16 {
-        let found = solids(u8x16::from_slice(&bytes[at..]));
-        if found != 0 {
-            return at + first(found, 16);
-        }
-        at += 16;
-    }
-    at + first(
-        solids(u8x16::load_or_default(&bytes[at..])),
-        bytes.len() - at,
-    )
-}
-
-/// How many bytes come before the quote or a backslash.
-#[inline(always)]
-pub(crate) fn string_len(quote: u8, bytes: &[u8]) -> usize
-    ensures { result ≤ length bytes.now }
-{
-    let mut at = 0;
-    while bytes.len() - at >= 16 {
-        let found = string_stops(quote, u8x16::from_slice(&bytes[at..]));
-        if found != 0 {
-            return at + first(found, 16);
-        }
-        at += 16;
-    }
-    let found = string_stops(quote, u8x16::load_or_default(&bytes[at..]));
-    at + first(found, bytes.len() - at)
-}
-
-/// How many bytes in front surely end no word.
-#[inline(always)]
-pub(crate) fn word_len(bytes: &[u8]) -> usize
-    ensures { result ≤ length bytes.now }
-{
-    let mut at = 0;
-    while bytes.len() - at >= 16 {
-        let found = word_stops(u8x16::from_slice(&bytes[at..]));
-        if found != 0 {
-            return at + first(found, 16);
-        }
-        at += 16;
-    }
-    at + first(
-        word_stops(u8x16::load_or_default(&bytes[at..])),
-        bytes.len() - at,
-    )
-}
-
-/// How many bytes in front surely end no line.
-#[inline(always)]
-pub(crate) fn line_len(bytes: &[u8]) -> usize
-    ensures { result ≤ length bytes.now }
-{
-    let mut at = 0;
-    while bytes.len() - at >= 16 {
-        let found = line_stops(u8x16::from_slice(&bytes[at..]));
-        if found != 0 {
-            return at + first(found, 16);
-        }
-        at += 16;
-    }
-    at + first(
-        line_stops(u8x16::load_or_default(&bytes[at..])),
-        bytes.len() - at,
-    )
 }

@@ -1,5 +1,5 @@
 use Rattle.std.proofs.Common.{◌-◌, ◌≤◌, length}
-use Rattle.json5_tidy.proofs.layout.runs.spaces_len.Given as goal
+use Rattle.json5_tidy.proofs.layout.runs.Run.len.Given as goal
 
 abbrev pub invariant-loop-at : goal.invariant-loop-at
 invariant-loop-at l = l.at ≤ length l.bytes
