@@ -313,8 +313,10 @@ impl fmt::Display for Stands {
 /// What an unknown field may be: another one that isn't there, or one of an object around its own, or of one within.
 #[derive(Clone, Copy)]
 pub(crate) struct Elsewhere<'t> {
-    /// The first two fields that aren't there.
-    pub(crate) free: [Option<&'t str>; 2],
+    /// The first field that isn't there.
+    pub(crate) free: Option<&'t str>,
+    /// The second one.
+    pub(crate) other: Option<&'t str>,
     pub(crate) has_more_free: bool,
     pub(crate) is_inner: bool,
     /// The key of the first member that holds an object.
@@ -325,35 +327,39 @@ pub(crate) struct Elsewhere<'t> {
 impl fmt::Display for Elsewhere<'_> {
     fn fmt<W: fmt::Write>(&self, f: &mut fmt::Formatter<W>) -> fmt::Result {
         match self.free {
-            [None, _] => f.write_str("remove it")?,
-            [Some(name), None] => write!(f, "rename it to `{name}`")?,
-            [Some(name), Some(other)] if self.has_more_free => write!(
-                f,
-                "rename it to `{name}`, `{other}` or another of these"
-            )?,
-            [Some(name), Some(other)] => write!(f, "rename it to `{name}` or `{other}`")?,
+            Some(name) => write!(f, "rename it to `{name}`")?,
+            None => f.write_str("remove it")?,
         }
-        self.write_places(f)?;
-        match self.free {
-            [None, _] => Ok(()),
-            _ => f.write_str(", or remove it"),
+        match self.other {
+            Some(name) if self.has_more_free => write!(f, ", `{name}` or another of these")?,
+            Some(name) => write!(f, " or `{name}`")?,
+            None => {}
         }
+        if self.is_inner || self.section.is_some() {
+            f.write_str(if self.free.is_none() {
+                ", or move it"
+            } else {
+                ", move it"
+            })?;
+            self.write_places(f)?;
+        }
+        f.write_str(if self.free.is_none() {
+            ""
+        } else {
+            ", or remove it"
+        })
     }
 }
 
 impl Elsewhere<'_> {
     /// The objects that it may belong to.
     fn write_places<W: fmt::Write>(self, f: &mut fmt::Formatter<W>) -> fmt::Result {
-        let lead = match self.free {
-            [None, _] => ", or move it",
-            _ => ", move it",
-        };
         match (self.is_inner, self.section, self.has_more) {
             (false, None, _) => Ok(()),
-            (true, None, _) => write!(f, "{lead} one level up"),
-            (true, Some(section), _) => write!(f, "{lead} one level up or into `{section}`"),
-            (false, Some(section), true) => write!(f, "{lead} into `{section}` or another section"),
-            (false, Some(section), false) => write!(f, "{lead} into `{section}`"),
+            (true, None, _) => f.write_str(" one level up"),
+            (true, Some(section), _) => write!(f, " one level up or into `{section}`"),
+            (false, Some(section), true) => write!(f, " into `{section}` or another section"),
+            (false, Some(section), false) => write!(f, " into `{section}`"),
         }
     }
 }

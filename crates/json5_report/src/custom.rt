@@ -262,7 +262,8 @@ fn elsewhere<'t>(
     let keys = member_keys(alloc, fault.text, start)?;
     let own = usize::from(start == fault.offset);
     let mut place = Elsewhere {
-        free: [None, None],
+        free: None,
+        other: None,
         has_more_free: false,
         is_inner: fault.depth.saturating_add(own) > 1,
         section: None,
@@ -284,10 +285,12 @@ fn add_free<'t>(place: &mut Elsewhere<'t>, fault: &Fault<'t>, keys: &[Lexeme]) {
     let mut is_known = false;
     for name in known.split('`') {
         if is_known && !has_key(fault.text, keys, name) {
-            match place.free {
-                [None, _] => place.free = [Some(name), None],
-                [first, None] => place.free = [first, Some(name)],
-                _ => place.has_more_free = true,
+            if place.free.is_none() {
+                place.free = Some(name);
+            } else if place.other.is_none() {
+                place.other = Some(name);
+            } else {
+                place.has_more_free = true;
             }
         }
         is_known = !is_known;

@@ -368,7 +368,7 @@ fn inside_advice<'t>(fault: &Fault<'t>, start: usize, quote: char) -> Advice<'t>
         .trim_end_matches([',', ' ', '}', ']'])
         .strip_suffix(quote)
     {
-        Some(text) if !text.contains([',', ':', '\\', other]) => {
+        Some(text) if !text.contains([',', ':', '\\']) && !text.contains(other) => {
             Advice::Text(TextAdvice::Inside(text))
         }
         _ => Advice::EscapeQuote(quote),

@@ -320,7 +320,7 @@ fn first_advice<'t>(fault: &Fault<'t>, kind: &'static str) -> Advice<'t> {
 }
 
 /// What is said of a name where a number is expected.
-fn name_for_number_remark<'t>(fault: &Fault<'t>, name: &str) -> Remark<'t> {
+fn name_for_number_remark<'t>(fault: &Fault<'t>, name: &'t str) -> Remark<'t> {
     let any = Advice::Write("a number");
     match name {
         "nan" | "NAN" | "Nan" | "inf" | "Inf" | "INF" | "infinity" => {
@@ -486,26 +486,33 @@ pub(crate) fn bare_remark<'t>(fault: &Fault<'t>, start: usize, advice: Advice<'t
     if is_variable {
         return variable_remark(fault, part);
     }
+    bare_part_remark(fault, part, advice)
+}
+
+/// What is said of a text without quotes.
+fn bare_part_remark<'t>(fault: &Fault<'t>, part: Lexeme, advice: Advice<'t>) -> Remark<'t> {
     let text = part.of(fault.text);
-    let len = text.trim_end_matches(['\'', '"']).len();
-    let inner = Lexeme {
-        end: start.saturating_add(len),
-        ..part
-    };
     let is_any = matches!(
         fault.code,
         Some(ErrorCode::ExpectedValue | ErrorCode::ExpectedNull)
     ) || fault.word_inside().is_some();
-    if let (true, Advice::QuoteText(_), Some(literal)) = (is_any, advice, literal_advice(text)) {
+    let is_text = matches!(advice, Advice::QuoteText(_));
+    if let (true, Some(literal)) = (is_any && is_text, literal_advice(text)) {
         return Remark::of(part, literal);
     }
-    let advice = match advice {
-        _ if is_expression(text) => Advice::NoExpressions,
-        Advice::QuoteText(_) => Advice::QuoteText(inner.of(fault.text)),
+    Remark::of(part, bare_advice(text, advice))
+}
+
+/// The hint to a text without quotes, without quotes at its end.
+fn bare_advice<'t>(text: &'t str, advice: Advice<'t>) -> Advice<'t> {
+    if is_expression(text) {
+        return Advice::NoExpressions;
+    }
+    match advice {
+        Advice::QuoteText(_) => Advice::QuoteText(text.trim_end_matches(['\'', '"'])),
         Advice::NoNumber(_) => Advice::NoNumber(text),
         other => other,
-    };
-    Remark::of(part, advice)
+    }
 }
 
 /// What is said of a variable: where a text is expected, the program may replace it there.
@@ -528,7 +535,7 @@ fn is_expression(text: &str) -> bool {
 }
 
 /// The literal that other languages spell so.
-pub(crate) fn literal_advice(word: &str) -> Option<Advice<'static>> {
+pub(crate) fn literal_advice<'t>(word: &'t str) -> Option<Advice<'t>> {
     match word {
         "True" | "TRUE" => Some(Advice::Write("true")),
         "False" | "FALSE" => Some(Advice::Write("false")),

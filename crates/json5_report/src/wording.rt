@@ -32,16 +32,16 @@ pub(crate) struct Elements<'t>(pub(crate) &'t str);
 impl fmt::Display for Elements<'_> {
     fn fmt<W: fmt::Write>(&self, f: &mut fmt::Formatter<W>) -> fmt::Result {
         let Elements(text) = self;
-        let mut lead = "[";
+        let mut is_first = true;
         for part in text.split(',') {
             let part = part.trim();
-            f.write_str(lead)?;
+            f.write_str(if is_first { "[" } else { ", " })?;
             if is_bare(part) {
                 write!(f, "{}", Quoted(part))?;
             } else {
                 f.write_str(part)?;
             }
-            lead = ", ";
+            is_first = false;
         }
         f.write_char(']')
     }
