@@ -29,6 +29,9 @@ pub fn answer<S: Store, R: Read, W: Write, E: Write>(
         Some(EditRequest::Help) => answer_with(&[HELP], w, e),
         Some(EditRequest::Version) => answer_with(&["json5_edit ", VERSION, "\n"], w, e),
         Some(EditRequest::Task(task)) => do_task(store, alloc, &task, r, w, e),
-        None => wrong_words(alloc, list, e),
+        None => {
+            wrong_words(alloc, list, e);
+            2
+        }
     }
 }

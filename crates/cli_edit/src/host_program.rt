@@ -22,8 +22,14 @@ use std::process::ExitCode;
 pub fn program(rt: &HostRuntime) -> ExitCode {
     let status = match given_words(rt) {
         Ok(list) => words(rt, rt.alloc(), list.as_slice()),
-        Err(e) if e.kind() == ErrorKind::OutOfMemory => no_memory(&mut rt.stderr()),
-        Err(_) => wrong_words(rt.alloc(), &[], &mut rt.stderr()),
+        Err(e) if e.kind() == ErrorKind::OutOfMemory => {
+            no_memory(&mut rt.stderr());
+            2
+        }
+        Err(_) => {
+            wrong_words(rt.alloc(), &[], &mut rt.stderr());
+            2
+        }
     };
     ExitCode::from(status)
 }

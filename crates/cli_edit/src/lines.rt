@@ -55,29 +55,21 @@ The status is 0 if all is well; 1 if the path leads nowhere or a test of a patch
 3 if FILE is no JSON5; and 2 for anything else.
 ";
 
-/// Writes what is wrong with the words, if that is certain, and how the program is called; returns the status 2.
-pub(crate) fn wrong_words<E: Write>(alloc: Global, list: &[String], e: &mut E) -> u8
-    ensures { result ≡ 2 }
-{
+/// Writes what is wrong with the words, if that is certain, and how the program is called.
+pub(crate) fn wrong_words<E: Write>(alloc: Global, list: &[String], e: &mut E) {
     if let Some(fault) = word_fault(alloc, list) {
         let _ = writeln!(e, "json5_edit: {fault}");
     }
     let _ = e.write_all(USAGE.as_bytes());
-    2
 }
 
-/// Writes that memory ran out, and returns the status 2.
-pub(crate) fn no_memory<E: Write>(e: &mut E) -> u8
-    ensures { result ≡ 2 }
-{
+/// Writes that memory ran out.
+pub(crate) fn no_memory<E: Write>(e: &mut E) {
     let _ = e.write_all(b"json5_edit: out of memory\n");
-    2
 }
 
-/// Writes what is wrong with the path, and returns the status 2.
-pub(crate) fn wrong_path<E: Write>(path: &str, error: &PathError, e: &mut E) -> u8
-    ensures { result ≡ 2 }
-{
+/// Writes what is wrong with the path.
+pub(crate) fn wrong_path<E: Write>(path: &str, error: &PathError, e: &mut E) {
     let advice = match error {
         PathError::At(0, Expected::Name) => ": a path begins without a dot, as server.ports[0]",
         PathError::At(_, Expected::IndexOrKey) => {
@@ -86,20 +78,16 @@ pub(crate) fn wrong_path<E: Write>(path: &str, error: &PathError, e: &mut E) -> 
         _ => "",
     };
     let _ = writeln!(e, "{path}: {error}{advice}");
-    2
 }
 
-/// Writes why VALUE isn't read, and returns the status 2.
-pub(crate) fn no_value<E: Write>(task: &Task<'_>, failure: &Failure, e: &mut E) -> u8
-    ensures { result ≡ 2 }
-{
+/// Writes why VALUE isn't read.
+pub(crate) fn no_value<E: Write>(task: &Task<'_>, failure: &Failure, e: &mut E) {
     let name = match (task.source(), task.work) {
         (Source::File(name), _) => name,
         (_, Command::Apply | Command::Merge) => "PATCH",
         _ => "VALUE",
     };
     let _ = report(name, failure, e);
-    2
 }
 
 /// Writes why the file's text isn't read, and returns the status that the program ends with.

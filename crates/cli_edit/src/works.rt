@@ -28,11 +28,17 @@ pub(crate) fn do_task<S: Store, R: Read, W: Write, E: Write>(
 {
     let path = match Path::parse(alloc, task.route()) {
         Ok(path) => path,
-        Err(error) => return wrong_path(task.path, &error, e),
+        Err(error) => {
+            wrong_path(task.path, &error, e);
+            return 2;
+        }
     };
     match value_of(store, alloc, task.file, task.source(), r) {
         Ok(value) => do_with(store, alloc, task, &path, value.as_str(), r, w, e),
-        Err(failure) => no_value(task, &failure, e),
+        Err(failure) => {
+            no_value(task, &failure, e);
+            2
+        }
     }
 }
 

@@ -12,4 +12,4 @@ pub returns-in-Some-Task : goal.returns-in-Some-Task
 returns-in-Some-Task g c = does c.in-Some-Task.task (rw c.in-Some-Task.field-0-is at c.in-Some-Task.ensures) c.do_task.ensures
 
 pub returns-in-None : goal.returns-in-None
-returns-in-None g c = rw c.wrong_words.ensures (says_usage c.in-None.ensures)
+returns-in-None g c = says_usage c.in-None.ensures

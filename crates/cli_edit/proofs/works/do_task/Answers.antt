@@ -4,7 +4,7 @@ use Rattle.cli_edit.proofs.Reading.{kept_for_file}
 use Rattle.cli_edit.proofs.works.do_task.Goals as goal
 
 pub returns-in-Err : goal.returns-in-Err
-returns-in-Err g c = rw c.wrong_path.ensures (not_begun (search rules))
+returns-in-Err g c = not_begun (search rules)
 
 pub returns-in-Ok-value_of : goal.returns-in-Ok-value_of
 returns-in-Ok-value_of g c =
@@ -14,4 +14,4 @@ returns-in-Ok-value_of g c =
     c.in-Ok-value_of.ensures.kept c.do_with.ensures)
 
 pub returns : goal.returns
-returns g c = rw c.no_value.ensures (not_begun (search rules))
+returns g c = not_begun (search rules)
