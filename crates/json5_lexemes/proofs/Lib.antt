@@ -1,5 +1,6 @@
 -- Lists the lemmas about lexemes.
 pub mod SameSteps
+pub mod StarLines
 pub mod SameLists
 pub mod OneList
 pub mod WordParts

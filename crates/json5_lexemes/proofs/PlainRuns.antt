@@ -1,12 +1,12 @@
 -- Characters of ASCII in front of a text that pass a test, and the lanes that are tested for them.
-use Rattle.std.proofs.Common.{◌≡◌, ◌≢◌, ℕ, Bool, true, false, not, ◌||◌, nat_lt, cond, eqb, List, [], ◌∷◌, ◌++◌, length, drop, refl, ap, sym, ◌∙◌, subst, arith}
+use Rattle.std.proofs.Common.{◌≡◌, ◌≢◌, ℕ, Bool, true, false, not, ◌||◌, cond, eqb, List, [], ◌∷◌, ◌++◌, length, drop, refl, ap, sym, ◌∙◌, subst, arith}
 use Rattle.std.specs.Prelude.{◌==◌}
 use Rattle.std.specs.List.{prefix_len}
 use Rattle.std.specs.Str.{chars, IsUtf8, IsCharBoundary}
 use Rattle.std.proofs.lemmas.Bool.Decides.{nat_tests}
-use lib.Bits.{bit_and, bit_or}
+use lib.Bits.{bit_and}
 use lib.Lanes.{top}
-use Rattle.json5_grammar.specs.Language.Characters.{Begun, NotBegun, Each, char, is_digit}
+use Rattle.json5_grammar.specs.Language.Characters.{Begun, NotBegun, Each, char}
 use Rattle.json5_grammar.specs.Model.ReadNumbers.{front_of, rest_of}
 use Rattle.json5_grammar.proofs.CharacterTests.{front_each, rest_stops}
 use Rattle.json5_grammar.proofs.FixedWidthLaws.{front_is}

@@ -90,23 +90,23 @@ char_taken x rest next c scalar is utf8 e =
 
 -- a letter or a digit in both texts makes no difference within w
 abbrev pub TakesAlphanumeric : Within → Type 0
-TakesAlphanumeric w = (c : ℕ) (x y : List ℕ) → is_alphanumeric c ≡ true → Same w x y → Same w (c ∷ x) (c ∷ y)
+TakesAlphanumeric w = (move : Bool) (c : ℕ) (x y : List ℕ) → is_alphanumeric c ≡ true → Same move w x y → Same move w (c ∷ x) (c ∷ y)
 
 pub in_word : TakesAlphanumeric Within.word
-in_word c x y p s = same.word_goes_on (alphanumeric_part c p) s
+in_word m c x y p s = same.word_goes_on (alphanumeric_part c p) s
 
 pub in_string : (q : ℕ) → is_quote q ≡ true → TakesAlphanumeric (Within.string q)
-in_string q k c x y p s = same.raw (alphanumeric_no_quote c q p k) (alphanumeric_no_backslash c p) s
+in_string q k m c x y p s = same.raw (alphanumeric_no_quote c q p k) (alphanumeric_no_backslash c p) s
 
 pub in_line : TakesAlphanumeric Within.line
-in_line c x y p s = same.line_goes_on (alphanumeric_in_line c p) s
+in_line m c x y p s = same.line_goes_on (alphanumeric_in_line c p) s
 
 pub in_block : TakesAlphanumeric Within.block
-in_block c x y p s = same.block_goes_on (alphanumeric_no_star c p) s
+in_block m c x y p s = same.block_goes_on (alphanumeric_no_star c p) s
 
-run_on : (w : Within) → TakesAlphanumeric w → (run x y : List ℕ) → Each is_alphanumeric run → Same w x y → Same w (run ++ x) (run ++ y)
-run_on w step [] x y no_char s = s
-run_on w step (c ∷ run) x y (char p e) s = step c (run ++ x) (run ++ y) p (run_on w step run x y e s)
+run_on : (w : Within) → TakesAlphanumeric w → (move : Bool) (run x y : List ℕ) → Each is_alphanumeric run → Same move w x y → Same move w (run ++ x) (run ++ y)
+run_on w step m [] x y no_char s = s
+run_on w step m (c ∷ run) x y (char p e) s = step m c (run ++ x) (run ++ y) p (run_on w step m run x y e s)
 
 -- a run after a step within w
 pub followed_run : (w v : Within) (left right mid mid_right after after_right : Cursor) → TakesAlphanumeric v → IsFollowed w left right v mid mid_right → PassesRun mid mid_right after after_right
@@ -114,7 +114,7 @@ pub followed_run : (w v : Within) (left right mid mid_right after after_right : 
 followed_run w v left right mid mid_right after after_right step f p =
     let k : length mid.unread ≡ length p.run + length after.unread = ap length p.in_left ∙ length-append p.run after.unread in
     record {
-      same = λ h. f.same (subst (λ z. Same v z mid_right.unread) (sym p.in_left) (subst (λ z. Same v (p.run ++ after.unread) z) (sym p.in_right) (run_on v step p.run after.unread after_right.unread p.each h)));
+      same = λ m h. f.same m (subst (λ z. Same m v z mid_right.unread) (sym p.in_left) (subst (λ z. Same m v (p.run ++ after.unread) z) (sym p.in_right) (run_on v step m p.run after.unread after_right.unread p.each h)));
       shorter = omega (arith, f.shorter, k);
     }
 
@@ -152,11 +152,11 @@ passes_spaces x n old new s a b =
 pub passes_no_space : (old : Cursor) → PassesSpaces old old
 passes_no_space old = record { spaces = []; each = no_char; split = refl }
 
-left_spaces : (s x y : List ℕ) → Each is_space s → Same Within.between x y → Same Within.between (s ++ x) y
+left_spaces : {move : Bool} (s x y : List ℕ) → Each is_space s → Same move Within.between x y → Same move Within.between (s ++ x) y
 left_spaces [] x y no_char k = k
 left_spaces (c ∷ s) x y (char p e) k = same.left_separator (space_separator c p) (left_spaces s x y e k)
 
-right_spaces : (s x y : List ℕ) → Each is_space s → Same Within.between x y → Same Within.between x (s ++ y)
+right_spaces : {move : Bool} (s x y : List ℕ) → Each is_space s → Same move Within.between x y → Same move Within.between x (s ++ y)
 right_spaces [] x y no_char k = k
 right_spaces (c ∷ s) x y (char p e) k = same.right_separator (space_separator c p) (right_spaces s x y e k)
 
@@ -165,7 +165,7 @@ pub passed_spaces : (old mid new : Cursor) → PassesWithin Within.between old m
 passed_spaces old mid new p s =
     let k : length mid.unread ≡ length s.spaces + length new.unread = ap length s.split ∙ length-append s.spaces new.unread in
     record {
-      left = λ y h. p.left y (subst (λ z. Same Within.between z y) (sym s.split) (left_spaces s.spaces new.unread y s.each h));
-      right = λ x h. p.right x (subst (λ z. Same Within.between x z) (sym s.split) (right_spaces s.spaces x new.unread s.each h));
+      left = λ m y h. p.left m y (subst (λ z. Same m Within.between z y) (sym s.split) (left_spaces s.spaces new.unread y s.each h));
+      right = λ m x h. p.right m x (subst (λ z. Same m Within.between x z) (sym s.split) (right_spaces s.spaces x new.unread s.each h));
       shorter = omega (arith, p.shorter, k);
     }

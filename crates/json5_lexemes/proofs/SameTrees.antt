@@ -12,9 +12,11 @@ use Rattle.json5_grammar.proofs.CharacterClasses.{colon_no_name}
 use Rattle.json5_grammar.proofs.CommonLemmas.{neq_from}
 use Rattle.json5_grammar.proofs.KeysRead.{one_key}
 use Rattle.json5_grammar.proofs.OneTree.{one_front}
+use Rattle.json5_lexemes.specs.AlikeLexemes.{AreAlike, HaveAlikeLexemes}
+use Rattle.json5_lexemes.specs.AlikeLexemes as pairs
 use Rattle.json5_lexemes.specs.SameLexemes.{is_sign, is_word_part}
 use Rattle.json5_lexemes.specs.Lexemes.{Lexemes, HaveSameLexemes}
-use Rattle.json5_lexemes.specs.Tokens.{Scalar, is_null, is_true, is_false, is_number, is_text, Tokens, ElementTokens, MemberTokens, scalar, array_begins, object_begins, array_ends, element, object_ends, member_begins, Spells}
+use Rattle.json5_lexemes.specs.Tokens.{Scalar, is_null, is_true, is_false, is_number, is_text, Tokens, ElementTokens, MemberTokens, scalar, array_begins, object_begins, array_ends, element, object_ends, member_begins, Spells, without_comments}
 use Rattle.json5_lexemes.proofs.DocumentLexemes.{document_spelled}
 use Rattle.json5_lexemes.proofs.OneList.{part_apart, quote_apart, each_head}
 use Rattle.json5_lexemes.proofs.SettledLists.{one_token_list}
@@ -116,3 +118,28 @@ pub same_document : (limit other : ℕ) (x y : List ℕ) (t u : Tree) → Doc li
 same_document limit other x y t u d e h =
     let same : Doc other y t = subst (Doc other y) (sym (same_tree limit other x y t u d e h)) e in
     record { before = same.before; text = same.text; after = same.after; whole = same.whole; blank = same.blank; value = same.value; last = same.last; shallow = d.shallow }
+
+-- ---- lexemes that are alike
+
+alike_itself : (move : Bool) (ls : List (List ℕ)) → AreAlike move ls ls
+alike_itself move [] = pairs.no_lexeme
+alike_itself move (l ∷ ls) = pairs.same (alike_itself move ls)
+
+pub same_alike : (move : Bool) (x y : List ℕ) → HaveSameLexemes x y → HaveAlikeLexemes move x y
+same_alike move x y h = record { left_lexemes = h.lexemes; right_lexemes = h.lexemes; left = h.left; right = h.right; alike = alike_itself move h.lexemes }
+
+-- a document has lexemes that are alike its own
+pub document_alike : (move : Bool) (limit : ℕ) (x : List ℕ) (t : Tree) → Doc limit x t → HaveAlikeLexemes move x x
+document_alike move limit x t d = same_alike move x x (document_same limit x t d)
+
+-- only comments differ
+alike_tokens : {move : Bool} {ls ms : List (List ℕ)} → AreAlike move ls ms → without_comments ls ≡ without_comments ms
+alike_tokens pairs.no_lexeme = refl
+alike_tokens (pairs.same a) = rw (alike_tokens a) refl
+alike_tokens (pairs.star_comment may lines a) = alike_tokens a
+
+-- documents whose lexemes are alike have the same tree
+pub alike_tree : (move : Bool) (limit other : ℕ) (x y : List ℕ) (t u : Tree) → Doc limit x t → Doc other y u → HaveAlikeLexemes move x y → t ≡ u
+alike_tree move limit other x y t u d e h =
+    one_tree_spelled h.left_lexemes t u (document_spells limit x t h.left_lexemes d h.left)
+    (subst (λ z. Tokens z u []) (sym (alike_tokens h.alike)) (document_spells other y u h.right_lexemes e h.right))

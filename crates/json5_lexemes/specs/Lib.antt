@@ -1,6 +1,7 @@
 -- Lists the definitions for comparing lexemes.
 pub mod SameLexemes
 pub mod Lexemes
+pub mod AlikeLexemes
 pub mod SameSteps
 pub mod Tokens
 pub mod Runs

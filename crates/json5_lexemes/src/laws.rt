@@ -1,9 +1,10 @@
 //! The laws of lexemes, each the contract of a function that does nothing.
 
-ghost use Rattle.std.specs.Prelude.{◌≡◌, ℕ, true, List, map};
+ghost use Rattle.std.specs.Prelude.{◌≡◌, ℕ, Bool, true, false, List, map};
 ghost use Rattle.json5_grammar.specs.Language.Trees.{Tree};
 ghost use Rattle.json5_grammar.specs.Language.Documents.{Doc};
 ghost use Rattle.json5_styles.specs.Json.{JsonText};
+ghost use Rattle.json5_lexemes.specs.AlikeLexemes.{HaveAlikeLexemes};
 ghost use Rattle.json5_lexemes.specs.Lexemes.{Lexemes, HaveSameLexemes};
 ghost use Rattle.json5_lexemes.specs.Plain.{IsPlain, IsBare};
 ghost use Rattle.json5_lexemes.specs.Tokens.{without_comments, settled, Spells};
@@ -39,6 +40,14 @@ pub fn same_lexemes_as()
     ensures itself { (limit : ℕ) (x : List ℕ) (t : Tree) → Doc limit x t → HaveSameLexemes x x }
     ensures swapped { (x y : List ℕ) → HaveSameLexemes x y → HaveSameLexemes y x }
     ensures through { (x y z : List ℕ) → HaveSameLexemes x y → HaveSameLexemes y z → HaveSameLexemes x z }
+{}
+
+/// Texts with the same lexemes have lexemes that are alike, and so it is the other way round where star comments don't
+/// move. Documents whose lexemes are alike have the same tree: only comments differ.
+pub fn alike_lexemes_as()
+    ensures same { (x y : List ℕ) → HaveAlikeLexemes false x y → HaveSameLexemes x y }
+    ensures alike { (move : Bool) (x y : List ℕ) → HaveSameLexemes x y → HaveAlikeLexemes move x y }
+    ensures tree { (move : Bool) (limit other : ℕ) (x y : List ℕ) (t u : Tree) → Doc limit x t → Doc other y u → HaveAlikeLexemes move x y → t ≡ u }
 {}
 
 /// A document is JSON by its lexemes exactly where it is in the grammar of RFC 8259, and JSON but for comments exactly

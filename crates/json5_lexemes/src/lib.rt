@@ -9,4 +9,4 @@ mod rest;
 mod same;
 
 pub use plain::{is_plain, is_plain_with, keeps_plain};
-pub use same::same_lexemes;
+pub use same::{alike_lexemes, same_lexemes};

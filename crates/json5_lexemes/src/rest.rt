@@ -33,6 +33,22 @@ impl<'x> Rest<'x> {
         Rest { text }
     }
 
+    /// The same rest once more.
+    #[inline(always)]
+    pub(crate) fn again(&self) -> Rest<'x>
+        ensures { result ≡ self.now }
+    {
+        Rest { text: self.text }
+    }
+
+    /// Goes to where the other rest of the same text is.
+    #[inline(always)]
+    pub(crate) fn go_to(&mut self, other: &Rest<'x>)
+        ensures { self.new ≡ other.now }
+    {
+        self.text = other.text;
+    }
+
     /// The next character, which stays unread; None at the end.
     #[inline(always)]
     pub(crate) fn peek(&self) -> Option<char>

@@ -1,15 +1,11 @@
 use Rattle.std.proofs.Common.{◌≡◌, true, drop, refl, sym, subst, arith}
 use Rattle.std.specs.Prelude.{slice_index}
-use Rattle.std.specs.Str.{chars}
-use Rattle.json5_styles.specs.Json.{is_json_blank, JsonNumber}
+use Rattle.json5_styles.specs.Json.{is_json_blank}
 use Rattle.json5_lexemes.specs.Plain.{is_opening, is_closing}
 use Rattle.json5_lexemes.proofs.PlainFronts.{ascii_starts, starts, first_is, other_by, other_than}
-use Rattle.json5_lexemes.proofs.PlainPassed.{number_other, blanks_passed, opening_passed, comma_passed, closing_passed, colon_passed, string_passed, comment_passed, word_passed}
+use Rattle.json5_lexemes.proofs.PlainPassed.{blanks_passed, opening_passed, comma_passed, closing_passed, colon_passed, string_passed, comment_passed, word_passed}
 use Rattle.json5_lexemes.proofs.PlainRuns.{number_is_ascii, blank_is_ascii, opening_is_ascii, closing_is_ascii}
-use Rattle.json5_lexemes.specs.PlainSteps.{begins_number, TakesWord, Then}
-use Rattle.json5_lexemes.specs.declared.plain.Last.TheVariants as last
-use Rattle.json5_lexemes.proofs.PlainTakes.{leaves_with_by}
-use Rattle.json5_lexemes.proofs.PlainWords.{number_alone, number_no_letter}
+use Rattle.json5_lexemes.specs.PlainSteps.{begins_number}
 use Rattle.json5_lexemes.proofs.plain.pass_lexeme.Goals as goal
 
 pub returns-then-first-eq34 : goal.returns-then-first-eq34

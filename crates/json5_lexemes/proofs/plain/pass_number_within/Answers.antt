@@ -1,5 +1,4 @@
 use Rattle.std.proofs.Common.{Some, None, refl}
-use Rattle.std.specs.Str.{chars}
 use Rattle.json5_styles.specs.Json.{JsonNumber, Exponent}
 use Rattle.json5_lexemes.specs.PlainSteps.{Then}
 use Rattle.json5_lexemes.specs.declared.plain.Last.TheVariants as last

@@ -5,10 +5,10 @@ use Rattle.json5_lexemes.proofs.SameSteps.{escaped}
 use Rattle.json5_lexemes.proofs.same.pass_escaped.Goals as goal
 
 pub returns-then-c-ne92 : goal.returns-then-c-ne92
-returns-then-c-ne92 c = record { same = λ t q ne s. same.raw ne c.if-c-ne92.true s; shorter = omega arith }
+returns-then-c-ne92 c = record { same = λ t m q ne s. same.raw ne c.if-c-ne92.true s; shorter = omega arith }
 
 pub returns-in-Some : goal.returns-in-Some
 returns-in-Some c = record {
-  same = λ t q ne s. escaped q c.args.c c.in-Some.next c.args.left.now c.args.right.now c.pass_both.new.left c.pass_both.new.right c.if-c-ne92.false (c.pass_both.ensures.taken t) s;
+  same = λ t m q ne s. escaped q c.args.c c.in-Some.next c.args.left.now c.args.right.now c.pass_both.new.left c.pass_both.new.right c.if-c-ne92.false (c.pass_both.ensures.taken t) s;
   shorter = c.pass_both.ensures.shorter;
 }

@@ -9,4 +9,4 @@ pub loop-c-preserved : goal.loop-c-preserved
 loop-c-preserved c =
     let is : is_separator c.in-Some.c ≡ true = sym c.if-not-is_separator.ensures in
     passed_spaces c.args.text.now c.eat.new.self c.pass_spaces.new.text
-    (passed_more Within.between c.in-Some.c c.args.text.now c.loop-c.text c.eat.new.self c.loop-c.invariant (c.if-not-eat.ensures.taken refl) (λ x y s. same.left_separator is s) (λ x y s. same.right_separator is s)) c.pass_spaces.ensures
+    (passed_more Within.between c.in-Some.c c.args.text.now c.loop-c.text c.eat.new.self c.loop-c.invariant (c.if-not-eat.ensures.taken refl) (λ m x y s. same.left_separator is s) (λ m x y s. same.right_separator is s)) c.pass_spaces.ensures

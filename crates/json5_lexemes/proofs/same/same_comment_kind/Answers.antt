@@ -6,12 +6,12 @@ use Rattle.json5_lexemes.proofs.same.same_comment_kind.Goals as goal
 
 pub returns-then-c-eq47 : goal.returns-then-c-eq47
 returns-then-c-eq47 c = record {
-  same = λ t s. as_first Within.slash c.args.c slash_sign c.args.left.now.unread c.args.right.now.unread c.if-c-eq47.true (same.line_begins (c.same_line.ensures.same t s));
+  same = λ t s. as_first Within.slash c.args.c slash_sign c.args.left.now.unread c.args.right.now.unread c.if-c-eq47.true (same.line_begins (c.same_line.ensures.same t c.args.moves s));
   shorter = c.same_line.ensures.shorter;
 }
 
 pub returns-then-c-eq42 : goal.returns-then-c-eq42
 returns-then-c-eq42 c = record {
-  same = λ t s. as_first Within.slash c.args.c star_sign c.args.left.now.unread c.args.right.now.unread c.if-c-eq42.true (same.block_begins (c.same_block.ensures.same t s));
-  shorter = c.same_block.ensures.shorter;
+  same = λ t s. as_first Within.slash c.args.c star_sign c.args.left.now.unread c.args.right.now.unread c.if-c-eq42.true (c.same_block_or_stars.ensures.same t s);
+  shorter = c.same_block_or_stars.ensures.shorter;
 }

@@ -5,6 +5,6 @@ use Rattle.json5_lexemes.proofs.same.same_line_end.Goals as goal
 
 pub returns : goal.returns
 returns c = record {
-  same = λ t s. c.pass_line_blanks.ensures.left c.args.right.now.unread (c.pass_line_blanks-2.ensures.right c.pass_line_blanks.new.text.unread (same.line_ends (c.if-not-ends_line.ensures refl) (c.ends_line-2.ensures t) s));
-  shorter = c.pass_line_blanks.ensures.shorter;
+  same = λ t m s. c.pass_line_blanks.ensures.line.left m c.args.right.now.unread (c.pass_line_blanks-2.ensures.line.right m c.pass_line_blanks.new.text.unread (same.line_ends (c.if-not-ends_line.ensures refl) (c.ends_line-2.ensures t) s));
+  shorter = c.pass_line_blanks.ensures.line.shorter;
 }

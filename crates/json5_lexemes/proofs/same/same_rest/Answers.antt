@@ -10,7 +10,7 @@ pub returns-then-is_sign : goal.returns-then-is_sign
 returns-then-is_sign c = let is : is_sign c.args.c ≡ true = sym c.if-is_sign.ensures in record { same = λ t s. same.sign is s; shorter = omega arith }
 
 pub returns-then-is_quote : goal.returns-then-is_quote
-returns-then-is_quote c = let is : is_quote c.args.c ≡ true = sym c.if-is_quote.ensures in record { same = λ t s. same.string_begins is (c.same_string.ensures.same t s); shorter = c.same_string.ensures.shorter }
+returns-then-is_quote c = let is : is_quote c.args.c ≡ true = sym c.if-is_quote.ensures in record { same = λ t s. same.string_begins is (c.same_string.ensures.same t c.args.moves s); shorter = c.same_string.ensures.shorter }
 
 pub returns-then-c-eq47 : goal.returns-then-c-eq47
 returns-then-c-eq47 c = record {
@@ -19,4 +19,4 @@ returns-then-c-eq47 c = record {
 }
 
 pub returns : goal.returns
-returns c = let is : is_word_part c.args.c ≡ true = sym c.if-not-is_word_part.ensures in record { same = λ t s. same.word_begins is (c.same_word.ensures.same t s); shorter = c.same_word.ensures.shorter }
+returns c = let is : is_word_part c.args.c ≡ true = sym c.if-not-is_word_part.ensures in record { same = λ t s. same.word_begins is (c.same_word.ensures.same t c.args.moves s); shorter = c.same_word.ensures.shorter }

@@ -8,7 +8,7 @@ use Rattle.json5_lexemes.proofs.same.same_string.Goals as goal
 pub returns-then-c-quote : goal.returns-then-c-quote
 returns-then-c-quote c =
     compared (Within.string c.args.quote) (Within.string c.args.quote) c.args.left.now c.args.right.now c.loop-c.left c.loop-c.right c.pass_both.new.left c.pass_both.new.right true c.loop-c.invariant
-    (λ t s. untaken (Within.string c.args.quote) c.in-Some.c c.loop-c.left c.loop-c.right c.pass_both.new.left c.pass_both.new.right (c.if-not-pass_both.ensures.taken refl)
+    (λ t m s. untaken (Within.string c.args.quote) c.in-Some.c c.loop-c.left c.loop-c.right c.pass_both.new.left c.pass_both.new.right (c.if-not-pass_both.ensures.taken refl)
     (as_first (Within.string c.args.quote) c.in-Some.c c.args.quote c.pass_both.new.left.unread c.pass_both.new.right.unread c.if-c-quote.true (same.string_ends s))) c.pass_both.ensures.shorter
 
 pub loop-c-preserved : goal.loop-c-preserved
@@ -19,4 +19,4 @@ loop-c-preserved c =
     let k : length left.unread ≤ length c.loop-c.left.unread = omega (arith, c.pass_both.ensures.shorter, c.pass_escaped.ensures.shorter) in
     followed_run w w c.args.left.now c.args.right.now left right c.pass_run.new.left c.pass_run.new.right (in_string c.args.quote c.requires)
     (followed w w w c.args.left.now c.args.right.now c.loop-c.left c.loop-c.right left right c.loop-c.invariant
-    (λ s. untaken w c.in-Some.c c.loop-c.left c.loop-c.right c.pass_both.new.left c.pass_both.new.right (c.if-not-pass_both.ensures.taken refl) (c.if-not-pass_escaped.ensures.same refl c.args.quote c.if-c-quote.false s)) k) c.pass_run.ensures
+    (λ m s. untaken w c.in-Some.c c.loop-c.left c.loop-c.right c.pass_both.new.left c.pass_both.new.right (c.if-not-pass_both.ensures.taken refl) (c.if-not-pass_escaped.ensures.same refl m c.args.quote c.if-c-quote.false s)) k) c.pass_run.ensures

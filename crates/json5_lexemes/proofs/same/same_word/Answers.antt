@@ -8,11 +8,11 @@ use Rattle.json5_lexemes.proofs.same.same_word.Goals as goal
 pub returns-then-ends_word : goal.returns-then-ends_word
 returns-then-ends_word c =
     compared Within.word Within.word c.args.left.now c.args.right.now c.loop-right.left c.loop-right.right c.loop-right.left c.loop-right.right c.ends_word-then-ends_word.result c.loop-right.invariant
-    (λ t s. same.word_ends (c.if-ends_word.ensures refl) (c.ends_word-then-ends_word.ensures t) s) (omega arith)
+    (λ t m s. same.word_ends (c.if-ends_word.ensures refl) (c.ends_word-then-ends_word.ensures t) s) (omega arith)
 
 pub loop-right-preserved : goal.loop-right-preserved
 loop-right-preserved c =
     let (d, part, taken, taken_right) = c.if-not-pass_word_part.ensures.taken refl in
     followed_run Within.word Within.word c.args.left.now c.args.right.now c.pass_word_part.new.left c.pass_word_part.new.right c.pass_run.new.left c.pass_run.new.right in_word
     (followed Within.word Within.word Within.word c.args.left.now c.args.right.now c.loop-right.left c.loop-right.right c.pass_word_part.new.left c.pass_word_part.new.right c.loop-right.invariant
-    (λ s. untaken Within.word d c.loop-right.left c.loop-right.right c.pass_word_part.new.left c.pass_word_part.new.right (taken, taken_right) (same.word_goes_on part s)) c.pass_word_part.ensures.shorter) c.pass_run.ensures
+    (λ m s. untaken Within.word d c.loop-right.left c.loop-right.right c.pass_word_part.new.left c.pass_word_part.new.right (taken, taken_right) (same.word_goes_on part s)) c.pass_word_part.ensures.shorter) c.pass_run.ensures
