@@ -2,6 +2,7 @@
 //!
 //! Plain code, of which no promise is made but that it is safe and ends: change it by the rows of reports, which judge it.
 
+use crate::left_advice::LeftAdvice;
 use crate::member_advice::MemberAdvice;
 use crate::number_advice::NumberAdvice;
 use crate::text_advice::TextAdvice;
@@ -35,10 +36,12 @@ pub(crate) enum Advice<'t> {
     DropClosing,
     DropColon,
     DropComma,
+    DropDash,
     DropCommentEnd,
     DropElement,
     DropEquals,
     DropQuotesOfBool,
+    DropQuote,
     DropQuotesOfNumber,
     DropUnseen(char),
     /// The line of the comment.
@@ -47,12 +50,12 @@ pub(crate) enum Advice<'t> {
     EscapeFourDigits,
     EscapeQuote(char),
     EscapeTwoDigits,
-    Fence,
     Foreign(&'static str),
     /// The digits, with commas or blanks between them.
     JoinDigits(&'t str),
     /// The byte.
     Latin1(u8),
+    Left(LeftAdvice),
     MergeMarks,
     /// The text that a quote is missing behind.
     MissingQuote(&'t str),
@@ -72,7 +75,6 @@ pub(crate) enum Advice<'t> {
     NoHexDigit(char),
     /// What to write in place of null.
     NoNull(&'static str),
-    NoNumber(&'t str),
     NoValue,
     NoVariables,
     Number(NumberAdvice<'t>),
@@ -178,6 +180,7 @@ impl fmt::Display for Advice<'_> {
                 let c = char::from(*byte);
                 write!(f, "0x{byte:02X} is {c} in Latin-1: save the file as UTF-8")
             }
+            Advice::Left(advice) => write!(f, "{advice}"),
             Advice::Member(advice) => write!(f, "{advice}"),
             Advice::Missing(part) => write!(f, "{part} is missing before this"),
             Advice::MissingQuote(text) => write!(f, "a quote is missing behind `{text}`"),
@@ -190,10 +193,6 @@ impl fmt::Display for Advice<'_> {
             Advice::NoHexDigit(c) => write!(f, "`{c}` is no hexadecimal digit"),
             Advice::NoNull(kind) => {
                 write!(f, "write {kind}, or leave it out if it may be missing")
-            }
-            Advice::NoNumber(word) => {
-                let text = Quoted(word);
-                write!(f, "this is no number, and a text needs quotes: {text}")
             }
             Advice::Number(advice) => write!(f, "{advice}"),
             Advice::OtherQuote(quote) => {
@@ -256,10 +255,12 @@ impl Advice<'_> {
             Advice::DropClosing => "a bracket too many: remove this",
             Advice::DropColon => "a colon too many",
             Advice::DropComma => "a comma too many",
-            Advice::DropCommentEnd => "no comment is open here: comments are not nested",
+            Advice::DropDash => "a member has no dash before it: remove this",
+            Advice::DropCommentEnd => "no comment is open here: remove this",
             Advice::DropElement => "an element too many",
             Advice::DropEquals => "a `=` too many",
             Advice::DropQuotesOfBool => "true and false are written without quotes",
+            Advice::DropQuote => "no text begins here: remove this quote",
             Advice::DropQuotesOfNumber => "numbers are written without quotes",
             Advice::EscapeBackslash => "there is no such escape; a backslash itself is `\\\\`",
             Advice::EscapeFourDigits => {
@@ -268,7 +269,6 @@ impl Advice<'_> {
             Advice::EscapeTwoDigits => {
                 "`\\x` takes two hexadecimal digits; a backslash itself is `\\\\`"
             }
-            Advice::Fence => "this line is of Markdown: remove it",
             Advice::MergeMarks =>
                 "this is a mark of a merge: keep one of its two sides, without the marks",
             Advice::Ndjson => "this looks like NDJSON: a JSON5 file holds one value",
@@ -277,7 +277,7 @@ impl Advice<'_> {
             Advice::NoVariables => "a file has no variables: write the value itself",
             Advice::OneAlone => "one key alone may stand in this object",
             Advice::OneQuote => "a text has one quote on each side",
-            Advice::OneValue => "a file holds one value, and this comes after it",
+            Advice::OneValue => "a file holds one value, and this comes after it: remove it",
             Advice::PlainQuotes => "quotes are ' or \"",
             Advice::QuoteTexts => "a text needs quotes",
             Advice::SaveAsUtf8 => "save the file as UTF-8",

@@ -9,6 +9,8 @@ use crate::lexemes::{Kind, Lexeme, lexeme_at};
 pub(crate) struct Around {
     /// The last token that begins before the offset.
     pub(crate) last: Option<Lexeme>,
+    /// The last colon that begins before the offset.
+    pub(crate) colon: Option<Lexeme>,
     /// The last comment after it that begins before the offset.
     pub(crate) comment: Option<Lexeme>,
     /// The lexeme that begins at the offset or after it.
@@ -20,6 +22,7 @@ impl Around {
     pub(crate) fn of(text: &str, offset: usize) -> Around {
         let mut around = Around {
             last: None,
+            colon: None,
             comment: None,
             next: lexeme_at(text, 0),
         };
@@ -35,6 +38,9 @@ impl Around {
             };
             if next.kind != Kind::Comment {
                 around.last = Some(next);
+            }
+            if next.kind == Kind::Colon {
+                around.colon = Some(next);
             }
             around.next = lexeme_at(text, next.end);
         }

@@ -5,10 +5,12 @@
 use crate::advice::{Advice, Elsewhere};
 use crate::fault::{Fault, Remark};
 use crate::hints::adjacent_advice;
+use crate::keys::several_remark;
 use crate::lexemes::{Kind, Lexeme, lexeme_at, line_len};
 use crate::member_advice::MemberAdvice;
 use crate::members::{member_key, member_keys};
 use crate::near::{name_in, near_name};
+use crate::number_advice::NumberAdvice;
 use crate::numbers::range_advice;
 use crate::path::{is_named, unquoted};
 use crate::unclosed::close_of;
@@ -38,7 +40,7 @@ pub(crate) fn custom_remark<'t>(
         return Ok(fault.remark(Advice::Value(ValueAdvice::WithValue(name))));
     }
     if fault.message == "invalid number" {
-        return Ok(bare_remark(fault, fault.offset, Advice::NoNumber("")));
+        return Ok(bare_remark(fault, fault.offset, Advice::Number(NumberAdvice::Part(""))));
     }
     let Some(name) = name_in(fault.message) else {
         return Ok(fault.plain());
@@ -51,6 +53,9 @@ pub(crate) fn custom_remark<'t>(
     }
     if fault.message.starts_with("unknown field `") {
         return unknown_remark(alloc, fault, name);
+    }
+    if let Some(remark) = named_remark(fault) {
+        return Ok(remark);
     }
     let near = near_name(alloc, name, fault.message)?.map(Advice::DidYouMean);
     Ok(Remark {
@@ -69,9 +74,9 @@ fn name_advice<'t>(fault: &Fault<'t>) -> Option<Advice<'t>> {
         Kind::Text if fault.message.starts_with("invalid type: unit variant") => {
             Some(Advice::NameHolds(unquoted(text)))
         }
-        Kind::Text if rest.starts_with(|c| is_json5_identifier(c) || matches!(c, '\'' | '"')) => {
-            adjacent_advice(fault, token)
-        }
+        Kind::Text
+            if rest.starts_with(|c| is_json5_identifier(c)
+                || matches!(c, '\'' | '"' | '/' | '.')) => { adjacent_advice(fault, token) }
         Kind::Word if rest.starts_with('\u{feff}') => Some(Advice::DropByteOrderMarkBehind),
         _ => None,
     }
@@ -86,12 +91,7 @@ fn names_advice<'t>(fault: &Fault<'t>) -> Option<Advice<'t>> {
     let is_name = message.starts_with("unknown variant ")
         || message.starts_with("expected string or object: ")
         || message.starts_with("missing key: ");
-    if is_name {
-        return named_value(fault)
-            .map(Advice::NameHolds)
-            .or(listed_names(fault));
-    }
-    None
+    if is_name { listed_names(fault) } else { None }
 }
 
 /// The names that may stand here: in quotes where a text stands, and else as the message has them.
@@ -101,26 +101,32 @@ fn listed_names<'t>(fault: &Fault<'t>) -> Option<Advice<'t>> {
         .rsplit_once(", expected ")
         .or(fault.message.split_once(": "))?;
     let is_value = match fault.token() {
-        Some(token) => token.kind == Kind::Text && !fault.is_key(token),
+        Some(token) => !fault.is_key(token),
         None => false,
     };
     let quote = if is_value { '\'' } else { '`' };
     Some(Advice::Value(ValueAdvice::Names(rest, quote)))
 }
 
-/// The known name that is the value of one that isn't, if other keys follow: `s3` of `{ kind: 's3', .. }`.
-fn named_value<'t>(fault: &Fault<'t>) -> Option<&'t str> {
+/// What is said of an object with the known name as a value, such as `s3` in `{ kind: 's3', .. }`.
+fn named_remark<'t>(fault: &Fault<'t>) -> Option<Remark<'t>> {
     let colon = lexeme_at(fault.text, fault.token()?.end);
     let value = lexeme_at(fault.text, colon.end);
-    let kinds = (
-        colon.kind,
-        value.kind,
-        lexeme_at(fault.text, value.end).kind,
-    );
-    if !matches!(kinds, (Kind::Colon, Kind::Text, Kind::Comma)) {
+    if colon.kind != Kind::Colon || value.kind != Kind::Text {
         return None;
     }
-    let name = unquoted(value.of(fault.text));
+    let name = known_name(fault, unquoted(value.of(fault.text)))?;
+    let open = lexeme_at(fault.text, fault.object_start());
+    let close = close_of(fault.text, open);
+    let has_more = lexeme_at(fault.text, value.end).start != close.start;
+    Some(Remark {
+        end: close.end,
+        ..Remark::of(open, Advice::Value(ValueAdvice::Name(name, has_more)))
+    })
+}
+
+/// The name, if the message has it.
+fn known_name<'t>(fault: &Fault<'t>, name: &'t str) -> Option<&'t str> {
     for known in fault.message.split('`') {
         if known == name {
             return Some(name);
@@ -201,6 +207,9 @@ fn unknown_remark<'t>(
     if let Some(advice) = torn_advice(fault, key) {
         return Ok(Remark::of(key, advice));
     }
+    if let Some(remark) = several_remark(fault) {
+        return Ok(remark);
+    }
     let advice = match near_name(alloc, word, fault.message)? {
         Some(near) if !word.contains('.') => Advice::DidYouMean(near),
         _ => stray_advice(alloc, fault, key, name)?,
@@ -216,7 +225,7 @@ fn torn_advice<'t>(fault: &Fault<'t>, key: Lexeme) -> Option<Advice<'t>> {
     }
     let (name, value) = unquoted(key.of(fault.text)).split_once(':')?;
     Some(match value.trim() {
-        "" if behind.start == key.end => Advice::MissingQuote(name),
+        _ if behind.start == key.end => Advice::MissingQuote(name),
         "" => Advice::Member(MemberAdvice::ColonBehindQuote(name)),
         value => Advice::Member(MemberAdvice::QuotedTogether(name, value)),
     })

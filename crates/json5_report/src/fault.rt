@@ -82,11 +82,11 @@ impl<'t> Fault<'t> {
         None
     }
 
-    /// Whether a colon follows the token, and no slash or backslash right after it: that is an address or a path.
+    /// Whether a colon follows the token, and no slash, backslash or colon right after it: that is an address or a path.
     pub(crate) fn is_key(&self, token: Lexeme) -> bool {
         let colon = lexeme_at(self.text, token.end);
         let next = self.text.as_bytes().get(colon.end).copied();
-        colon.kind == Kind::Colon && !matches!(next, Some(b'/' | b'\\'))
+        colon.kind == Kind::Colon && !matches!(next, Some(b'/' | b'\\' | b':'))
     }
 
     /// The key of a member that is right in an array, if the fault is at the key or at the colon after it.

@@ -4,6 +4,8 @@
 
 use crate::advice::Advice;
 use crate::fault::{Fault, Remark};
+use crate::left_advice::LeftAdvice;
+use crate::leftovers::{left_remark, prompt_remark};
 use crate::lexemes::{first_token, line_len};
 use crate::place::line_start;
 use json5_tokens::char::{is_json5_identifier, is_json5_whitespace};
@@ -31,10 +33,16 @@ pub(crate) fn foreign_remark<'t>(fault: &Fault<'t>) -> Option<Remark<'t>> {
     if let Some(remark) = mark_remark(fault) {
         return Some(remark);
     }
-    if first_token(fault.text).of(fault.text) == "{" {
-        return None;
+    if let Some(remark) = left_remark(fault) {
+        return Some(remark);
     }
-    Some(fault.remark(Advice::Foreign(kind_of(fault.text)?)))
+    if first_token(fault.text).of(fault.text) == "{" {
+        return prompt_remark(fault);
+    }
+    match kind_of(fault.text) {
+        Some(kind) => Some(fault.remark(Advice::Foreign(kind))),
+        None => prompt_remark(fault),
+    }
 }
 
 /// What is said of a line that a merge left, or that begins as one of a diff.
@@ -51,12 +59,8 @@ fn mark_remark<'t>(fault: &Fault<'t>) -> Option<Remark<'t>> {
             });
         }
     }
-    if line.starts_with("```") {
-        return Some(Remark {
-            start,
-            end: start.saturating_add(line_len(line)),
-            advice: Some(Advice::Fence),
-        });
+    if is_fence(line) {
+        return Some(fence_remark(fault, start));
     }
     let rest = line.strip_prefix(['+', '-']).unwrap_or("-");
     let is_key = matches!(fault.due, Next::Key) && !rest.starts_with('-');
@@ -70,6 +74,24 @@ fn mark_remark<'t>(fault: &Fault<'t>) -> Option<Remark<'t>> {
         });
     }
     None
+}
+
+fn is_fence(line: &str) -> bool {
+    line.starts_with("```") || line.starts_with("~~~")
+}
+
+/// What is said of a fence that begins at the offset, and of the one that closes it.
+fn fence_remark<'t>(fault: &Fault<'t>, start: usize) -> Remark<'t> {
+    let rest = fault.text.get(start..).unwrap_or("");
+    let end = start.saturating_add(line_len(rest));
+    let behind = fault.text.get(end..).unwrap_or("");
+    let other = behind.find("\n```").or(behind.find("\n~~~"));
+    let line = other.map(|index| fault.line_of(end.saturating_add(index).saturating_add(1)));
+    Remark {
+        start,
+        end,
+        advice: Some(Advice::Left(LeftAdvice::Fence(line))),
+    }
 }
 
 /// The kind of a file that isn't JSON5, by its first two lines.
@@ -86,11 +108,14 @@ fn kind_of(text: &str) -> Option<&'static str> {
     if first.starts_with("export ") && first.contains('=') {
         return Some("a shell script");
     }
-    if first.ends_with(" {") && !first.contains([':', '=', '(', ',']) {
+    if first.ends_with(" {") && !first.contains([':', '=', '(', ',', '>']) {
         return Some("a file of nginx or HCL");
     }
     let is_section = first.starts_with('[') && first.ends_with(']') && is_word_before(second, '=');
-    if is_section || is_word_before(first, '=') && !second.is_empty() {
+    let is_line = is_word_before(first, '=')
+        && !second.is_empty()
+        && !first.ends_with(['{', '[', '=']);
+    if is_section || is_line {
         let is_toml = text.contains("[[") || text.contains("= \"") || text.contains("= [");
         return Some(if is_toml { "TOML" } else { "INI" });
     }

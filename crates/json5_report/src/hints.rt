@@ -4,30 +4,36 @@
 
 use crate::advice::Advice;
 use crate::around::Around;
+use crate::comments::nested_remark;
 use crate::custom::custom_remark;
 use crate::fault::{Fault, Remark};
 use crate::foreign::foreign_remark;
 use crate::found::Found;
 use crate::keys::{colon_remark, key_remark};
 use crate::lexemes::{Kind, Lexeme, first_token, lexeme_at, line_len};
+use crate::lookalikes::{is_other_quote, plain_of};
 use crate::member_advice::MemberAdvice;
-use crate::numbers::{number_remark, parts_remark, unit_advice};
+use crate::number_advice::NumberAdvice;
+use crate::numbers::{number_remark, parts_remark, value_of};
 use crate::path::unquoted;
 use crate::place::line_start;
 use crate::text_advice::TextAdvice;
 use crate::texts::bare_text;
 use crate::unclosed::{Unclosed, closed_after, left_open};
 use crate::value_advice::ValueAdvice;
-use crate::values::{bare_remark, member_advice, value_remark};
+use crate::values::{bare_remark, is_choice, member_advice, value_remark};
 use crate::widths::is_seen;
 use json5_read::brackets::BracketKind;
-use json5_tokens::char::{is_json5_line_terminator, is_json5_whitespace};
+use json5_tokens::char::{is_json5_identifier, is_json5_line_terminator, is_json5_whitespace};
 use json5_types::ErrorCode;
 use json5_walk::next::Next;
 use std::alloc::{AllocError, Global};
 
 /// The part at fault, and a hint if one is certain.
 pub(crate) fn remark_of<'t>(alloc: Global, fault: &Fault<'t>) -> Result<Remark<'t>, AllocError> {
+    if let Some(remark) = nested_remark(fault).or(replaced_remark(fault)) {
+        return Ok(remark);
+    }
     if let Some(remark) = foreign_remark(fault) {
         return Ok(remark);
     }
@@ -134,6 +140,9 @@ fn code_remark<'t>(fault: &Fault<'t>, code: ErrorCode) -> Remark<'t> {
     if let Some(advice) = sign_advice(fault) {
         return fault.remark(advice);
     }
+    if let Some(remark) = quotes_remark(fault) {
+        return remark;
+    }
     match code {
         ErrorCode::ExpectedColon => colon_remark(fault),
         ErrorCode::ExpectedComma => comma_remark(fault),
@@ -143,6 +152,18 @@ fn code_remark<'t>(fault: &Fault<'t>, code: ErrorCode) -> Remark<'t> {
         ErrorCode::InvalidEscapeSequence => escape_remark(fault),
         _ => value_remark(fault, code),
     }
+}
+
+/// What is said of a sign or a number whose characters only look like those of one.
+fn replaced_remark<'t>(fault: &Fault<'t>) -> Option<Remark<'t>> {
+    let token = fault.token().filter(|token| token.kind == Kind::Word)?;
+    let text = token.of(fault.text);
+    let first = plain_of(text.chars().next()?)?;
+    let is_sign = matches!(
+        first,
+        ',' | ':' | '=' | '{' | '}' | '[' | ']' | '-' | '0'..='9'
+    );
+    is_sign.then_some(Remark::of(token, Advice::Text(TextAdvice::Replaced(text))))
 }
 
 /// What is said of a character that can't be seen.
@@ -169,14 +190,6 @@ fn sign_advice<'t>(fault: &Fault<'t>) -> Option<Advice<'t>> {
     if fault.gap().ends_with('\u{feff}') {
         return Some(Advice::DropByteOrderMark);
     }
-    if fault
-        .text
-        .get(fault.offset..)
-        .unwrap_or("")
-        .starts_with("{{")
-    {
-        return Some(Advice::NoVariables);
-    }
     if token.kind != Kind::Word {
         return None;
     }
@@ -184,11 +197,7 @@ fn sign_advice<'t>(fault: &Fault<'t>) -> Option<Advice<'t>> {
         return Some(Advice::CommentSign);
     }
     match text.chars().next() {
-        Some(c) if is_other_quote(c) => Some(quotes_advice(fault, c)),
-        Some('\u{ff0c}' | '\u{ff1b}') => Some(Advice::UseComma),
-        Some('\u{ff1a}') => Some(Advice::UseColon),
-        Some('\u{2212}' | '\u{2013}') => Some(Advice::Write("a minus as -")),
-        Some('*') if text.starts_with("*/") => Some(Advice::DropCommentEnd),
+        Some('*') if text == "*/" => Some(Advice::DropCommentEnd),
         Some(')') => Some(paren_advice(fault)),
         _ => None,
     }
@@ -251,15 +260,15 @@ fn comma_remark<'t>(fault: &Fault<'t>) -> Remark<'t> {
         Found::Character(';') => fault.remark(Advice::UseComma),
         Found::Character(':') if fault.member().is_some() => fault.advised(member_advice(fault)),
         Found::Character(':') if fault.is_after(Kind::Word) => match fault.around.last {
-            Some(last) => bare_remark(fault, last.start, Advice::QuoteText("")),
+            Some(last) => word_remark(fault, last),
             None => fault.plain(),
         },
-        Found::Character('*') => product_remark(fault),
         Found::Character('+' | '.') if joined_remark(fault, 1).is_some() => {
             joined_remark(fault, 1).unwrap_or(fault.plain())
         }
-        Found::Character('+' | '-' | '|' | '&' | '?' | '<' | '>' | '.' | '(') => {
-            fault.remark(Advice::NoExpressions)
+        Found::Character('(') if !fault.gap().is_empty() => note_remark(fault),
+        Found::Character('*' | '^' | '+' | '-' | '|' | '&' | '?' | '<' | '>' | '.' | '(') => {
+            operator_remark(fault)
         }
         Found::Character(_) => fault.plain(),
         _ => entry_remark(fault),
@@ -288,15 +297,33 @@ fn joined_remark<'t>(fault: &Fault<'t>, behind: usize) -> Option<Remark<'t>> {
     })
 }
 
-/// What is said of a number that another one is to be multiplied with.
-fn product_remark<'t>(fault: &Fault<'t>) -> Remark<'t> {
-    let last = match fault.around.last {
-        Some(last) if last.kind == Kind::Word => last,
-        _ => return fault.remark(Advice::NoExpressions),
+/// What is said of words in parentheses behind a value.
+fn note_remark<'t>(fault: &Fault<'t>) -> Remark<'t> {
+    let rest = fault.text.get(fault.offset..).unwrap_or("");
+    let line = rest.get(..line_len(rest)).unwrap_or("");
+    let note = line.strip_prefix('(').unwrap_or("").split_once(')');
+    let Some((note, _)) = note else {
+        return fault.remark(Advice::NoExpressions);
     };
-    match bare_text(fault, last.start) {
-        Some(part) => Remark::of(part, unit_advice(part.of(fault.text))),
-        None => fault.remark(Advice::NoExpressions),
+    Remark {
+        start: fault.offset,
+        end: fault.offset.saturating_add(note.len()).saturating_add(2),
+        advice: Some(Advice::Text(TextAdvice::Note(note))),
+    }
+}
+
+/// What is said of a value that goes on as an expression.
+fn operator_remark<'t>(fault: &Fault<'t>) -> Remark<'t> {
+    let plain = fault.remark(Advice::NoExpressions);
+    let Some(last) = fault.around.last else {
+        return plain;
+    };
+    let part = bare_text(fault, last.start).unwrap_or(last);
+    let text = part.of(fault.text);
+    match value_of(text) {
+        Some(number) => Remark::of(part, Advice::Number(NumberAdvice::Product(number))),
+        None if is_choice(text) => Remark::of(part, Advice::Value(ValueAdvice::Choice(text))),
+        None => plain,
     }
 }
 
@@ -306,8 +333,17 @@ fn entry_remark<'t>(fault: &Fault<'t>) -> Remark<'t> {
         return fault.plain();
     };
     let is_apart = fault.is_key(token) || fault.gap().contains(is_json5_line_terminator);
+    if is_stray_quote(fault, token) {
+        return Remark {
+            end: fault.offset.saturating_add(1),
+            ..fault.remark(Advice::DropQuote)
+        };
+    }
     if last.kind == Kind::Word && matches!(fault.found, Found::Name(_)) && !is_apart {
         return word_remark(fault, last);
+    }
+    if !is_apart && fault.array_line().is_some() && matches!(token.of(fault.text), "and" | "or") {
+        return fault.remark(Advice::UseComma);
     }
     if is_apart || fault.array_line().is_some() {
         return fault.remark(missing_comma(fault, last));
@@ -316,6 +352,15 @@ fn entry_remark<'t>(fault: &Fault<'t>) -> Remark<'t> {
         Some(remark) => remark,
         None => fault.remark(Advice::Missing("a comma, or a comma and a key,")),
     }
+}
+
+/// Whether the token is a quote right behind a value, and none closes it.
+fn is_stray_quote(fault: &Fault<'_>, token: Lexeme) -> bool {
+    let text = token.of(fault.text);
+    let inner = text.get(1..).unwrap_or("");
+    let is_sign = inner.trim_start().starts_with([',', '}', ']']);
+    let is_open = is_sign || !inner.ends_with(['\'', '"']);
+    token.kind == Kind::Text && is_open && fault.gap().is_empty()
 }
 
 /// What is said of a comma that is missing: where it is due, if that is on another line.
@@ -338,11 +383,44 @@ pub(crate) fn adjacent_advice<'t>(fault: &Fault<'t>, string: Lexeme) -> Option<A
     let end = text.find(|c| c == ',' || c == other).or(text.find(": "));
     match end {
         Some(end) => {
-            let inner = text.get(1..end)?.trim_end_matches([']', '}', ' ']);
-            Some(Advice::MissingQuote(inner))
+            let inner = text.get(1..end)?;
+            Some(Advice::MissingQuote(if text.get(end..)?.starts_with(other) {
+                inner
+            } else {
+                inner.trim_end_matches([']', '}', ' '])
+            }))
         }
         None => Some(inside_advice(fault, string.start, quote)),
     }
+}
+
+/// What is said of a string whose backslash is before its quote, or a line end, so that it goes on.
+pub(crate) fn escaped_remark<'t>(fault: &Fault<'t>, string: Lexeme) -> Option<Remark<'t>> {
+    let inner = escaped_end(string.of(fault.text))?;
+    Some(Remark {
+        end: string.start.saturating_add(inner.len()).saturating_add(2),
+        ..Remark::of(string, Advice::Text(TextAdvice::Backslash(inner)))
+    })
+}
+
+/// The text up to a backslash that its quote is behind, or a line end, so that it goes on.
+fn escaped_end(string: &str) -> Option<&str> {
+    for (index, c) in string.char_indices() {
+        let rest = string.get(index..).unwrap_or("");
+        let behind = rest.get(2..).unwrap_or("").trim_start();
+        let is_end = rest.starts_with("\\\n") || rest.starts_with("\\\r") || is_escaped_quote(rest);
+        let is_apart = behind.is_empty()
+            || behind.starts_with([',', '}', ']'])
+            || rest.starts_with("\\\n");
+        if c == '\\' && is_end && is_apart {
+            return string.get(1..index.saturating_add(1));
+        }
+    }
+    None
+}
+
+fn is_escaped_quote(rest: &str) -> bool {
+    rest.starts_with("\\'") || rest.starts_with("\\\"")
 }
 
 /// What is said of a text with several quotes on each side.
@@ -376,21 +454,40 @@ fn inside_advice<'t>(fault: &Fault<'t>, start: usize, quote: char) -> Advice<'t>
 }
 
 /// What is said of quotes that are none of JSON5.
-fn quotes_advice<'t>(fault: &Fault<'t>, quote: char) -> Advice<'t> {
-    let start = fault.offset.saturating_add(quote.len_utf8());
+fn quotes_remark<'t>(fault: &Fault<'t>) -> Option<Remark<'t>> {
+    let token = fault.token().filter(|token| token.kind == Kind::Word)?;
+    let quote = token
+        .of(fault.text)
+        .chars()
+        .next()
+        .filter(|c| is_other_quote(*c))?;
+    let start = token.start.saturating_add(quote.len_utf8());
     let rest = fault.text.get(start..).unwrap_or("");
     let line = rest.get(..line_len(rest)).unwrap_or("");
-    match line.split_once(is_other_quote) {
-        Some((text, _)) if !text.contains(['\'', '"', ',']) => Advice::Text(TextAdvice::Plain(
-            text,
-        )),
-        _ => Advice::PlainQuotes,
+    let open = line.trim_end_matches([',', ' ', '}', ']']);
+    let end = line.find(|c| is_other_quote(c) || matches!(c, '\'' | '"'));
+    let text = line.get(..end.unwrap_or(open.len())).unwrap_or("");
+    if text.is_empty() || end.is_none() && text.contains([',', ':']) {
+        return Some(fault.remark(Advice::PlainQuotes));
     }
+    let behind = line.get(text.len()..).unwrap_or("").chars().next();
+    let closing = match (end, behind) {
+        (Some(_), Some(quote)) => quote.len_utf8(),
+        _ => 0,
+    };
+    Some(Remark {
+        end: start.saturating_add(text.len()).saturating_add(closing),
+        ..Remark::of(token, plain_advice(fault, text))
+    })
 }
 
-/// Whether the character is a quote that JSON5 doesn't have.
-fn is_other_quote(c: char) -> bool {
-    matches!(c, '\u{2018}'..='\u{201f}' | '«' | '»' | '`' | '´')
+/// What is said of a text in quotes that are none of JSON5.
+fn plain_advice<'t>(fault: &Fault<'t>, text: &'t str) -> Advice<'t> {
+    if fault.code == Some(ErrorCode::ExpectedNumber) && text.parse::<f64>().is_ok() {
+        Advice::Number(NumberAdvice::Alone(text))
+    } else {
+        Advice::Text(TextAdvice::Plain(text))
+    }
 }
 
 /// The same, where the comma after the string is due.
@@ -401,7 +498,7 @@ fn adjacent_remark<'t>(fault: &Fault<'t>) -> Option<Remark<'t>> {
     }
     match fault.found {
         Found::Character(',' | ':' | ';' | '+' | '}' | ']' | '.') => None,
-        _ => Some(fault.remark(adjacent_advice(fault, last)?)),
+        _ => escaped_remark(fault, last).or(Some(fault.remark(adjacent_advice(fault, last)?))),
     }
 }
 
@@ -482,8 +579,15 @@ fn quote_remark<'t>(fault: &Fault<'t>) -> Remark<'t> {
     if front.ends_with("''") || front.ends_with("\"\"") {
         return Remark::of(last, Advice::OneQuote);
     }
-    if let Some(quote) = other_quote(last.of(fault.text)) {
+    let text = last.of(fault.text);
+    if let Some(remark) = escaped_remark(fault, last) {
+        return remark;
+    }
+    if let Some(quote) = other_quote(text) {
         return Remark::of(last, Advice::OtherQuote(quote));
+    }
+    if let Some((name, _)) = key_in(fault, text) {
+        return Remark::of(last, Advice::MissingQuote(name));
     }
     let next = fault.text.get(fault.offset..).unwrap_or("").trim_start();
     let (begun, _) = next.split_once(['\'', '"']).unwrap_or(("", ""));
@@ -494,12 +598,26 @@ fn quote_remark<'t>(fault: &Fault<'t>) -> Remark<'t> {
     Remark::of(last, Advice::Value(ValueAdvice::EndOrGoOn))
 }
 
+/// The key that the string begins with, and what is behind its colon, if a key is due.
+fn key_in<'t>(fault: &Fault<'t>, string: &'t str) -> Option<(&'t str, &'t str)> {
+    if !matches!(fault.due, Next::Key) {
+        return None;
+    }
+    string.get(1..)?.split_once(": ")
+}
+
 /// What is said of a string that is to be closed before the signs at the end of its line.
 fn close_advice<'t>(text: &'t str) -> Advice<'t> {
     let inner = text
         .get(1..)
         .unwrap_or("")
         .trim_end_matches([',', ' ', '}', ']']);
+    if let Some(value) = value_before_key(inner) {
+        return Advice::MissingQuote(value);
+    }
+    if let Some(value) = inner.strip_suffix(is_other_quote) {
+        return Advice::Text(TextAdvice::Plain(value));
+    }
     if inner.is_empty()
         || inner.contains([',', '\\'])
         || inner.contains(": ")
@@ -508,6 +626,14 @@ fn close_advice<'t>(text: &'t str) -> Advice<'t> {
         return Advice::CloseQuote;
     }
     Advice::Text(TextAdvice::Close(inner))
+}
+
+/// The text before a comma that a key with its colon follows.
+fn value_before_key(text: &str) -> Option<&str> {
+    let (value, rest) = text.split_once(", ")?;
+    let (key, _) = rest.split_once(": ")?;
+    let is_key = !key.contains(|c| !is_json5_identifier(c));
+    (is_key && !value.is_empty()).then_some(value)
 }
 
 /// The quote that a string of one line begins with, if it ends with the other one.

@@ -8,26 +8,31 @@ use crate::found::Found;
 use crate::lexemes::{Kind, Lexeme, lexeme_at};
 use crate::member_advice::MemberAdvice;
 use crate::numbers::parts_remark;
+use crate::path::unquoted;
+use crate::texts::values_at;
 use crate::unclosed::closed_after;
+use crate::value_advice::ValueAdvice;
 use json5_tokens::char::{is_json5_identifier, is_json5_line_terminator};
+use json5_walk::next::Next;
 
 /// What is said where a key is expected: a word before a colon needs quotes, and a comma is too many.
 pub(crate) fn key_remark<'t>(fault: &Fault<'t>) -> Remark<'t> {
     let Some(token) = fault.token() else {
         return fault.plain();
     };
-    if token.kind == Kind::Word && fault.is_key(token) {
+    if token.kind == Kind::Word && fault.is_key(token) && !token.of(fault.text).starts_with("<<") {
         return Remark::of(token, Advice::QuoteKey(token.of(fault.text)));
     }
-    if let Some(remark) = parts_remark(fault) {
+    if let Some(remark) = parts_remark(fault).or(several_remark(fault)) {
         return remark;
     }
     match fault.found {
         Found::Character(',') => fault.remark(Advice::DropComma),
         Found::Character('(') => fault.remark(Advice::CommentSign),
-        Found::Character('.' | '@') => fault.remark(Advice::Write(
+        Found::Character('.' | '@' | '…' | '<') => fault.remark(Advice::Write(
             "the fields themselves: a file includes no other",
         )),
+        Found::Character('-') => fault.remark(Advice::DropDash),
         Found::Character(':') => fault.remark(Advice::DropColon),
         Found::Character('%') => fault.remark(Advice::CommentSign),
         Found::Object if fault.is_after(Kind::Open) && fault.gap().is_empty() => {
@@ -53,14 +58,38 @@ pub(crate) fn key_remark<'t>(fault: &Fault<'t>) -> Remark<'t> {
     }
 }
 
-/// What is said of a key in brackets.
+/// What is said of values behind one key, if the fault is at or behind one that isn't the first.
+pub(crate) fn several_remark<'t>(fault: &Fault<'t>) -> Option<Remark<'t>> {
+    let is_value = match fault.due {
+        Next::Key => matches!(fault.found, Found::Number | Found::String),
+        Next::Colon => fault.is_after(Kind::Text),
+        _ => false,
+    };
+    let colon = fault.around.colon?;
+    let run = values_at(fault, lexeme_at(fault.text, colon.end).start);
+    let text = run.of(fault.text);
+    let is_within = run.start < fault.offset && fault.offset <= run.end;
+    if !is_value || !is_within || !text.contains(',') {
+        return None;
+    }
+    Some(Remark::of(run, Advice::Value(ValueAdvice::Several(text))))
+}
+
+/// What is said of a key in brackets, or of a section as other files have it.
 fn bracketed_key<'t>(fault: &Fault<'t>, open: Lexeme) -> Option<Advice<'t>> {
     let key = lexeme_at(fault.text, open.end);
     let close = lexeme_at(fault.text, key.end);
-    if close.kind != Kind::Close || !fault.is_key(close) {
+    let behind = fault.text.get(close.end..).unwrap_or("");
+    if close.kind != Kind::Close || !matches!(key.kind, Kind::Word | Kind::Text) {
         return None;
     }
-    Some(Advice::Member(MemberAdvice::DropBrackets(key.of(fault.text))))
+    let name = key.of(fault.text);
+    if fault.is_key(close) || behind.trim_start().starts_with('=') {
+        return Some(Advice::Member(MemberAdvice::DropBrackets(name)));
+    }
+    behind
+        .starts_with(is_json5_line_terminator)
+        .then_some(Advice::Member(MemberAdvice::Section(name)))
 }
 
 /// What is said where a colon is expected.
@@ -71,6 +100,9 @@ pub(crate) fn colon_remark<'t>(fault: &Fault<'t>) -> Remark<'t> {
     if token.holds(fault.offset) {
         return dashed_remark(fault, token);
     }
+    if let Some(remark) = torn_remark(fault, last).or(several_remark(fault)) {
+        return remark;
+    }
     let key = last.of(fault.text);
     let is_apart = fault.gap().contains(is_json5_line_terminator);
     let next = lexeme_at(fault.text, token.end);
@@ -79,7 +111,7 @@ pub(crate) fn colon_remark<'t>(fault: &Fault<'t>) -> Remark<'t> {
         && !fault.is_key(next)
         && !behind.contains(is_json5_line_terminator);
     match fault.found {
-        Found::Character('=' | '\u{ff1a}') => fault.remark(sign_advice(fault, key, next)),
+        Found::Character('=') => fault.remark(sign_advice(fault, key, next)),
         Found::Character('-') if token.of(fault.text) == "->" => {
             fault.remark(sign_advice(fault, key, next))
         }
@@ -112,6 +144,13 @@ pub(crate) fn colon_remark<'t>(fault: &Fault<'t>) -> Remark<'t> {
     }
 }
 
+/// What is said of a key that goes on up to the next quote, since its own is missing.
+fn torn_remark<'t>(fault: &Fault<'t>, key: Lexeme) -> Option<Remark<'t>> {
+    let (name, _) = unquoted(key.of(fault.text)).split_once(':')?;
+    let is_torn = key.kind == Kind::Text && key.end == fault.offset;
+    is_torn.then_some(Remark::of(key, Advice::MissingQuote(name)))
+}
+
 /// What is said of another sign in place of the colon after a key.
 fn sign_advice<'t>(fault: &Fault<'t>, key: &'t str, value: Lexeme) -> Advice<'t> {
     let shown = match value.kind {
@@ -131,6 +170,9 @@ fn dashed_remark<'t>(fault: &Fault<'t>, word: Lexeme) -> Remark<'t> {
         match text.split_once('.') {
             Some((section, name)) if !name.contains(|c| !is_json5_identifier(c)) => {
                 Advice::Nest(section, name)
+            }
+            _ if text.ends_with(['?', '!', '*']) => {
+                Advice::Member(MemberAdvice::KeyAlone(text.trim_end_matches(['?', '!', '*'])))
             }
             _ => Advice::QuoteKey(text),
         },

@@ -2,6 +2,7 @@
 //!
 //! Plain code, of which no promise is made but that it is safe and ends: change it by the rows of reports, which judge it.
 
+use crate::lookalikes::is_other_sign;
 use json5_tokens::char::{is_json5_line_terminator, is_json5_whitespace};
 
 /// What kind of lexeme it is.
@@ -80,7 +81,7 @@ fn kind_and_len(text: &str) -> (Kind, usize) {
         Some('[' | '{') => (Kind::Open, 1),
         Some(']' | '}') => (Kind::Close, 1),
         Some(':') => (Kind::Colon, 1),
-        Some(c @ ('\u{ff0c}' | '\u{ff1a}' | '\u{ff1b}')) => (Kind::Word, c.len_utf8()),
+        Some(c) if is_other_sign(c) => (Kind::Word, c.len_utf8()),
         Some(',') => (Kind::Comma, 1),
         Some(quote @ ('"' | '\'')) => (Kind::Text, string_len(text, quote)),
         Some('/') if text.starts_with("//") => (Kind::Comment, line_len(text)),
@@ -146,8 +147,7 @@ fn word_len(text: &str) -> usize {
 fn ends_word(c: char, rest: &str) -> bool {
     match c {
         '[' | ']' | '{' | '}' | ':' | ',' | '"' | '\'' | ';' | '=' | '#' => true,
-        '\u{ff0c}' | '\u{ff1a}' | '\u{ff1b}' => true,
         '/' => rest.starts_with("//") || rest.starts_with("/*"),
-        _ => is_json5_whitespace(c),
+        _ => is_json5_whitespace(c) || is_other_sign(c),
     }
 }

@@ -6,6 +6,7 @@
 mod advice;
 mod around;
 mod bytes;
+mod comments;
 mod course;
 mod custom;
 mod excerpt;
@@ -16,7 +17,10 @@ mod foreign;
 mod found;
 mod hints;
 mod keys;
+mod left_advice;
+mod leftovers;
 mod lexemes;
+mod lookalikes;
 mod member_advice;
 mod members;
 mod message;

@@ -25,7 +25,15 @@ pub(crate) enum MemberAdvice<'t> {
     DropBrackets(&'t str),
     /// The key and the value.
     MissingColon(&'t str, &'t str),
+    /// The key, without the signs behind it.
+    KeyAlone(&'t str),
+    /// The line on which a comment ends that another one is in.
+    Nested(u128),
     NoColon,
+    /// What stands before the bracket, and the bracket.
+    Before(&'t str, &'t str),
+    /// The name of the section.
+    Section(&'t str),
     /// The key, and the value that has quotes together with it.
     QuotedTogether(&'t str, &'t str),
 }
@@ -66,6 +74,15 @@ impl fmt::Display for MemberAdvice<'_> {
             MemberAdvice::MissingColon(key, value) => {
                 write!(f, "a colon is missing before this: {key}: {value}")
             }
+            MemberAdvice::Before(word, bracket) => {
+                write!(f, "nothing stands before the `{bracket}`: remove `{word}`")
+            }
+            MemberAdvice::KeyAlone(key) => write!(f, "write the key alone: {key}"),
+            MemberAdvice::Nested(line) => write!(
+                f,
+                "comments are not nested: the first `*/` of line {line} ended this one; remove that"
+            ),
+            MemberAdvice::Section(name) => write!(f, "a section is written as {name}: {{ .. }}"),
             MemberAdvice::NoColon => {
                 f.write_str("a key has a colon and a value; a comment begins with `//`")
             }

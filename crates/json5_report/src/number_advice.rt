@@ -12,6 +12,12 @@ pub(crate) enum NumberAdvice<'t> {
     Alone(&'t str),
     /// The text and the number that it says in another base.
     Based(&'t str, u128),
+    /// The text in place of a number, which has one or two of them.
+    Due(&'t str),
+    /// The number with letters in place of digits.
+    Letters(&'t str),
+    /// The same in place of a number or a text.
+    Part(&'t str),
     /// The expression and its value.
     Product(u128),
     /// The number without its zeros, and what it is if it is octal.
@@ -35,6 +41,17 @@ impl fmt::Display for NumberAdvice<'_> {
         match self {
             NumberAdvice::Alone(number) => write!(f, "write the number alone: {number}"),
             NumberAdvice::Based(word, number) => write!(f, "{word} is written as {number} here"),
+            NumberAdvice::Due(text) => write!(f, "a number is due here: write {}", Likely(text)),
+            NumberAdvice::Letters(word) => {
+                write!(f, "{}: write {}", letters_of(word), Digits(word))
+            }
+            NumberAdvice::Part(text) => {
+                let (number, text) = (Likely(text), Quoted(text));
+                write!(
+                    f,
+                    "this is no number: write {number}, or {text} where a text may stand"
+                )
+            }
             NumberAdvice::Product(number) => write!(f, "a file has no expressions: write {number}"),
             NumberAdvice::Octal(number, octal) => write!(
                 f,
@@ -45,7 +62,7 @@ impl fmt::Display for NumberAdvice<'_> {
                 let (alone, text) = (WithoutUnit(word), Quoted(word));
                 write!(
                     f,
-                    "a number has no unit: write {alone}; a text needs quotes: {text}"
+                    "a number has no unit: write {alone}, or {text} where a text may stand"
                 )
             }
             NumberAdvice::UnitInQuotes(word) => {
@@ -94,6 +111,90 @@ pub(crate) fn number_and_unit(word: &str) -> (&str, &str) {
     let rest = rest.trim_start_matches(|c: char| c.is_ascii_digit() || c == '.');
     let len = word.len().saturating_sub(rest.len());
     (word.get(..len).unwrap_or(""), rest.trim_start())
+}
+
+/// What a text that is due to be a number has of numbers.
+#[derive(Clone, Copy)]
+struct Likely<'t>(&'t str);
+
+impl fmt::Display for Likely<'_> {
+    fn fmt<W: fmt::Write>(&self, f: &mut fmt::Formatter<W>) -> fmt::Result {
+        let Likely(text) = self;
+        match numbers_in(text) {
+            None => f.write_str("a number"),
+            Some((number, "") | ("", number)) => f.write_str(number),
+            Some((first, second)) if first == second => f.write_str(first),
+            Some((first, second)) => write!(f, "{first} or {second}"),
+        }
+    }
+}
+
+/// What stands between the numbers of a range, a port and an address, and so on.
+const BETWEEN: [char; 7] = [':', '-', '/', '|', '.', ' ', '\u{2013}'];
+
+/// The numbers in a text that has one or two, or the port behind an address; nothing for the one that isn't there.
+fn numbers_in(text: &str) -> Option<(&str, &str)> {
+    let (first, rest) = text.split_once(BETWEEN)?;
+    let second = rest.trim_start_matches(BETWEEN);
+    let (address, port) = text.rsplit_once(':').unwrap_or((":", ""));
+    if is_whole(first) && is_whole(second) {
+        return Some((first, second));
+    }
+    if is_whole(first) && !second.contains(|c: char| c.is_ascii_digit()) {
+        return Some((first, ""));
+    }
+    let is_port = address.contains('.') || address.is_empty();
+    (is_port && is_whole(port)).then_some(("", port))
+}
+
+/// Whether the text is of digits.
+fn is_whole(text: &str) -> bool {
+    !text.is_empty() && !text.contains(|c: char| !c.is_ascii_digit())
+}
+
+/// Whether letters stand in the text in place of digits, as O and l do in `8O80` and `l0`.
+pub(crate) fn has_letters(word: &str) -> bool {
+    let text = word.trim_start_matches(['+', '-']);
+    let is_other = text.contains(|c: char| digit_of(c).is_none());
+    let has_zero = text.contains(['O', 'o']);
+    let has_one = text.contains(['l', 'I']);
+    let has_digit = text.contains(|c: char| c.is_ascii_digit()) || matches!(text, "O" | "o");
+    let is_suffix = text.ends_with(['l', 'I']) && !has_zero;
+    let begins_zero = text.starts_with(['0', 'O', 'o']) && text.len() > 1;
+    !is_other && !is_suffix && !begins_zero && (has_zero || has_one) && has_digit
+}
+
+/// The digit that the character is, or that it stands for.
+fn digit_of(c: char) -> Option<char> {
+    match c {
+        'O' | 'o' => Some('0'),
+        'l' | 'I' => Some('1'),
+        '0'..='9' => Some(c),
+        _ => None,
+    }
+}
+
+/// What is said of the letters in place of digits.
+fn letters_of(word: &str) -> &'static str {
+    match (word.contains(['O', 'o']), word.contains('l')) {
+        (true, false) => "the letter O stands in place of a zero",
+        (false, true) => "the letter l stands in place of a one",
+        _ => "letters stand in place of digits",
+    }
+}
+
+/// A number with letters in place of digits.
+#[derive(Clone, Copy)]
+struct Digits<'t>(&'t str);
+
+impl fmt::Display for Digits<'_> {
+    fn fmt<W: fmt::Write>(&self, f: &mut fmt::Formatter<W>) -> fmt::Result {
+        let Digits(word) = self;
+        for c in word.chars() {
+            f.write_char(digit_of(c).unwrap_or(c))?;
+        }
+        Ok(())
+    }
 }
 
 /// How many smaller ones the unit has, and their name, if there are such.

@@ -6,7 +6,7 @@ use crate::advice::Advice;
 use crate::fault::{Fault, Remark};
 use crate::lexemes::{Lexeme, line_len};
 use crate::message::range_in;
-use crate::number_advice::{NumberAdvice, number_and_unit};
+use crate::number_advice::{NumberAdvice, has_letters, number_and_unit};
 use crate::texts::bare_text;
 
 /// What a number that is written in parts is of.
@@ -19,6 +19,9 @@ pub(crate) fn number_remark<'t>(fault: &Fault<'t>, word: Lexeme) -> Remark<'t> {
     let text = word.of(fault.text);
     if text.contains('_') {
         return Remark::of(word, Advice::Number(NumberAdvice::Underscores(text)));
+    }
+    if has_letters(text) {
+        return Remark::of(word, Advice::Number(NumberAdvice::Letters(text)));
     }
     if let Some(number) = based_number(text) {
         return Remark::of(word, Advice::Number(NumberAdvice::Based(text, number)));
@@ -48,25 +51,50 @@ fn wrong_digit(text: &str) -> Option<char> {
     rest.chars().next()
 }
 
-/// What is said of a number that goes on as an expression or with a unit.
+/// What is said of a number that goes on as an expression, with a unit, or as something else.
 pub(crate) fn unit_advice(text: &str) -> Advice<'_> {
-    if let Some(number) = product_of(text) {
+    if let Some(number) = value_of(text) {
         return Advice::Number(NumberAdvice::Product(number));
     }
     if let Some(number) = text.strip_prefix("--") {
         return Advice::Number(NumberAdvice::Signed('-', number));
     }
     let (_, unit) = number_and_unit(text);
-    let is_sign = unit.starts_with(['*', '+', '<', '>', '?', '|', '&', '=']);
-    if is_sign
-        || unit.starts_with('/') && !unit.contains(|c: char| !c.is_ascii_digit() && c != '/')
-    {
+    if unit.starts_with(['*', '+', '<', '>', '?', '|', '&', '=', '(']) {
         return Advice::NoExpressions;
     }
-    Advice::Number(NumberAdvice::Unit(text))
+    if is_unit(unit) {
+        Advice::Number(NumberAdvice::Unit(text))
+    } else {
+        Advice::Number(NumberAdvice::Part(text))
+    }
 }
 
-/// The product of whole numbers, such as `10 * 1024`.
+/// Whether it is a unit, or the type of a number.
+fn is_unit(unit: &str) -> bool {
+    let letters = unit.trim_end_matches(['1', '2', '3', '4', '6', '8']);
+    let is_type = matches!(letters, "u" | "i" | "f");
+    is_type || !unit.contains(|c: char| !c.is_alphabetic() && !matches!(c, '%' | ' ' | '$'))
+}
+
+/// The value of an expression of whole numbers, such as `10 * 1024`.
+pub(crate) fn value_of(text: &str) -> Option<u128> {
+    if let Some((base, power)) = text.split_once("**").or(text.split_once('^')) {
+        let power = power.trim().parse::<u32>().ok()?;
+        return base.trim().parse::<u128>().ok()?.checked_pow(power);
+    }
+    if let Some((number, places)) = text.split_once("<<") {
+        let times = 2u128.checked_pow(places.trim().parse::<u32>().ok()?)?;
+        return number.trim().parse::<u128>().ok()?.checked_mul(times);
+    }
+    if let Some((first, second)) = text.split_once('+') {
+        let second = second.trim().parse::<u128>().ok()?;
+        return first.trim().parse::<u128>().ok()?.checked_add(second);
+    }
+    product_of(text)
+}
+
+/// The product of whole numbers.
 fn product_of(text: &str) -> Option<u128> {
     let (first, rest) = text.split_once('*')?;
     let mut product = first.trim().parse::<u128>().ok()?;
@@ -98,13 +126,26 @@ pub(crate) fn signs_advice<'t>(fault: &Fault<'t>) -> Advice<'t> {
         .unwrap_or(number.len());
     let number = number.get(..len).unwrap_or("");
     let front = fault.text.get(..fault.offset).unwrap_or("");
-    if number.is_empty() {
+    if number.is_empty() && is_placeholder(rest.trim_end_matches([',', ' ', '}', ']'])) {
+        Advice::NoVariables
+    } else if number.is_empty() {
         Advice::Write("a number")
     } else if front.ends_with('-') || rest.starts_with("--") {
         Advice::Number(NumberAdvice::Signed('-', number))
     } else {
         Advice::Number(NumberAdvice::Alone(number))
     }
+}
+
+/// Whether a program or a person is to put a value in place of the text, as of `<port>`, `@PORT@` and `%PORT%`.
+pub(crate) fn is_placeholder(text: &str) -> bool {
+    let sign = match text.chars().next() {
+        Some('<') => '>',
+        Some(c @ ('@' | '%')) => c,
+        _ => return false,
+    };
+    let inner = text.get(1..).unwrap_or("").strip_suffix(sign).unwrap_or("");
+    !inner.is_empty() && !inner.contains(['/', '@', '<', '>', ','])
 }
 
 /// What is said of a member's value that is written as digits with commas, blanks or apostrophes between them, if the

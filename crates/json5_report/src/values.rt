@@ -3,17 +3,21 @@
 //! Plain code, of which no promise is made but that it is safe and ends: change it by the rows of reports, which judge it.
 
 use crate::advice::Advice;
+use crate::around::Around;
 use crate::fault::{Fault, Remark};
 use crate::found::Found;
+use crate::hints::{adjacent_advice, escaped_remark};
 use crate::lexemes::{Kind, Lexeme, lexeme_at, line_len};
-use crate::number_advice::{NumberAdvice, number_and_unit};
-use crate::numbers::{signs_advice, whole_of, zero_advice};
+use crate::member_advice::MemberAdvice;
+use crate::number_advice::{NumberAdvice, has_letters, number_and_unit};
+use crate::numbers::{is_placeholder, signs_advice, whole_of, zero_advice};
 use crate::path::unquoted;
 use crate::place::line_start;
 use crate::text_advice::TextAdvice;
 use crate::texts::{bare_text, values_at};
 use crate::unclosed::{close_of, closed_after};
 use crate::value_advice::ValueAdvice;
+use crate::wording::Taken;
 use json5_tokens::char::{is_json5_identifier, is_json5_line_terminator, is_json5_whitespace};
 use json5_types::ErrorCode;
 use json5_walk::next::Next;
@@ -78,6 +82,9 @@ fn kind_remark<'t>(fault: &Fault<'t>, code: ErrorCode) -> Remark<'t> {
     match code {
         ErrorCode::ExpectedOpeningBrace => fault.remark(object_advice(fault)),
         ErrorCode::ExpectedOpeningBracket => array_remark(fault),
+        ErrorCode::ExpectedBool if matches!(fault.found, Found::Array | Found::Object) => {
+            inner_remark(fault, "true or false")
+        }
         ErrorCode::ExpectedBool => fault.remark(bool_advice(fault)),
         ErrorCode::ExpectedNumber => number_remark(fault),
         ErrorCode::ExpectedString | ErrorCode::ExpectedStringOrObject | ErrorCode::ExpectedValue =>
@@ -193,10 +200,13 @@ fn bool_advice<'t>(fault: &Fault<'t>) -> Advice<'t> {
 
 /// What is said of something else where an object is expected.
 fn object_advice<'t>(fault: &Fault<'t>) -> Advice<'t> {
+    if let Some(advice) = before_advice(fault, "{") {
+        return advice;
+    }
     if matches!(fault.found, Found::Array) {
         return object_of_array(fault);
     }
-    if fault.open.is_none() || !matches!(fault.due, Next::Value) {
+    if fault.open.is_none() {
         return Advice::UseBraces;
     }
     match fault.found {
@@ -209,13 +219,27 @@ fn object_advice<'t>(fault: &Fault<'t>) -> Advice<'t> {
     }
 }
 
+/// What is said of a word before the bracket that is expected.
+fn before_advice<'t>(fault: &Fault<'t>, bracket: &'t str) -> Option<Advice<'t>> {
+    let word = fault.token()?;
+    let next = lexeme_at(fault.text, word.end);
+    let between = fault.text.get(word.end..next.start).unwrap_or("");
+    let is_before = word.kind == Kind::Word && next.of(fault.text) == bracket;
+    if !is_before || between.contains(is_json5_line_terminator) {
+        return None;
+    }
+    Some(Advice::Member(MemberAdvice::Before(word.of(fault.text), bracket)))
+}
+
 /// What is said of an array where an object is expected.
 fn object_of_array<'t>(fault: &Fault<'t>) -> Advice<'t> {
     let first = lexeme_at(fault.text, fault.offset.saturating_add(1));
     match first.kind {
         Kind::Open if is_alone(fault.text, first) => Advice::Value(ValueAdvice::ObjectAlone),
         Kind::Open => Advice::Write("an object in place of the array: { name: { .. }, .. }"),
-        Kind::Text => Advice::Value(ValueAdvice::ObjectWith(first.of(fault.text))),
+        Kind::Text if !fault.is_key(first) => {
+            Advice::Value(ValueAdvice::ObjectWith(first.of(fault.text)))
+        }
         _ => Advice::UseBraces,
     }
 }
@@ -234,11 +258,15 @@ fn array_remark<'t>(fault: &Fault<'t>) -> Remark<'t> {
     if closed_after(fault.text, fault.offset) > fault.depth {
         return fault.remark(Advice::Missing("a `[`"));
     }
+    if let Some(advice) = before_advice(fault, "[") {
+        return fault.remark(advice);
+    }
     match fault.found {
         Found::Object => fault.remark(braces_advice(fault)),
         Found::Literal(_) | Found::String | Found::Name(_) if is_nothing(fault.word()) => {
             fault.remark(missing_advice(fault, "an array: [ .. ]"))
         }
+        Found::Character('-') => fault.remark(Advice::Write("[ .., .. ], without dashes")),
         Found::String | Found::Number | Found::Name(_) if fault.open.is_some() => {
             let run = values_at(fault, fault.offset);
             let elements = match run.of(fault.text) {
@@ -259,10 +287,26 @@ fn braces_advice<'t>(fault: &Fault<'t>) -> Advice<'t> {
         Kind::Text | Kind::Word => !fault.is_key(first),
         _ => false,
     };
-    if is_element {
-        Advice::Value(ValueAdvice::SquareBrackets)
+    Advice::Value(if is_element {
+        ValueAdvice::SquareBrackets
     } else {
-        Advice::Value(ValueAdvice::Array("{ .. }"))
+        members_advice(fault, first)
+    })
+}
+
+/// What is said of members where an array is expected, by the first of them: its key is an element, or its value is.
+fn members_advice<'t>(fault: &Fault<'t>, first: Lexeme) -> ValueAdvice<'t> {
+    let colon = lexeme_at(fault.text, first.end);
+    let value = lexeme_at(fault.text, colon.end);
+    let close = close_of(fault.text, lexeme_at(fault.text, fault.offset));
+    let members = fault.text.get(first.start..close.start).unwrap_or("");
+    let is_simple = !members.contains(['[', '{', '/']);
+    let is_index = !first.of(fault.text).contains(|c: char| !c.is_ascii_digit());
+    match value.of(fault.text) {
+        "{" | "[" => ValueAdvice::ObjectsOnly,
+        "true" | "false" if is_simple => ValueAdvice::Members(members, Taken::Key),
+        _ if is_simple && is_index => ValueAdvice::Members(members, Taken::Value),
+        _ => ValueAdvice::Array("{ .. }"),
     }
 }
 
@@ -280,7 +324,8 @@ pub(crate) fn member_advice<'t>(fault: &Fault<'t>) -> Option<Advice<'t>> {
         return Some(Advice::Missing("a `{`"));
     }
     if is_key && fault.is_after(Kind::Colon) && fault.gap().contains(is_json5_line_terminator) {
-        return Some(Advice::Missing("a value"));
+        let is_object = fault.code == Some(ErrorCode::ExpectedOpeningBrace);
+        return Some(Advice::Missing(if is_object { "a `{`" } else { "a value" }));
     }
     if is_member {
         Some(Advice::UseBracesInArray(fault.array_line()?))
@@ -302,27 +347,63 @@ fn number_remark<'t>(fault: &Fault<'t>) -> Remark<'t> {
         Found::String => fault.remark(quoted_number_advice(fault)),
         Found::Name(name) => name_for_number_remark(fault, name),
         Found::Character(_) => fault.remark(signs_advice(fault)),
-        Found::Array => fault.remark(first_advice(fault, "a number")),
+        Found::Array | Found::Object => inner_remark(fault, "a number"),
         Found::End => fault.plain(),
         _ => fault.remark(Advice::Write("a number")),
     }
 }
 
-/// What is said of an array where a value without brackets is expected.
-fn first_advice<'t>(fault: &Fault<'t>, kind: &'static str) -> Advice<'t> {
-    let first = lexeme_at(fault.text, fault.offset.saturating_add(1));
-    match first.kind {
-        Kind::Text | Kind::Word if !fault.is_key(first) => {
-            Advice::Value(ValueAdvice::First(first.of(fault.text)))
-        }
-        _ => Advice::Write(kind),
+/// What is said of an array or an object where a value without brackets is expected: to write one that is in it.
+fn inner_remark<'t>(fault: &Fault<'t>, kind: &'static str) -> Remark<'t> {
+    let Some(open) = fault.token() else {
+        return fault.plain();
+    };
+    let close = close_of(fault.text, open);
+    let advice = match (inner_value(fault, open, close), fault.found) {
+        (None, _) => Advice::Write(kind),
+        (Some(value), Found::Array) => Advice::Value(ValueAdvice::First(value)),
+        (Some(value), _) => Advice::Value(ValueAdvice::InPlace(kind, value)),
+    };
+    Remark {
+        end: close.end,
+        ..Remark::of(open, advice)
     }
+}
+
+/// The first value between the brackets that may stand in place of them.
+fn inner_value<'t>(fault: &Fault<'t>, open: Lexeme, close: Lexeme) -> Option<&'t str> {
+    let mut token = lexeme_at(fault.text, open.end);
+    for _ in open.end..close.start {
+        if token.start >= close.start {
+            break;
+        }
+        if is_due(fault, token) {
+            let part = token.of(fault.text);
+            let is_text = fault.code == Some(ErrorCode::ExpectedString);
+            return Some(if is_text { part } else { unquoted(part) });
+        }
+        token = lexeme_at(fault.text, token.end);
+    }
+    None
+}
+
+/// Whether the token is a value of the kind that is due, with or without quotes.
+fn is_due(fault: &Fault<'_>, token: Lexeme) -> bool {
+    let part = token.of(fault.text);
+    let is_kind = match (fault.code, token.kind) {
+        (Some(ErrorCode::ExpectedNumber), _) => is_number(unquoted(part)),
+        (Some(ErrorCode::ExpectedBool), _) => matches!(unquoted(part), "true" | "false"),
+        (_, Kind::Word) => matches!(fault.found, Found::Array),
+        (_, kind) => kind == Kind::Text,
+    };
+    is_kind && !fault.is_key(token)
 }
 
 /// What is said of a name where a number is expected.
 fn name_for_number_remark<'t>(fault: &Fault<'t>, name: &'t str) -> Remark<'t> {
     let any = Advice::Write("a number");
     match name {
+        _ if has_letters(name) => fault.remark(Advice::Number(NumberAdvice::Letters(name))),
         "nan" | "NAN" | "Nan" | "inf" | "Inf" | "INF" | "infinity" => {
             fault.remark(literal_advice(name).unwrap_or(any))
         }
@@ -334,16 +415,18 @@ fn name_for_number_remark<'t>(fault: &Fault<'t>, name: &'t str) -> Remark<'t> {
 /// What is said of a string where a number is expected.
 fn quoted_number_advice<'t>(fault: &Fault<'t>) -> Advice<'t> {
     let text = unquoted(fault.word());
-    let digits = text.trim_start_matches(['+', '-', '.']);
-    if !digits.starts_with(|c: char| c.is_ascii_digit()) {
+    if has_letters(text) {
+        return Advice::Number(NumberAdvice::Letters(text));
+    }
+    if !text.contains(|c: char| c.is_ascii_digit()) {
         return missing_advice(fault, "a number");
     }
     if is_number(text) {
         return Advice::DropQuotesOfNumber;
     }
-    let (_, unit) = number_and_unit(text);
-    if unit.contains(|c: char| !c.is_alphabetic() && c != '%') {
-        Advice::Write("a number")
+    let (number, unit) = number_and_unit(text);
+    if number.is_empty() || unit.contains(|c: char| !c.is_alphabetic() && c != '%') {
+        Advice::Number(NumberAdvice::Due(text))
     } else {
         Advice::Number(NumberAdvice::UnitInQuotes(text))
     }
@@ -355,8 +438,19 @@ fn is_number(text: &str) -> bool {
 
 /// What is said of a word that begins as a number or a literal does.
 fn inside_remark<'t>(fault: &Fault<'t>, word: Lexeme) -> Remark<'t> {
-    if word.of(fault.text).starts_with(|c: char| c.is_alphabetic()) {
-        return bare_remark(fault, word.start, Advice::QuoteText(""));
+    let text = word.of(fault.text);
+    if text.starts_with(|c: char| c.is_alphabetic()) {
+        return bare_remark(
+            fault,
+            word.start,
+            match fault.code {
+                Some(ErrorCode::ExpectedNumber) if is_null_word(text) => Advice::Write(
+                    "null, or a number where one is due",
+                ),
+                Some(ErrorCode::ExpectedNumber) => Advice::Number(NumberAdvice::Part("")),
+                _ => Advice::QuoteText(""),
+            },
+        );
     }
     let number = crate::numbers::number_remark(fault, word);
     let is_told = matches!(
@@ -383,8 +477,7 @@ fn text_remark<'t>(fault: &Fault<'t>) -> Remark<'t> {
             bare_remark(fault, fault.offset, Advice::QuoteText(""))
         }
         Found::Literal(word) if !is_any => fault.remark(Advice::QuoteText(word)),
-        Found::Array if !is_any => fault.remark(first_advice(fault, "a text in quotes")),
-        Found::Object if !is_any => fault.remark(Advice::Write("a text in quotes")),
+        Found::Array | Found::Object if !is_any => inner_remark(fault, "a text in quotes"),
         Found::Character(c) => character_remark(fault, c),
         _ => fault.plain(),
     }
@@ -407,7 +500,11 @@ fn prefix_advice<'t>(name: &'t str) -> Advice<'t> {
 fn listed_remark<'t>(fault: &Fault<'t>) -> Remark<'t> {
     let run = values_at(fault, fault.offset);
     let text = run.of(fault.text);
-    if text.contains(',') && !text.contains(['\'', '"', '$']) {
+    let is_listed = text.contains(',') && !text.contains(['\'', '"', '$']);
+    if is_listed && !text.contains(|c| !is_json5_identifier(c) && !matches!(c, ',' | ' ')) {
+        return Remark::of(run, Advice::Value(ValueAdvice::Several(text)));
+    }
+    if is_listed {
         return Remark::of(run, Advice::QuoteText(text));
     }
     bare_remark(fault, fault.offset, Advice::QuoteText(""))
@@ -445,6 +542,9 @@ fn slash_remark<'t>(fault: &Fault<'t>) -> Remark<'t> {
     let rest = fault.text.get(fault.offset..).unwrap_or("");
     let is_apart = rest.starts_with(is_json5_whitespace);
     let is_first = lexeme_at(fault.text, line_start(fault.text, start)).start == start;
+    if let Some(remark) = torn_remark(fault, start) {
+        return remark;
+    }
     match (fault.due, fault.word_inside()) {
         (Next::Comma, Some(word)) if word.start < start => inside_remark(fault, word),
         (Next::Comma, _) if !is_first => fault.remark(Advice::NoExpressions),
@@ -461,15 +561,24 @@ fn slash_remark<'t>(fault: &Fault<'t>) -> Remark<'t> {
     }
 }
 
+/// What is said of a slash right behind a text, which goes on up to there since its own quote is missing.
+fn torn_remark<'t>(fault: &Fault<'t>, slash: usize) -> Option<Remark<'t>> {
+    let before = Around::of(fault.text, slash).last?;
+    if before.kind != Kind::Text || before.end != slash {
+        return None;
+    }
+    escaped_remark(fault, before).or(Some(fault.remark(adjacent_advice(fault, before)?)))
+}
+
 /// What is said of a key that begins with a slash, up to its colon.
 fn slash_key_remark<'t>(fault: &Fault<'t>, start: usize) -> Remark<'t> {
     let rest = fault.text.get(start..).unwrap_or("");
     let line = rest.get(..line_len(rest)).unwrap_or("");
     match line.split_once(':') {
-        Some((key, _)) if !key.contains([',', '\'', '"']) => Remark {
+        Some((key, _)) if !key.contains(',') => Remark {
             start,
             end: start.saturating_add(key.len()),
-            advice: Some(Advice::QuoteKey(key.trim_end())),
+            advice: Some(Advice::QuoteKey(key.trim_end().trim_end_matches(['\'', '"']))),
         },
         _ => fault.plain(),
     }
@@ -483,7 +592,7 @@ pub(crate) fn bare_remark<'t>(fault: &Fault<'t>, start: usize, advice: Advice<'t
     let Some(part) = bare_text(fault, start) else {
         return fault.advised(is_variable.then_some(Advice::NoVariables));
     };
-    if is_variable {
+    if is_variable || is_placeholder(part.of(fault.text)) {
         return variable_remark(fault, part);
     }
     bare_part_remark(fault, part, advice)
@@ -505,14 +614,52 @@ fn bare_part_remark<'t>(fault: &Fault<'t>, part: Lexeme, advice: Advice<'t>) -> 
 
 /// The hint to a text without quotes, without quotes at its end.
 fn bare_advice<'t>(text: &'t str, advice: Advice<'t>) -> Advice<'t> {
+    if is_choice(text) {
+        return Advice::Value(ValueAdvice::Choice(text));
+    }
     if is_expression(text) {
         return Advice::NoExpressions;
     }
     match advice {
-        Advice::QuoteText(_) => Advice::QuoteText(text.trim_end_matches(['\'', '"'])),
-        Advice::NoNumber(_) => Advice::NoNumber(text),
+        Advice::QuoteText(_) => bare_text_advice(text),
+        Advice::Number(NumberAdvice::Part(_)) => Advice::Number(NumberAdvice::Part(text)),
         other => other,
     }
+}
+
+/// What is said of a text without quotes: it may be a name of another language, or a value behind its type.
+fn bare_text_advice<'t>(text: &'t str) -> Advice<'t> {
+    if let Some((_, value)) = text.split_once(" = ") {
+        return Advice::Value(ValueAdvice::Alone(value));
+    }
+    let text = text.trim_end_matches(['\'', '"']);
+    match name_at_end(text) {
+        Some(name) => Advice::Text(TextAdvice::Name(text, name)),
+        None => Advice::QuoteText(text),
+    }
+}
+
+/// The name that the path of an enum's variant ends with, such as `Level.Debug` and `Level::debug`.
+fn name_at_end(text: &str) -> Option<&str> {
+    if text.contains(|c| !is_json5_identifier(c) && !matches!(c, '.' | ':')) {
+        return None;
+    }
+    if let Some((_, name)) = text.rsplit_once("::") {
+        return Some(name).filter(|name| !name.is_empty()
+            && !name.contains(|c: char| c.is_ascii_digit()));
+    }
+    let (_, name) = text.rsplit_once('.')?;
+    Some(name).filter(|name| name.starts_with(|c: char| c.is_uppercase()))
+}
+
+/// Whether values stand in the text with `|` between them.
+pub(crate) fn is_choice(text: &str) -> bool {
+    for part in text.split('|') {
+        if part.trim().is_empty() || part.trim().contains([' ', '(', '?']) {
+            return false;
+        }
+    }
+    text.contains(" | ")
 }
 
 /// What is said of a variable: where a text is expected, the program may replace it there.

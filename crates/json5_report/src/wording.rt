@@ -24,33 +24,108 @@ impl fmt::Display for Quoted<'_> {
     }
 }
 
-/// Elements with commas between them.
+/// A text in which some backslashes are alone, and others have another one before them already.
 #[derive(Clone, Copy)]
-pub(crate) struct Elements<'t>(pub(crate) &'t str);
+pub(crate) struct Doubled<'t>(pub(crate) &'t str);
 
-/// Prints an array of the elements: in quotes, if they are texts without quotes.
-impl fmt::Display for Elements<'_> {
+/// Prints the text in quotes, and with two backslashes for each one or two.
+impl fmt::Display for Doubled<'_> {
     fn fmt<W: fmt::Write>(&self, f: &mut fmt::Formatter<W>) -> fmt::Result {
-        let Elements(text) = self;
-        let mut is_first = true;
-        for part in text.split(',') {
-            let part = part.trim();
-            f.write_str(if is_first { "[" } else { ", " })?;
-            if is_bare(part) {
-                write!(f, "{}", Quoted(part))?;
-            } else {
-                f.write_str(part)?;
+        let Doubled(text) = self;
+        let quote = if text.contains('\'') { '"' } else { '\'' };
+        let mut is_second = false;
+        f.write_char(quote)?;
+        for c in text.chars() {
+            is_second = c == '\\' && !is_second;
+            if is_second {
+                f.write_str("\\\\")?;
+            } else if c != '\\' {
+                f.write_char(c)?;
             }
-            is_first = false;
         }
-        f.write_char(']')
+        f.write_char(quote)
+    }
+}
+
+/// A value as a person wrote it.
+#[derive(Clone, Copy)]
+pub(crate) struct Element<'t>(pub(crate) &'t str);
+
+/// Prints the value: in quotes, if it is a text without quotes.
+impl fmt::Display for Element<'_> {
+    fn fmt<W: fmt::Write>(&self, f: &mut fmt::Formatter<W>) -> fmt::Result {
+        let Element(text) = self;
+        if is_bare(text) {
+            return write!(f, "{}", Quoted(text));
+        }
+        f.write_str(text)
     }
 }
 
 /// Whether it is a text without quotes.
 fn is_bare(text: &str) -> bool {
-    text.starts_with(|c: char| !c.is_ascii_digit() && !matches!(c, '\'' | '"' | '{' | '[' | '-'))
+    let is_number = text.starts_with("0x") || text.parse::<f64>().is_ok();
+    !is_number
+        && !text.starts_with(['\'', '"', '{', '['])
         && !matches!(text, "true" | "false" | "null")
+}
+
+/// Which part of a member is an element.
+#[derive(Clone, Copy)]
+pub(crate) enum Taken {
+    All,
+    Key,
+    Value,
+}
+
+/// Elements with commas between them, or members that have them.
+#[derive(Clone, Copy)]
+pub(crate) struct Elements<'t>(pub(crate) &'t str, pub(crate) Taken);
+
+/// Prints an array of the elements: in quotes, if they are texts without quotes.
+impl fmt::Display for Elements<'_> {
+    fn fmt<W: fmt::Write>(&self, f: &mut fmt::Formatter<W>) -> fmt::Result {
+        let Elements(text, taken) = self;
+        let mut is_first = true;
+        for part in text.split(',') {
+            let element = taken_of(*taken, part).trim();
+            if !element.is_empty() {
+                f.write_str(if is_first { "[" } else { ", " })?;
+                write!(f, "{}", Element(element))?;
+                is_first = false;
+            }
+        }
+        f.write_char(']')
+    }
+}
+
+/// What is taken of a member.
+fn taken_of(taken: Taken, part: &str) -> &str {
+    let (key, value) = part.split_once(':').unwrap_or((part, ""));
+    match taken {
+        Taken::All => part,
+        Taken::Key => key,
+        Taken::Value => value,
+    }
+}
+
+/// Values with `|` between them.
+#[derive(Clone, Copy)]
+pub(crate) struct Choices<'t>(pub(crate) &'t str);
+
+impl fmt::Display for Choices<'_> {
+    fn fmt<W: fmt::Write>(&self, f: &mut fmt::Formatter<W>) -> fmt::Result {
+        let Choices(text) = self;
+        let mut is_first = true;
+        for part in text.split('|') {
+            if !is_first {
+                f.write_str(" or ")?;
+            }
+            write!(f, "{}", Element(part.trim()))?;
+            is_first = false;
+        }
+        Ok(())
+    }
 }
 
 /// Names as a message lists them, in backquotes.
