@@ -298,11 +298,21 @@ swapped("number_of_hex_misspelled", NUMBER, lambda piece: hex(piece.value) + cha
 written("number_with_two_points", NUMBER, "<value>.0.1", "1.<value>.3", "<value>.0.0")
 swapped("number_in_other_base", NUMBER, lambda piece: chance.choice([oct, bin])(piece.value))
 written("number_with_sign", NUMBER, "--<value>", "- <value>", ">=<value>", "~<value>", "#<value>")
+written("number_as_range_or_address", NUMBER, "<value>:80", "<value>-9000", "127.0.0.1", "<value>/tcp", "127.0.0.1:<value>", "80/<value>")
+written("range_or_address_quoted", NUMBER, "'<value>:80'", "'80-<value>'", "'<value>/tcp'", "':<value>'", "'127.0.0.1:<value>'")
+swapped("number_with_letters", NUMBER, lambda piece: str(piece.value).replace("0", "O", 1), lambda piece: "0" in str(piece.value))
+written("number_computed", NUMBER, "2**10", "1 << 10", "2^10", "8000 + 443")
+written("number_of_others", NUMBER, "<value>n", "<value>u64", "<value>L", "<value> (as before)", "<value>'", '<value>"')
+written("several_values", NUMBER, "<text>, 443", "<text>, 80, 443", "80 | <value>", "<value> || 80")
+written("several_texts", TEXTS, "<text>, 'b.example'", "<text> | 'b'", "<text> or 'b'")
 written("null", VALUES, "null")
 written("null_of_others", VALUES, "None", "nil", "undefined", "NULL", "~")
 written("yes_and_true", VALUES, "yes", "no", "on", "off", "True", "False")
 swapped("enum_misspelled", ["enum"], misspelled)
 swapped("enum_in_other_case", ["enum"], lambda piece: piece.text.replace(piece.value, chance.choice([piece.value.swapcase(), piece.value.title()])))
+written("enum_as_path", ["enum"], "Level.<value>", "LogLevel::<value>", "Settings.Level.<value>", where=is_like("[A-Z]+"))
+written("enum_of_choices", ["enum"], "<value> | other", "<text> | 'other'", "<text> | 'b' | 'c'")
+written("enum_in_object", ["enum"], "{ level: <text> }", "{ name: <text> }", "{ level: <text>, file: 'a.log' }")
 written("enum_as_other_value", ["enum"], "5", "true", "false", "{}", "{ <value>: {} }", "[<text>]")
 written("variable", VALUES, "${<field>}", "$<field>", "process.env.<field>", "env(<field>)", "{{ <field> }}", "process.env.<field> || <text>", "%<field>%")
 written("expression", NUMBER, "<value> * 1024", "8 + <value>", "1 << 20", "<value>*2")
@@ -310,8 +320,17 @@ swapped("field_misspelled", KEY, misspelled, is_name)
 swapped("field_in_other_case", KEY, lambda piece: piece.text.replace(piece.value, chance.choice([piece.value.title(), piece.value.upper()])), is_name)
 swapped("key_with_dash", KEY, lambda piece: piece.value.replace("_", "-"), lambda piece: "_" in piece.value)
 written("key_without_quotes", KEY, "<value>", where=lambda piece: not is_name(piece))
+written("key_with_sign", KEY, "<value>?", "<value>*", where=is_name)
 written("key_in_curly_quotes", KEY, "\u201c<value>\u201d")
 written("key_quote_missing", KEY, "'<value>", "<value>'")
+written("sign_of_full_width", ["colon"], "\uff1a", "\u2236")
+written("comma_of_full_width", ["comma"], "\uff0c", "\uff1b", "\u3001")
+swapped("bracket_of_full_width", ["open"], lambda piece: chr(ord(piece.text) + 0xFEE0))
+swapped("digits_of_full_width", NUMBER, lambda piece: "".join(chr(ord(c) + 0xFEE0) for c in str(piece.value)))
+written("quotes_of_full_width", TEXTS, "\uff07<inside>\uff07", "\uff02<inside>\uff02", "\u2032<inside>\u2032")
+written("quote_curly_on_one_side", TEXTS, "\u2018<inside><quote>", "<quote><inside>\u2019", "\u201c<inside><quote>")
+written("text_behind_its_type", TEXTS, "string = <text>", "String = <text>")
+written("backslash_before_quote", ["text"], "<quote>C:\\\\tls\\<quote>")
 written("zero_width_space", VALUES + ("key", "colon", "open"), "\u200b<text>", "<text>\u200b")
 swapped("byte_order_mark_inside", ("key", "number"), lambda piece: piece.text[:1] + "\ufeff" + piece.text[1:])
 written("control_character", ("key", "number", "comma", "open"), *[form for sign in "\x00\x01\x08\x1b" for form in (sign + "<text>", "<text>" + sign)])
@@ -319,6 +338,8 @@ swapped("comment_by_hash", COMMENT, lambda piece: "# " + piece.text[3:], lambda 
 swapped("comment_of_others", COMMENT, lambda piece: chance.choice(["-- ", "; ", "<!-- "]) + piece.text[3:], lambda piece: piece.text[1] == "/")
 swapped("comment_by_one_slash", COMMENT, lambda piece: piece.text[1:], lambda piece: piece.text[1] == "/")
 swapped("comment_without_sign", COMMENT, lambda piece: piece.text[3:], lambda piece: piece.text[1] == "/")
+swapped("comment_in_comment", COMMENT, lambda piece: "/* %s /* old */ new */" % piece.text[3:-2], lambda piece: piece.text[1] == "*")
+written("comment_ended_twice", COMMENT, "<text> */", where=lambda piece: piece.text[1] == "*")
 swapped("comment_not_closed", COMMENT, lambda piece: piece.text[:-2], lambda piece: piece.text[1] == "*")
 
 
@@ -343,6 +364,33 @@ def elements_without_brackets(good):
     texts = [piece.value for piece in good.pieces[entry.value:entry.end] if piece.kind == "enum"]
     new = chance.choice(["'%s'" % ", ".join(texts), ", ".join("'%s'" % text for text in texts), ", ".join(texts)])
     return good.made({i: new if i == entry.value else "" for i in range(entry.value, entry.end)})
+
+
+@way
+def object_for_list(good):
+    entry = good.entry(lambda entry: entry.type == ("list", METHODS))
+    if entry is None:
+        return None
+    texts = [piece.value for piece in good.pieces[entry.value:entry.end] if piece.kind == "enum"]
+    forms = [", ".join("%s: true" % text for text in texts), ", ".join("%d: '%s'" % pair for pair in enumerate(texts)), ", ".join("'%s'" % text for text in texts)]
+    new = "{ %s }" % chance.choice(forms)
+    return good.made({i: new if i == entry.value else "" for i in range(entry.value, entry.end)})
+
+
+@way
+def map_for_list(good):
+    entry = good.entry(lambda entry: entry.type[0] == "list" and entry.type[1][0] == "struct")
+    first = next((inner for inner in good.entries if entry and inner.path == entry.path + (0,)), None)
+    if first is None:
+        return None
+    new = "{ first: %s, second: %s }" % (good.value_of(first), good.value_of(first))
+    return good.made({i: new if i == entry.value else "" for i in range(entry.value, entry.end)})
+
+
+@way
+def words_before_bracket(good):
+    index = good.some("open", where=is_inner)
+    return good.made({index: chance.choice(["&main ", "new ", "Server "]) + good.pieces[index].text})
 
 
 @way
@@ -500,6 +548,65 @@ def ndjson(good):
 @way
 def text_after_the_end(good):
     return good.text.rstrip() + chance.choice(["}", " }", "\n}", "]", ";", ",", "\nend", "\n'x'", "\n-- ", " x"]) + "\n"
+
+
+def at_line(good, new):
+    """The text with another front of a line that begins with a member."""
+    def is_first(piece):
+        return is_inner(piece) and "\n" in good.pieces[good.pieces.index(piece) - 1].text
+    index = good.some("key", where=is_first)
+    return None if index is None else good.made({index: new(good.pieces[index - 1].text) + good.pieces[index].text})
+
+
+@way
+def command_of_an_editor(good):
+    command = chance.choice([":wq", ":w", ":q!", ":x"])
+    if chance.random() < 0.5:
+        return good.text.rstrip() + "\n" + command + "\n"
+    return at_line(good, lambda blank: command + blank)
+
+
+@way
+def template_lines(good):
+    line = chance.choice(["{% if tls %}", "{%- for a in b -%}", "{# as before #}", "{{#if tls}}", "{{- end }}", "{% include 'a' %}"])
+    return at_line(good, lambda blank: line + blank)
+
+
+@way
+def dash_before_member(good):
+    return at_line(good, lambda blank: "- ")
+
+
+@way
+def number_before_line(good):
+    number = chance.randrange(2, 40)
+    return at_line(good, lambda blank: "%d%s " % (number, chance.choice([":", "", " |", "."])))
+
+
+@way
+def numbers_before_lines(good):
+    form = chance.choice(["%d: ", "%3d  ", "%d | ", "%d\t"])
+    return "".join(form % (number + 1) + line + "\n" for number, line in enumerate(good.text.splitlines()))
+
+
+@way
+def fences(good):
+    front, behind = chance.choice([("```json5\n", "```\n"), ("```\n", "```"), ("```json\n", ""), ("", "```\n"), ("~~~\n", "~~~\n")])
+    return front + good.text.rstrip() + "\n" + behind
+
+
+@way
+def lines_of_a_shell(good):
+    if chance.random() < 0.3:
+        return "".join("> " + line + "\n" for line in good.text.splitlines())
+    if chance.random() < 0.5:
+        return chance.choice(["$ cat settings.json5\n", "root@web:/etc# cat a.json5\n"]) + good.text
+    return good.text.rstrip() + "\n" + chance.choice(["$\n", "user@host:~$\n", "%\n"])
+
+
+@way
+def words_before_the_object(good):
+    return chance.choice(["Here is the file:\n\n", "i", "json5\n", "settings = "]) + good.text.lstrip()
 
 
 @way

@@ -170,6 +170,14 @@ at_place("a colon is missing before this(?:: .*)?", ":")
 at_place("a `{` is missing before this", "{")
 at_place("a `\\[` is missing before this", "[")
 instead("write `,` between entries", lambda part: ",")
+instead("write it as a comment: (.+)", lambda part, new: new)
+instead("replace `.+` by `(.+)`", lambda part, new: new)
+instead("(?:the letter . stands in place of a .*|letters stand in place of digits): write (\\S+)", lambda part, new: new)
+instead("write the (?:key|value) alone: (.+)", lambda part, new: new)
+instead("a section is written as (.+)", lambda part, new: new)
+instead("(?:this is a (?:command of an editor|line of a shell)|this line is of Markdown): remove it", lambda part: "")
+instead("a member has no dash before it: remove this|no text begins here: remove this quote", lambda part: "")
+instead("a backslash itself is `.+`: (.+)", lambda part, new: new)
 instead("write `:` between a key and its value(?:: .+)?", lambda part: ":")
 instead("a comment begins with `//`", lambda part: re.sub(r"^(#+|--|;|%|/|<!--)?", "//", part, count=1))
 instead("this key needs quotes: ('.*'|\".*\")", lambda part, new: new)
@@ -184,12 +192,10 @@ instead("no bracket is open here: remove this", lambda part: "")
 instead(r"(\S+) is written as (\S+?)(?: here)?", lambda part, old, new: new)
 instead(r"a number has no (?:blanks|commas|quotes) in it: (\S+)", lambda part, new: new)
 instead("a comma too many", lambda part: part.replace(",", "", 1))
-instead("a bracket too many: remove this|no comment is open here: comments are not nested", lambda part: "")
-instead("this line is of Markdown: remove it", lambda part: "")
-instead("nothing stands before a quote: remove `.+`", lambda part: "")
+instead("a bracket too many: remove this|no comment is open here: remove this", lambda part: "")
+instead("nothing stands before (?:a quote|the `.`): remove `.+`", lambda part: "")
 instead("a text is not put together: write (.+)", lambda part, new: new)
 instead("write null, or the name alone in place of the object", lambda part: "null")
-instead("write a minus as -", lambda part: re.sub(r"^[^\d.]+", "-", part))
 instead("a `=` too many", lambda part: part.replace("=", "", 1))
 instead("a colon too many", lambda part: part.replace(":", "", 1))
 instead("this is a mark of a diff: remove it", lambda part: "")
@@ -201,8 +207,46 @@ instead("`(.)` is no hexadecimal digit", lambda part, digit: part.replace(digit,
 instead(r"a number has a point, and no comma: (\S+)", lambda part, new: new)
 
 
-@form("a text needs quotes: ('.*'|\".*\")")
-def quote_text(case, said, new):
+@form("comments are not nested: the first `\\*/` of line (\\d+) ended this one; remove that")
+def first_comment_end(case, said, line):
+    place = case.text.find("*/", line_start(case.text, line))
+    return put(case.text, place, place + 2, "")
+
+
+@form("this line is of Markdown: remove it and line (\\d+)")
+def without_fences(case, said, line):
+    other = line_start(case.text, line)
+    end = other + len(LINE.split(case.text[other:], maxsplit=1)[0])
+    return put(put(case.text, other, end, ""), said.start, said.end, "")
+
+
+@form("this is the number of a line: remove it wherever it stands in front")
+def without_numbers(case, said):
+    return re.sub(r"(?m)^\s*\d+(?:[:.|)]|\t| \||(?= ))", "", case.text)
+
+
+@form("this is a mark of a quoted text: remove it from each line")
+def without_marks(case, said):
+    return re.sub("(?m)^> ?", "", case.text)
+
+
+@form("this is a line of a template: remove it, or let its program fill it in")
+def without_template(case, said):
+    return re.sub(r"(?m)^\s*\{[{%#].*[}%#]\}\s*\n|\{[{%#][^\n]*?[}%#]\}", "", case.text)
+
+
+@form("a file holds one value: remove what stands before the `\\{` of line (\\d+)")
+def from_brace(case, said, line):
+    return case.text[case.text.index("{", line_start(case.text, line)):]
+
+
+@form("a text needs quotes: ('[^']*'|\".*\")(?:, or the name alone: '(.+)')?")
+def quote_text(case, said, new, name):
+    # a name, where one is due that is spelt so in other case
+    type = type_at(case.schema, said.path)
+    if name and type and type[0] == "enum":
+        name = next((one for one in type[1] if one.lower() == name.lower()), name)
+        return put(case.text, said.start, said.end, "'%s'" % name)
     # where the underlined part is but the first word of what the hint quotes, the rest of it is quoted too
     raw = re.sub(r"\\(.)", r"\1", new[1:-1])
     end = said.start + len(raw) if case.text.startswith(raw, said.start) else said.end
@@ -255,7 +299,8 @@ def fitting_text(case, said):
 @form("a quote is missing behind `(.+)`")
 def quote_behind(case, said, words):
     # a quote of the other kind that stands there gives way
-    found = case.text.rfind(words, 0, said.end)
+    here = case.text.startswith(words, said.start + 1)
+    found = said.start + 1 if here else case.text.rfind(words, 0, said.end)
     if found < 1 or case.text[found - 1] not in "'\"":
         return None
     end = found + len(words)
@@ -329,10 +374,12 @@ def colon_or_value(case, said, key):
     return put(case.text, name.end(), name.end(), ": " + fits(case, said._replace(path=re.sub(r"\.?%s$" % re.escape(key), "", said.path)), key))
 
 
-@form("this is no number, and a text needs quotes: ('.*'|\".*\")")
-def no_number(case, said, new):
+@form("(?:this is no number|a number is due here): write (?:(\\d+)(?: or \\d+)?|a number)(?:, or ('.*'|\".*\") where a text may stand)?")
+def no_number(case, said, number, text):
     type = type_at(case.schema, said.path)
-    return put(case.text, said.start, said.end, fitting(type) if type and type[0] == "number" else new)
+    if type and type[0] == "number":
+        return put(case.text, said.start, said.end, number or fitting(type))
+    return put(case.text, said.start, said.end, text) if text else None
 
 
 @form("a text needs quotes")
@@ -349,7 +396,7 @@ def escaped_quote(case, said, quote):
 
 
 @form("write (?:a number|a text in quotes|a value|true or false|an object: .*|an array: .*), or leave it out if it may be missing")
-@form("write (?:a number|a text in quotes|a value)")
+@form("write (?:a number|a text in quotes|a value|null, or a number where one is due)")
 def write_value(case, said):
     return put(case.text, said.start, max(said.end, value_end(case.text, said.start)), fits(case, said))
 
@@ -428,7 +475,7 @@ def value_before(case, said):
     return put(case.text, said.start, said.start, fits(case, said))
 
 
-@form("a number has no unit: write ([^\\s,;]+)(?:, or \\d+ if .* here)?; a text needs quotes: ('.*'|\".*\")")
+@form("a number has no unit: write ([^\\s,;]+)(?:, or \\d+ if .* here)?, or ('.*'|\".*\") where a text may stand")
 def no_unit(case, said, number, text):
     type = type_at(case.schema, said.path)
     return put(case.text, said.start, said.end, text if type and type[0] in ("text", "enum") else number)
@@ -455,8 +502,10 @@ def close_or_go_on(case, said):
     return close_quote(case, said)
 
 
-@form("quotes are ' or \"(?:: .*)?")
-def plain_quotes(case, said):
+@form("quotes are ' or \"(?:: (.*))?")
+def plain_quotes(case, said, new):
+    if new:
+        return put(case.text, said.start, said.end, new)
     curly = "[\u2018-\u201f\u00ab\u00bb`\u00b4]"
     line = re.match(r"[^\n\r]*", case.text[said.start:])[0]
     return put(case.text, said.start, said.start + len(line), re.sub(curly, "'", line, count=2))
@@ -513,7 +562,7 @@ def braces_of_file(case, said):
     return "{\n" + case.text + "\n}\n"
 
 
-@form("a file holds one value, and this comes after it")
+@form("a file holds one value, and this comes after it: remove it")
 def one_value(case, said):
     return case.text[:said.start] + "\n"
 
@@ -579,9 +628,33 @@ def add_field(case, said, name):
     return put(case.text, said.start + 1, said.start + 1, " %s: %s," % (name, fitting(type) if type else "0"))
 
 
-@form("write one value, without brackets: (.+)")
-def first_of_array(case, said, new):
-    return put(case.text, said.start, value_end(case.text, said.start), new)
+@form("write one value, without brackets: (.+)|.* is due here: write ([^\\[{]+)|write ('.+') in place of this object(?:, or .*)?")
+def one_in_place(case, said, *new):
+    return put(case.text, said.start, value_end(case.text, said.start), next(filter(None, new)))
+
+
+@form("a key has one value: write (.+), or (\\[.*\\]) if an array may stand here")
+def one_or_array(case, said, one, array):
+    type = type_at(case.schema, re.sub(r"\.?[^.]*$", "", said.path) if said.message.startswith("expected colon") else said.path)
+    key = [lexeme[0] for lexeme in lexemes(case.text) if lexeme.end() <= said.start and lexeme.lastgroup in ("word", "text")][-1]
+    type = type[1].get(key.strip("'\""), (None, None))[0] if type and type[0] == "struct" else type
+    return put(case.text, said.start, said.end, array if type and type[0] == "list" else one)
+
+
+@form("write one of them: (.+?) or .+")
+def first_choice(case, said, first):
+    return put(case.text, said.start, said.end, first)
+
+
+@form("an array is due here: write (\\[.*\\])(?:, without the keys before its elements)?")
+def array_due(case, said, new):
+    end = value_end(case.text, said.start)
+    return put(case.text, said.start, end, fits(case, said) if ".." in new else new)
+
+
+@form("write \\[ .., .. \\], without dashes")
+def without_dashes(case, said):
+    return put(case.text, said.start, value_end(case.text, said.start), fits(case, said))
 
 
 @form("write \\[ and \\] in place of these braces")
