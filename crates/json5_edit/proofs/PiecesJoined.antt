@@ -4,7 +4,7 @@ use Rattle.std.specs.Prelude.{IfOk, Result, Ok, Err, ⊤}
 use Rattle.std.specs.Str.{chars, IsUtf8, all_scalars, encode_utf8_all}
 use Rattle.std.proofs.lemmas.Str.{chars-encodes, scalars-chars, chars-append}
 use Rattle.std.proofs.Math.Seq.{take-append_seam}
-use Rattle.json5_grammar.specs.Language.Blanks.{Blanks, LastBlanks}
+use Rattle.json5_grammar.specs.Language.Blanks.{Blanks, Gap, LastBlanks, at_end}
 use Rattle.json5_grammar.specs.Language.Names.{Key}
 use Rattle.json5_grammar.specs.Language.Values.{KeyText}
 use Rattle.json5_grammar.proofs.ValueHeads.{key_spelling}
@@ -13,15 +13,22 @@ use Rattle.json5_walk.proofs.Calls.{bytes_joined}
 use Rattle.json5_read.specs.declared.brackets.BracketKind.{BracketKind as Kind}
 use Rattle.json5_walk.specs.Seams.{WholeTokens, then_blanks}
 use Rattle.json5_walk.proofs.Rests.{append_nil}
-use Rattle.json5_edit.specs.Pieces.{IsComma, IsCommaBetween, IsSpace, IsNameAlone, IsEntryAlone, Grows, IsKeyText, SplitsKey, Respells, CutsWith, GoesWith}
+use Rattle.json5_edit.specs.Pieces.{IsCommaBetween, IsSpace, IsNameAlone, IsEntryAlone, Grows, IsKeyText, SplitsKey, Respells, CutsWith, GoesWith}
 use Rattle.json5_edit.specs.declared.belongings.Lead.{Lead}
-use Rattle.json5_edit.specs.Spots.{EndTokens, IsAroundComma}
+use Rattle.json5_edit.specs.Spots.{EndTokens, IsAroundComma, TakesComma}
 use Rattle.json5_edit.proofs.Placed.{scalars_left, bytes_cut}
 use Rattle.json5_edit.proofs.StepsSurveyed.{found_some}
 
 pub ok_both : {A B : Type 0} {P Q R : A → Type 0} (r : Result A B) → ((a : A) → P a → Q a → R a) → IfOk r P → IfOk r Q → IfOk r R
 ok_both (Ok a) k p q = k a p q
 ok_both (Err e) k p q = tt
+
+pub no_characters : chars [] ≡ []
+no_characters = chars-encodes [] refl
+
+pub last_gap : (w r : List ℕ) → r ≡ [] → Gap w r → LastBlanks w
+last_gap w r e (Gap.blanks b) = LastBlanks.blanks b
+last_gap w r e (at_end l) = l
 
 pub no_comma : (x : List ℕ) (n : Option ℕ) → IsAroundComma x n x [] []
 no_comma x n = record { comma = []; split = sym (append_nil x); is_comma = inl refl }
@@ -67,23 +74,40 @@ cuts l x y head before gone back front blank middle n ends e f a b h =
 pub entry_alone : (k : Kind) (value x lead name trail : List ℕ) → IsSpace lead → IsNameAlone k name → IsSpace trail → x ≡ lead ++ (name ++ (value ++ trail)) → IsEntryAlone k value x
 entry_alone k value x lead name trail l n t e = record { lead = lead; name = name; trail = trail; split = e; is_lead = l; is_name = n; is_trail = t }
 
-pub grows : (k : Kind) (value x y head before gone back front middle comma came : List ℕ) → x ≡ head ++ back → head ≡ before ++ gone → before ≡ front ++ middle → IsComma comma → IsSpace gone → IsEntryAlone k value came → y ≡ front ++ (comma ++ (middle ++ (came ++ back))) → Grows k value x y
-grows k value x y head before gone back front middle comma came e f g i b a h = record {
-  front = front;
-  middle = middle;
-  gone = gone;
-  back = back;
-  comma = comma;
-  came = came;
-  was = e ∙ ap (λ z. z ++ back) f ∙ append_assoc before gone back ∙ ap (λ z. z ++ (gone ++ back)) g ∙ append_assoc front middle (gone ++ back);
-  now = h;
-  is_comma = i;
-  blank = b;
-  alone = a;
+-- no comma comes
+pub takes_none : (x : List ℕ) (last : Option ℕ) → TakesComma x last x [] []
+takes_none x last = record { split = sym (append_nil x); is_comma = inl refl }
+
+-- a comma comes where one is due, before blanks alone
+pub takes_there : (x front middle gap left : List ℕ) (last : Option ℕ) (n : ℕ) → last ≡ Some n → length front ≡ n → x ≡ front ++ middle → middle ≡ gap ++ left → Gap (chars gap) (chars left) → left ≡ [] → TakesComma x last front (44 ∷ []) middle
+takes_there x front middle gap left last n is len e f after none = record {
+  split = e;
+  is_comma = inr (refl, is ∙ ap Some (sym len), subst (λ z. LastBlanks (chars z)) (sym (f ∙ ap (λ z. gap ++ z) none ∙ append_nil gap)) (last_gap (chars gap) (chars left) (ap chars none ∙ no_characters) after));
 }
 
-pub no_characters : chars [] ≡ []
-no_characters = chars-encodes [] refl
+-- whole tokens come before the comma
+comma_between : (x front comma middle more : List ℕ) (n : Option ℕ) → EndTokens x n → x ≡ front ++ more → (comma ≡ []) ⊎ ((comma ≡ 44 ∷ []) × (n ≡ Some (length front)) × LastBlanks (chars middle)) → IsCommaBetween front comma middle
+comma_between x front comma middle more n ends was (inl e) = inl e
+comma_between x front comma middle more n ends was (inr (e, at, l)) =
+    let (u, t) = found_some ⊤ (λ m. IsUtf8 (take m x) × WholeTokens true (chars (take m x))) n (length front) at ends in
+    inr (e, subst (λ z. WholeTokens true (chars z)) (ap (take (length front)) was ∙ take-append_seam front more) t, l)
+
+pub grows : (k : Kind) (value x y head before gone back front middle comma came : List ℕ) (n : Option ℕ) → EndTokens x n → x ≡ head ++ back → head ≡ before ++ gone → TakesComma before n front comma middle → IsSpace gone → IsEntryAlone k value came → y ≡ front ++ (comma ++ (middle ++ (came ++ back))) → Grows k value x y
+grows k value x y head before gone back front middle comma came n ends e f g b a h =
+    let was : x ≡ front ++ (middle ++ (gone ++ back)) = e ∙ ap (λ z. z ++ back) f ∙ append_assoc before gone back ∙ ap (λ z. z ++ (gone ++ back)) g.split ∙ append_assoc front middle (gone ++ back) in
+    record {
+      front = front;
+      middle = middle;
+      gone = gone;
+      back = back;
+      comma = comma;
+      came = came;
+      was = was;
+      now = h;
+      is_comma = comma_between x front comma middle (middle ++ (gone ++ back)) n ends was g.is_comma;
+      blank = b;
+      alone = a;
+    }
 
 -- the key that was taken, as far as it goes
 pub key_there : (bytes s y u part : List ℕ) (b : Bool) (n : ℕ) → IsUtf8 bytes → chars bytes ≡ s ++ y → n ≡ bytes_in (s ++ y) - bytes_in y → part ≡ take n bytes → Key s y u b → IsKeyText part

@@ -1,10 +1,10 @@
 -- A collection with one entry less, or one more, in its text.
-use Rattle.std.proofs.Common.{◌≡◌, ℕ, ◌+◌, ◌≤◌, ◌-◌, Bool, true, false, List, [], ◌∷◌, ◌++◌, refl, ap, sym, ◌∙◌, append_assoc, subst, inl, inr, arith, take, drop}
+use Rattle.std.proofs.Common.{◌≡◌, ℕ, ◌+◌, ◌≤◌, ◌-◌, Bool, true, false, List, [], ◌∷◌, ◌++◌, length, refl, ap, sym, ◌∙◌, append_assoc, subst, inl, inr, arith, take, drop}
 use Rattle.std.specs.Str.{chars, IsUtf8, IsCharBoundary, all_scalars, encode_utf8_all}
-use Rattle.std.proofs.lemmas.List.{take-append-drop}
+use Rattle.std.proofs.lemmas.List.{length-append, take-append-drop}
 use Rattle.std.proofs.lemmas.Str.{chars-encodes, scalars-chars, chars-append, IsUtf8-append}
 use Rattle.std.proofs.Math.Seq.{drop-append_seam, take-append_seam}
-use Rattle.json5_grammar.specs.Language.Blanks.{Blanks, Gap, Solid}
+use Rattle.json5_grammar.specs.Language.Blanks.{Blanks, Gap, LastBlanks, Solid}
 use Rattle.json5_grammar.specs.Language.Documents.{max_depth}
 use Rattle.json5_grammar.specs.Language.Trees.{Tree, null, boolean, number, text, array, object, no_more, more, no_member, member, depth}
 use Rattle.json5_grammar.specs.Language.Values.{Val, Stops, Reads}
@@ -19,13 +19,14 @@ use Rattle.json5_read.specs.declared.brackets.BracketKind.{BracketKind as Kind}
 use Rattle.json5_read.specs.declared.brackets.BracketKind.TheVariants as kind
 use Rattle.json5_read.specs.Brackets.{brackets_of}
 use Rattle.json5_walk.specs.Frames.{value_end, Spells}
+use Rattle.json5_walk.specs.Seams.{WholeTokens}
 use Rattle.json5_walk.proofs.Rests.{append_nil}
 use Rattle.json5_walk.proofs.Determined.{here}
 use Rattle.json5_lexemes.specs.Lexemes.{HaveSameLexemes, no_lexeme, separator, sign}
-use Rattle.json5_edit.specs.Changes.{Gains, GainsAt}
+use Rattle.json5_edit.specs.Changes.{Gains, GainsAt, HasIndex}
 use Rattle.json5_edit.specs.Comparing.{IsWithLast, step_kind, step_key}
 use Rattle.json5_edit.specs.Entries.{elements, members, entries, kind_of}
-use Rattle.json5_edit.specs.Pieces.{IsComma, IsSpace, IsNameAlone, IsEntryAlone, Grows, SpellsKey, SplitsKey}
+use Rattle.json5_edit.specs.Pieces.{IsCommaBetween, IsSpace, IsNameAlone, IsEntryAlone, Grows, SpellsKey, SplitsKey}
 use Rattle.json5_edit.specs.Places.{IsValue}
 use Rattle.json5_edit.specs.Spots.{Goes, joined, Spot, HasEntry, HasEnd, Adds, Parts, first_element, first_member, SpellsEntry, spells_element, spells_member, comma_for}
 use Rattle.json5_edit.specs.declared.paths.Step.{Step}
@@ -226,7 +227,7 @@ pub no_part : HaveSameLexemes (chars []) []
 no_part = subst (λ x. HaveSameLexemes x []) (sym no_characters) (record { lexemes = []; left = no_lexeme; right = no_lexeme })
 
 -- a text with a part put into it at a spot
-pub grows_there : (k : Kind) (value bytes front back comma came new : List ℕ) → IsComma comma → IsEntryAlone k value came → bytes ≡ front ++ back → new ≡ front ++ (comma ++ (came ++ back)) → Grows k value bytes new
+pub grows_there : (k : Kind) (value bytes front back comma came new : List ℕ) → IsCommaBetween front comma [] → IsEntryAlone k value came → bytes ≡ front ++ back → new ≡ front ++ (comma ++ (came ++ back)) → Grows k value bytes new
 grows_there k value bytes front back comma came new c a was now = record { front = front; middle = []; gone = []; back = back; comma = comma; came = came; was = was; now = now; is_comma = c; blank = no_part; alone = a }
 
 -- what a part that was put in at a spot makes
@@ -264,6 +265,14 @@ utf8_both x y a b = IsUtf8-append x y a b
 
 pub comma_space : IsSpace (44 ∷ [])
 comma_space = subst (λ x. HaveSameLexemes x []) (sym ascii_comma) (record { lexemes = []; left = separator refl no_lexeme; right = no_lexeme })
+
+-- the element that the step goes to is there
+pub has_index : {i limit n : ℕ} {bytes : List ℕ} → HasEntry (step.Index i) limit bytes n → HasIndex i bytes
+has_index {i = i} h =
+    let e = h.entry in
+    let size = ap length e.all ∙ length-append (entries e.before) ((step_key (step.Index i), e.gone) ∷ e.after) in
+    let there = e.there in
+    (h.tree, h.value, omega (arith, size, there))
 
 -- before the element that begins at the offset
 pub element_added : (i limit n : ℕ) (bytes new front back value : List ℕ) → limit ≤ max_depth → IsUtf8 bytes → IsUtf8 value → (h : HasEntry (step.Index i) limit bytes n) → front ≡ encode_utf8_all h.entry.spot.front → back ≡ encode_utf8_all h.entry.spot.rest → IsValue (limit - 1) (chars value) → new ≡ front ++ (value ++ ((44 ∷ []) ++ back)) → Adds kind.Array value (GainsAt i value) limit bytes new
@@ -309,9 +318,9 @@ element_added i limit n bytes new front back value small utf8 value_utf8 h front
       (w, m.value, m.shallow),
     )
 
-comma_is : (due : Bool) → IsComma (comma_for due)
-comma_is true = inr refl
-comma_is false = inl refl
+comma_is : (due : Bool) (front : List ℕ) → WholeTokens due (chars front) → IsCommaBetween front (comma_for due) []
+comma_is true front t = inr (refl, t, subst LastBlanks (sym no_characters) (LastBlanks.blanks Blanks.empty))
+comma_is false front t = inl refl
 
 pub comma_utf8 : (due : Bool) → IsUtf8 (comma_for due)
 comma_utf8 true = ascii_utf8
@@ -363,7 +372,7 @@ last_added k limit end bytes new front back name value comma small utf8 name_utf
           one_more = entries_joined k h.tree f.all h.kind f.same_kind ∙ ap (λ z. entries h.tree ++ z) (f.one_more ∙ ap (λ z. (key, v) ∷ z) none);
         },
       ),
-      grows_there k value bytes front back due entry new (comma_is end.comma) (record { lead = []; name = name; trail = []; split = ap (λ z. name ++ z) (sym (append_nil value)); is_lead = no_part; is_name = named; is_trail = no_part }) (whole ∙ ap (λ z. z ++ encode_utf8_all p.rest) (sym front_is) ∙ ap (λ z. front ++ z) (sym back_is)) comma_now,
+      grows_there k value bytes front back due entry new (comma_is end.comma front (subst (WholeTokens end.comma) (sym (ap chars front_is ∙ chars-encodes p.front scalar_front)) p.passed)) (record { lead = []; name = name; trail = []; split = ap (λ z. name ++ z) (sym (append_nil value)); is_lead = no_part; is_name = named; is_trail = no_part }) (whole ∙ ap (λ z. z ++ encode_utf8_all p.rest) (sym front_is) ∙ ap (λ z. front ++ z) (sym back_is)) comma_now,
       (w, m.value, m.shallow),
     )
 

@@ -10,7 +10,7 @@ use Rattle.std.specs.Str.{chars, IsUtf8, IsCharBoundary, all_scalars, encode_utf
 use Rattle.std.proofs.Math.Seq.{drop-append_seam, take-append_seam}
 use Rattle.json5_tokens.specs.Outcome.{bytes_in}
 use Rattle.std.proofs.lemmas.Str.{chars-append, chars-encodes, encodes-append, scalars-chars}
-use Rattle.json5_grammar.specs.Language.Blanks.{Blanks, LastBlanks, Gap, Solid, at_end}
+use Rattle.json5_grammar.specs.Language.Blanks.{Blanks, LastBlanks, Gap, Solid}
 use Rattle.json5_grammar.specs.Language.Documents.{max_depth}
 use Rattle.json5_grammar.specs.Language.Trees.{Tree, null, boolean, number, text, array, object, no_more, more, no_member, member, depth}
 use Rattle.json5_grammar.specs.Language.Values.{Val}
@@ -28,9 +28,10 @@ use Rattle.json5_edit.specs.Changes.{ChangesBy}
 use Rattle.json5_edit.specs.Comparing.{IsWithout, step_kind, step_key}
 use Rattle.json5_edit.specs.Entries.{entries}
 use Rattle.json5_edit.specs.Places.{IsValue}
-use Rattle.json5_edit.specs.Spots.{BeginsWithComma, EndTokens, IsAroundComma, LastEnds, Goes, HasBefore, HasEntry, HasFound, IsAhead, IsCommaSpan, Measures, Parts, Removes, Spot, TakesCommaAhead, joined}
+use Rattle.json5_edit.specs.Spots.{BeginsWithComma, EndTokens, IsAroundComma, LastEnds, Goes, HasBefore, HasEnd, HasEntry, HasFound, IsAhead, IsCommaSpan, Measures, Parts, Removes, Spot, TakesCommaAhead, due_at, joined}
 use Rattle.json5_edit.specs.declared.paths.Step.{Step}
 use Rattle.json5_edit.specs.declared.plain.CommaSpan.{CommaSpan}
+use Rattle.json5_edit.specs.declared.plain.End.{End}
 use Rattle.json5_edit.specs.declared.plain.EntryLen.{EntryLen}
 use Rattle.json5_edit.specs.declared.survey.Found.{Found}
 use Rattle.json5_edit.proofs.Measured.{bare_entry, goes_past_comma, whole_entry}
@@ -38,7 +39,7 @@ use Rattle.json5_edit.proofs.Placed.{encoded, scalars_left, bytes_cut, scalars_r
 use Rattle.json5_edit.proofs.PlainCuts.{cut_after_value, cut_alone, cut_with_comma, opening_array, opening_object}
 use Rattle.json5_edit.proofs.PlainlyEdited.{HasFirst, ascii_comma, ascii_utf8, back_there, chars_both, chars_joined, cut_in_two, cut_there, first_of, front_there, makes, rest_there, rest_utf8, same_rest, utf8_both}
 use Rattle.json5_edit.proofs.Spotted.{IsOf, entries_joined, joined_kind, not_nothing, spells_value, value_document}
-use Rattle.json5_edit.proofs.PiecesJoined.{no_characters}
+use Rattle.json5_edit.proofs.PiecesJoined.{last_gap, no_characters}
 use Rattle.json5_edit.proofs.TakenApart.{alone_goes, entry_there}
 
 -- ---- what comes at a spot before the entry
@@ -364,21 +365,27 @@ same_len m e = m.bare ∙ sym (m.whole ∙ ap (λ z. bytes_in ((m.name ++ m.valu
 
 -- ---- by lines
 
+-- whole tokens end where a comma is due
+spot_tokens : {limit n : ℕ} {bytes : List ℕ} {t : Tree} → IsUtf8 bytes → Spot limit bytes t true n → EndTokens bytes (Some n)
+spot_tokens utf8 p =
+    let (whole, scalar_front, scalar_rest) = cut_there utf8 p in
+    let is = front_there utf8 p in
+    (subst IsUtf8 (sym is) (encoded p.front scalar_front), subst (WholeTokens true) (sym (ap chars is ∙ chars-encodes p.front scalar_front)) p.passed)
+
+due_there : {limit n : ℕ} {bytes : List ℕ} {t : Tree} (due : Bool) → IsUtf8 bytes → Spot limit bytes t due n → EndTokens bytes (due_at due n)
+due_there true utf8 p = spot_tokens utf8 p
+due_there false utf8 p = tt
+
+pub due_tokens : {k : Kind} {limit : ℕ} {bytes : List ℕ} (end : End) → IsUtf8 bytes → HasEnd k limit bytes end → EndTokens bytes (due_at end.comma end.at)
+due_tokens end utf8 h = due_there end.comma utf8 h.end
+
 -- whole tokens end where the value of the entry before ends
 pub end_tokens : {s : Step} {limit : ℕ} {bytes : List ℕ} (f : Found) → IsUtf8 bytes → HasFound s limit bytes f → EndTokens bytes f.before
 end_tokens {limit = limit} {bytes = bytes} f utf8 h = by_before f.before h.entry.before
   where
     by_before : (n : Option ℕ) → MatchOption n (entries h.entry.entry.before ≡ []) (LastEnds limit bytes h.entry.entry.before) → EndTokens bytes n
     by_before None m = tt
-    by_before (Some n) l =
-        let p = l.spot in
-        let (whole, scalar_front, scalar_rest) = cut_there utf8 p in
-        let is = front_there utf8 p in
-        (subst IsUtf8 (sym is) (encoded p.front scalar_front), subst (WholeTokens true) (sym (ap chars is ∙ chars-encodes p.front scalar_front)) p.passed)
-
-last_gap : (w r : List ℕ) → r ≡ [] → Gap w r → LastBlanks w
-last_gap w r e (Gap.blanks b) = LastBlanks.blanks b
-last_gap w r e (at_end l) = l
+    by_before (Some n) l = spot_tokens utf8 l.spot
 
 -- the blanks around a comma that was found, and what is before it
 pub comma_there : (x front rest blank rest_after comma middle gap left : List ℕ) (before : Option ℕ) (n : ℕ) → before ≡ Some n → length front ≡ n → x ≡ front ++ rest → rest ≡ blank ++ rest_after → Gap (chars blank) (chars rest_after) → rest_after ≡ comma ++ middle → comma ≡ 44 ∷ [] → middle ≡ gap ++ left → Gap (chars gap) (chars left) → left ≡ [] → IsAroundComma x before front blank middle

@@ -1,7 +1,7 @@
 -- A text with a collection changed.
 -- A promise rests on this.
 use denote.Ref.{Bor}
-use Rattle.std.specs.Prelude.{◌≡◌, ℕ, List, [], ◌∷◌, ◌++◌, Some}
+use Rattle.std.specs.Prelude.{◌≡◌, ℕ, ◌+◌, ◌≤◌, List, [], ◌∷◌, ◌++◌, length, Some}
 use Rattle.std.specs.Str.{chars}
 use Rattle.json5_grammar.specs.Language.Documents.{Doc, max_depth}
 use Rattle.json5_grammar.specs.Language.Trees.{Tree}
@@ -11,6 +11,7 @@ use Rattle.json5_edit_style.specs.declared.habits.Names.TheVariants as names
 use Rattle.json5_lexemes.specs.Plain.{KeepsPlain, StaysPlain}
 use Rattle.json5_read.specs.declared.brackets.BracketKind.{BracketKind as Kind}
 use Rattle.json5_read.specs.declared.brackets.BracketKind.TheVariants as kind
+use Rattle.json5_edit.specs.Entries.{entries}
 use Rattle.json5_edit.specs.Comparing.{IsWithout, IsWithLast, IsWithAt, IsWithMember, IsRenamed}
 use Rattle.json5_edit.specs.Parts.{part, put, positions_of}
 use Rattle.json5_edit.specs.Pieces.{Cuts, CutsWith, Grows, Respells}
@@ -78,9 +79,13 @@ IsRemovedAlone text path made = RemovesWith leads.Stays text path made
 abbrev pub IsPushed : List ℕ → List Step → List ℕ → List ℕ → Type 0
 IsPushed text path value made = (c : IsChanged (Gains kind.Array [] value) text path made) × Grows kind.Array value c.old c.new
 
--- with one more element of the array that the path leads to, before that with this index: so too
+-- the collection that this text spells has an entry with the index
+abbrev pub HasIndex : ℕ → List ℕ → Type 0
+HasIndex i old = (t : Tree) × Val (chars old) t × (i + 1 ≤ length (entries t))
+
+-- with one more element of the array that the path leads to, before that with this index, which is there: so too
 abbrev pub IsPutIn : List ℕ → List Step → ℕ → List ℕ → List ℕ → Type 0
-IsPutIn text path i value made = (c : IsChanged (GainsAt i value) text path made) × Grows kind.Array value c.old c.new
+IsPutIn text path i value made = (c : IsChanged (GainsAt i value) text path made) × Grows kind.Array value c.old c.new × HasIndex i c.old
 
 -- with one more member, the last, of the object that the path leads to, where none had the key: so too
 abbrev pub IsInserted : List ℕ → List Step → List ℕ → List ℕ → List ℕ → Type 0

@@ -14,10 +14,6 @@ use Rattle.json5_walk.specs.Seams.{WholeTokens}
 use Rattle.json5_edit.specs.declared.belongings.Lead.{Lead}
 use Rattle.json5_edit.specs.declared.belongings.Lead.TheVariants as leads
 
--- a comma, or nothing
-abbrev pub IsComma : List ℕ → Type 0
-IsComma x = (x ≡ []) ⊎ (x ≡ comma_sign ∷ [])
-
 -- nothing, or a comma between tokens: whole ones come before it, and blanks alone after it
 abbrev pub IsCommaBetween : List ℕ → List ℕ → List ℕ → Type 0
 IsCommaBetween front comma middle = (comma ≡ []) ⊎ ((comma ≡ comma_sign ∷ []) × WholeTokens true (chars front) × LastBlanks (chars middle))
@@ -109,7 +105,7 @@ pub record Grows (k : Kind) (value x y : List ℕ) : Type 0 where
   pub came : List ℕ
   pub was : x ≡ front ++ (middle ++ (gone ++ back))
   pub now : y ≡ front ++ (comma ++ (middle ++ (came ++ back)))
-  pub is_comma : IsComma comma
+  pub is_comma : IsCommaBetween front comma middle
   pub blank : IsSpace gone
   pub alone : IsEntryAlone k value came
 

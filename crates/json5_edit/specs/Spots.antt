@@ -1,7 +1,7 @@
 -- Where an entry stands in the text of a collection, and where one more may stand.
 -- Private.
 use Rattle.std.specs.declared.alloc.Global.{Global}
-use Rattle.std.specs.Prelude.{◌≡◌, ◌⊎◌, ℕ, ◌+◌, ◌-◌, ◌≤◌, IfErr, IfOk, Result, String, string_bytes, Bool, true, false, List, [], ◌∷◌, ◌++◌, length, Option, Some, MatchOption, take, ⊤}
+use Rattle.std.specs.Prelude.{◌≡◌, ◌⊎◌, ℕ, ◌+◌, ◌-◌, ◌≤◌, IfErr, IfOk, Result, String, string_bytes, Bool, true, false, List, [], ◌∷◌, ◌++◌, length, Option, Some, None, MatchOption, take, ⊤}
 use Rattle.std.specs.Str.{chars, IsUtf8, encode_utf8_all}
 use Rattle.json5_grammar.specs.Language.Blanks.{Blanks, Gap, LastBlanks, Solid}
 use Rattle.json5_grammar.specs.Language.Characters.{comma_sign, colon_sign}
@@ -299,6 +299,16 @@ pub record IsAroundComma (x : List ℕ) (before : Option ℕ) (front blank middl
   pub comma : List ℕ
   pub split : x ≡ front ++ (blank ++ (comma ++ middle))
   pub is_comma : (comma ≡ []) ⊎ ((comma ≡ comma_sign ∷ []) × (before ≡ Some (length front)) × Blanks (chars blank) × LastBlanks (chars middle))
+
+-- x is these two, and a comma comes between them, or nothing: where whole tokens end at the offset, before blanks alone
+pub record TakesComma (x : List ℕ) (last : Option ℕ) (front comma middle : List ℕ) : Type 0 where
+  pub split : x ≡ front ++ middle
+  pub is_comma : (comma ≡ []) ⊎ ((comma ≡ comma_sign ∷ []) × (last ≡ Some (length front)) × LastBlanks (chars middle))
+
+-- the offset at which a comma is due, if one is
+abbrev pub due_at : Bool → ℕ → Option ℕ
+due_at true n = Some n
+due_at false n = None
 
 -- ---- a comma in front of a text
 

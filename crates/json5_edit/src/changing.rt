@@ -5,7 +5,7 @@ ghost use Rattle.json5_edit.specs.Changes.{ChangesBy, Gains, GainsAt, IsRemoved,
 ghost use Rattle.json5_edit.specs.Pieces.{Grows};
 ghost use Rattle.json5_edit.specs.Places.{HasPlace, IsPart, IsValue};
 ghost use Rattle.json5_edit.specs.Refusals.{RefusesRemove, RefusesPush, RefusesPutIn, RefusesInsert, RefusesRename, RefusesKind, RefusesKey, RefusesValue, IsFree, IsOwn, BeginsNo};
-ghost use Rattle.json5_edit.specs.Spots.{Adds, HasEnd, HasEntry, HasFound, Removes};
+ghost use Rattle.json5_edit.specs.Spots.{Adds, HasEnd, HasEntry, HasFound, Removes, due_at};
 ghost use Rattle.json5_edit.specs.declared.faults.EditError.TheVariants as edit_errors;
 ghost use Rattle.json5_edit.specs.declared.paths.Step.TheVariants as step;
 ghost use Rattle.json5_edit_style.specs.declared.habits.Names.TheVariants as layout_names;
@@ -398,13 +398,20 @@ fn pushed(
     ensures plain { IfOk result (λ new. StaysPlainQuoted collection.now.names collection.now.document.now value.now (string_bytes new)) }
     ensures refused { IfErr result (RefusesKind kind.Array old.now) }
 {
-    match added_by_lines(alloc, collection, old, BracketKind::Array, "", value, room) {
+    let end = array_end(alloc, old, room)?;
+    match added_by_lines(
+        alloc,
+        collection,
+        old,
+        end,
+        BracketKind::Array,
+        "",
+        value,
+        room,
+    ) {
         Ok(new) => Ok(new),
         Err(EditError::NoMemory) => Err(EditError::NoMemory),
-        Err(_) => {
-            let end = array_end(alloc, old, room)?;
-            with_last(alloc, old, end, "", value, BracketKind::Array, room)
-        }
+        Err(_) => with_last(alloc, old, end, "", value, BracketKind::Array, room),
     }
 }
 
@@ -430,6 +437,7 @@ pub(crate) fn inserted(
         alloc,
         collection,
         old,
+        end,
         BracketKind::Object,
         key,
         value,
@@ -446,18 +454,20 @@ fn added_by_lines(
     alloc: Global,
     collection: &Collection<'_>,
     old: &str,
+    end: End,
     kind: BracketKind,
     key: &str,
     value: &str,
     room: usize,
 ) -> Result<String>
-    requires { room ≤ max_depth }
+    requires small { room ≤ max_depth }
+    requires end { HasEnd kind room old.now end }
     ensures added { IfOk result (λ new. Adds kind value.now (Gains kind key.now value.now) room old.now (string_bytes new)) }
     ensures plain { IfOk result (λ new. StaysPlainQuoted collection.now.names collection.now.document.now value.now (string_bytes new)) }
 {
     let added = Added { kind, key, value };
     let growth = laid(growth_for(alloc, collection, added))?;
-    let new = grown(alloc, old, &growth, kind, value)?;
+    let new = grown(alloc, old, &growth, due_at(end), kind, value)?;
     match check_added(alloc, old, new.as_str(), growth.count, kind, key, value) {
         Ok(()) => fitting_as_plain(
             alloc,
@@ -469,6 +479,13 @@ fn added_by_lines(
         ),
         Err(error) => Err(EditError::of_made(error)),
     }
+}
+
+/// The offset at which a comma is due, if one is.
+fn due_at(end: End) -> Option<usize>
+    ensures { result ≡ due_at end.comma end.at }
+{
+    if end.comma { Some(end.at) } else { None }
 }
 
 /// The array with one more element before that with this index, which begins at the offset: with its lines and comments,
@@ -511,7 +528,7 @@ fn put_in_by_lines(
     ensures plain { IfOk result (λ new. StaysPlain collection.now.document.now value.now (string_bytes new)) }
 {
     let growth = laid(growth_before(alloc, collection, index))?;
-    let new = grown(alloc, old, &growth, BracketKind::Array, value)?;
+    let new = grown(alloc, old, &growth, None, BracketKind::Array, value)?;
     match check_put_in(alloc, old, new.as_str(), index, value) {
         Ok(()) => fitting_as_plain(alloc, Names::Quoted, collection.document, value, new, room),
         Err(error) => Err(EditError::of_made(error)),

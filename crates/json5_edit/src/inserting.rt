@@ -164,7 +164,7 @@ fn put_by_lines(
     ensures { IfOk result (λ new. AddsMember before.entry key.now value.now room collection.now.document.now old.now (string_bytes new)) }
 {
     let growth = laid(member_growth_before(alloc, collection, which(before), key))?;
-    let new = grown(alloc, old, &growth, BracketKind::Object, value)?;
+    let new = grown(alloc, old, &growth, None, BracketKind::Object, value)?;
     match check_inserted(alloc, old, new.as_str(), before, growth.count, key, value) {
         Ok(()) => fitting_as_plain(alloc, Names::Quoted, collection.document, value, new, room),
         Err(error) => Err(EditError::of_made(error)),

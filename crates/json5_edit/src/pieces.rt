@@ -2,9 +2,9 @@
 
 ghost use Rattle.std.specs.Prelude.{◌≡◌, ◌≤◌, ◌++◌, IfOk, IfErr, OnOk, IsTrue, [], length, string_bytes, take};
 ghost use Rattle.std.specs.Str.{chars};
-ghost use Rattle.json5_edit.specs.Pieces.{CutsWith, Grows, Respells, IsComma, IsEntryAlone, IsNameAlone, SplitsKey};
+ghost use Rattle.json5_edit.specs.Pieces.{CutsWith, Grows, Respells, IsEntryAlone, IsNameAlone, SplitsKey};
 ghost use Rattle.json5_edit.specs.Refusals.{IsOwn};
-ghost use Rattle.json5_edit.specs.Spots.{EndTokens, IsAroundComma};
+ghost use Rattle.json5_edit.specs.Spots.{EndTokens, IsAroundComma, TakesComma};
 ghost use Rattle.json5_edit.specs.declared.faults.EditError.TheVariants as edit_errors;
 ghost use Rattle.json5_grammar.specs.Language.Documents.{max_depth};
 ghost use Rattle.json5_lexemes.specs.Lexemes.{HaveSameLexemes};
@@ -42,32 +42,50 @@ pub(crate) fn cut(
     join_four(alloc, front, blank, middle, back)
 }
 
-/// The text with what comes: an entry of such a collection with this value.
+/// The text with what comes: an entry of such a collection with this value, and perhaps a comma after the last value, if
+/// one is due at the offset.
 pub(crate) fn grown(
     alloc: Global,
     text: &str,
     growth: &Growth,
+    last: Option<usize>,
     kind: BracketKind,
     value: &str,
 ) -> Result<String>
+    requires { EndTokens text.now last }
     ensures grows { IfOk result (λ new. Grows kind value.now text.now (string_bytes new)) }
     ensures own { IfErr result IsOwn }
 {
     let (head, back) = split(text, growth.end)?;
     let (head, gone) = split(head, growth.start)?;
-    let (front, middle) = split(head, growth.at)?;
+    let (front, comma, middle) = with_comma(alloc, head, growth.comma, growth.at, last)?;
     if !is_blank(gone) {
         return Err(EditError::Failed);
     }
     let came = part(alloc, growth, kind, value)?;
-    join_five(
-        alloc,
-        front,
-        comma_if(growth.comma),
-        middle,
-        came.as_str(),
-        back,
-    )
+    join_five(alloc, front, comma, middle, came.as_str(), back)
+}
+
+/// The text up to the offset, a comma if one comes, and the rest, which is blanks alone then; or the text, and nothing.
+fn with_comma(
+    alloc: Global,
+    text: &str,
+    comes: bool,
+    at: usize,
+    last: Option<usize>,
+) -> Result<(&str, &'static str, &str)>
+    ensures comma { IfOk result (λ parts. TakesComma text.now last parts.0.now parts.1.now parts.2.now) }
+    ensures own { IfErr result IsOwn }
+{
+    let (true, Some(end)) = (comes, last) else {
+        return Ok((text, "", ""));
+    };
+    let (front, middle) = split(text, end)?;
+    let (_blank, left) = split_blanks(alloc, middle)?;
+    if at == end && left == "" {
+        return Ok((front, ",", middle));
+    }
+    Err(EditError::Failed)
 }
 
 /// The entry with this value, and what comes around it: blanks and commas alone.
@@ -190,13 +208,6 @@ fn around_comma(
         return Ok((front, blank, middle));
     }
     Err(EditError::Failed)
-}
-
-/// A comma, or nothing.
-fn comma_if(wanted: bool) -> &'static str
-    ensures { IsComma result.now }
-{
-    if wanted { "," } else { "" }
 }
 
 /// Whether there is no token and no comment in the text; a comma may be.

@@ -1,11 +1,12 @@
 use Rattle.std.proofs.Common.{refl, string_bytes, subst, sym}
 use Rattle.std.proofs.lemmas.Result.{err_from_is_err_and}
 use Rattle.json5_lexemes.specs.Plain.{KeepsPlain, StaysPlain}
-use Rattle.json5_edit.specs.Changes.{GainsAt}
+use Rattle.json5_edit.specs.Changes.{GainsAt, HasIndex}
 use Rattle.json5_edit.specs.Pieces.{Grows}
 use Rattle.json5_edit.specs.Refusals.{RefusesPutIn}
 use Rattle.json5_read.specs.declared.brackets.BracketKind.TheVariants as kind
 use Rattle.json5_edit.proofs.Placed.{ok_then}
+use Rattle.json5_edit.proofs.PlainlyEdited.{has_index}
 use Rattle.json5_edit.proofs.Changed.{has_place, is_small, changed_within}
 use Rattle.json5_edit.proofs.PlainPlaces.{part_stays, plain_within}
 use Rattle.json5_edit.proofs.Refused.{lacking, path_put_in, reaches_no, step_put_in, new_put_in, value_fits}
@@ -56,7 +57,7 @@ returns-in_err-new-clause-refused c =
     rw (is, from, c.in_err-new.ensures.full) tt
 
 pub returns-clause-put_in : goal.returns-clause-put_in
-returns-clause-put_in c = ok_then c.splice.result (λ made k. changed_within (Grows kind.Array c.args.value.now) (GainsAt c.args.index c.args.value.now) c.args.text.now c.part_text-old.result.now c.as_str.result.now (string_bytes c.in_ok-new.new) (string_bytes made) c.args.path.now c.in_ok-place.place c.utf8.text c.as_str.utf8 c.as_str.ensures.value c.in_ok-place.ensures.found c.part_text-old.ensures c.in_ok-new.ensures.put_in k) c.splice.ensures.spliced
+returns-clause-put_in c = ok_then c.splice.result (λ made k. let q = changed_within (λ x y. Grows kind.Array c.args.value.now x y × HasIndex c.args.index x) (GainsAt c.args.index c.args.value.now) c.args.text.now c.part_text-old.result.now c.as_str.result.now (string_bytes c.in_ok-new.new) (string_bytes made) c.args.path.now c.in_ok-place.place c.utf8.text c.as_str.utf8 c.as_str.ensures.value c.in_ok-place.ensures.found c.part_text-old.ensures (let m = c.in_ok-new.ensures.put_in in (m.0, (m.1, has_index c.in_ok-start.ensures.found), m.2)) k in (q.0, q.1.0, q.1.1)) c.splice.ensures.spliced
 
 pub returns-clause-plain : goal.returns-clause-plain
 returns-clause-plain c = ok_then c.splice.result (λ made k. plain_within c.args.text.now c.args.value.now c.as_str.result.now (string_bytes c.in_ok-new.new) (string_bytes made) c.args.path.now c.in_ok-place.place c.utf8.text c.as_str.utf8 c.as_str.ensures.value c.in_ok-place.ensures.found c.in_ok-new.ensures.put_in.2 (subst (λ z. StaysPlain z c.args.value.now (string_bytes c.in_ok-new.new)) c.collection-collection.ensures.document (c.in_ok-new.ensures.plain)) k) c.splice.ensures.spliced
