@@ -15,7 +15,7 @@ use Rattle.json5_walk.specs.Moves.{EndsEntries}
 use Rattle.json5_walk.specs.Walks.{Walked, Trail, IsAt, Moved, Ends}
 use Rattle.json5_walk.proofs.Rests.{append_nil}
 use Rattle.json5_edit.specs.Changes.{ChangesBy, Gains, GainsAt, GainsMember}
-use Rattle.json5_edit.specs.Comparing.{With, EndsToo, BothPass, PassesPair, PassesFront, PassesRest, PassesAfter, FitsFront, MayPrecede, ComesBetween, LacksKey, Lacks, IsOther, IsWithout, IsRenamed, GoesTo, step_kind, step_key, step_place}
+use Rattle.json5_edit.specs.Comparing.{With, HaveSameEntries, EndsToo, BothPass, PassesPair, PassesFront, PassesRest, PassesAfter, FitsFront, MayPrecede, ComesBetween, LacksKey, Lacks, IsOther, IsWithout, IsRenamed, GoesTo, step_kind, step_key, step_place}
 use Rattle.json5_edit.specs.Entries.{entries, kind_of, empty_of, read_in, TakesEntry, Holds}
 use Rattle.json5_edit.specs.declared.entries.Entry.{Entry}
 use Rattle.json5_edit.specs.declared.paths.Before.{Before}
@@ -165,6 +165,19 @@ from_empty k es p = p.more ∙ ap (λ z. z ++ es) (no_entries k)
 goes_to : (s : Step) (found : ℕ) (before after : List (List ℕ × Tree)) → length before ≡ step_place s found → Lacks s after → GoesTo s before after
 goes_to (step.Index i) found before after size lacks = size
 goes_to (step.Key k) found before after size lacks = lacks
+
+pub same_entries : {x y : List ℕ} {l1 r1 l2 r2 : Walked} (k : Kind) (s : Step) → Holds x (empty_of k) l1 → Holds y (empty_of k) r1 → PassesRest s l1 r1 l2 r2 → ((t : Trail) → IsAt l2 t → Ends l2 t) → ((t : Trail) → IsAt r2 t → Ends r2 t) → ChangesBy HaveSameEntries x y
+same_entries {x = x} {y = y} k s h g rest end_left end_right =
+    let (es, close, lacks) = rest x y (empty_of k) (empty_of k) h g in (
+      close.left,
+      close.right,
+      is_document close.left_closed end_left,
+      is_document close.right_closed end_right,
+      record {
+        same = from_empty k es close.right_with ∙ sym (from_empty k es close.left_with);
+        same_kind = close.right_with.same_kind ∙ sym close.left_with.same_kind;
+      },
+    )
 
 pub removed : {x y : List ℕ} {l1 r1 l2 r2 l3 l4 r4 : Walked} (s : Step) (found n : ℕ) (kd : Kind) (key value : List ℕ) → kd ≡ step_kind s → n ≡ step_place s found → Holds x (empty_of kd) l1 → Holds y (empty_of kd) r1 → PassesFront n l1 r1 l2 r2 → Moved (TakesEntry key value) l2 l3 → key ≡ step_key s → PassesRest s l3 r2 l4 r4 → ((t : Trail) → IsAt l4 t → Ends l4 t) → ((t : Trail) → IsAt r4 t → Ends r4 t) → ChangesBy (IsWithout s) x y
 removed {x = x} {y = y} s found n kd key value is_kind is_place h k front one same rest end_left end_right =

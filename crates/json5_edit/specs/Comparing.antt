@@ -109,7 +109,11 @@ abbrev pub GoesTo : Step → List (List ℕ × Tree) → List (List ℕ × Tree)
 GoesTo (step.Index i) before after = length before ≡ i
 GoesTo (step.Key k) before after = LacksKey k.now after
 
--- ---- collections that differ by an entry
+-- ---- collections that have the same entries, or differ by one
+
+pub record HaveSameEntries (t u : Tree) : Type 0 where
+  pub same : entries u ≡ entries t
+  pub same_kind : kind_of u ≡ kind_of t
 
 -- the collection u is t without the entry that the step goes to
 pub record IsWithout (s : Step) (t u : Tree) : Type 0 where

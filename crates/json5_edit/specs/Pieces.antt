@@ -1,6 +1,6 @@
 -- Two texts that differ by a part, and perhaps by a comma before it.
 -- A promise rests on this.
-use Rattle.std.specs.Prelude.{⊤, ◌≡◌, ◌⊎◌, ℕ, Bool, true, List, [], ◌∷◌, ◌++◌}
+use Rattle.std.specs.Prelude.{⊤, ◌≡◌, ◌⊎◌, ℕ, Bool, true, List, [], ◌∷◌, ◌++◌, length}
 use Rattle.std.specs.Str.{chars, encode_utf8_all}
 use Rattle.json5_edit_style.specs.Comments.{IsLead, IsTrail}
 use Rattle.json5_grammar.specs.Language.Blanks.{Blanks, LastBlanks}
@@ -127,3 +127,16 @@ pub record Respells (x y : List ℕ) : Type 0 where
   pub now : y ≡ front ++ (came ++ back)
   pub old_key : IsKeyText gone
   pub new_key : IsKeyText came
+
+-- y is x with other comments before the offset, which belong to the entry there, in the place of those that did: all other
+-- bytes are the same
+pub record Recomments (at : ℕ) (x y : List ℕ) : Type 0 where
+  pub front : List ℕ
+  pub gone : List ℕ
+  pub came : List ℕ
+  pub back : List ℕ
+  pub was : x ≡ front ++ (gone ++ back)
+  pub now : y ≡ front ++ (came ++ back)
+  pub before : length (front ++ gone) ≡ at
+  pub old_lead : IsLead (chars front) (chars gone)
+  pub new_lead : IsLead (chars front) (chars came)

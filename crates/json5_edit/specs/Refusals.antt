@@ -85,6 +85,11 @@ abbrev pub RefusesRemove : List ℕ → List Step → EditError → Type 0
 RefusesRemove text path error.Nowhere = LeadsNowhere text path ⊎ (path ≡ [])
 RefusesRemove text path e = RefusesPath text path e
 
+-- `comment`: `Failed` isn't excluded, where another text couldn't be made either
+abbrev pub RefusesComment : List ℕ → List Step → EditError → Type 0
+RefusesComment text path error.Failed = ⊤
+RefusesComment text path e = RefusesRemove text path e
+
 -- `push`
 abbrev pub RefusesPush : List ℕ → List Step → List ℕ → EditError → Type 0
 RefusesPush text path value error.NotArray = Reaches (IsNo kind.Array) text path

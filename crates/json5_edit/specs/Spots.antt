@@ -1,5 +1,5 @@
 -- Where an entry stands in the text of a collection, and where one more may stand.
--- Private.
+-- A promise rests on this.
 use Rattle.std.specs.declared.alloc.Global.{Global}
 use Rattle.std.specs.Prelude.{◌≡◌, ◌⊎◌, ℕ, ◌+◌, ◌-◌, ◌≤◌, IfErr, IfOk, Result, String, string_bytes, Bool, true, false, List, [], ◌∷◌, ◌++◌, length, Option, Some, None, MatchOption, take, ⊤}
 use Rattle.std.specs.Str.{chars, IsUtf8, encode_utf8_all}

@@ -281,7 +281,7 @@ fn begins(alloc: Global, old: &str, kind: BracketKind) -> bool
 }
 
 /// The entry that the step goes to, in the layout's words.
-fn which(step: Step<'_>) -> Which<'_> {
+pub(crate) fn which(step: Step<'_>) -> Which<'_> {
     match step {
         Step::Key(key) => Which::Key(key),
         Step::Index(index) => Which::Index(index),
@@ -362,6 +362,7 @@ pub(crate) fn fitting(alloc: Global, new: String, room: usize) -> Result<String>
     requires { room ≤ max_depth }
     ensures same { IfOk result (λ made. string_bytes made ≡ string_bytes new) }
     ensures value { OnOk result (IsValue room (chars (string_bytes new))) }
+    ensures own { IfErr result IsOwn }
 {
     match check_value(alloc, new.as_str(), room) {
         Ok(()) => Ok(new),

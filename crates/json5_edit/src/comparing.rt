@@ -5,7 +5,7 @@ ghost use Rattle.json5_types.specs.Cows.{cow_bytes};
 ghost use Rattle.json5_walk.specs.Moves.{Opens};
 ghost use Rattle.json5_walk.specs.Walks.{Moved};
 ghost use Rattle.json5_edit.specs.Entries.{TakesEntry};
-ghost use Rattle.json5_edit.specs.Comparing.{EndsToo, PassesPair, PassesFront, PassesRest, IsOther, IsWithout, IsRenamed, FitsFront, PassesAfter, step_kind, step_key, step_place};
+ghost use Rattle.json5_edit.specs.Comparing.{EndsToo, HaveSameEntries, PassesPair, PassesFront, PassesRest, IsOther, IsWithout, IsRenamed, FitsFront, PassesAfter, step_kind, step_key, step_place};
 ghost use Rattle.json5_edit.specs.Changes.{ChangesBy, Gains, GainsAt, GainsMember};
 
 use crate::entries::{Entry, failed, next_entry};
@@ -150,6 +150,18 @@ pub(crate) fn check_renamed(
         return Err(failed());
     }
     same_rest(&mut left, &mut right, Step::Key(name))?;
+    left.finish()?;
+    right.finish()
+}
+
+/// Refuses a new text that hasn't the entries of the old one.
+pub(crate) fn check_same(alloc: Global, old: &str, new: &str, kind: BracketKind) -> Result<()>
+    ensures { OnOk result (ChangesBy HaveSameEntries old.now new.now) }
+{
+    let mut left = Walk::new(alloc, old, Limit::full());
+    let mut right = Walk::new(alloc, new, Limit::full());
+    open_both(&mut left, &mut right, kind)?;
+    same_rest(&mut left, &mut right, Step::Index(0))?;
     left.finish()?;
     right.finish()
 }
