@@ -10,6 +10,7 @@ use crate::patch::adding::{added, set_at};
 use crate::patch::faults::{PatchError, Trouble};
 use crate::patch::new_values::{New, owned};
 use crate::patch::operations::{Operation, Patch};
+use crate::patch::pointers::Pointer;
 use crate::patch::same::is_same;
 use crate::patch::steps::{part_at, steps_in};
 use json5_edit::{EditError, Names, Result, remove};
@@ -26,7 +27,7 @@ use std::alloc::Global;
 ///
 /// # Errors
 ///
-/// With the index of the first operation that can't be made, and
+/// With the index of the first operation that can't be made, its location, and
 /// - `Edit` with the error of the edit: `Nowhere`, if its path or its `from` leads nowhere.
 /// - `Differs`, if it is a test, and another value is there.
 /// - `IntoItself`, if it moves a value into itself.
@@ -61,16 +62,57 @@ pub fn apply_patch_in(
         Ok(made) => made,
         Err(error) => return Err(PatchError {
             operation: 0,
+            path: None,
             trouble: Trouble::Edit(error),
         }),
     };
     for operation in 0..patch.operations.len() {
         match performed(alloc, names, made.as_str(), &patch.operations[operation]) {
             Ok(new) => made = new,
-            Err(trouble) => return Err(PatchError { operation, trouble }),
+            Err(trouble) => {
+                let path = blamed(alloc, made.as_str(), &patch.operations[operation]);
+                return Err(PatchError {
+                    operation,
+                    path,
+                    trouble,
+                });
+            }
         }
     }
     Ok(made)
+}
+
+/// The location at which an operation isn't made, if there is memory for it.
+fn blamed(alloc: Global, text: &str, operation: &Operation) -> Option<Pointer> {
+    let pointer = match operation {
+        Operation::Add { path, .. } => path,
+        Operation::Remove { path } => path,
+        Operation::Replace { path, .. } => path,
+        Operation::Move { from, path } => blamed_of(alloc, text, from, path),
+        Operation::Copy { from, path } => blamed_of(alloc, text, from, path),
+        Operation::Test { path, .. } => path,
+    };
+    match pointer.tokens.clone() {
+        Ok(tokens) => Some(Pointer { tokens }),
+        Err(_) => None,
+    }
+}
+
+/// The first of the two, if it leads nowhere.
+fn blamed_of<'p>(alloc: Global, text: &str, from: &'p Pointer, path: &'p Pointer) -> &'p Pointer {
+    if leads_nowhere(alloc, text, from.tokens.as_slice()) {
+        from
+    } else {
+        path
+    }
+}
+
+/// Whether there is no value at the location.
+fn leads_nowhere(alloc: Global, text: &str, tokens: &[String]) -> bool {
+    let Ok(steps) = steps_in(alloc, text, tokens) else {
+        return false;
+    };
+    part_at(alloc, text, steps.as_slice()).is_err()
 }
 
 /// The text itself, if it is a document.

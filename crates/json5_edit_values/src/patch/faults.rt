@@ -1,5 +1,6 @@
 //! Why a patch isn't read, or isn't made.
 
+use crate::patch::pointers::Pointer;
 use json5_edit::EditError;
 use json5_types::ErrorCode;
 use json5_types::error::Error;
@@ -75,14 +76,29 @@ pub enum Trouble {
     IntoItself,
 }
 
-/// Which operation isn't made, counted from 0, and why. The text is as it was.
+impl std::error::Error for Trouble {}
+
+impl fmt::Display for Trouble {
+    fn fmt<W: fmt::Write>(&self, f: &mut fmt::Formatter<W>) -> fmt::Result {
+        match self {
+            Trouble::Edit(error) => write!(f, "{error}"),
+            Trouble::Differs => write!(f, "the value there is another one"),
+            Trouble::IntoItself => write!(f, "a value can't move into itself"),
+        }
+    }
+}
+
+/// Which operation isn't made, counted from 0, at which of its locations, and why. The text is as it was.
 ///
 /// ```text
-/// apply_patch(alloc, "{}", &patch)    // Err(PatchError { operation: 0, trouble: Trouble::Edit(EditError::Nowhere) })
+/// apply_patch(alloc, "{}", &patch)    // Err: operation 0 at /port: the path leads nowhere
 /// ```
 #[derive(Debug, Drop)]
 pub struct PatchError {
     pub operation: usize,
+    /// Its `path`, or its `from` where that leads nowhere. None if the text is no document, or where there is no memory
+    /// for it.
+    pub path: Option<Pointer>,
     pub trouble: Trouble,
 }
 
@@ -90,15 +106,14 @@ impl std::error::Error for PatchError {}
 
 impl fmt::Display for PatchError {
     fn fmt<W: fmt::Write>(&self, f: &mut fmt::Formatter<W>) -> fmt::Result {
-        let operation = self.operation;
-        match &self.trouble {
-            Trouble::Edit(EditError::Text(error)) => write!(f, "{error}"),
-            Trouble::Edit(error) => write!(f, "operation {operation}: {error}"),
-            Trouble::Differs => write!(f, "operation {operation}: the value there is another one"),
-            Trouble::IntoItself => write!(
-                f,
-                "operation {operation}: a value can't move into itself"
-            ),
+        if let Trouble::Edit(EditError::Text(error)) = &self.trouble {
+            return write!(f, "{error}");
         }
+        write!(f, "operation {}", self.operation)?;
+        match &self.path {
+            Some(path) if !path.tokens.is_empty() => write!(f, " at {path}")?,
+            _ => {}
+        }
+        write!(f, ": {}", self.trouble)
     }
 }
