@@ -147,8 +147,9 @@ impl<'t> Json5<'t> {
     #[inline(never)]
     fn broken(&self, error: Error) -> Fault {
         let is_held = self.held != usize::MAX && self.past_blanks(self.held) == self.last;
-        match error.position() {
-            None if is_held => self.scanned(error.at(self.walk.position_of(self.last))),
+        match (error.position(), error.code()) {
+            (_, Some(ErrorCode::Failed)) => self.scanned(error),
+            (None, Some(code)) if is_held => Fault::Code(code, self.last),
             _ => self.scanned(error),
         }
     }
