@@ -16,7 +16,6 @@ use crate::path::{is_named, unquoted};
 use crate::unclosed::close_of;
 use crate::value_advice::ValueAdvice;
 use crate::values::bare_remark;
-use json5_tokens::char::is_json5_identifier;
 use std::alloc::{AllocError, Global};
 
 /// The part at fault, and a hint if one is certain.
@@ -70,13 +69,15 @@ fn name_advice<'t>(fault: &Fault<'t>) -> Option<Advice<'t>> {
     let token = fault.token()?;
     let text = token.of(fault.text);
     let rest = fault.text.get(token.end..).unwrap_or("");
+    let behind = lexeme_at(fault.text, token.end);
+    let is_torn = behind.start == token.end && matches!(behind.kind, Kind::Word | Kind::Text);
     match token.kind {
         Kind::Text if fault.message.starts_with("invalid type: unit variant") => {
             Some(Advice::NameHolds(unquoted(text)))
         }
-        Kind::Text
-            if rest.starts_with(|c| is_json5_identifier(c)
-                || matches!(c, '\'' | '"' | '/' | '.')) => { adjacent_advice(fault, token) }
+        Kind::Text if is_torn && !rest.starts_with([';', '#', '=', '+', '.', '|']) => {
+            adjacent_advice(fault, token)
+        }
         Kind::Word if rest.starts_with('\u{feff}') => Some(Advice::DropByteOrderMarkBehind),
         _ => None,
     }
@@ -224,8 +225,9 @@ fn torn_advice<'t>(fault: &Fault<'t>, key: Lexeme) -> Option<Advice<'t>> {
         return None;
     }
     let (name, value) = unquoted(key.of(fault.text)).split_once(':')?;
+    let is_torn = matches!(behind.kind, Kind::Word | Kind::Text) && behind.start == key.end;
     Some(match value.trim() {
-        _ if behind.start == key.end => Advice::MissingQuote(name),
+        _ if is_torn => Advice::MissingQuote(name),
         "" => Advice::Member(MemberAdvice::ColonBehindQuote(name)),
         value => Advice::Member(MemberAdvice::QuotedTogether(name, value)),
     })

@@ -440,17 +440,7 @@ fn is_number(text: &str) -> bool {
 fn inside_remark<'t>(fault: &Fault<'t>, word: Lexeme) -> Remark<'t> {
     let text = word.of(fault.text);
     if text.starts_with(|c: char| c.is_alphabetic()) {
-        return bare_remark(
-            fault,
-            word.start,
-            match fault.code {
-                Some(ErrorCode::ExpectedNumber) if is_null_word(text) => Advice::Write(
-                    "null, or a number where one is due",
-                ),
-                Some(ErrorCode::ExpectedNumber) => Advice::Number(NumberAdvice::Part("")),
-                _ => Advice::QuoteText(""),
-            },
-        );
+        return bare_remark(fault, word.start, word_advice(fault, text));
     }
     let number = crate::numbers::number_remark(fault, word);
     let is_told = matches!(
@@ -458,6 +448,17 @@ fn inside_remark<'t>(fault: &Fault<'t>, word: Lexeme) -> Remark<'t> {
         Some(Advice::NoHexDigit(_) | Advice::Number(_) | Advice::NoExpressions)
     );
     if is_told { number } else { fault.plain() }
+}
+
+/// What is said of a word that begins as a literal does, where a number is expected, or any value.
+fn word_advice<'t>(fault: &Fault<'t>, word: &'t str) -> Advice<'t> {
+    if fault.code != Some(ErrorCode::ExpectedNumber) {
+        return Advice::QuoteText("");
+    }
+    if is_null_word(word) {
+        return Advice::Write("null, or a number where one is due");
+    }
+    literal_advice(word).unwrap_or(Advice::Number(NumberAdvice::Part("")))
 }
 
 /// What is said where a text, or any value, is expected.
