@@ -1,0 +1,4 @@
+-- Lists the lemmas about schemas.
+mod Conforming
+mod OneVerdict
+mod Parts

@@ -1,0 +1,131 @@
+-- Steps that answers cite: texts by their bytes, references, and results.
+use Rattle.std.proofs.Common.{if◌then◌else◌, ◌≡◌, ◌≢◌, ◌∙◌, ◌<◌, ◌-◌, ℕ, suc, zero, Bool, true, false, ◌&&◌, ◌||◌, List, [], ◌∷◌, length, nat_eq, Option, Some, None, Result, Ok, Err, MatchResult, Vec, ap, sym, refl, arith, ne_eqb, rules, String, string_bytes}
+use Rattle.std.specs.declared.alloc.Global.{Global}
+use Rattle.std.specs.Str.{chars, IsUtf8, encode_utf8_all}
+use Rattle.std.proofs.lemmas.Str.{encodes-chars}
+use Rattle.json5_types.specs.declared.error.Error.{Error}
+use Rattle.json5_types.specs.declared.value.Value.{Value}
+use Rattle.json5_types.specs.declared.value.Value as value
+use Rattle.json5_types.specs.ValueMeanings.{Datum, null, boolean, number, text, array, object, Fields, value_of, items_view, fields_view}
+use Rattle.json5_types.specs.ValueLookups.{boolean_of, fields_in}
+use Rattle.json5_types.specs.Pointers.{pointed}
+use Rattle.json5_types.proofs.ValuesCompared.{view-String}
+use Rattle.json5_schema.specs.declared.keyword.Keyword.{Keyword}
+use Rattle.json5_schema.specs.declared.kind.Kind.{Kind}
+use Rattle.json5_schema.specs.Keywords.{keyword_named, kind_named}
+use Rattle.json5_schema.specs.Conformance.{is_named, is_of_kind, is_of_named, behind_sign, target_of, same_datum, same_items, Asked, choice, asks, satisfied, part_holds, keyword_holds, keywords_hold, schema_holds, unfolded, Conforms}
+use Rattle.json5_schema.specs.Views.{IsRefusal}
+use Rattle.json5_schema.proofs.Conforming.{Test, unfolded_more}
+
+-- ---- texts by their bytes
+
+pub named_text : (n : Value) (s : String Global) (bs : List ℕ) (k : Kind) (x : Datum) → n ≡ value.String s → bs ≡ string_bytes s → IsUtf8 bs → k ≡ kind_named bs → is_of_kind k x ≡ is_of_named (value_of n) x
+named_text n s bs k x e b u named =
+    let back : encode_utf8_all (chars (string_bytes s)) ≡ bs = ap (λ (t : List ℕ). encode_utf8_all (chars t)) (sym b) ∙ encodes-chars bs u in
+    rw (e, view-String s) (ap (λ (l : Kind). is_of_kind l x) (named ∙ ap kind_named (sym back)))
+
+-- ---- references
+
+no_sign : (bs : List ℕ) (root : Datum) → ((rest : List ℕ) → bs ≢ 35 ∷ rest) → behind_sign bs root ≡ None
+no_sign [] root h = refl
+no_sign (c ∷ s) root h = rw (ne_eqb c 35 (λ e. h s (ap (λ y. y ∷ s) e))) refl
+
+past_sign : (bs rest : List ℕ) (root : Datum) → bs ≡ 35 ∷ rest → behind_sign bs root ≡ pointed rest root
+past_sign bs rest root e = rw e refl
+
+target_text : (n : Value) (s : String Global) (bs : List ℕ) (root : Datum) → n ≡ value.String s → bs ≡ string_bytes s → IsUtf8 bs → target_of root (value_of n) ≡ behind_sign bs root
+target_text n s bs root e b u =
+    let back : encode_utf8_all (chars (string_bytes s)) ≡ bs = ap (λ (t : List ℕ). encode_utf8_all (chars t)) (sym b) ∙ encodes-chars bs u in
+    rw (e, view-String s) (ap (λ (t : List ℕ). behind_sign t root) back)
+
+pub no_target : (n : Value) (s : String Global) (bs : List ℕ) (root : Datum) → n ≡ value.String s → bs ≡ string_bytes s → IsUtf8 bs → ((rest : List ℕ) → bs ≢ 35 ∷ rest) → target_of root (value_of n) ≡ None
+no_target n s bs root e b u h = target_text n s bs root e b u ∙ no_sign bs root h
+
+pub target_at : (n : Value) (s : String Global) (bs rest : List ℕ) (root : Datum) → n ≡ value.String s → bs ≡ string_bytes s → IsUtf8 bs → bs ≡ 35 ∷ rest → target_of root (value_of n) ≡ pointed rest root
+target_at n s bs rest root e b u h = target_text n s bs root e b u ∙ past_sign bs rest root h
+
+-- ---- lists of other lengths
+
+and_false : (a : Bool) → (a && false) ≡ false
+and_false true = refl
+and_false false = refl
+
+pub other_length : (xs ys : List Value) → (length xs ≡ length ys → ⊥) → same_items (items_view xs) (items_view ys) ≡ false
+other_length [] [] h = absurd (h refl)
+other_length [] (y ∷ ys) h = refl
+other_length (x ∷ xs) [] h = refl
+other_length (x ∷ xs) (y ∷ ys) h = rw (other_length xs ys (λ e. h (ap suc e))) (and_false (same_datum (value_of x) (value_of y)))
+
+-- ---- a schema
+
+at_depth : (n : ℕ) (v : Test) (root s x : Datum) → 0 < n → unfolded n v root s x ≡ schema_holds (unfolded (n - 1) v root) root s x
+at_depth zero v root s x h = absurd (omega (arith, h))
+at_depth (suc n) v root s x h = let e : suc n - 1 ≡ n = omega arith in rw e (unfolded_more n v root s x)
+
+boolean_holds : (s : Datum) (w : Test) (root x : Datum) (b : Bool) → boolean_of s ≡ Some b → schema_holds w root s x ≡ b
+boolean_holds (boolean a) w root x b e = cc
+boolean_holds null w root x b e = absurd (cc)
+boolean_holds (number m) w root x b e = absurd (cc)
+boolean_holds (text u) w root x b e = absurd (cc)
+boolean_holds (array ys) w root x b e = absurd (cc)
+boolean_holds (object fs) w root x b e = absurd (cc)
+
+object_holds : (s : Datum) (w : Test) (root x : Datum) (fs : Fields) → fields_in s ≡ Some fs → schema_holds w root s x ≡ keywords_hold w root fs fs x
+object_holds (object gs) w root x fs e = let k : gs ≡ fs = cc in ap (λ (hs : Fields). keywords_hold w root hs hs x) k
+object_holds null w root x fs e = absurd (cc)
+object_holds (boolean b) w root x fs e = absurd (cc)
+object_holds (number m) w root x fs e = absurd (cc)
+object_holds (text u) w root x fs e = absurd (cc)
+object_holds (array ys) w root x fs e = absurd (cc)
+
+other_holds : (s : Datum) (w : Test) (root x : Datum) → boolean_of s ≡ None → fields_in s ≡ None → schema_holds w root s x ≡ true
+other_holds null w root x h k = refl
+other_holds (boolean b) w root x h k = absurd (cc)
+other_holds (number m) w root x h k = refl
+other_holds (text u) w root x h k = refl
+other_holds (array ys) w root x h k = refl
+other_holds (object fs) w root x h k = absurd (cc)
+
+pub boolean_schema : (n : ℕ) (v : Test) (root s x : Datum) (b : Bool) → 0 < n → boolean_of s ≡ Some b → unfolded n v root s x ≡ b
+boolean_schema n v root s x b h e = at_depth n v root s x h ∙ boolean_holds s (unfolded (n - 1) v root) root x b e
+
+pub other_schema : (n : ℕ) (v : Test) (root s x : Datum) → 0 < n → boolean_of s ≡ None → fields_in s ≡ None → unfolded n v root s x ≡ true
+other_schema n v root s x h e k = at_depth n v root s x h ∙ other_holds s (unfolded (n - 1) v root) root x e k
+
+pub object_schema : (r : Result Bool Error) (n : ℕ) (root s x : Datum) (fs : Fields) → 0 < n → fields_in s ≡ Some fs
+    → MatchResult r (λ b. (v : Test) → keywords_hold (unfolded (n - 1) v root) root fs fs x ≡ b) IsRefusal → MatchResult r (λ b. (v : Test) → unfolded n v root s x ≡ b) IsRefusal
+object_schema (Ok b) n root s x fs h e k = λ v. at_depth n v root s x h ∙ object_holds s (unfolded (n - 1) v root) root x fs e ∙ k v
+object_schema (Err f) n root s x fs h e k = k
+
+-- ---- a keyword
+
+keyword_asked : (w : Test) (root a x : Datum) (key bytes : List ℕ) (all rest : Fields) (k : Keyword) (q : Asked) → is_named (chars key) rest ≡ false → IsUtf8 key → key ≡ bytes → k ≡ keyword_named key → q ≡ asks root all k a x
+    → keyword_holds w root all (chars bytes) a rest x ≡ satisfied w q
+keyword_asked w root a x key bytes all rest k q h u same named asked =
+    let e : keyword_named (encode_utf8_all (chars key)) ≡ k = ap keyword_named (encodes-chars key u) ∙ sym named in
+    ap (λ (t : List ℕ). keyword_holds w root all (chars t) a rest x) (sym same)
+    ∙ ap (λ (b : Bool). b || satisfied w (asks root all (keyword_named (encode_utf8_all (chars key))) a x)) h
+    ∙ ap (λ (l : Keyword). satisfied w (asks root all l a x)) e ∙ ap (satisfied w) (sym asked)
+
+pub asked_keyword : (r : Result Bool Error) (n : ℕ) (root a x : Datum) (key bytes : List ℕ) (all rest : Fields) (k : Keyword) (q : Asked) → is_named (chars key) rest ≡ false → IsUtf8 key → key ≡ bytes → k ≡ keyword_named key → q ≡ asks root all k a x
+    → MatchResult r (λ b. (v : Test) → satisfied (unfolded n v root) q ≡ b) IsRefusal → MatchResult r (λ b. (v : Test) → keyword_holds (unfolded n v root) root all (chars bytes) a rest x ≡ b) IsRefusal
+asked_keyword (Ok b) n root a x key bytes all rest k q h u same named asked holds = λ v. keyword_asked (unfolded n v root) root a x key bytes all rest k q h u same named asked ∙ holds v
+asked_keyword (Err f) n root a x key bytes all rest k q h u same named asked holds = holds
+
+-- ---- a choice
+
+pub chosen_then : (r : Result Bool Error) (n : ℕ) (root s x : Datum) (t e : Option Datum) (holds : Bool) → holds ≡ true → ((v : Test) → unfolded n v root s x ≡ holds)
+    → MatchResult r (λ b. (v : Test) → part_holds (unfolded n v root) t x ≡ b) IsRefusal → MatchResult r (λ b. (v : Test) → satisfied (unfolded n v root) (choice s t e x) ≡ b) IsRefusal
+chosen_then (Ok b) n root s x t e holds h k part = λ v. ap (λ (c : Bool). if c then part_holds (unfolded n v root) t x else part_holds (unfolded n v root) e x) (k v ∙ h) ∙ part v
+chosen_then (Err f) n root s x t e holds h k part = part
+
+pub chosen_else : (r : Result Bool Error) (n : ℕ) (root s x : Datum) (t e : Option Datum) (holds : Bool) → holds ≡ false → ((v : Test) → unfolded n v root s x ≡ holds)
+    → MatchResult r (λ b. (v : Test) → part_holds (unfolded n v root) e x ≡ b) IsRefusal → MatchResult r (λ b. (v : Test) → satisfied (unfolded n v root) (choice s t e x) ≡ b) IsRefusal
+chosen_else (Ok b) n root s x t e holds h k part = λ v. ap (λ (c : Bool). if c then part_holds (unfolded n v root) t x else part_holds (unfolded n v root) e x) (k v ∙ h) ∙ part v
+chosen_else (Err f) n root s x t e holds h k part = part
+
+-- ---- the whole
+
+pub whole_schema : (r : Result Bool Error) (n : ℕ) (root x : Datum) → MatchResult r (λ b. (v : Test) → unfolded n v root root x ≡ b) IsRefusal → MatchResult r (λ b. Conforms root x b) IsRefusal
+whole_schema (Ok b) n root x h = (n, h)
+whole_schema (Err f) n root x h = h

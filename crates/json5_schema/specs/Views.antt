@@ -1,0 +1,32 @@
+-- What the code's pairs and questions mean, and why there is no answer.
+-- A promise rests on this.
+use Rattle.std.specs.Prelude.{◌⊎◌, List, map, Option, None, option_map}
+use Rattle.std.specs.Borrow.{Bor}
+use Rattle.json5_grammar.specs.declared.error_code.ErrorCode.TheVariants.{TooDeep}
+use Rattle.json5_types.specs.declared.error.Error.{Error}
+use Rattle.json5_types.specs.declared.value.Value.{Value}
+use Rattle.json5_types.specs.Errors.{code, LacksMemory, SaysAt}
+use Rattle.json5_types.specs.ValueMeanings.{Datum, value_of, fields_view}
+use Rattle.json5_schema.specs.Conformance.{Asked, settled, within, choice, names}
+use Rattle.json5_schema.specs.declared.asked.Pair.{Pair}
+use Rattle.json5_schema.specs.declared.asked.Asked as declared
+use Rattle.json5_schema.specs.declared.asked.Asked.TheVariants as asked
+
+abbrev pub pair_view : Pair → Datum × Datum
+pair_view p = (value_of p.schema.now, value_of p.value.now)
+
+abbrev pub pairs_view : List Pair → List (Datum × Datum)
+pairs_view ps = map pair_view ps
+
+abbrev pub part_view : Option (Bor Value) → Option Datum
+part_view t = option_map (λ p. value_of p.now) t
+
+abbrev pub asked_view : declared.Asked → Asked
+asked_view (asked.Settled b) = settled b
+asked_view (asked.Within least most ps) = within least most (pairs_view ps.items)
+asked_view (asked.Choice s t e x) = choice (value_of s.now) (part_view t) (part_view e) (value_of x.now)
+asked_view (asked.Names s fs) = names (value_of s.now) (fields_view fs.now)
+
+-- memory was refused, or more schemas were applied within one another than can be
+abbrev pub IsRefusal : Error → Type 0
+IsRefusal e = LacksMemory e ⊎ SaysAt (code TooDeep) None e

@@ -1,0 +1,15 @@
+//! What holds of conforming, whatever the schema and the value.
+
+ghost use Rattle.std.specs.Prelude.{◌≡◌, Bool};
+ghost use Rattle.json5_types.specs.ValueMeanings.{Datum};
+ghost use Rattle.json5_schema.specs.Conformance.{Conforms, Obeys};
+
+/// Of a value it never says both.
+pub fn one_verdict()
+    ensures { (root x : Datum) (a b : Bool) → Conforms root x a → Conforms root x b → a ≡ b }
+{}
+
+/// Whoever obeys the rules of all schemas says the same.
+pub fn same_as_rules()
+    ensures { (v : Datum → Datum → Bool) (root x : Datum) (b : Bool) → Obeys v root → Conforms root x b → v root x ≡ b }
+{}

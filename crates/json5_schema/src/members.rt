@@ -1,0 +1,61 @@
+//! The members of objects. Of equal keys the last counts.
+
+ghost use Rattle.std.specs.Prelude.{◌≡◌, option_map, is_some};
+ghost use Rattle.std.specs.Str.{chars};
+ghost use Rattle.json5_types.specs.ValueMeanings.{value_of, items_view, fields_view};
+ghost use Rattle.json5_types.specs.ValueLookups.{last_named};
+ghost use Rattle.json5_schema.specs.Conformance.{is_named, has_name, has_names, has_required};
+
+use json5_types::value::Value;
+
+/// The value of the last member with this key.
+pub fn find<'v>(members: &'v [(String, Value)], key: &str) -> Option<&'v Value>
+    ensures { option_map (λ v. value_of v.now) result ≡ last_named (chars key.now) (fields_view members.now) }
+{
+    let mut found = None;
+    for (name, value) in members {
+        if name.as_str() == key {
+            found = Some(value);
+        }
+    }
+    found
+}
+
+/// Whether a member has this key.
+pub fn is_named(members: &[(String, Value)], key: &str) -> bool
+    ensures { result ≡ is_named (chars key.now) (fields_view members.now) }
+{
+    find(members, key).is_some()
+}
+
+/// Whether a member has the key that this text is.
+fn has_name(members: &[(String, Value)], name: &Value) -> bool
+    ensures { result ≡ has_name (value_of name.now) (fields_view members.now) }
+{
+    match name {
+        Value::String(name) => is_named(members, name.as_str()),
+        _ => true,
+    }
+}
+
+/// Whether there is a member for each of the names.
+fn has_names(names: &[Value], members: &[(String, Value)]) -> bool
+    ensures { result ≡ has_names (items_view names.now) (fields_view members.now) }
+{
+    for name in names {
+        if !has_name(members, name) {
+            return false;
+        }
+    }
+    true
+}
+
+/// What `required` asserts.
+pub fn has_required(names: &Value, value: &Value) -> bool
+    ensures { result ≡ has_required (value_of names.now) (value_of value.now) }
+{
+    match (names, value) {
+        (Value::Array(names), Value::Object(members)) => has_names(names, members),
+        _ => true,
+    }
+}
