@@ -1,5 +1,5 @@
 -- How many of some pairs conform, and what the rest of them can still change.
-use Rattle.std.proofs.Common.{if◌then◌else◌, ◌≡◌, ◌∙◌, ◌≤◌, ◌<◌, ◌-◌, ◌+◌, get_or, drop, take, ℕ, zero, suc, Bool, true, false, ◌&&◌, not, List, [], ◌∷◌, length, nat_eq, nat_le, ap, sym, refl, arith, String, string_bytes}
+use Rattle.std.proofs.Common.{if◌then◌else◌, ◌≡◌, ◌∙◌, ◌≤◌, ◌<◌, ◌-◌, ◌+◌, get_or, drop, take, ℕ, suc, Bool, true, false, ◌&&◌, List, [], ◌∷◌, length, nat_eq, nat_le, ap, sym, refl, arith, String, string_bytes}
 use Rattle.std.proofs.lemmas.Bool.Decides.{nat_tests}
 use Rattle.std.specs.declared.alloc.Global.{Global}
 use Rattle.std.specs.Str.{chars}

@@ -1,4 +1,5 @@
 -- Lists the lemmas about schemas.
 mod Conforming
+mod Remainders
 mod OneVerdict
 mod Parts

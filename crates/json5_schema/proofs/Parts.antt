@@ -1,19 +1,20 @@
 -- Steps that answers cite: texts by their bytes, references, and results.
-use Rattle.std.proofs.Common.{if◌then◌else◌, ◌≡◌, ◌≢◌, ◌∙◌, ◌<◌, ◌-◌, ℕ, suc, zero, Bool, true, false, ◌&&◌, ◌||◌, List, [], ◌∷◌, length, nat_eq, Option, Some, None, Result, Ok, Err, MatchResult, Vec, ap, sym, refl, arith, ne_eqb, rules, String, string_bytes}
+use Rattle.std.proofs.Common.{if◌then◌else◌, ◌≡◌, ◌≢◌, ◌∙◌, ◌<◌, ◌≤◌, ◌-◌, take, drop, ℕ, suc, zero, Bool, true, false, ◌&&◌, ◌||◌, List, [], ◌∷◌, length, Option, Some, None, Result, Ok, Err, MatchResult, ap, sym, refl, arith, ne_eqb, String, string_bytes}
 use Rattle.std.specs.declared.alloc.Global.{Global}
 use Rattle.std.specs.Str.{chars, IsUtf8, encode_utf8_all}
 use Rattle.std.proofs.lemmas.Str.{encodes-chars}
+use Rattle.std.proofs.lemmas.List.{length-drop, take_all}
 use Rattle.json5_types.specs.declared.error.Error.{Error}
 use Rattle.json5_types.specs.declared.value.Value.{Value}
 use Rattle.json5_types.specs.declared.value.Value as value
-use Rattle.json5_types.specs.ValueMeanings.{Datum, null, boolean, number, text, array, object, Fields, value_of, items_view, fields_view}
+use Rattle.json5_types.specs.ValueMeanings.{Datum, null, boolean, number, text, array, object, no_item, Fields, value_of, items_view}
 use Rattle.json5_types.specs.ValueLookups.{boolean_of, fields_in}
 use Rattle.json5_types.specs.Pointers.{pointed}
 use Rattle.json5_types.proofs.ValuesCompared.{view-String}
 use Rattle.json5_schema.specs.declared.keyword.Keyword.{Keyword}
 use Rattle.json5_schema.specs.declared.kind.Kind.{Kind}
 use Rattle.json5_schema.specs.Keywords.{keyword_named, kind_named}
-use Rattle.json5_schema.specs.Conformance.{is_named, is_of_kind, is_of_named, behind_sign, target_of, same_datum, same_items, Asked, choice, asks, satisfied, part_holds, keyword_holds, keywords_hold, schema_holds, unfolded, Conforms}
+use Rattle.json5_schema.specs.Conformance.{is_named, is_of_kind, is_of_named, behind_sign, target_of, same_datum, same_items, items_after, by_index, all_on, dependent_schemas, dependent_on, Asked, choice, asks, satisfied, part_holds, keyword_holds, keywords_hold, schema_holds, unfolded, Conforms}
 use Rattle.json5_schema.specs.Views.{IsRefusal}
 use Rattle.json5_schema.proofs.Conforming.{Test, unfolded_more}
 
@@ -129,3 +130,36 @@ chosen_else (Err f) n root s x t e holds h k part = part
 pub whole_schema : (r : Result Bool Error) (n : ℕ) (root x : Datum) → MatchResult r (λ b. (v : Test) → unfolded n v root root x ≡ b) IsRefusal → MatchResult r (λ b. Conforms root x b) IsRefusal
 whole_schema (Ok b) n root x h = (n, h)
 whole_schema (Err f) n root x h = h
+
+-- ---- elements after some, and schemas of names
+
+-- the elements from an index on, as a slice has them
+pub items_from : (xs : List Value) (n : ℕ) → items_view (take (length xs - n) (drop n xs)) ≡ items_after n (items_view xs)
+items_from xs n = let short : length (drop n xs) ≤ length xs - n = omega (arith, length-drop n xs) in ap items_view (take_all (length xs - n) (drop n xs) short) ∙ dropped xs n
+  where
+    dropped : (xs : List Value) (n : ℕ) → items_view (drop n xs) ≡ items_after n (items_view xs)
+    dropped xs zero = refl
+    dropped [] (suc n) = refl
+    dropped (x ∷ xs) (suc n) = dropped xs n
+
+pub nothing_after : (xs : List Value) (n : ℕ) → length xs ≤ n → no_item ≡ items_after n (items_view xs)
+nothing_after [] zero h = refl
+nothing_after [] (suc n) h = refl
+nothing_after (x ∷ xs) zero h = absurd (omega (arith, h))
+nothing_after (x ∷ xs) (suc n) h = nothing_after xs n (omega (arith, h))
+
+pub dependents_asked : (s x : Datum) (ss fs : Fields) (ps : List (Datum × Datum)) → s ≡ object ss → x ≡ object fs → ps ≡ dependent_schemas ss fs x → all_on ps ≡ dependent_on s x
+dependents_asked s x ss fs ps h k e = rw (h, k) (ap all_on (e ∙ ap (dependent_schemas ss fs) k))
+
+no_pairs : (xs : List Value) → by_index (items_view xs) no_item ≡ []
+no_pairs [] = refl
+no_pairs (x ∷ xs) = refl
+
+-- no pairs are left where the elements of one list are none
+pub none_first : (xs ys : List Value) → length xs ≡ 0 → by_index (items_view xs) (items_view ys) ≡ []
+none_first [] ys h = refl
+none_first (x ∷ xs) ys h = absurd (omega (arith, h))
+
+pub none_second : (xs ys : List Value) → length ys ≡ 0 → by_index (items_view xs) (items_view ys) ≡ []
+none_second xs [] h = no_pairs xs
+none_second xs (y ∷ ys) h = absurd (omega (arith, h))

@@ -1,20 +1,26 @@
--- When a value conforms to a schema: JSON Schema, draft 2020-12. Both are what a text of JSON5 means; of equal keys the last counts.
+-- When a value conforms to a schema: JSON Schema, draft 2020-12, and what draft 7 says in other words. Of equal keys the last counts.
 -- A promise rests on this.
-use Rattle.std.specs.Prelude.{◌≡◌, ℕ, zero, suc, ◌-◌, pos, Bool, true, false, ◌&&◌, ◌||◌, not, nat_eq, nat_le, int_le, if◌then◌else◌, List, [], ◌∷◌, length, Option, Some, None, is_some}
+use Rattle.std.specs.Prelude.{◌≡◌, ℕ, zero, suc, ◌-◌, ◌%◌, ℤ, pos, Bool, true, false, ◌&&◌, ◌||◌, not, nat_eq, nat_le, int_le, if◌then◌else◌, List, [], ◌∷◌, length, Option, Some, None, is_some}
 use Rattle.std.specs.Bool.{beq}
+use Rattle.std.specs.Int.{int_min}
 use Rattle.std.specs.Cmp.Lexicographic.{pointwise}
 use Rattle.std.specs.Str.{chars, encode_utf8_all}
 use lib.Chars.{codes}
 use Rattle.std.specs.declared.cmp.Ordering.{Ordering}
-use Rattle.std.specs.declared.cmp.Ordering.TheVariants.{Less, Equal, Greater}
+use Rattle.std.specs.declared.cmp.Ordering.TheVariants.{Less, Equal}
 use Rattle.json5_grammar.specs.Language.Numbers.{Number, whole, decimal, Decimal, infinite, nan, finite}
 use Rattle.json5_types.specs.ValueMeanings.{Datum, null, boolean, number, text, array, object, Items, no_item, item, Fields, no_field, field}
-use Rattle.json5_types.specs.ValueLookups.{last_named}
+use Rattle.json5_types.specs.ValueKinds.{items_len}
+use Rattle.json5_types.specs.ValueLookups.{items_in, last_named}
 use Rattle.json5_types.specs.ValueEquality.{number_eq}
 use Rattle.json5_types.specs.NumberDecimals.{decimal_eq}
 use Rattle.json5_types.specs.Pointers.{pointed}
 use Rattle.json5_numbers.specs.NumberTexts.{decimal_of}
-use Rattle.json5_numbers.specs.Orders.{decimal_cmp}
+use Rattle.json5_numbers.specs.Orders.{size_in, decimal_cmp}
+use Rattle.json5_schema.specs.declared.keyword.Assertion.{Assertion}
+use Rattle.json5_schema.specs.declared.keyword.Assertion.TheVariants as assertion
+use Rattle.json5_schema.specs.declared.keyword.Applicator.{Applicator}
+use Rattle.json5_schema.specs.declared.keyword.Applicator.TheVariants as applicator
 use Rattle.json5_schema.specs.declared.keyword.Keyword.{Keyword}
 use Rattle.json5_schema.specs.declared.keyword.Keyword.TheVariants as keyword
 use Rattle.json5_schema.specs.declared.kind.Kind.{Kind}
@@ -128,23 +134,94 @@ abbrev pub is_in_enum : Datum → Datum → Bool
 is_in_enum (array ys) x = is_among x ys
 is_in_enum _ x = true
 
--- ---- maxLength (6.3.1): the number of characters
+-- ---- maximum, minimum and their kin (6.2)
 
 abbrev pub is_not_above : Option Ordering → Bool
 is_not_above (Some Less) = true
 is_not_above (Some Equal) = true
 is_not_above _ = false
 
-abbrev pub is_at_most : Decimal → Decimal → Bool
-is_at_most d f = is_not_above (decimal_cmp d f)
+-- by each digit; not-a-number is neither above nor below any. Of what is no number nothing is asked
+abbrev pub at_most : Datum → Datum → Bool
+at_most (number m) (number n) = is_not_above (decimal_cmp (decimal_of m) (decimal_of n))
+at_most _ _ = true
 
-abbrev pub count_fits : ℕ → Datum → Bool
-count_fits n (number m) = is_at_most (decimal_of (whole (pos n))) (decimal_of m)
-count_fits n _ = true
+abbrev pub is_below : Datum → Datum → Bool
+is_below x y = at_most x y && not (same_datum x y)
 
-abbrev pub text_fits : Datum → Datum → Bool
-text_fits limit (text u) = count_fits (length u) limit
-text_fits limit _ = true
+-- ---- multipleOf (6.2.1)
+
+-- the second number is the first one, which isn't 0, times a whole number
+abbrev pub divides : ℕ → ℕ → Bool
+divides d n = not (nat_eq d 0) && nat_eq (n % d) 0
+
+-- the two sizes, in units of ten to the smaller exponent
+abbrev pub digits_divide : List ℕ → ℤ → List ℕ → ℤ → Bool
+digits_divide fs g ds e = divides (size_in (int_min e g) fs g) (size_in (int_min e g) ds e)
+
+abbrev pub is_multiple : Decimal → Decimal → Bool
+is_multiple (finite m ds e) (finite n fs g) = digits_divide fs g ds e
+is_multiple _ _ = false
+
+abbrev pub is_multiple_of : Datum → Datum → Bool
+is_multiple_of (number n) (number m) = is_multiple (decimal_of m) (decimal_of n)
+is_multiple_of _ _ = true
+
+-- ---- maxLength, maxItems, maxProperties and their kin (6.3 to 6.5)
+
+-- the number of characters
+abbrev pub characters_in : Datum → Option ℕ
+characters_in (text u) = Some (length u)
+characters_in _ = None
+
+abbrev pub elements_in : Datum → Option ℕ
+elements_in (array xs) = Some (items_len xs)
+elements_in _ = None
+
+-- equal names are counted once
+abbrev pub names_len : Fields → ℕ
+names_len no_field = 0
+names_len (field u x fs) = if is_named u fs then names_len fs else suc (names_len fs)
+
+abbrev pub names_in : Datum → Option ℕ
+names_in (object fs) = Some (names_len fs)
+names_in _ = None
+
+abbrev pub count : ℕ → Datum
+count n = number (whole (pos n))
+
+-- so many, if anything is counted
+abbrev pub count_at_most : Option ℕ → Datum → Bool
+count_at_most None limit = true
+count_at_most (Some n) limit = at_most (count n) limit
+
+abbrev pub count_at_least : Option ℕ → Datum → Bool
+count_at_least None limit = true
+count_at_least (Some n) limit = at_most limit (count n)
+
+-- ---- uniqueItems (6.4.3)
+
+abbrev pub are_distinct : Items → Bool
+are_distinct no_item = true
+are_distinct (item x xs) = not (is_among x xs) && are_distinct xs
+
+abbrev pub has_distinct : Datum → Datum → Bool
+has_distinct (boolean true) (array xs) = are_distinct xs
+has_distinct _ _ = true
+
+-- ---- dependentRequired (6.5.4)
+
+-- the names that this one asks for are there, if it is: none where a later one has the name
+abbrev pub has_dependent : List ℕ → Datum → Fields → Fields → Bool
+has_dependent u names rest fs = is_named u rest || (not (is_named u fs) || has_required names (object fs))
+
+abbrev pub has_dependents : Fields → Fields → Bool
+has_dependents no_field fs = true
+has_dependents (field u names rest) fs = has_dependent u names rest fs && has_dependents rest fs
+
+abbrev pub has_all_dependents : Datum → Datum → Bool
+has_all_dependents (object names) (object fs) = has_dependents names fs
+has_all_dependents _ _ = true
 
 -- ---- what a keyword asks: a schema, and the value that it is applied to
 
@@ -152,6 +229,8 @@ text_fits limit _ = true
 pub data Asked : Type 0 where
   settled : Bool → Asked
   within : ℕ → ℕ → List (Datum × Datum) → Asked
+  -- so many have to conform: at least one number, or one, and at most another
+  counted : Option Datum → Option Datum → List (Datum × Datum) → Asked
   -- where the value conforms to the first schema it has to conform to the second, if there is one, and elsewhere to the third
   choice : Datum → Option Datum → Option Datum → Datum → Asked
   -- each name has to conform to the schema
@@ -187,9 +266,45 @@ abbrev pub properties_on : Datum → Datum → Asked
 properties_on (object ss) (object fs) = all_on (by_name ss fs)
 properties_on _ _ = settled true
 
-abbrev pub items_on : Datum → Datum → Asked
-items_on s (array xs) = all_on (each_item s xs)
-items_on s _ = settled true
+-- the argument of another keyword of the same schema
+abbrev pub beside : List ℕ → Fields → Option Datum
+beside name keywords = last_named (chars name) keywords
+
+-- without so many in front
+abbrev pub items_after : ℕ → Items → Items
+items_after zero xs = xs
+items_after (suc n) no_item = no_item
+items_after (suc n) (item x xs) = items_after n xs
+
+abbrev pub by_index : Items → Items → List (Datum × Datum)
+by_index (item s ss) (item x xs) = (s, x) ∷ by_index ss xs
+by_index _ _ = []
+
+abbrev pub prefix_on : Datum → Datum → Asked
+prefix_on (array ss) (array xs) = all_on (by_index ss xs)
+prefix_on _ _ = settled true
+
+-- how many schemas another keyword has for the elements in front
+abbrev pub schemas_in_front : Option Datum → ℕ
+schemas_in_front (Some (array ss)) = items_len ss
+schemas_in_front _ = 0
+
+abbrev pub elements_after : Datum → ℕ → Datum → Asked
+elements_after s n (array xs) = all_on (each_item s (items_after n xs))
+elements_after s n _ = settled true
+
+-- an array of schemas is draft 7's word for `prefixItems`
+abbrev pub items_on : Datum → Fields → Datum → Asked
+items_on s keywords x = if is_some (items_in s) then prefix_on s x else elements_after s (schemas_in_front (beside (codes "prefixItems") keywords)) x
+
+-- draft 7's word for `items` after such an array
+abbrev pub additional_items_on : Datum → Option Datum → Datum → Asked
+additional_items_on s (Some (array ss)) x = elements_after s (items_len ss) x
+additional_items_on s _ x = settled true
+
+abbrev pub contains_on : Datum → Fields → Datum → Asked
+contains_on s keywords (array xs) = counted (beside (codes "minContains") keywords) (beside (codes "maxContains") keywords) (each_item s xs)
+contains_on s keywords _ = settled true
 
 abbrev pub all_of_on : Datum → Datum → Asked
 all_of_on (array ss) x = all_on (each_schema ss x)
@@ -203,9 +318,8 @@ abbrev pub one_of_on : Datum → Datum → Asked
 one_of_on (array ss) x = within 1 1 (each_schema ss x)
 one_of_on _ x = settled true
 
--- the argument of another keyword of the same schema
-abbrev pub beside : List ℕ → Fields → Option Datum
-beside name keywords = last_named (chars name) keywords
+abbrev pub if_on : Datum → Fields → Datum → Asked
+if_on s keywords x = choice s (beside (codes "then") keywords) (beside (codes "else") keywords) x
 
 abbrev pub speaks_of : Option Datum → List ℕ → Bool
 speaks_of (Some (object ss)) u = is_named u ss
@@ -227,6 +341,21 @@ abbrev pub names_on : Datum → Datum → Asked
 names_on s (object fs) = names s fs
 names_on s _ = settled true
 
+-- the schema of a name is applied to the whole value if the name is there: draft 7's `dependencies` has arrays of names besides
+abbrev pub is_dependent : List ℕ → Datum → Fields → Fields → Bool
+is_dependent u s ss fs = not (is_named u ss) && (is_named u fs && not (is_some (items_in s)))
+
+abbrev pub dependent_schemas : Fields → Fields → Datum → List (Datum × Datum)
+dependent_schemas no_field fs x = []
+dependent_schemas (field u s ss) fs x = if is_dependent u s ss fs then (s, x) ∷ dependent_schemas ss fs x else dependent_schemas ss fs x
+
+abbrev pub dependent_on : Datum → Datum → Asked
+dependent_on (object ss) (object fs) = all_on (dependent_schemas ss fs (object fs))
+dependent_on _ _ = settled true
+
+abbrev pub dependencies_on : Datum → Datum → Asked
+dependencies_on ss x = if has_all_dependents ss x then dependent_on ss x else settled false
+
 -- a reference within the document: `#`, and a JSON pointer
 abbrev pub behind_sign : List ℕ → Datum → Option Datum
 behind_sign [] root = None
@@ -240,24 +369,48 @@ abbrev pub refers_on : Option Datum → Datum → Asked
 refers_on None x = settled false
 refers_on (Some s) x = all_on ((s, x) ∷ [])
 
--- the schema's root, all keywords beside this one, the keyword, its argument, and the value
+-- what a keyword says by itself: the keyword, its argument, and the value
+abbrev pub asserts : Assertion → Datum → Datum → Bool
+asserts assertion.Type a x = is_of_type a x
+asserts assertion.Enum a x = is_in_enum a x
+asserts assertion.Const a x = same_datum a x
+asserts assertion.MultipleOf a x = is_multiple_of a x
+asserts assertion.Maximum a x = at_most x a
+asserts assertion.ExclusiveMaximum a x = is_below x a
+asserts assertion.Minimum a x = at_most a x
+asserts assertion.ExclusiveMinimum a x = is_below a x
+asserts assertion.MaxLength a x = count_at_most (characters_in x) a
+asserts assertion.MinLength a x = count_at_least (characters_in x) a
+asserts assertion.MaxItems a x = count_at_most (elements_in x) a
+asserts assertion.MinItems a x = count_at_least (elements_in x) a
+asserts assertion.UniqueItems a x = has_distinct a x
+asserts assertion.MaxProperties a x = count_at_most (names_in x) a
+asserts assertion.MinProperties a x = count_at_least (names_in x) a
+asserts assertion.Required a x = has_required a x
+asserts assertion.DependentRequired a x = has_all_dependents a x
+
+-- which schemas a keyword applies: the schema's root, all keywords beside this one, the keyword, its argument, and the value
+abbrev pub applies : Datum → Fields → Applicator → Datum → Datum → Asked
+applies root all applicator.AllOf a x = all_of_on a x
+applies root all applicator.AnyOf a x = any_of_on a x
+applies root all applicator.OneOf a x = one_of_on a x
+applies root all applicator.Not a x = within 0 0 ((a, x) ∷ [])
+applies root all applicator.If a x = if_on a all x
+applies root all applicator.DependentSchemas a x = dependent_on a x
+applies root all applicator.Dependencies a x = dependencies_on a x
+applies root all applicator.PrefixItems a x = prefix_on a x
+applies root all applicator.Items a x = items_on a all x
+applies root all applicator.AdditionalItems a x = additional_items_on a (beside (codes "items") all) x
+applies root all applicator.Contains a x = contains_on a all x
+applies root all applicator.Properties a x = properties_on a x
+applies root all applicator.AdditionalProperties a x = additional_on a all x
+applies root all applicator.PropertyNames a x = names_on a x
+applies root all applicator.Ref a x = refers_on (target_of root a) x
+
 abbrev pub asks : Datum → Fields → Keyword → Datum → Datum → Asked
-asks root all keyword.Type a x = settled (is_of_type a x)
-asks root all keyword.Enum a x = settled (is_in_enum a x)
-asks root all keyword.Const a x = settled (same_datum a x)
-asks root all keyword.MaxLength a x = settled (text_fits a x)
-asks root all keyword.Required a x = settled (has_required a x)
-asks root all keyword.Properties a x = properties_on a x
-asks root all keyword.Items a x = items_on a x
-asks root all keyword.AllOf a x = all_of_on a x
-asks root all keyword.AnyOf a x = any_of_on a x
-asks root all keyword.OneOf a x = one_of_on a x
-asks root all keyword.If a x = choice a (beside (codes "then") all) (beside (codes "else") all) x
-asks root all keyword.AdditionalProperties a x = additional_on a all x
-asks root all keyword.PropertyNames a x = names_on a x
-asks root all keyword.Not a x = within 0 0 ((a, x) ∷ [])
-asks root all keyword.Ref a x = refers_on (target_of root a) x
-asks root all keyword.Other a x = settled true
+asks root all (keyword.Assertion k) a x = settled (asserts k a x)
+asks root all (keyword.Applicator k) a x = applies root all k a x
+asks root all keyword.Annotation a x = settled true
 
 -- ---- whether it is so, where `v` says which values conform to which schemas
 
@@ -267,6 +420,14 @@ count_conforming v (p ∷ ps) = if v p.0 p.1 then suc (count_conforming v ps) el
 
 abbrev pub is_within : (Datum → Datum → Bool) → ℕ → ℕ → List (Datum × Datum) → Bool
 is_within v least most ps = nat_le least (count_conforming v ps) && nat_le (count_conforming v ps) most
+
+abbrev pub is_enough : Option Datum → ℕ → Bool
+is_enough None n = nat_le 1 n
+is_enough (Some least) n = at_most least (count n)
+
+abbrev pub is_few : Option Datum → ℕ → Bool
+is_few None n = true
+is_few (Some most) n = at_most (count n) most
 
 -- the schema, if there is one
 abbrev pub part_holds : (Datum → Datum → Bool) → Option Datum → Datum → Bool
@@ -280,6 +441,7 @@ names_hold v s (field u x fs) = v s (text u) && names_hold v s fs
 abbrev pub satisfied : (Datum → Datum → Bool) → Asked → Bool
 satisfied v (settled b) = b
 satisfied v (within least most ps) = is_within v least most ps
+satisfied v (counted least most ps) = is_enough least (count_conforming v ps) && is_few most (count_conforming v ps)
 satisfied v (choice s t e x) = if v s x then part_holds v t x else part_holds v e x
 satisfied v (names s fs) = names_hold v s fs
 

@@ -3,6 +3,8 @@
 use Rattle.std.specs.Prelude.{ℕ, List, nat_eq, if◌then◌else◌}
 use Rattle.std.specs.Cmp.Lexicographic.{pointwise}
 use lib.Chars.{codes}
+use Rattle.json5_schema.specs.declared.keyword.Assertion.TheVariants as assertion
+use Rattle.json5_schema.specs.declared.keyword.Applicator.TheVariants as applicator
 use Rattle.json5_schema.specs.declared.keyword.Keyword.{Keyword}
 use Rattle.json5_schema.specs.declared.keyword.Keyword.TheVariants as keyword
 use Rattle.json5_schema.specs.declared.kind.Kind.{Kind}
@@ -11,22 +13,39 @@ use Rattle.json5_schema.specs.declared.kind.Kind.TheVariants as kind
 -- by the bytes of the name
 abbrev pub keyword_named : List ℕ → Keyword
 keyword_named name =
-    if pointwise nat_eq name (codes "type") then keyword.Type else
-    if pointwise nat_eq name (codes "enum") then keyword.Enum else
-    if pointwise nat_eq name (codes "const") then keyword.Const else
-    if pointwise nat_eq name (codes "maxLength") then keyword.MaxLength else
-    if pointwise nat_eq name (codes "required") then keyword.Required else
-    if pointwise nat_eq name (codes "properties") then keyword.Properties else
-    if pointwise nat_eq name (codes "items") then keyword.Items else
-    if pointwise nat_eq name (codes "allOf") then keyword.AllOf else
-    if pointwise nat_eq name (codes "anyOf") then keyword.AnyOf else
-    if pointwise nat_eq name (codes "oneOf") then keyword.OneOf else
-    if pointwise nat_eq name (codes "not") then keyword.Not else
-    if pointwise nat_eq name (codes "if") then keyword.If else
-    if pointwise nat_eq name (codes "additionalProperties") then keyword.AdditionalProperties else
-    if pointwise nat_eq name (codes "propertyNames") then keyword.PropertyNames else
-    if pointwise nat_eq name (codes "$ref") then keyword.Ref else
-    keyword.Other
+    if pointwise nat_eq name (codes "type") then keyword.Assertion assertion.Type else
+    if pointwise nat_eq name (codes "enum") then keyword.Assertion assertion.Enum else
+    if pointwise nat_eq name (codes "const") then keyword.Assertion assertion.Const else
+    if pointwise nat_eq name (codes "multipleOf") then keyword.Assertion assertion.MultipleOf else
+    if pointwise nat_eq name (codes "maximum") then keyword.Assertion assertion.Maximum else
+    if pointwise nat_eq name (codes "exclusiveMaximum") then keyword.Assertion assertion.ExclusiveMaximum else
+    if pointwise nat_eq name (codes "minimum") then keyword.Assertion assertion.Minimum else
+    if pointwise nat_eq name (codes "exclusiveMinimum") then keyword.Assertion assertion.ExclusiveMinimum else
+    if pointwise nat_eq name (codes "maxLength") then keyword.Assertion assertion.MaxLength else
+    if pointwise nat_eq name (codes "minLength") then keyword.Assertion assertion.MinLength else
+    if pointwise nat_eq name (codes "maxItems") then keyword.Assertion assertion.MaxItems else
+    if pointwise nat_eq name (codes "minItems") then keyword.Assertion assertion.MinItems else
+    if pointwise nat_eq name (codes "uniqueItems") then keyword.Assertion assertion.UniqueItems else
+    if pointwise nat_eq name (codes "maxProperties") then keyword.Assertion assertion.MaxProperties else
+    if pointwise nat_eq name (codes "minProperties") then keyword.Assertion assertion.MinProperties else
+    if pointwise nat_eq name (codes "required") then keyword.Assertion assertion.Required else
+    if pointwise nat_eq name (codes "dependentRequired") then keyword.Assertion assertion.DependentRequired else
+    if pointwise nat_eq name (codes "allOf") then keyword.Applicator applicator.AllOf else
+    if pointwise nat_eq name (codes "anyOf") then keyword.Applicator applicator.AnyOf else
+    if pointwise nat_eq name (codes "oneOf") then keyword.Applicator applicator.OneOf else
+    if pointwise nat_eq name (codes "not") then keyword.Applicator applicator.Not else
+    if pointwise nat_eq name (codes "if") then keyword.Applicator applicator.If else
+    if pointwise nat_eq name (codes "dependentSchemas") then keyword.Applicator applicator.DependentSchemas else
+    if pointwise nat_eq name (codes "dependencies") then keyword.Applicator applicator.Dependencies else
+    if pointwise nat_eq name (codes "prefixItems") then keyword.Applicator applicator.PrefixItems else
+    if pointwise nat_eq name (codes "items") then keyword.Applicator applicator.Items else
+    if pointwise nat_eq name (codes "additionalItems") then keyword.Applicator applicator.AdditionalItems else
+    if pointwise nat_eq name (codes "contains") then keyword.Applicator applicator.Contains else
+    if pointwise nat_eq name (codes "properties") then keyword.Applicator applicator.Properties else
+    if pointwise nat_eq name (codes "additionalProperties") then keyword.Applicator applicator.AdditionalProperties else
+    if pointwise nat_eq name (codes "propertyNames") then keyword.Applicator applicator.PropertyNames else
+    if pointwise nat_eq name (codes "$ref") then keyword.Applicator applicator.Ref else
+    keyword.Annotation
 
 abbrev pub kind_named : List ℕ → Kind
 kind_named name =

@@ -2,12 +2,13 @@
 -- A promise rests on this.
 use Rattle.std.specs.Prelude.{◌⊎◌, List, map, Option, None, option_map}
 use Rattle.std.specs.Borrow.{Bor}
-use Rattle.json5_grammar.specs.declared.error_code.ErrorCode.TheVariants.{TooDeep}
+use Rattle.json5_grammar.specs.declared.error_code.ErrorCode.TheVariants.{OverflowParsingNumber, TooDeep}
 use Rattle.json5_types.specs.declared.error.Error.{Error}
 use Rattle.json5_types.specs.declared.value.Value.{Value}
 use Rattle.json5_types.specs.Errors.{code, LacksMemory, SaysAt}
 use Rattle.json5_types.specs.ValueMeanings.{Datum, value_of, fields_view}
-use Rattle.json5_schema.specs.Conformance.{Asked, settled, within, choice, names}
+use Rattle.json5_schema.specs.Conformance.{Asked, settled, within, counted, choice, names}
+use Rattle.json5_schema.specs.declared.schemas.Schema.{Schema}
 use Rattle.json5_schema.specs.declared.asked.Pair.{Pair}
 use Rattle.json5_schema.specs.declared.asked.Asked as declared
 use Rattle.json5_schema.specs.declared.asked.Asked.TheVariants as asked
@@ -24,9 +25,13 @@ part_view t = option_map (λ p. value_of p.now) t
 abbrev pub asked_view : declared.Asked → Asked
 asked_view (asked.Settled b) = settled b
 asked_view (asked.Within least most ps) = within least most (pairs_view ps.items)
+asked_view (asked.Counted least most ps) = counted (part_view least) (part_view most) (pairs_view ps.items)
 asked_view (asked.Choice s t e x) = choice (value_of s.now) (part_view t) (part_view e) (value_of x.now)
 asked_view (asked.Names s fs) = names (value_of s.now) (fields_view fs.now)
 
--- memory was refused, or more schemas were applied within one another than can be
+-- memory was refused, more schemas were applied within one another than can be, or a divisor has too many digits
 abbrev pub IsRefusal : Error → Type 0
-IsRefusal e = LacksMemory e ⊎ SaysAt (code TooDeep) None e
+IsRefusal e = LacksMemory e ⊎ (SaysAt (code TooDeep) None e ⊎ SaysAt (code OverflowParsingNumber) None e)
+
+abbrev pub schema_of : Schema → Datum
+schema_of s = value_of s.root

@@ -5,13 +5,18 @@ ghost use lib.Chars.{codes};
 ghost use Rattle.std.specs.Str.{chars};
 ghost use Rattle.json5_types.specs.Errors.{LacksMemory};
 ghost use Rattle.json5_types.specs.ValueMeanings.{value_of, items_view, fields_view};
-ghost use Rattle.json5_schema.specs.Conformance.{each_schema, each_item, by_name, value_for, speaks_of, beside, is_additional, each_additional, additional_on, names_on, properties_on, items_on, all_on, some_on, target_of, asks};
-ghost use Rattle.json5_schema.specs.Views.{pairs_view, asked_view};
+ghost use Rattle.json5_schema.specs.Conformance.{each_schema, each_item, by_name, value_for, by_index, prefix_on, schemas_in_front, items_after, elements_after, items_on, additional_items_on, contains_on, all_of_on, any_of_on, one_of_on, if_on, speaks_of, beside, is_additional, each_additional, additional_on, names_on, properties_on, is_dependent, dependent_schemas, dependent_on, dependencies_on, all_on, some_on, target_of, refers_on, settled, asserts, applies, asks};
+ghost use Rattle.json5_schema.specs.Views.{IsRefusal, pairs_view, part_view, asked_view};
 
-use crate::equal::{is_in_enum, same, text_fits};
-use crate::keyword::Keyword;
+use crate::equal::{has_distinct, is_in_enum, same};
+use crate::keyword::{Applicator, Assertion, Keyword};
 use crate::kind::is_of_type;
-use crate::members::{find, has_required, is_named};
+use crate::limits::{
+    characters_in, count_at_least, count_at_most, elements_in, elements_len, is_at_most, is_below,
+    names_in,
+};
+use crate::members::{find, has_all_dependents, has_required, is_named};
+use crate::multiples::is_multiple_of;
 use json5_types::error::Result;
 use json5_types::value::Value;
 use std::alloc::Global;
@@ -30,6 +35,8 @@ pub enum Asked<'a> {
     Settled(bool),
     /// Of these pairs at least so many, and at most so many, have to conform.
     Within(usize, usize, Vec<Pair<'a>>),
+    /// Of these pairs as many as a number, or one, have to conform at least, and as many as another at most.
+    Counted(Option<&'a Value>, Option<&'a Value>, Vec<Pair<'a>>),
     /// Where the first schema holds of the value the second has to hold, and elsewhere the third.
     Choice(&'a Value, Option<&'a Value>, Option<&'a Value>, &'a Value),
     /// The schema has to hold of each name.
@@ -118,54 +125,6 @@ fn target_of<'a>(root: &'a Value, reference: &Value) -> Option<&'a Value>
     }
 }
 
-/// What a keyword with this argument asks of the value.
-pub fn asks<'a>(
-    alloc: Global,
-    root: &'a Value,
-    keywords: &'a [(String, Value)],
-    keyword: Keyword,
-    argument: &'a Value,
-    value: &'a Value,
-) -> Result<Asked<'a>>
-    ensures { MatchResult result (λ a. asked_view a ≡ asks (value_of root.now) (fields_view keywords.now) keyword (value_of argument.now) (value_of value.now)) LacksMemory }
-{
-    match keyword {
-        Keyword::Type => Ok(Asked::Settled(is_of_type(argument, value))),
-        Keyword::Enum => Ok(Asked::Settled(is_in_enum(alloc, argument, value)?)),
-        Keyword::Const => Ok(Asked::Settled(same(alloc, argument, value)?)),
-        Keyword::MaxLength => Ok(Asked::Settled(text_fits(alloc, argument, value)?)),
-        Keyword::Required => Ok(Asked::Settled(has_required(argument, value))),
-        Keyword::Properties => properties_on(alloc, argument, value),
-        Keyword::Items => items_on(alloc, argument, value),
-        Keyword::AllOf => match argument {
-            Value::Array(schemas) => Ok(all_of(each_schema(alloc, schemas, value)?)),
-            _ => Ok(Asked::Settled(true)),
-        },
-        Keyword::AnyOf => match argument {
-            Value::Array(schemas) => Ok(any_of(each_schema(alloc, schemas, value)?)),
-            _ => Ok(Asked::Settled(true)),
-        },
-        Keyword::OneOf => match argument {
-            Value::Array(schemas) => Ok(Asked::Within(1, 1, each_schema(alloc, schemas, value)?)),
-            _ => Ok(Asked::Settled(true)),
-        },
-        Keyword::If => Ok(Asked::Choice(
-            argument,
-            find(keywords, "then"),
-            find(keywords, "else"),
-            value,
-        )),
-        Keyword::AdditionalProperties => additional_on(alloc, argument, keywords, value),
-        Keyword::PropertyNames => Ok(names_on(argument, value)),
-        Keyword::Not => Ok(Asked::Within(0, 0, one(alloc, argument, value)?)),
-        Keyword::Ref => match target_of(root, argument) {
-            Some(schema) => Ok(all_of(one(alloc, schema, value)?)),
-            None => Ok(Asked::Settled(false)),
-        },
-        Keyword::Other => Ok(Asked::Settled(true)),
-    }
-}
-
 /// One pair.
 fn one<'a>(alloc: Global, schema: &'a Value, value: &'a Value) -> Result<Vec<Pair<'a>>>
     ensures { MatchResult result (λ ps. pairs_view ps.items ≡ (value_of schema.now, value_of value.now) ∷ []) LacksMemory }
@@ -177,7 +136,7 @@ fn one<'a>(alloc: Global, schema: &'a Value, value: &'a Value) -> Result<Vec<Pai
 
 /// What `properties` asks.
 fn properties_on<'a>(alloc: Global, properties: &'a Value, value: &'a Value) -> Result<Asked<'a>>
-    ensures { MatchResult result (λ a. asked_view a ≡ properties_on (value_of properties.now) (value_of value.now)) LacksMemory }
+    ensures { MatchResult result (λ a. asked_view a ≡ properties_on (value_of properties.now) (value_of value.now)) IsRefusal }
 {
     match (properties, value) {
         (Value::Object(properties), Value::Object(members)) => Ok(all_of(by_name(
@@ -232,7 +191,7 @@ fn additional_on<'a>(
     keywords: &[(String, Value)],
     value: &'a Value,
 ) -> Result<Asked<'a>>
-    ensures { MatchResult result (λ a. asked_view a ≡ additional_on (value_of schema.now) (fields_view keywords.now) (value_of value.now)) LacksMemory }
+    ensures { MatchResult result (λ a. asked_view a ≡ additional_on (value_of schema.now) (fields_view keywords.now) (value_of value.now)) IsRefusal }
 {
     match value {
         Value::Object(members) => Ok(all_of(each_additional(alloc, schema, keywords, members)?)),
@@ -250,12 +209,322 @@ fn names_on<'a>(schema: &'a Value, value: &'a Value) -> Asked<'a>
     }
 }
 
-/// What `items` asks.
-fn items_on<'a>(alloc: Global, schema: &'a Value, value: &'a Value) -> Result<Asked<'a>>
-    ensures { MatchResult result (λ a. asked_view a ≡ items_on (value_of schema.now) (value_of value.now)) LacksMemory }
+/// The schemas, on the elements at the same indices.
+fn by_index<'a>(alloc: Global, schemas: &'a [Value], items: &'a [Value]) -> Result<Vec<Pair<'a>>>
+    ensures { MatchResult result (λ ps. pairs_view ps.items ≡ by_index (items_view schemas.now) (items_view items.now)) LacksMemory }
+{
+    let mut pairs = Vec::new(alloc);
+    for (schema, value) in schemas.iter().zip(items) {
+        pairs.push(Pair { schema, value })?;
+    }
+    Ok(pairs)
+}
+
+/// What `prefixItems` asks.
+fn prefix_on<'a>(alloc: Global, schemas: &'a Value, value: &'a Value) -> Result<Asked<'a>>
+    ensures { MatchResult result (λ a. asked_view a ≡ prefix_on (value_of schemas.now) (value_of value.now)) IsRefusal }
+{
+    match (schemas, value) {
+        (Value::Array(schemas), Value::Array(items)) => Ok(all_of(by_index(
+            alloc, schemas, items,
+        )?)),
+        _ => Ok(Asked::Settled(true)),
+    }
+}
+
+/// How many schemas there are for the elements in front.
+fn schemas_in_front(schemas: Option<&Value>) -> usize
+    ensures { result ≡ schemas_in_front (part_view schemas.entry) }
+{
+    match schemas {
+        Some(Value::Array(schemas)) => elements_len(schemas),
+        _ => 0,
+    }
+}
+
+/// The elements without so many in front.
+fn items_after(items: &[Value], count: usize) -> &[Value]
+    ensures { items_view result.now ≡ items_after count (items_view items.now) }
+{
+    if count <= items.len() {
+        &items[count..]
+    } else {
+        &[]
+    }
+}
+
+/// The schema, on each of the elements without so many in front.
+fn elements_after<'a>(
+    alloc: Global,
+    schema: &'a Value,
+    count: usize,
+    value: &'a Value,
+) -> Result<Asked<'a>>
+    ensures { MatchResult result (λ a. asked_view a ≡ elements_after (value_of schema.now) count (value_of value.now)) IsRefusal }
 {
     match value {
-        Value::Array(items) => Ok(all_of(each_item(alloc, schema, items)?)),
+        Value::Array(items) => Ok(all_of(each_item(alloc, schema, items_after(items, count))?)),
         _ => Ok(Asked::Settled(true)),
+    }
+}
+
+/// What `items` asks.
+fn items_on<'a>(
+    alloc: Global,
+    schema: &'a Value,
+    keywords: &[(String, Value)],
+    value: &'a Value,
+) -> Result<Asked<'a>>
+    ensures { MatchResult result (λ a. asked_view a ≡ items_on (value_of schema.now) (fields_view keywords.now) (value_of value.now)) IsRefusal }
+{
+    if schema.is_array() {
+        return prefix_on(alloc, schema, value);
+    }
+    let count = schemas_in_front(find(keywords, "prefixItems"));
+    elements_after(alloc, schema, count, value)
+}
+
+/// What `additionalItems` asks, after these `items`.
+fn additional_items_on<'a>(
+    alloc: Global,
+    schema: &'a Value,
+    items: Option<&Value>,
+    value: &'a Value,
+) -> Result<Asked<'a>>
+    ensures { MatchResult result (λ a. asked_view a ≡ additional_items_on (value_of schema.now) (part_view items.entry) (value_of value.now)) IsRefusal }
+{
+    match items {
+        Some(Value::Array(schemas)) => elements_after(alloc, schema, elements_len(schemas), value),
+        _ => Ok(Asked::Settled(true)),
+    }
+}
+
+/// What `contains` asks.
+fn contains_on<'a>(
+    alloc: Global,
+    schema: &'a Value,
+    keywords: &'a [(String, Value)],
+    value: &'a Value,
+) -> Result<Asked<'a>>
+    ensures { MatchResult result (λ a. asked_view a ≡ contains_on (value_of schema.now) (fields_view keywords.now) (value_of value.now)) IsRefusal }
+{
+    match value {
+        Value::Array(items) => {
+            let (least, most) = (find(keywords, "minContains"), find(keywords, "maxContains"));
+            Ok(Asked::Counted(least, most, each_item(alloc, schema, items)?))
+        }
+        _ => Ok(Asked::Settled(true)),
+    }
+}
+
+/// What `allOf` asks.
+fn all_of_on<'a>(alloc: Global, schemas: &'a Value, value: &'a Value) -> Result<Asked<'a>>
+    ensures { MatchResult result (λ a. asked_view a ≡ all_of_on (value_of schemas.now) (value_of value.now)) IsRefusal }
+{
+    match schemas {
+        Value::Array(schemas) => Ok(all_of(each_schema(alloc, schemas, value)?)),
+        _ => Ok(Asked::Settled(true)),
+    }
+}
+
+/// What `anyOf` asks.
+fn any_of_on<'a>(alloc: Global, schemas: &'a Value, value: &'a Value) -> Result<Asked<'a>>
+    ensures { MatchResult result (λ a. asked_view a ≡ any_of_on (value_of schemas.now) (value_of value.now)) IsRefusal }
+{
+    match schemas {
+        Value::Array(schemas) => Ok(any_of(each_schema(alloc, schemas, value)?)),
+        _ => Ok(Asked::Settled(true)),
+    }
+}
+
+/// What `oneOf` asks.
+fn one_of_on<'a>(alloc: Global, schemas: &'a Value, value: &'a Value) -> Result<Asked<'a>>
+    ensures { MatchResult result (λ a. asked_view a ≡ one_of_on (value_of schemas.now) (value_of value.now)) IsRefusal }
+{
+    match schemas {
+        Value::Array(schemas) => Ok(Asked::Within(1, 1, each_schema(alloc, schemas, value)?)),
+        _ => Ok(Asked::Settled(true)),
+    }
+}
+
+/// What `if` asks.
+fn if_on<'a>(schema: &'a Value, keywords: &'a [(String, Value)], value: &'a Value) -> Asked<'a>
+    ensures { asked_view result ≡ if_on (value_of schema.now) (fields_view keywords.now) (value_of value.now) }
+{
+    Asked::Choice(
+        schema,
+        find(keywords, "then"),
+        find(keywords, "else"),
+        value,
+    )
+}
+
+/// Whether the schema of a name is applied: no later one has the name, there is a member with it, and it is no array of names.
+fn is_dependent(
+    name: &str,
+    schema: &Value,
+    after: &[(String, Value)],
+    members: &[(String, Value)],
+) -> bool
+    ensures { result ≡ is_dependent (chars name.now) (value_of schema.now) (fields_view after.now) (fields_view members.now) }
+{
+    !is_named(after, name) && is_named(members, name) && !schema.is_array()
+}
+
+/// The schema of each name that there is a member for, on the whole value.
+fn dependent_schemas<'a>(
+    alloc: Global,
+    schemas: &'a [(String, Value)],
+    members: &[(String, Value)],
+    value: &'a Value,
+) -> Result<Vec<Pair<'a>>>
+    ensures { MatchResult result (λ ps. pairs_view ps.items ≡ dependent_schemas (fields_view schemas.now) (fields_view members.now) (value_of value.now)) LacksMemory }
+{
+    let mut pairs = Vec::new(alloc);
+    for (index, dependent) in schemas.iter().enumerate() {
+        let schema = &dependent.1;
+        if is_dependent(dependent.0.as_str(), schema, &schemas[index + 1..], members) {
+            pairs.push(Pair { schema, value })?;
+        }
+    }
+    Ok(pairs)
+}
+
+/// What `dependentSchemas` asks.
+fn dependent_on<'a>(alloc: Global, schemas: &'a Value, value: &'a Value) -> Result<Asked<'a>>
+    ensures { MatchResult result (λ a. asked_view a ≡ dependent_on (value_of schemas.now) (value_of value.now)) IsRefusal }
+{
+    match (schemas, value) {
+        (Value::Object(schemas), Value::Object(members)) => Ok(all_of(dependent_schemas(
+            alloc, schemas, members, value,
+        )?)),
+        _ => Ok(Asked::Settled(true)),
+    }
+}
+
+/// What `dependencies` asks.
+fn dependencies_on<'a>(alloc: Global, schemas: &'a Value, value: &'a Value) -> Result<Asked<'a>>
+    ensures { MatchResult result (λ a. asked_view a ≡ dependencies_on (value_of schemas.now) (value_of value.now)) IsRefusal }
+{
+    if has_all_dependents(schemas, value) {
+        dependent_on(alloc, schemas, value)
+    } else {
+        Ok(Asked::Settled(false))
+    }
+}
+
+/// What `$ref` asks, with this target.
+fn refers_on<'a>(alloc: Global, target: Option<&'a Value>, value: &'a Value) -> Result<Asked<'a>>
+    ensures { MatchResult result (λ a. asked_view a ≡ refers_on (part_view target.entry) (value_of value.now)) IsRefusal }
+{
+    match target {
+        Some(schema) => Ok(all_of(one(alloc, schema, value)?)),
+        None => Ok(Asked::Settled(false)),
+    }
+}
+
+/// What a keyword says by itself.
+fn asserts<'a>(
+    alloc: Global,
+    assertion: Assertion,
+    argument: &Value,
+    value: &Value,
+) -> Result<Asked<'a>>
+    ensures { MatchResult result (λ a. asked_view a ≡ settled (asserts assertion (value_of argument.now) (value_of value.now))) IsRefusal }
+{
+    match assertion {
+        Assertion::Type => Ok(Asked::Settled(is_of_type(argument, value))),
+        Assertion::Enum => Ok(Asked::Settled(is_in_enum(alloc, argument, value)?)),
+        Assertion::Const => Ok(Asked::Settled(same(alloc, argument, value)?)),
+        Assertion::MultipleOf => Ok(Asked::Settled(is_multiple_of(alloc, argument, value)?)),
+        Assertion::Maximum => Ok(Asked::Settled(is_at_most(alloc, value, argument)?)),
+        Assertion::ExclusiveMaximum => Ok(Asked::Settled(is_below(alloc, value, argument)?)),
+        Assertion::Minimum => Ok(Asked::Settled(is_at_most(alloc, argument, value)?)),
+        Assertion::ExclusiveMinimum => Ok(Asked::Settled(is_below(alloc, argument, value)?)),
+        Assertion::MaxLength => Ok(Asked::Settled(count_at_most(
+            alloc,
+            characters_in(value),
+            argument,
+        )?)),
+        Assertion::MinLength => Ok(Asked::Settled(count_at_least(
+            alloc,
+            characters_in(value),
+            argument,
+        )?)),
+        Assertion::MaxItems => Ok(Asked::Settled(count_at_most(
+            alloc,
+            elements_in(value),
+            argument,
+        )?)),
+        Assertion::MinItems => Ok(Asked::Settled(count_at_least(
+            alloc,
+            elements_in(value),
+            argument,
+        )?)),
+        Assertion::UniqueItems => Ok(Asked::Settled(has_distinct(alloc, argument, value)?)),
+        Assertion::MaxProperties => Ok(Asked::Settled(count_at_most(
+            alloc,
+            names_in(value),
+            argument,
+        )?)),
+        Assertion::MinProperties => Ok(Asked::Settled(count_at_least(
+            alloc,
+            names_in(value),
+            argument,
+        )?)),
+        Assertion::Required => Ok(Asked::Settled(has_required(argument, value))),
+        Assertion::DependentRequired => Ok(Asked::Settled(has_all_dependents(argument, value))),
+    }
+}
+
+/// Which schemas a keyword applies.
+fn applies<'a>(
+    alloc: Global,
+    root: &'a Value,
+    keywords: &'a [(String, Value)],
+    applicator: Applicator,
+    argument: &'a Value,
+    value: &'a Value,
+) -> Result<Asked<'a>>
+    ensures { MatchResult result (λ a. asked_view a ≡ applies (value_of root.now) (fields_view keywords.now) applicator (value_of argument.now) (value_of value.now)) IsRefusal }
+{
+    match applicator {
+        Applicator::AllOf => all_of_on(alloc, argument, value),
+        Applicator::AnyOf => any_of_on(alloc, argument, value),
+        Applicator::OneOf => one_of_on(alloc, argument, value),
+        Applicator::Not => Ok(Asked::Within(0, 0, one(alloc, argument, value)?)),
+        Applicator::If => Ok(if_on(argument, keywords, value)),
+        Applicator::DependentSchemas => dependent_on(alloc, argument, value),
+        Applicator::Dependencies => dependencies_on(alloc, argument, value),
+        Applicator::PrefixItems => prefix_on(alloc, argument, value),
+        Applicator::Items => items_on(alloc, argument, keywords, value),
+        Applicator::AdditionalItems => {
+            additional_items_on(alloc, argument, find(keywords, "items"), value)
+        }
+        Applicator::Contains => contains_on(alloc, argument, keywords, value),
+        Applicator::Properties => properties_on(alloc, argument, value),
+        Applicator::AdditionalProperties => additional_on(alloc, argument, keywords, value),
+        Applicator::PropertyNames => Ok(names_on(argument, value)),
+        Applicator::Ref => refers_on(alloc, target_of(root, argument), value),
+    }
+}
+
+/// What a keyword with this argument asks of the value.
+pub fn asks<'a>(
+    alloc: Global,
+    root: &'a Value,
+    keywords: &'a [(String, Value)],
+    keyword: Keyword,
+    argument: &'a Value,
+    value: &'a Value,
+) -> Result<Asked<'a>>
+    ensures { MatchResult result (λ a. asked_view a ≡ asks (value_of root.now) (fields_view keywords.now) keyword (value_of argument.now) (value_of value.now)) IsRefusal }
+{
+    match keyword {
+        Keyword::Assertion(assertion) => asserts(alloc, assertion, argument, value),
+        Keyword::Applicator(applicator) => {
+            applies(alloc, root, keywords, applicator, argument, value)
+        }
+        Keyword::Annotation => Ok(Asked::Settled(true)),
     }
 }

@@ -3,11 +3,12 @@
 ghost use Rattle.std.specs.Prelude.{◌≡◌, MatchResult, Bool, ◌&&◌, nat_eq, string_bytes};
 ghost use Rattle.std.specs.Str.{chars};
 ghost use Rattle.json5_types.specs.ValueMeanings.{Datum, text, value_of, fields_view};
-ghost use Rattle.json5_schema.specs.Conformance.{unfolded, keywords_hold, keyword_holds, satisfied, part_holds, names_hold, is_within, less, Conforms};
+ghost use Rattle.json5_schema.specs.Conformance.{unfolded, keywords_hold, keyword_holds, satisfied, part_holds, names_hold, count_conforming, is_within, less, Conforms};
 ghost use Rattle.json5_schema.specs.Views.{IsRefusal, pairs_view, part_view, asked_view};
 
 use crate::asked::{Asked, Pair, asks};
 use crate::keyword::keyword_named;
+use crate::limits::is_counted;
 use crate::members::is_named;
 use json5_types::ErrorCode;
 use json5_types::error::{Error, Result};
@@ -104,6 +105,10 @@ fn satisfied(alloc: Global, root: &Value, asked: &Asked<'_>, depth: usize) -> Re
     match asked {
         Asked::Settled(holds) => Ok(*holds),
         Asked::Within(least, most, pairs) => is_within(alloc, root, *least, *most, pairs, depth),
+        Asked::Counted(least, most, pairs) => {
+            let count = count_conforming(alloc, root, pairs, depth)?;
+            Ok(is_counted(alloc, *least, *most, count)?)
+        }
         Asked::Choice(condition, then, other, value) => {
             if conforms_within(alloc, root, condition, value, depth)? {
                 part_holds(alloc, root, *then, value, depth)
@@ -158,6 +163,20 @@ fn name_holds(alloc: Global, root: &Value, schema: &Value, name: &str, depth: us
 {
     let text = Value::text(alloc, name)?;
     conforms_within(alloc, root, schema, &text, depth)
+}
+
+/// How many of the pairs conform.
+#[cycle(conforms)]
+fn count_conforming(alloc: Global, root: &Value, pairs: &[Pair<'_>], depth: usize) -> Result<usize>
+    ensures { MatchResult result (λ n. (v : Datum → Datum → Bool) → count_conforming (unfolded depth v (value_of root.now)) (pairs_view pairs.now) ≡ n) IsRefusal }
+{
+    let mut count = 0;
+    for pair in pairs {
+        if conforms_within(alloc, root, pair.schema, pair.value, depth)? {
+            count += 1;
+        }
+    }
+    Ok(count)
 }
 
 /// Whether at least so many and at most so many of the pairs conform.

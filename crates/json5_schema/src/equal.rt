@@ -5,7 +5,7 @@ ghost use Rattle.std.specs.Str.{chars};
 ghost use Rattle.json5_grammar.specs.Language.Numbers.{decimal, whole};
 ghost use Rattle.json5_types.specs.Errors.{LacksMemory};
 ghost use Rattle.json5_types.specs.ValueMeanings.{value_of, items_view, fields_view};
-ghost use Rattle.json5_schema.specs.Conformance.{same_decimals, same_number, same_datum, same_items, same_fields, has_field, has_fields, names_within, is_among, is_in_enum, is_at_most, count_fits, text_fits};
+ghost use Rattle.json5_schema.specs.Conformance.{same_decimals, same_number, same_datum, same_items, same_fields, has_field, has_fields, names_within, is_among, is_in_enum, are_distinct, has_distinct};
 
 use crate::members::{find, is_named};
 use json5_numbers::DecimalExt;
@@ -158,37 +158,24 @@ pub fn is_in_enum(alloc: Global, values: &Value, value: &Value) -> Result<bool>
     }
 }
 
-/// Whether so many are at most this number.
-fn count_fits(alloc: Global, count: usize, limit: &Value) -> Result<bool>
-    ensures { MatchResult result (λ b. b ≡ count_fits count (value_of limit.now)) LacksMemory }
+/// Whether no two of the elements are equal.
+fn are_distinct(alloc: Global, items: &[Value]) -> Result<bool>
+    ensures { MatchResult result (λ b. b ≡ are_distinct (items_view items.now)) LacksMemory }
 {
-    let count = Decimal::from_whole(alloc, Whole::from_u128(count as u128))?;
-    match limit {
-        Value::Whole(limit) => {
-            let limit = Decimal::from_whole(alloc, *limit)?;
-            Ok(is_at_most(&count, &limit))
+    for (index, item) in items.iter().enumerate() {
+        if is_among(alloc, item, &items[index + 1..])? {
+            return Ok(false);
         }
-        Value::Decimal(limit) => Ok(is_at_most(&count, limit)),
-        _ => Ok(true),
     }
+    Ok(true)
 }
 
-/// Whether the number is at most the other.
-fn is_at_most(number: &Decimal, other: &Decimal) -> bool
-    ensures { result ≡ is_at_most number.now other.now }
+/// What `uniqueItems` asserts.
+pub fn has_distinct(alloc: Global, wanted: &Value, value: &Value) -> Result<bool>
+    ensures { MatchResult result (λ b. b ≡ has_distinct (value_of wanted.now) (value_of value.now)) LacksMemory }
 {
-    matches!(
-        number.compare(other),
-        Some(Ordering::Less | Ordering::Equal)
-    )
-}
-
-/// What `maxLength` asserts: of the number of characters.
-pub fn text_fits(alloc: Global, limit: &Value, value: &Value) -> Result<bool>
-    ensures { MatchResult result (λ b. b ≡ text_fits (value_of limit.now) (value_of value.now)) LacksMemory }
-{
-    match value {
-        Value::String(text) => count_fits(alloc, text.as_str().chars().count(), limit),
+    match (wanted, value) {
+        (Value::Bool(true), Value::Array(items)) => are_distinct(alloc, items),
         _ => Ok(true),
     }
 }

@@ -9,7 +9,7 @@ use json5_types::decimal::Decimal;
 use json5_types::value::Value;
 
 /// What `type` can name.
-#[derive(Clone, Copy, Debug)]
+#[derive(Clone, Copy)]
 pub enum Kind {
     Null,
     Boolean,

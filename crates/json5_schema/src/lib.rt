@@ -1,10 +1,20 @@
 //! Whether a document conforms to a JSON Schema.
 #![tactic(auto)]
 
-pub mod asked;
-pub mod conforms;
-pub mod equal;
-pub mod keyword;
-pub mod kind;
+mod asked;
+mod conforms;
+mod equal;
+pub mod faults;
+mod keyword;
+mod kind;
 pub mod laws;
-pub mod members;
+mod limits;
+mod looking;
+mod members;
+mod multiples;
+mod references;
+mod schemas;
+pub mod shape;
+
+pub use faults::{Problem, SchemaFault};
+pub use schemas::Schema;

@@ -4,7 +4,7 @@ ghost use Rattle.std.specs.Prelude.{◌≡◌, option_map, is_some};
 ghost use Rattle.std.specs.Str.{chars};
 ghost use Rattle.json5_types.specs.ValueMeanings.{value_of, items_view, fields_view};
 ghost use Rattle.json5_types.specs.ValueLookups.{last_named};
-ghost use Rattle.json5_schema.specs.Conformance.{is_named, has_name, has_names, has_required};
+ghost use Rattle.json5_schema.specs.Conformance.{is_named, has_name, has_names, has_required, has_dependent, has_dependents, has_all_dependents};
 
 use json5_types::value::Value;
 
@@ -56,6 +56,47 @@ pub fn has_required(names: &Value, value: &Value) -> bool
 {
     match (names, value) {
         (Value::Array(names), Value::Object(members)) => has_names(names, members),
+        _ => true,
+    }
+}
+
+/// Whether there is a member for each of the names, if there is one for this name, unless a later one has the name.
+fn has_dependent(
+    name: &str,
+    names: &Value,
+    after: &[(String, Value)],
+    members: &[(String, Value)],
+) -> bool
+    ensures { result ≡ has_dependent (chars name.now) (value_of names.now) (fields_view after.now) (fields_view members.now) }
+{
+    if is_named(after, name) || !is_named(members, name) {
+        return true;
+    }
+    match names {
+        Value::Array(names) => has_names(names, members),
+        _ => true,
+    }
+}
+
+/// The same for each of the names that others ask for.
+fn has_dependents(dependents: &[(String, Value)], members: &[(String, Value)]) -> bool
+    ensures { result ≡ has_dependents (fields_view dependents.now) (fields_view members.now) }
+{
+    for (index, dependent) in dependents.iter().enumerate() {
+        let after = &dependents[index + 1..];
+        if !has_dependent(dependent.0.as_str(), &dependent.1, after, members) {
+            return false;
+        }
+    }
+    true
+}
+
+/// What `dependentRequired` asserts.
+pub fn has_all_dependents(dependents: &Value, value: &Value) -> bool
+    ensures { result ≡ has_all_dependents (value_of dependents.now) (value_of value.now) }
+{
+    match (dependents, value) {
+        (Value::Object(dependents), Value::Object(members)) => has_dependents(dependents, members),
         _ => true,
     }
 }

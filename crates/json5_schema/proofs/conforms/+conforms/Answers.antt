@@ -1,10 +1,9 @@
 use Rattle.std.proofs.Common.{List, String, true, false, ◌≡◌, ◌∙◌, ◌<◌, ◌≤◌, ◌+◌, length, drop, arith, sym, ap, Some, None, option_map, string_bytes}
-use Rattle.std.proofs.lemmas.List.{drop_more, length-drop}
-use Rattle.std.proofs.Common.{ℕ}
-use Rattle.json5_types.specs.ValueMeanings.{Datum, value_of, fields_view}
+use Rattle.std.proofs.lemmas.List.{length-drop}
+use Rattle.json5_types.specs.ValueMeanings.{value_of, fields_view}
 use Rattle.json5_types.specs.ValueLookups.{boolean_of, fields_in}
-use Rattle.json5_schema.specs.Conformance.{keyword_holds, is_within, less, unfolded}
-use Rattle.json5_schema.specs.Views.{pairs_view, part_view, asked_view}
+use Rattle.json5_schema.specs.Conformance.{keyword_holds, less, unfolded}
+use Rattle.json5_schema.specs.Views.{part_view, asked_view}
 use Rattle.json5_types.proofs.LookedUp.{from_here}
 use Rattle.std.specs.Str.{chars}
 use Rattle.std.specs.declared.alloc.Global.{Global}

@@ -1,6 +1,6 @@
-use Rattle.std.proofs.Common.{◌≡◌, ◌+◌, ◌*◌, Bool, drop}
+use Rattle.std.proofs.Common.{◌≡◌, ◌≤◌, ◌+◌, ◌*◌, Bool, drop}
 use Rattle.json5_types.specs.ValueMeanings.{Datum, value_of, fields_view}
-use Rattle.json5_schema.specs.Conformance.{keywords_hold, names_hold, is_within, unfolded}
+use Rattle.json5_schema.specs.Conformance.{keywords_hold, names_hold, count_conforming, is_within, unfolded}
 use Rattle.json5_schema.specs.Views.{pairs_view}
 use Rattle.json5_schema.proofs.conforms.+conforms.Given as goal
 
@@ -9,6 +9,9 @@ decreases-conforms_within l = 6 * l.depth + 0
 
 abbrev pub decreases-is_within : goal.decreases-is_within
 decreases-is_within l = 6 * l.depth + 1
+
+abbrev pub decreases-count_conforming : goal.decreases-count_conforming
+decreases-count_conforming l = 6 * l.depth + 1
 
 abbrev pub decreases-name_holds : goal.decreases-name_holds
 decreases-name_holds l = 6 * l.depth + 1
@@ -43,3 +46,10 @@ abbrev pub invariant-names_hold-loop-name : goal.invariant-names_hold-loop-name
 invariant-names_hold-loop-name l = (v : Datum → Datum → Bool) →
     names_hold (unfolded l.depth v (value_of l.root)) (value_of l.schema) (fields_view (drop l.name-index l.members))
     ≡ names_hold (unfolded l.depth v (value_of l.root)) (value_of l.schema) (fields_view l.members)
+
+abbrev pub invariant-count_conforming-loop-pair : goal.invariant-count_conforming-loop-pair
+invariant-count_conforming-loop-pair l =
+    ((v : Datum → Datum → Bool) →
+    (l.count + count_conforming (unfolded l.depth v (value_of l.root)) (pairs_view (drop l.pair-index l.pairs)))
+    ≡ count_conforming (unfolded l.depth v (value_of l.root)) (pairs_view l.pairs))
+    × (l.count ≤ l.pair-index)

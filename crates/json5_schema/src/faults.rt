@@ -1,0 +1,94 @@
+//! Why a value isn't taken as a schema.
+
+ghost use Rattle.std.specs.Prelude.{◌≡◌};
+ghost use Rattle.json5_schema.specs.declared.faults.SchemaFault.TheVariants as faults;
+
+use crate::shape::Shape;
+use json5_types::error::Error;
+use std::alloc::{AllocError, AllocFailed};
+use std::fmt;
+
+/// What is wrong at a place of a schema.
+#[derive(Clone, Copy, Debug)]
+pub enum Problem {
+    /// A keyword that this version doesn't decide, such as `pattern`.
+    Undecided,
+    /// The argument isn't what the keyword wants.
+    Expected(Shape),
+    /// A draft before 6, whose words mean something else.
+    OldDraft,
+    /// Draft 7 passes over a keyword beside `$ref`, and later drafts don't: `$schema` has to name one of these.
+    BesideReference,
+    /// A reference to another document, by a name, or with an escape by `%`.
+    Elsewhere,
+    /// A reference to a place that isn't there.
+    NoTarget,
+    /// A reference that leads back to itself without a step into the value.
+    Endless,
+}
+
+impl fmt::Display for Problem {
+    fn fmt<W: fmt::Write>(&self, f: &mut fmt::Formatter<W>) -> fmt::Result {
+        match self {
+            Problem::Undecided => f.write_str("this keyword isn't decided yet"),
+            Problem::Expected(shape) => write!(f, "expected {}", shape.as_str()),
+            Problem::OldDraft => f.write_str("drafts before 6 aren't read"),
+            Problem::BesideReference => f.write_str(
+                "beside `$ref` this keyword counts only from draft 2019-09 on, and `$schema` names none of these",
+            ),
+            Problem::Elsewhere => f.write_str(
+                "only references such as `#/$defs/port` are followed",
+            ),
+            Problem::NoTarget => f.write_str("there is nothing at this reference"),
+            Problem::Endless => f.write_str("this reference leads back to itself"),
+        }
+    }
+}
+
+/// Why a value isn't taken as a schema. It prints what is wrong, and the JSON pointer to the place.
+///
+/// ```text
+/// Schema::new(alloc, &json5::from_str(alloc, "{items: {pattern: '^a'}}")?)
+///     // Err: this keyword isn't decided yet at `/items/pattern`
+/// ```
+#[derive(Debug, Drop)]
+pub enum SchemaFault {
+    /// The JSON pointer to a place of the schema, and what is wrong there.
+    At(String, Problem),
+    /// Memory was refused, or the schema is nested too deep to be copied.
+    Value(Error),
+}
+
+impl fmt::Display for SchemaFault {
+    fn fmt<W: fmt::Write>(&self, f: &mut fmt::Formatter<W>) -> fmt::Result {
+        match self {
+            SchemaFault::At(pointer, problem) if pointer.is_empty() => {
+                write!(f, "{problem} at the top")
+            }
+            SchemaFault::At(pointer, problem) => write!(f, "{problem} at `{pointer}`"),
+            SchemaFault::Value(error) => write!(f, "{error}"),
+        }
+    }
+}
+
+impl std::error::Error for SchemaFault {}
+
+impl From<Error> for SchemaFault {
+    ghost from_gives = { λ error fault. fault ≡ faults.Value error };
+
+    fn from(error: Error) -> SchemaFault {
+        SchemaFault::Value(error)
+    }
+}
+
+impl From<AllocError> for SchemaFault {
+    fn from(error: AllocError) -> SchemaFault {
+        SchemaFault::Value(Error::from(error))
+    }
+}
+
+impl<T: Drop> From<AllocFailed<T>> for SchemaFault {
+    fn from(error: AllocFailed<T>) -> SchemaFault {
+        SchemaFault::Value(Error::from(error))
+    }
+}

@@ -1,0 +1,163 @@
+//! Limits of numbers and of counts. No digit is rounded.
+
+ghost use Rattle.std.specs.Prelude.{◌≡◌, ◌&&◌, MatchResult};
+ghost use Rattle.json5_types.specs.Errors.{LacksMemory};
+ghost use Rattle.json5_types.specs.ValueMeanings.{value_of, items_view, fields_view};
+ghost use Rattle.json5_types.specs.ValueKinds.{items_len};
+ghost use Rattle.json5_schema.specs.Conformance.{is_not_above, at_most, is_below, characters_in, elements_in, names_len, names_in, count_at_most, count_at_least, is_enough, is_few};
+ghost use Rattle.json5_schema.specs.Views.{part_view};
+ghost use Rattle.json5_numbers.specs.Orders.{decimal_cmp};
+
+use crate::equal::same;
+use crate::members::is_named;
+use json5_numbers::DecimalExt;
+use json5_types::decimal::Decimal;
+use json5_types::error::Result;
+use json5_types::value::Value;
+use std::alloc::Global;
+use std::cmp::Ordering;
+
+/// Whether the number is at most the other.
+fn is_not_above(number: &Decimal, other: &Decimal) -> bool
+    ensures { result ≡ is_not_above (decimal_cmp number.now other.now) }
+{
+    matches!(
+        number.compare(other),
+        Some(Ordering::Less | Ordering::Equal)
+    )
+}
+
+/// Whether the number is at most the other; true where one of them is no number.
+pub fn is_at_most(alloc: Global, number: &Value, other: &Value) -> Result<bool>
+    ensures { MatchResult result (λ b. b ≡ at_most (value_of number.now) (value_of other.now)) LacksMemory }
+{
+    match (number, other) {
+        (Value::Whole(number), Value::Whole(other)) => {
+            let number = Decimal::from_whole(alloc, *number)?;
+            Ok(is_not_above(&number, &Decimal::from_whole(alloc, *other)?))
+        }
+        (Value::Whole(number), Value::Decimal(other)) => {
+            Ok(is_not_above(&Decimal::from_whole(alloc, *number)?, other))
+        }
+        (Value::Decimal(number), Value::Whole(other)) => {
+            Ok(is_not_above(number, &Decimal::from_whole(alloc, *other)?))
+        }
+        (Value::Decimal(number), Value::Decimal(other)) => Ok(is_not_above(number, other)),
+        _ => Ok(true),
+    }
+}
+
+/// Whether the number is below the other; true where one of them is no number.
+pub fn is_below(alloc: Global, number: &Value, other: &Value) -> Result<bool>
+    ensures { MatchResult result (λ b. b ≡ is_below (value_of number.now) (value_of other.now)) LacksMemory }
+{
+    if !is_at_most(alloc, number, other)? {
+        return Ok(false);
+    }
+    Ok(!same(alloc, number, other)?)
+}
+
+/// The number of characters, if it is a string.
+pub fn characters_in(value: &Value) -> Option<usize>
+    ensures { result ≡ characters_in (value_of value.now) }
+{
+    match value {
+        Value::String(text) => Some(text.as_str().chars().count()),
+        _ => None,
+    }
+}
+
+/// The number of elements.
+pub fn elements_len(items: &[Value]) -> usize
+    ensures { result ≡ items_len (items_view items.now) }
+{
+    items.len()
+}
+
+/// The number of elements, if it is an array.
+pub fn elements_in(value: &Value) -> Option<usize>
+    ensures { result ≡ elements_in (value_of value.now) }
+{
+    match value {
+        Value::Array(items) => Some(elements_len(items)),
+        _ => None,
+    }
+}
+
+/// The number of names.
+fn names_len(members: &[(String, Value)]) -> usize
+    ensures { result ≡ names_len (fields_view members.now) }
+{
+    let mut count = 0;
+    for (index, member) in members.iter().enumerate() {
+        if !is_named(&members[index + 1..], member.0.as_str()) {
+            count += 1;
+        }
+    }
+    count
+}
+
+/// The number of names, if it is an object.
+pub fn names_in(value: &Value) -> Option<usize>
+    ensures { result ≡ names_in (value_of value.now) }
+{
+    match value {
+        Value::Object(members) => Some(names_len(members)),
+        _ => None,
+    }
+}
+
+/// Whether so many are at most the limit; true where nothing is counted.
+pub fn count_at_most(alloc: Global, count: Option<usize>, limit: &Value) -> Result<bool>
+    ensures { MatchResult result (λ b. b ≡ count_at_most count (value_of limit.now)) LacksMemory }
+{
+    match count {
+        Some(count) => is_at_most(alloc, &Value::from(count), limit),
+        None => Ok(true),
+    }
+}
+
+/// Whether so many are at least the limit; true where nothing is counted.
+pub fn count_at_least(alloc: Global, count: Option<usize>, limit: &Value) -> Result<bool>
+    ensures { MatchResult result (λ b. b ≡ count_at_least count (value_of limit.now)) LacksMemory }
+{
+    match count {
+        Some(count) => is_at_most(alloc, limit, &Value::from(count)),
+        None => Ok(true),
+    }
+}
+
+/// Whether so many are enough: as many as this number, or one.
+fn is_enough(alloc: Global, least: Option<&Value>, count: usize) -> Result<bool>
+    ensures { MatchResult result (λ b. b ≡ is_enough (part_view least.entry) count) LacksMemory }
+{
+    match least {
+        Some(least) => is_at_most(alloc, least, &Value::from(count)),
+        None => Ok(count >= 1),
+    }
+}
+
+/// Whether so many are no more than this number.
+fn is_few(alloc: Global, most: Option<&Value>, count: usize) -> Result<bool>
+    ensures { MatchResult result (λ b. b ≡ is_few (part_view most.entry) count) LacksMemory }
+{
+    match most {
+        Some(most) => is_at_most(alloc, &Value::from(count), most),
+        None => Ok(true),
+    }
+}
+
+/// Whether so many are enough, and no more than can be.
+pub fn is_counted(
+    alloc: Global,
+    least: Option<&Value>,
+    most: Option<&Value>,
+    count: usize,
+) -> Result<bool>
+    ensures { MatchResult result (λ b. b ≡ (is_enough (part_view least.entry) count && is_few (part_view most.entry) count)) LacksMemory }
+{
+    if !is_enough(alloc, least, count)? {
+        return Ok(false);
+    }
+    is_few(alloc, most, count)
+}
