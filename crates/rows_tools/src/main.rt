@@ -1,5 +1,5 @@
-//! Answers rows of edits, of patches, of tidying and of reports. Standard input has all rows in one document, and what
-//! is said of each is whether what came is what the row says.
+//! Answers rows of edits, of patches, of tidying, of reports and of schemas. Standard input has all rows in one document,
+//! and what is said of each is whether what came is what the row says.
 #![tactic(auto)]
 
 mod edits;
@@ -11,6 +11,7 @@ mod patches;
 mod plain_readers;
 mod reports;
 mod rows;
+mod schemas;
 mod tidies;
 
 use json5_read::read_document;
@@ -41,7 +42,8 @@ fn each_tool(rt: &HostRuntime, document: &Value) -> io::Result<()> {
     each_row(rt, document, "edit")?;
     each_row(rt, document, "patch")?;
     each_row(rt, document, "tidy")?;
-    each_row(rt, document, "report")
+    each_row(rt, document, "report")?;
+    each_row(rt, document, "schema")
 }
 
 fn each_row(rt: &HostRuntime, document: &Value, tool: &str) -> io::Result<()> {
@@ -67,6 +69,7 @@ fn outcome_of(alloc: Global, document: &Value, tool: &str, row: &Value) -> Outco
         "edit" => edits::outcome_of(alloc, row),
         "patch" => patches::outcome_of(alloc, row),
         "tidy" => tidies::outcome_of(alloc, row),
+        "schema" => schemas::outcome_of(alloc, row),
         _ => reports::outcome_of(alloc, text_of(document, "base"), row),
     }
 }
