@@ -1,7 +1,9 @@
 -- Lists the lemmas about what the program does.
 pub mod WordsTaken
+pub mod KeysTaken
 pub mod PartsRead
 pub mod Reading
 pub mod PathsPut
 pub mod EditsMade
+pub mod ValuesMoved
 pub mod Statuses

@@ -23,7 +23,6 @@ use Rattle.json5_styles.specs.WholeTexts.{RefusesText}
 use Rattle.json5_walk.specs.declared.place.Place.{Place}
 use Rattle.json5_edit.specs.Parts.{part, part_at, part_under}
 use Rattle.json5_edit.specs.Places.{HasPlace, IsValue, Leads}
-use Rattle.json5_edit.specs.Refusals.{RefusesPath}
 use Rattle.json5_edit.specs.declared.paths.Step.{Step}
 use Rattle.json5_edit.proofs.Placed.{part_there, scalars_left, scalars_right}
 use Rattle.cli_edit.specs.declared.trouble.TextTrouble.{TextTrouble}
@@ -157,6 +156,8 @@ json_none x e (trouble.Failed f) k n = n
 json_none x e (trouble.Unwritten u) k n = n
 json_none x e (trouble.NoPatch f) k n = elim n [ ]
 json_none x e (trouble.Operation f) k n = elim n [ ]
+json_none x e (trouble.NoPath f) k n = elim n [ ]
+json_none x e trouble.IntoItself k n = elim n [ ]
 
 -- the place is in the text
 pub place_there : (bytes : List ℕ) (steps : List Step) (p : Place) → Leads bytes steps (Some p) → HasPlace bytes p

@@ -40,6 +40,8 @@ trouble_small : (x : TextTrouble) → trouble_status x ≤ 3
 trouble_small (trouble.Edit e) = edit_small e
 trouble_small (trouble.NoPatch f) = omega arith
 trouble_small (trouble.Operation x) = operation_small x.trouble
+trouble_small (trouble.NoPath e) = omega arith
+trouble_small trouble.IntoItself = omega arith
 trouble_small (trouble.NoJson e) = omega arith
 trouble_small (trouble.Failed f) = omega arith
 trouble_small (trouble.Unwritten u) = omega arith

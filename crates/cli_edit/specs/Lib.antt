@@ -1,5 +1,6 @@
 -- Lists the definitions of what the program does.
 pub mod Requests
+pub mod Choices
 pub mod Parts
 pub mod Values
 pub mod Puts

@@ -1,12 +1,12 @@
 -- A value that is put where the steps lead, whether one was there or not.
 -- A promise rests on this.
-use Rattle.std.specs.Prelude.{◌≡◌, ◌≢◌, ◌⊎◌, ℕ, Bool, true, false, List, [], ◌∷◌, ◌++◌, Option, None, Some}
+use Rattle.std.specs.Prelude.{◌≡◌, ◌≢◌, ◌⊎◌, ℕ, Bool, true, false, List, [], ◌∷◌, ◌++◌, Option, Some}
 use lib.Chars.{codes}
 use Rattle.json5_types.specs.ValueKinds.{len_of}
 use Rattle.json5_read.specs.TreeMeanings.{datum_of}
 use Rattle.json5_edit.specs.Changes.{IsInserted, IsPushed}
 use Rattle.json5_edit.specs.Places.{LeadsNowhere, LeadsTo}
-use Rattle.json5_edit.specs.Refusals.{RefusesInsert, RefusesPath, RefusesPush, RefusesSet}
+use Rattle.json5_edit.specs.Refusals.{RefusesInsert, RefusesPush, RefusesSet}
 use Rattle.json5_edit.specs.Sets.{IsSet}
 use Rattle.json5_edit.specs.declared.faults.EditError.{EditError}
 use Rattle.json5_edit.specs.declared.faults.EditError.TheVariants as error

@@ -1,6 +1,6 @@
 -- What is put into a document for VALUE.
 -- A promise rests on this.
-use Rattle.std.specs.Prelude.{⊤, ◌≡◌, ◌≢◌, ◌⊎◌, ℕ, Bool, true, false, List, [], ◌∷◌, ◌++◌}
+use Rattle.std.specs.Prelude.{◌≡◌, ◌≢◌, ◌⊎◌, ℕ, Bool, true, false, List, [], ◌∷◌, ◌++◌}
 use Rattle.std.specs.Str.{chars}
 use Rattle.json5_grammar.specs.Language.Characters.{line_feed}
 use Rattle.json5_grammar.specs.Language.Documents.{max_depth}
@@ -34,8 +34,11 @@ IsTextOf content made = ReadsAs max_depth (chars made) (text (chars content))
 abbrev pub MeansBy : (is_text : Bool) → Command → Source → (given made : List ℕ) → Type 0
 MeansBy true w s given made = (content : List ℕ) × IsContent s given content × IsTextOf content made
 MeansBy false work.Rename s given made = made ≡ given
+MeansBy false work.Move s given made = made ≡ given
+MeansBy false work.Copy s given made = made ≡ given
+MeansBy false work.Comment s given made = made ≡ given
 MeansBy false w s given made = Strips given made
 
--- what is given means this: a value, the string of a content, or a key
+-- what is given means this: a value, the string of a content, a key, where a value goes, or what a comment says
 abbrev pub Means : Task → (given made : List ℕ) → Type 0
 Means t given made = MeansBy t.given.is_text t.work t.given.source given made

@@ -1,6 +1,6 @@
 -- What is read, and what is written of it.
 -- A promise rests on this.
-use Rattle.std.specs.Prelude.{⊤, ◌≡◌, ◌⊎◌, ℕ, List, [], Option, None, Some, IfSome}
+use Rattle.std.specs.Prelude.{◌≡◌, ◌⊎◌, ◌&&◌, ℕ, Bool, true, false, not, List, [], Option, None, Some, IfSome}
 use Rattle.std.specs.Io.KnownBytes.{Appends, Keeps}
 use lib.Chars.{codes}
 use Rattle.json5_write.specs.Pieces.{AppendsFront}
@@ -10,16 +10,15 @@ use Rattle.cli_files.specs.Inputs.{NoText}
 use Rattle.cli_files.specs.Stores.{Known}
 use Rattle.json5_edit.specs.Refusals.{RefusesPath}
 use Rattle.json5_edit.specs.declared.faults.EditError.{EditError}
+use Rattle.json5_edit.specs.declared.faults.EditError.TheVariants as error
 use Rattle.json5_edit.specs.declared.paths.Step.{Step}
-use Rattle.cli_edit.specs.declared.requests.Command.{Command}
 use Rattle.cli_edit.specs.declared.requests.Source.{Source}
 use Rattle.cli_edit.specs.declared.requests.Source.TheVariants as source
 use Rattle.cli_edit.specs.declared.requests.Task.{Task}
-use Rattle.cli_edit.specs.declared.requests.Command.TheVariants as work
 use Rattle.cli_edit.specs.declared.trouble.TextTrouble.{TextTrouble}
 use Rattle.cli_edit.specs.declared.trouble.TextTrouble.TheVariants as trouble
 use Rattle.cli_edit.specs.Makes.{MakesLaid, RefusesWork}
-use Rattle.cli_edit.specs.Requests.{IsSourceOf}
+use Rattle.cli_edit.specs.Requests.{IsSourceOf, is_shown}
 use Rattle.cli_edit.specs.Troubles.{edit_status, read_status, trouble_status}
 use Rattle.cli_edit.specs.Values.{Means}
 
@@ -57,25 +56,45 @@ IsGivenFor known t input value = (s : Source) × IsSourceOf t s × IsGiven known
 
 -- ---- writing
 
-abbrev pub IsShown : Command → Type 0
-IsShown (work.Show v) = ⊤
-IsShown w = ⊥
-
 -- what is shown goes to output, and so does what standard input was changed to
 abbrev pub GoesOut : Task → Type 0
-GoesOut t = IsShown t.work ⊎ (t.file.now ≡ stream_word)
+GoesOut t = (is_shown t.work ≡ true) ⊎ (t.file.now ≡ stream_word)
 
 -- the new text was written out; or the file has it
-pub data Puts (known : Known) (t : Task) (old new : List ℕ) (output written : Option (List ℕ)) : Type 0 where
-  out : GoesOut t → Appends output written new → Puts known t old new output written
-  same : ¬ (GoesOut t) → old ≡ new → Keeps output written → Puts known t old new output written
-  replaced : ¬ (GoesOut t) → known.replaces t.file.now old new None → Keeps output written → Puts known t old new output written
+pub data PutsNew (known : Known) (t : Task) (old new : List ℕ) (output written : Option (List ℕ)) : Type 0 where
+  out : GoesOut t → Appends output written new → PutsNew known t old new output written
+  same : ¬ (GoesOut t) → old ≡ new → Keeps output written → PutsNew known t old new output written
+  replaced : ¬ (GoesOut t) → known.replaces t.file.now old new None → Keeps output written → PutsNew known t old new output written
 
 -- a prefix of it was written out; or nothing, and the file holds what it held
+abbrev pub PutsNoNew : Known → Task → (old new : List ℕ) → (output written : Option (List ℕ)) → TextTrouble → Type 0
+PutsNoNew known t old new output written (trouble.Failed f) = GoesOut t × (f ≡ failure.Write) × AppendsFront output written new
+PutsNoNew known t old new output written (trouble.Unwritten u) = ¬ (GoesOut t) × known.replaces t.file.now old new (Some u) × Keeps output written
+PutsNoNew known t old new output written _ = ⊥
+
+-- whether it is only written out what changes
+abbrev pub is_tried : Task → Bool
+is_tried t = t.is_dry && not (is_shown t.work)
+
+abbrev pub PutsBy : (is_tried : Bool) → Known → Task → (old new : List ℕ) → (output written : Option (List ℕ)) → Type 0
+PutsBy true known t old new output written = (changes : List ℕ) × Appends output written changes
+PutsBy false known t old new output written = PutsNew known t old new output written
+
+abbrev pub Puts : Known → Task → (old new : List ℕ) → (output written : Option (List ℕ)) → Type 0
+Puts known t old new output written = PutsBy (is_tried t) known t old new output written
+
+-- or a prefix of that, or memory ran out
+abbrev pub ShowsNoChanges : (output written : Option (List ℕ)) → TextTrouble → Type 0
+ShowsNoChanges output written (trouble.Edit e) = (e ≡ error.NoMemory) × Keeps output written
+ShowsNoChanges output written (trouble.Failed f) = (f ≡ failure.Write) × ((changes : List ℕ) × AppendsFront output written changes)
+ShowsNoChanges output written _ = ⊥
+
+abbrev pub PutsNotBy : (is_tried : Bool) → Known → Task → (old new : List ℕ) → (output written : Option (List ℕ)) → TextTrouble → Type 0
+PutsNotBy true known t old new output written x = ShowsNoChanges output written x
+PutsNotBy false known t old new output written x = PutsNoNew known t old new output written x
+
 abbrev pub PutsNot : Known → Task → (old new : List ℕ) → (output written : Option (List ℕ)) → TextTrouble → Type 0
-PutsNot known t old new output written (trouble.Failed f) = GoesOut t × (f ≡ failure.Write) × AppendsFront output written new
-PutsNot known t old new output written (trouble.Unwritten u) = ¬ (GoesOut t) × known.replaces t.file.now old new (Some u) × Keeps output written
-PutsNot known t old new output written _ = ⊥
+PutsNot known t old new output written x = PutsNotBy (is_tried t) known t old new output written x
 
 -- ---- a task
 

@@ -5,17 +5,56 @@
 use crate::parts::{kind_name, part_at};
 use crate::putting::steps_that_lead;
 use crate::requests::Command;
-use json5_edit::{EditError, Step};
+use json5_edit::{Before, EditError, Path, Step};
 use json5_read::{check_document, read_document};
 use json5_types::value::Value;
 use std::alloc::{AllocError, Global};
 use std::io::Write;
 use strsim::osa_distance;
 
-/// What stands where the edit isn't made, and what would help.
-pub(crate) fn edit_advice(
+/// What stands where the work isn't done, and what would help.
+pub(crate) fn work_advice(
     alloc: Global,
-    work: Command,
+    work: Command<'_>,
+    value: &str,
+    text: &str,
+    steps: &[Step<'_>],
+    error: &EditError,
+) -> Option<String> {
+    let leads = steps_that_lead(alloc, text, steps) == steps.len();
+    match (work, error) {
+        (Command::Move | Command::Copy, _) if leads => {
+            let path = Path::parse(alloc, value).ok()?;
+            let steps = path.steps_in(alloc, text).ok()?;
+            edit_advice(alloc, Command::Insert, text, steps.as_slice(), error)
+        }
+        (Command::InsertBefore(Before::Key(next)), EditError::Nowhere) => {
+            let (_, outer) = steps.split_last()?;
+            let path = beside(alloc, outer, Step::Key(next)).ok()?;
+            edit_advice(alloc, Command::Remove, text, path.as_slice(), error)
+        }
+        _ => edit_advice(alloc, work, text, steps, error),
+    }
+}
+
+/// The steps and one more.
+fn beside<'s>(
+    alloc: Global,
+    outer: &[Step<'s>],
+    step: Step<'s>,
+) -> Result<Vec<Step<'s>>, AllocError> {
+    let mut path = Vec::new(alloc);
+    for step in outer {
+        path.push(*step)?;
+    }
+    path.push(step)?;
+    Ok(path)
+}
+
+/// What stands where the edit isn't made, and what would help.
+fn edit_advice(
+    alloc: Global,
+    work: Command<'_>,
     text: &str,
     steps: &[Step<'_>],
     error: &EditError,
@@ -49,7 +88,7 @@ pub(crate) fn edit_advice(
 /// Which step leads nowhere, from this value.
 fn nowhere(
     alloc: Global,
-    work: Command,
+    work: Command<'_>,
     place: &str,
     path: &str,
     value: &Value,
@@ -81,7 +120,7 @@ fn nowhere(
 /// That the object has no such member, and which was meant.
 fn no_member(
     alloc: Global,
-    work: Command,
+    work: Command<'_>,
     lead: &str,
     path: &str,
     value: &Value,
@@ -170,44 +209,89 @@ pub(crate) fn value_advice<E: Write>(alloc: Global, value: &str, e: &mut E) {
 }
 
 /// The commands.
-const COMMANDS: [&str; 13] = [
-    "get", "has", "keys", "length", "type", "set", "insert", "push", "put", "rename", "remove",
-    "apply", "merge",
+const COMMANDS: [&str; 16] = [
+    "get", "has", "keys", "length", "type", "set", "insert", "push", "put", "rename", "move",
+    "copy", "remove", "comment", "apply", "merge",
 ];
 
 /// What is wrong with the words, if that is certain.
 pub(crate) fn word_fault(alloc: Global, list: &[String]) -> Option<String> {
     let (word, rest) = list.split_first()?;
-    let last = match rest.last() {
-        Some(last) => last.as_str(),
-        None => "",
-    };
-    let given = match word.as_str() {
-        "get" | "has" | "keys" | "length" | "type" | "remove" => "",
-        "set" | "insert" | "push" | "put" => "VALUE",
-        "rename" => "KEY",
-        "apply" | "merge" => "PATCH",
+    let (path, given) = match word.as_str() {
+        "get" | "has" | "keys" | "length" | "type" | "remove" => ("PATH", ""),
+        "set" | "insert" | "push" | "put" => ("PATH", "VALUE"),
+        "rename" => ("PATH", "KEY"),
+        "comment" => ("PATH", "TEXT"),
+        "move" | "copy" => ("FROM", "TO"),
+        "apply" | "merge" => ("PATCH", ""),
         word if word.starts_with("-") => return None,
         word => return no_command(alloc, word),
     };
-    let is_early = match (rest.get(1), rest.get(2)) {
-        (Some(path), _) if path.as_str().starts_with("--") => true,
-        (_, Some(value)) => value.as_str() == "--text",
-        _ => false,
-    };
-    match (rest.len(), given) {
+    operand_fault(alloc, without_dry(rest), path, given)
+}
+
+/// Which word is missing, or is one too many.
+fn operand_fault(alloc: Global, words: &[String], path: &str, given: &str) -> Option<String> {
+    match (words.len(), given) {
         (0, _) => String::from_str(alloc, "FILE is missing").ok(),
-        (1, "PATCH") => String::from_str(alloc, "PATCH is missing").ok(),
-        (1, _) => String::from_str(alloc, "PATH is missing").ok(),
-        (2, "VALUE" | "KEY") => format!(in alloc; "{given} is missing").ok(),
-        _ if is_early => String::from_str(alloc, "options stand last").ok(),
-        _ if last == "--from" => String::from_str(alloc, "NAME is missing").ok(),
-        _ if last.starts_with("--") => format!(in alloc; "there is no option `{last}` here").ok(),
-        (_, "VALUE") => {
+        (1, _) => format!(in alloc; "{path} is missing").ok(),
+        (2, "VALUE" | "KEY" | "TO" | "TEXT") => format!(in alloc; "{given} is missing").ok(),
+        _ => option_fault(alloc, words, given),
+    }
+}
+
+/// The words but for a `--dry-run` at their end.
+fn without_dry(words: &[String]) -> &[String] {
+    match words.split_last() {
+        Some((word, rest)) if word.as_str() == "--dry-run" => rest,
+        _ => words,
+    }
+}
+
+/// What is wrong with the options among these words, or with what stands for one.
+fn option_fault(alloc: Global, words: &[String], given: &str) -> Option<String> {
+    let last = words.last()?.as_str();
+    let operands = if given.is_empty() { 2 } else { 3 };
+    let option = words
+        .iter()
+        .skip(operands)
+        .find(|word| is_option(word.as_str()));
+    match (last, option) {
+        _ if is_early(words, given) => String::from_str(alloc, "options stand last").ok(),
+        _ if words.iter().any(|word| word.as_str() == "--dry-run") => {
+            String::from_str(alloc, "`--dry-run` is the last word").ok()
+        }
+        ("--from", _) => String::from_str(alloc, "NAME is missing").ok(),
+        ("--before", _) => String::from_str(alloc, "KEY is missing").ok(),
+        ("--text", _) if given == "VALUE" => {
+            String::from_str(alloc, "`--text` stands right behind VALUE").ok()
+        }
+        (_, Some(option)) if given == "VALUE" || is_option(last) => {
+            format!(in alloc; "there is no option `{option}` here").ok()
+        }
+        (_, None) if given == "VALUE" => {
             String::from_str(alloc, "VALUE is one word: put it in quotes of the shell").ok()
         }
         _ => format!(in alloc; "`{last}` is a word too many").ok(),
     }
+}
+
+/// Whether an option stands before PATH, or before VALUE.
+fn is_early(words: &[String], given: &str) -> bool {
+    if words.iter().take(2).any(|word| is_option(word.as_str())) {
+        return true;
+    }
+    match (words.get(2), words.get(3)) {
+        (Some(word), Some(_)) if given == "VALUE" => matches!(
+            word.as_str(),
+            "--text" | "--if-absent" | "--first" | "--before"
+        ),
+        _ => false,
+    }
+}
+
+fn is_option(word: &str) -> bool {
+    word.starts_with("--")
 }
 
 /// That there is no such command, and which was meant.
@@ -218,7 +302,8 @@ fn no_command(alloc: Global, word: &str) -> Option<String> {
         "replace" | "change" | "update" => Some("set"),
         "append" => Some("push"),
         "patch" => Some("apply"),
-        "move" | "mv" => Some("rename"),
+        "mv" => Some("move"),
+        "cp" | "duplicate" => Some("copy"),
         "exists" => Some("has"),
         "count" | "size" | "len" => Some("length"),
         "read" | "show" | "print" => Some("get"),

@@ -1,17 +1,19 @@
 //! What is made of a text.
 
 ghost use Rattle.std.specs.Prelude.{◌≡◌, IfErr, IfOk, string_bytes};
-ghost use Rattle.cli_edit.specs.Makes.{Inserts, Makes, MakesLaid, RefusesInserting, RefusesRemoving, RefusesWork, edited};
-ghost use Rattle.json5_edit.specs.Changes.{IsRemoved};
+ghost use Rattle.cli_edit.specs.Makes.{Inserts, InsertsAhead, Makes, MakesLaid, RefusesAhead, RefusesCommenting, RefusesInserting, RefusesRemoving, RefusesWork, edited};
+ghost use Rattle.json5_edit.specs.Changes.{IsRemoved, IsRemovedAlone};
+ghost use Rattle.json5_edit.specs.Commented.{IsCommented};
 
 use crate::parts::shown_at;
-use crate::patches::{applied, merged};
+use crate::patches::{applied, copied, merged, moved};
 use crate::placed::placed;
 use crate::putting::put;
 use crate::requests::{Command, Task};
 use crate::trouble::TextTrouble;
 use json5_edit::{
-    EditError, Names, Result, Step, insert_element, insert_in, push, remove, rename, set,
+    Before, EditError, Names, Result, Step, comment, comment_of, insert_before, insert_element,
+    insert_in, push, remove, remove_alone, rename, set,
 };
 use std::alloc::Global;
 
@@ -31,11 +33,19 @@ pub(crate) fn made(
         Command::Show(view) => shown_at(alloc, view, text, steps),
         Command::Set => edited(set(alloc, text, steps, value)),
         Command::Insert => edited(inserted(alloc, text, steps, value, names)),
+        Command::InsertBefore(before) => {
+            edited(inserted_before(alloc, text, steps, before, value, names))
+        }
         Command::Push => edited(push(alloc, text, steps, value)),
         Command::Put => edited(put(alloc, text, steps, value, names, false)),
         Command::PutAbsent => edited(put(alloc, text, steps, value, names, true)),
         Command::Rename => edited(rename(alloc, text, steps, value)),
+        Command::Move => moved(alloc, text, steps, value, names),
+        Command::Copy => copied(alloc, text, steps, value, names),
         Command::Remove => edited(removed(alloc, text, steps)),
+        Command::RemoveAlone => edited(removed_alone(alloc, text, steps)),
+        Command::ShowComment => edited(comment_line(alloc, text, steps)),
+        Command::Comment => edited(commented(alloc, text, steps, value)),
         Command::Apply => applied(alloc, text, value, names),
         Command::Merge => merged(alloc, text, value, names),
     }
@@ -91,6 +101,27 @@ fn inserted(
     }
 }
 
+/// The text with a member whose key is the last step, before another one or before all.
+fn inserted_before(
+    alloc: Global,
+    text: &str,
+    steps: &[Step<'_>],
+    before: Before<'_>,
+    value: &str,
+    names: Names,
+) -> Result<String>
+    ensures inserted { IfOk result (λ new. InsertsAhead before.entry text.now steps.now value.now (string_bytes new)) }
+    ensures refused { IfErr result (RefusesAhead before.entry text.now steps.now value.now) }
+{
+    match steps.split_last() {
+        Some((Step::Key(key), outer)) => {
+            insert_before(alloc, text, outer, before, key, value, names)
+        }
+        Some((Step::Index(_), _)) => Err(EditError::NoKey),
+        None => Err(EditError::NoKey),
+    }
+}
+
 /// The text without the entry to which the steps lead; the whole value is none.
 fn removed(alloc: Global, text: &str, steps: &[Step<'_>]) -> Result<String>
     ensures removed { IfOk result (λ new. IsRemoved text.now steps.now (string_bytes new)) }
@@ -100,6 +131,43 @@ fn removed(alloc: Global, text: &str, steps: &[Step<'_>]) -> Result<String>
         return Err(EditError::NoKey);
     }
     remove(alloc, text, steps)
+}
+
+/// The same, but with the comments before the entry.
+fn removed_alone(alloc: Global, text: &str, steps: &[Step<'_>]) -> Result<String>
+    ensures removed { IfOk result (λ new. IsRemovedAlone text.now steps.now (string_bytes new)) }
+    ensures refused { IfErr result (RefusesRemoving text.now steps.now) }
+{
+    if steps.is_empty() {
+        return Err(EditError::NoKey);
+    }
+    remove_alone(alloc, text, steps)
+}
+
+/// What the comments say before the entry to which the steps lead, with a line end; nothing, if there are none.
+fn comment_line(alloc: Global, text: &str, steps: &[Step<'_>]) -> Result<String> {
+    if steps.is_empty() {
+        return Err(EditError::NoKey);
+    }
+    let mut said = comment_of(alloc, text, steps)?;
+    if said.is_empty() {
+        return Ok(said);
+    }
+    match said.push('\n') {
+        Ok(()) => Ok(said),
+        Err(_) => Err(EditError::NoMemory),
+    }
+}
+
+/// The text with a comment before the entry to which the steps lead; the whole value is none.
+fn commented(alloc: Global, text: &str, steps: &[Step<'_>], words: &str) -> Result<String>
+    ensures commented { IfOk result (λ new. IsCommented text.now steps.now (string_bytes new)) }
+    ensures refused { IfErr result (RefusesCommenting text.now steps.now) }
+{
+    if steps.is_empty() {
+        return Err(EditError::NoKey);
+    }
+    comment(alloc, text, steps, words)
 }
 
 /// How a name stands as the first key of the file: without quotes, if the file is named as JSON5.

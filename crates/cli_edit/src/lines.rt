@@ -3,7 +3,7 @@
 ghost use Rattle.std.specs.Prelude.{◌≡◌};
 ghost use Rattle.cli_edit.specs.Troubles.{read_status, trouble_status};
 
-use crate::advice::{edit_advice, value_advice, word_fault};
+use crate::advice::{value_advice, word_fault, work_advice};
 use crate::requests::{Command, Source, Task, View};
 use crate::texts::name_of;
 use crate::trouble::TextTrouble;
@@ -17,17 +17,19 @@ use std::io::Write;
 
 /// How the program is called.
 const USAGE: &str =
-    "usage: json5_edit get|has|keys|length|type|remove FILE PATH, json5_edit set|insert|push|put|rename FILE PATH VALUE, or json5_edit apply|merge FILE PATCH; more by --help\n";
+    "usage: json5_edit get|has|keys|length|type|remove FILE PATH, json5_edit set|insert|push|put|rename|comment FILE PATH VALUE, json5_edit move|copy FILE FROM TO, or json5_edit apply|merge FILE PATCH; more by --help\n";
 
 /// What `--help` writes.
 pub(crate) const HELP: &str = "usage: json5_edit get|has|keys|length|type|remove FILE PATH, or
-       json5_edit set|insert|push|put|rename FILE PATH VALUE, or
+       json5_edit set|insert|push|put|rename|comment FILE PATH VALUE, or
+       json5_edit move|copy FILE FROM TO, or
        json5_edit apply|merge FILE PATCH
 Changes values of a JSON5 file, and keeps the rest as it is.
 
   get FILE PATH            writes the value, as it is spelled
       --json               writes it as JSON
       --raw                writes the content of a string
+      --comment            writes what the comments before the entry say
   has FILE PATH            writes nothing: the status is 0 if the value is there, else 1
   keys FILE PATH           writes the keys of an object, each on a line
   length FILE PATH         writes how many elements or members there are
@@ -35,21 +37,30 @@ Changes values of a JSON5 file, and keeps the rest as it is.
   set FILE PATH VALUE      puts another value in its place
   insert FILE PATH VALUE   adds a member, whose key is the last step of the path, or an
                            element before the one there
+      --first              adds the member before all others
+      --before KEY         adds it before the one with this key
   push FILE PATH VALUE     adds an element to the array there
   put FILE PATH VALUE      sets the value, or adds it with what is missing above it
       --if-absent          leaves a value that is there as it is
   rename FILE PATH KEY     gives a member another key
-  remove FILE PATH         removes an element or a member
+  move FILE FROM TO        moves a value to another path
+  copy FILE FROM TO        puts it there too
+  remove FILE PATH         removes an element or a member, and the comments that belong to it
+      --keep-comments      leaves those before it
+  comment FILE PATH TEXT   puts a comment before an element or a member, in the place of those
+                           that belong to it there; an empty TEXT takes them out
   apply FILE PATCH         makes the operations of the JSON Patch (RFC 6902) in the file PATCH,
                            all or none
   merge FILE PATCH         merges the merge patch (RFC 7396) in the file PATCH
   --help                   writes this
   --version                writes the version
 
-FILE is changed in place; where it is `-`, standard input is changed to standard
-output. PATCH is JSON5 too, and may be `-` for standard input. PATH is as server.ports[0] or /server/ports/0. VALUE is JSON5, in one word; it
-is `-` for standard input, or `--from NAME` for what a file holds. With --text behind
-it, VALUE is the content of a string.
+From set on FILE is changed in place; where it is `-`, standard input is changed to standard
+output. With --dry-run as the last word, it is only written what would change, as a diff.
+PATCH is JSON5 too, and may be `-` for standard input. PATH, FROM and TO are as
+server.ports[0] or /server/ports/0. VALUE is JSON5, in one word; it is `-` for standard
+input, or `--from NAME` for what a file holds. With --text right behind it, VALUE is the
+content of a string. Options stand last.
 
 The status is 0 if all is well; 1 if the path leads nowhere or a test of a patch fails;
 3 if FILE is no JSON5; and 2 for anything else.
@@ -155,7 +166,7 @@ pub(crate) fn tell<E: Write>(
             show(alloc, "VALUE", value, error, e);
             value_advice(alloc, value, e);
         }
-        TextTrouble::Edit(error) => tell_edit(alloc, task, text, steps, error, e),
+        TextTrouble::Edit(error) => tell_edit(alloc, task, value, text, steps, error, e),
         TextTrouble::NoPatch(PatchFault::Text(error)) => {
             show(alloc, patch_name(task), value, error, e)
         }
@@ -169,8 +180,9 @@ pub(crate) fn tell<E: Write>(
                 let _ = writeln!(e, "{name}: {error}");
             }
         },
-        TextTrouble::NoJson(error) => {
-            let _ = writeln!(e, "{name}: {error}");
+        TextTrouble::NoPath(error) => wrong_path(value, error, e),
+        TextTrouble::NoJson(_) | TextTrouble::IntoItself => {
+            let _ = writeln!(e, "{name}: {trouble}");
         }
         TextTrouble::Failed(_) => {
             let _ = writeln!(e, "output: cannot be written");
@@ -191,13 +203,14 @@ fn patch_name<'w>(task: &Task<'w>) -> &'w str {
 fn tell_edit<E: Write>(
     alloc: Global,
     task: &Task<'_>,
+    value: &str,
     text: &str,
     steps: &[Step<'_>],
     error: &EditError,
     e: &mut E,
 ) {
     let name = name_of(task.file);
-    let said = edit_advice(alloc, task.work, text, steps, error);
+    let said = work_advice(alloc, task.work, value, text, steps, error);
     match (task.work, error, said) {
         (Command::Show(View::Nothing), EditError::Nowhere, _) => {}
         (_, _, Some(said)) => {

@@ -4,12 +4,13 @@ ghost use Rattle.std.specs.Prelude.{◌≡◌};
 ghost use Rattle.cli_edit.specs.Troubles.{edit_status, trouble_status};
 
 use cli_files::{Failure, Unwritten};
-use json5_edit::EditError;
+use json5_edit::{EditError, PathError};
 use json5_edit_values::patch::{PatchError, PatchFault, Trouble};
 use json5_types::error::Error;
+use std::fmt;
 
 /// Why the work on a text ended.
-#[derive(Drop)]
+#[derive(Debug, Drop)]
 pub enum TextTrouble {
     /// The edit isn't made, or the path doesn't lead to a value.
     Edit(EditError),
@@ -17,6 +18,10 @@ pub enum TextTrouble {
     NoPatch(PatchFault),
     /// An operation of a patch isn't made.
     Operation(PatchError),
+    /// The text for where a value goes is no path.
+    NoPath(PathError),
+    /// A value would move into itself.
+    IntoItself,
     /// JSON doesn't have the value.
     NoJson(Error),
     /// What was asked for can't be written out.
@@ -43,6 +48,23 @@ impl TextTrouble {
                 Trouble::IntoItself => 2,
             },
             _ => 2,
+        }
+    }
+}
+
+impl std::error::Error for TextTrouble {}
+
+impl fmt::Display for TextTrouble {
+    fn fmt<W: fmt::Write>(&self, f: &mut fmt::Formatter<W>) -> fmt::Result {
+        match self {
+            TextTrouble::Edit(error) => write!(f, "{error}"),
+            TextTrouble::NoPatch(fault) => write!(f, "{fault}"),
+            TextTrouble::Operation(error) => write!(f, "{error}"),
+            TextTrouble::NoPath(error) => write!(f, "{error}"),
+            TextTrouble::IntoItself => f.write_str("a value can't move into itself"),
+            TextTrouble::NoJson(error) => write!(f, "{error}"),
+            TextTrouble::Failed(failure) => write!(f, "{failure}"),
+            TextTrouble::Unwritten(why) => write!(f, "{why}"),
         }
     }
 }

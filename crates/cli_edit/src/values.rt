@@ -6,7 +6,7 @@ ghost use Rattle.json5_types.specs.ValueMeanings.{value_of};
 ghost use Rattle.json5_grammar.specs.Language.Documents.{max_depth};
 ghost use Rattle.json5_styles.specs.LaidBack.{ReadsAs};
 ghost use Rattle.std.specs.Str.{chars};
-ghost use Rattle.cli_edit.specs.Values.{IsContent, IsTextOf, Means};
+ghost use Rattle.cli_edit.specs.Values.{IsContent, IsTextOf, Means, Strips};
 
 use crate::parts::part_at;
 use crate::requests::{Command, Source, Task};
@@ -22,7 +22,7 @@ use json5_walk::walk::Walk;
 use std::alloc::Global;
 
 /// What VALUE means: the value without blanks and comments around it, or the string of this content, spelled as the
-/// document spells strings. A KEY is the word itself.
+/// document spells strings. KEY, TO and TEXT are the word itself.
 pub(crate) fn meant(alloc: Global, task: &Task<'_>, text: &str, value: &str) -> Result<String>
     ensures meant { IfOk result (λ made. Means task.now value.now (string_bytes made)) }
     ensures full { IfErr result (λ e. e ≡ edit_errors.NoMemory) }
@@ -30,9 +30,20 @@ pub(crate) fn meant(alloc: Global, task: &Task<'_>, text: &str, value: &str) -> 
     if task.given.is_text {
         return spelled(alloc, text, content_of(task.given.source, value));
     }
-    if let Command::Rename = task.work {
-        return owned(alloc, value);
+    match task.work {
+        Command::Rename => owned(alloc, value),
+        Command::Move => owned(alloc, value),
+        Command::Copy => owned(alloc, value),
+        Command::Comment => owned(alloc, value),
+        _ => stripped(alloc, value),
     }
+}
+
+/// The value without blanks and comments around it; or the bytes themselves, if they are no document.
+fn stripped(alloc: Global, value: &str) -> Result<String>
+    ensures stripped { IfOk result (λ made. Strips value.now (string_bytes made)) }
+    ensures full { IfErr result (λ e. e ≡ edit_errors.NoMemory) }
+{
     match part_at(alloc, value, &[]) {
         Ok(part) => owned(alloc, part),
         Err(EditError::NoMemory) => Err(EditError::NoMemory),

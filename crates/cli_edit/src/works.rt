@@ -1,13 +1,14 @@
 //! A task, from reading the text to writing what was made.
 
 ghost use Rattle.std.specs.Bool.{Decides};
-ghost use Rattle.std.specs.Prelude.{IfErr, OnOk};
-ghost use Rattle.cli_edit.specs.Works.{Does, DoesAt, DoesWith, GoesOut, Puts, PutsNot, Works, WorksNot};
+ghost use Rattle.std.specs.Prelude.{◌≡◌, IfErr, OnOk};
+ghost use Rattle.cli_edit.specs.Works.{Does, DoesAt, DoesWith, GoesOut, Puts, PutsNew, PutsNoNew, PutsNot, Works, WorksNot, is_tried};
 
+use crate::changes::show_changes;
 use crate::edits::{laid, made};
 use crate::lines::{no_value, tell, unread, wrong_path};
-use crate::requests::{Command, Task};
-use crate::texts::{text_of, value_of};
+use crate::requests::{Task, is_shown};
+use crate::texts::{name_of, text_of, value_of};
 use crate::trouble::TextTrouble;
 use crate::values::meant;
 use cli_files::{Store, put_texts};
@@ -122,7 +123,7 @@ fn work_on<S: Store, W: Write>(
     put(store, alloc, task, text, new.as_str(), w)
 }
 
-/// Writes what was made out, or puts it in the place of the file's text.
+/// Writes what was made out, or puts it in the place of the file's text; of a dry run, only writes what would change.
 fn put<S: Store, W: Write>(
     store: &S,
     alloc: Global,
@@ -133,6 +134,31 @@ fn put<S: Store, W: Write>(
 ) -> Result<(), TextTrouble>
     ensures put { OnOk result (Puts (S.known store.now) task.now old.now new.now (W.contents w.old) (W.contents w.new)) }
     ensures stopped { IfErr result (PutsNot (S.known store.now) task.now old.now new.now (W.contents w.old) (W.contents w.new)) }
+{
+    if is_tried(task) {
+        return show_changes(alloc, name_of(task.file), old, new, w);
+    }
+    put_new(store, alloc, task, old, new, w)
+}
+
+/// Whether it is only written what would change.
+fn is_tried(task: &Task<'_>) -> bool
+    ensures { result ≡ is_tried task.now }
+{
+    task.is_dry && !is_shown(task.work)
+}
+
+/// Writes what was made out, or puts it in the place of the file's text.
+fn put_new<S: Store, W: Write>(
+    store: &S,
+    alloc: Global,
+    task: &Task<'_>,
+    old: &str,
+    new: &str,
+    w: &mut W,
+) -> Result<(), TextTrouble>
+    ensures put { OnOk result (PutsNew (S.known store.now) task.now old.now new.now (W.contents w.old) (W.contents w.new)) }
+    ensures stopped { IfErr result (PutsNoNew (S.known store.now) task.now old.now new.now (W.contents w.old) (W.contents w.new)) }
 {
     if goes_out(task) {
         return match put_texts(w, &[new]) {
@@ -153,8 +179,5 @@ fn put<S: Store, W: Write>(
 fn goes_out(task: &Task<'_>) -> bool
     ensures { Decides result (GoesOut task.now) }
 {
-    match task.work {
-        Command::Show(_) => true,
-        _ => task.file == "-",
-    }
+    is_shown(task.work) || task.file == "-"
 }

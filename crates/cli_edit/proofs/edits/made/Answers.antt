@@ -13,3 +13,15 @@ returns-in-Push-clause-made c =
 pub returns-in-Rename-clause-made : goal.returns-in-Rename-clause-made
 returns-in-Rename-clause-made c =
     made_by work.Rename c.args.task.now.work c.args.text.now c.args.steps.now c.args.value.now c.rename.result c.edited-in-Rename.result c.in-Rename.is c.edited-in-Rename.ensures c.rename.ensures.rekeyed
+
+pub returns-in-RemoveAlone-clause-made : goal.returns-in-RemoveAlone-clause-made
+returns-in-RemoveAlone-clause-made c =
+    made_by work.RemoveAlone c.args.task.now.work c.args.text.now c.args.steps.now c.args.value.now c.removed_alone.result c.edited-in-RemoveAlone.result c.in-RemoveAlone.is c.edited-in-RemoveAlone.ensures c.removed_alone.ensures.removed
+
+pub returns-in-Comment-clause-made : goal.returns-in-Comment-clause-made
+returns-in-Comment-clause-made c =
+    made_by work.Comment c.args.task.now.work c.args.text.now c.args.steps.now c.args.value.now c.commented.result c.edited-in-Comment.result c.in-Comment.is c.edited-in-Comment.ensures c.commented.ensures.commented
+
+pub returns-in-InsertBefore-clause-made : goal.returns-in-InsertBefore-clause-made
+returns-in-InsertBefore-clause-made c =
+    made_by (work.InsertBefore c.in-InsertBefore.before) c.args.task.now.work c.args.text.now c.args.steps.now c.args.value.now c.inserted_before.result c.edited-in-InsertBefore.result c.in-InsertBefore.is c.edited-in-InsertBefore.ensures c.inserted_before.ensures.inserted

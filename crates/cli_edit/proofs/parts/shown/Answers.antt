@@ -1,8 +1,6 @@
 use Rattle.std.proofs.Common.{rules}
 use Rattle.std.specs.Prelude.{string_bytes}
-use Rattle.std.specs.Str.{chars}
-use Rattle.cli_edit.specs.declared.requests.View.TheVariants as view
-use Rattle.cli_edit.proofs.PartsRead.{memory_none, shown_nothing, shown_spelled, spelled_refused, told_err, told_ok}
+use Rattle.cli_edit.proofs.PartsRead.{memory_none, shown_nothing, shown_spelled, spelled_refused}
 use Rattle.cli_edit.proofs.parts.shown.Goals as goal
 
 pub returns-in-Nothing-clause-shown : goal.returns-in-Nothing-clause-shown

@@ -1,5 +1,4 @@
 use Rattle.std.proofs.Common.{◌≡◌, ◌∷◌, ◌+◌, suc, drop, take, rules, arith}
-use Rattle.std.specs.Prelude.{string_bytes}
 use Rattle.cli_edit.specs.Puts.{Adds, first_in}
 use Rattle.cli_edit.proofs.PathsPut.{along, along_refused}
 use Rattle.cli_edit.proofs.putting.+add_along.Goals as goal

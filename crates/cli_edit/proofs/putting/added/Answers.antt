@@ -1,4 +1,4 @@
-use Rattle.std.proofs.Common.{inr, refl, rules}
+use Rattle.std.proofs.Common.{rules}
 use Rattle.cli_edit.proofs.PathsPut.{other_count, pushed_at}
 use Rattle.cli_edit.proofs.putting.added.Goals as goal
 

@@ -1,5 +1,5 @@
 use Rattle.cli_files.specs.NameLists.{names_of}
-use Rattle.cli_edit.proofs.WordsTaken.{no_such_work, no_tail}
+use Rattle.cli_edit.proofs.WordsTaken.{no_tail}
 use Rattle.cli_edit.proofs.requests.valued.Goals as goal
 
 pub returns-in_default-tail_of : goal.returns-in_default-tail_of
