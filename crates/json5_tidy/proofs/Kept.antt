@@ -8,23 +8,23 @@ use Rattle.json5_grammar.specs.Language.Trees.{Tree}
 use Rattle.json5_types.specs.declared.error.Error.{Error}
 use Rattle.json5_lexemes.specs.Plain.{PlainText}
 use Rattle.json5_lexemes.proofs.PlainTokens.{bare_plain}
-use Rattle.json5_lexemes.proofs.SameTrees.{same_tree, document_same}
+use Rattle.json5_lexemes.proofs.SameTrees.{alike_tree, document_alike}
 use Rattle.json5_tidy.specs.Tidied.{Keeps, IsAlike}
 
-keeps : (x y : List ℕ) → (t : Tree) × Doc max_depth x t → IsAlike x y → Keeps x y
-keeps x y (t, d) (inl same) = subst (Keeps x) (sym same) (record { tree = t; before = d; after = d; lexemes = document_same max_depth x t d })
-keeps x y (t, d) (inr laid) =
+keeps : (move : Bool) (x y : List ℕ) → (t : Tree) × Doc max_depth x t → IsAlike move x y → Keeps move x y
+keeps move x y (t, d) (inl same) = subst (Keeps move x) (sym same) (record { tree = t; before = d; after = d; lexemes = document_alike move max_depth x t d })
+keeps move x y (t, d) (inr laid) =
     record {
       tree = t;
       before = d;
-      after = subst (Doc max_depth y) (sym (same_tree max_depth max_depth x y t laid.tree d laid.document laid.lexemes)) laid.document;
+      after = subst (Doc max_depth y) (sym (alike_tree move max_depth max_depth x y t laid.tree d laid.document laid.lexemes)) laid.document;
       lexemes = laid.lexemes;
     }
 
-pub kept : (x : List ℕ) (result : Result (String Global) Error) → (t : Tree) × Doc max_depth x t → IfOk result (λ s. IsAlike x (chars (string_bytes s)))
-    → IfOk result (λ s. Keeps x (chars (string_bytes s)))
-kept x (Ok s) document alike = keeps x (chars (string_bytes s)) document alike
-kept x (Err e) document alike = tt
+pub kept : (move : Bool) (x : List ℕ) (result : Result (String Global) Error) → (t : Tree) × Doc max_depth x t → IfOk result (λ s. IsAlike move x (chars (string_bytes s)))
+    → IfOk result (λ s. Keeps move x (chars (string_bytes s)))
+kept move x (Ok s) document alike = keeps move x (chars (string_bytes s)) document alike
+kept move x (Err e) document alike = tt
 
 -- JSON without comments is JSON but for comments too
 pub as_plain : (comments : Bool) (text : List ℕ) → PlainText false text → PlainText comments text

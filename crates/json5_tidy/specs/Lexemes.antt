@@ -37,6 +37,13 @@ FitsAt bytes at count = at + count ≤ length bytes
 abbrev pub IsFurther : (bytes : List ℕ) (from end : ℕ) → Type 0
 IsFurther bytes from end = (from ≤ end) × (end ≤ length bytes)
 
+-- the next line, which isn't before the offset, and what follows the blanks in front of it, within the text
+pub record IsNextLine (bytes : List ℕ) (from line solid : ℕ) : Type 0 where
+  pub forward : from ≤ line
+  pub blank : line ≤ solid
+  pub within : solid ≤ length bytes
+  pub progress : solid < length bytes → from < solid
+
 -- the offset is after the start of the lexeme, within the text
 abbrev pub IsPast : (bytes : List ℕ) (x : Lexeme) (end : ℕ) → Type 0
 IsPast bytes x end = (x.start < end) × (end ≤ length bytes)

@@ -3,13 +3,13 @@
 ghost use Rattle.std.specs.Prelude.{◌≡◌, IfOk, IfErr, IsTrue, string_bytes};
 ghost use Rattle.std.specs.Str.{chars};
 ghost use Rattle.json5_tokens.specs.Cursor.{IsOutOfMemory};
-ghost use Rattle.json5_tidy.specs.Styles.{usual_style};
+ghost use Rattle.json5_tidy.specs.Styles.{may_move, usual_style};
 ghost use Rattle.json5_tidy.specs.Tidied.{IsAlike, IsLaidOut, KeepsJson, TidiesText};
 
 use crate::layout::{Spacing, laid_out, leaves_text};
 use crate::plainness::{Plainness, has_last_commas};
-use crate::style::Style;
-use json5_lexemes::same_lexemes;
+use crate::style::{LineEnds, Stars, Style};
+use json5_lexemes::alike_lexemes;
 use json5_read::check_document;
 use json5_types::ErrorCode;
 use json5_types::error::{Error, Result};
@@ -31,7 +31,8 @@ pub fn tidy(alloc: Global, text: &str) -> Result<String>
 }
 
 /// Tidies a document: lays it out anew. Each token stays as it is spelled, and each comment as it is, in their order;
-/// only white space and commas change.
+/// only white space and commas change. Unless the style keeps them, the blanks in front of the lines of a star comment
+/// change too, so that its stars stand below each other as before.
 ///
 /// Returns Ok exactly when the text is a document, nested at most 128 deep, unless memory runs out. What is returned
 /// is a document with the same tree and the same lexemes.
@@ -62,7 +63,7 @@ pub fn tidy_with(alloc: Global, style: Style, text: &str) -> Result<String>
 
 /// The document laid out, if it is the same document and as plain, or the text itself.
 fn laid_out_document(alloc: Global, style: Style, text: &str) -> Result<String>
-    ensures laid_out { IfOk result (λ s. IsAlike (chars text.now) (chars (string_bytes s))) }
+    ensures laid_out { IfOk result (λ s. IsAlike (may_move style.stars) (chars text.now) (chars (string_bytes s))) }
     ensures plain { KeepsJson style text.now result }
     ensures memory { IfErr result IsOutOfMemory }
 {
@@ -80,7 +81,7 @@ fn laid_out_document(alloc: Global, style: Style, text: &str) -> Result<String>
     let Ok(tidy) = String::from_utf8(bytes) else {
         return copied(alloc, text);
     };
-    if is_laid_out(alloc, text, tidy.as_str()) && plainness.is_kept(tidy.as_str()) {
+    if is_laid_out(alloc, style.stars, text, tidy.as_str()) && plainness.is_kept(tidy.as_str()) {
         return Ok(tidy);
     }
     copied(alloc, text)
@@ -92,6 +93,14 @@ fn spacing_in(style: Style, last_comma: bool) -> Spacing {
         indent: style.indent,
         width: style.width,
         last_comma,
+        tab_width: style.tab_width.max(1),
+        moves_stars: style.stars.move_lines(),
+        is_crlf: match style.line_ends {
+            LineEnds::Own => None,
+            LineEnds::Lf => Some(false),
+            LineEnds::CrLf => Some(true),
+        },
+        final_line_end: style.final_line_end,
     }
 }
 
@@ -106,12 +115,12 @@ fn copied(alloc: Global, text: &str) -> Result<String>
     }
 }
 
-/// Whether the other text is a document with the same lexemes.
-fn is_laid_out<'x>(alloc: Global, text: &'x str, other: &'x str) -> bool
-    ensures { IsTrue result → IsLaidOut (chars text.now) (chars other.now) }
+/// Whether the other text is a document with the same lexemes, but for star comments whose lines may move.
+fn is_laid_out<'x>(alloc: Global, stars: Stars, text: &'x str, other: &'x str) -> bool
+    ensures { IsTrue result → IsLaidOut (may_move stars) (chars text.now) (chars other.now) }
 {
     match check_document(alloc, other) {
-        Ok(()) => same_lexemes(text, other),
+        Ok(()) => alike_lexemes(stars.move_lines(), text, other),
         Err(_) => false,
     }
 }

@@ -15,6 +15,7 @@ mod on_line;
 mod printer;
 mod runs;
 mod spacing;
+mod stars;
 
 pub use asks::leaves_text;
 pub use printer::laid_out;

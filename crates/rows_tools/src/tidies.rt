@@ -3,7 +3,7 @@
 
 use crate::outcomes::{Outcome, said};
 use crate::rows::{count_of, text_of, wanted_of};
-use json5_tidy::{LastCommas, Style, tidy_with};
+use json5_tidy::{LastCommas, LineEnds, Stars, Style, tidy_with};
 use json5_types::value::Value;
 use std::alloc::Global;
 
@@ -42,5 +42,16 @@ fn style_of(row: &Value) -> Style {
             "never" => LastCommas::Never,
             _ => usual.last_commas,
         },
+        tab_width: count_of(row, "tab_width").unwrap_or(usual.tab_width),
+        stars: match text_of(row, "stars") {
+            "keep" => Stars::Keep,
+            _ => usual.stars,
+        },
+        line_ends: match text_of(row, "line_ends") {
+            "lf" => LineEnds::Lf,
+            "crlf" => LineEnds::CrLf,
+            _ => usual.line_ends,
+        },
+        final_line_end: text_of(row, "final_line_end") != "no",
     }
 }

@@ -190,7 +190,7 @@ fn line_comment_end(bytes: &[u8], from: usize) -> usize
 }
 
 /// Where the first line end from this offset on begins.
-fn line_end_after(bytes: &[u8], from: usize) -> usize
+pub(crate) fn line_end_after(bytes: &[u8], from: usize) -> usize
     requires { from ≤ length bytes.now }
     ensures { IsFurther bytes.now from result }
 {

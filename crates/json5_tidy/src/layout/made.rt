@@ -4,9 +4,6 @@ use crate::layout::columns::{columns, tabs_in_front};
 use crate::layout::lines::line_start;
 use std::alloc::{AllocError, Global};
 
-/// How many columns a tab has.
-const TAB: usize = 4;
-
 /// A line end, and spaces for the indentation of a line.
 const LINE: &[u8; 65] = b"\n                                                                ";
 
@@ -20,6 +17,8 @@ pub(crate) struct Made {
     from: usize,
     /// Where it ends.
     to: usize,
+    /// How many columns a tab has.
+    tab: usize,
 }
 
 /// How far something was written.
@@ -31,18 +30,19 @@ pub(crate) struct Mark {
 }
 
 impl Made {
-    pub(crate) fn new(alloc: Global, room: usize) -> Result<Made, AllocError> {
+    pub(crate) fn new(alloc: Global, room: usize, tab: usize) -> Result<Made, AllocError> {
         Ok(Made {
             out: Vec::with_capacity(alloc, room)?,
             line: 0,
             from: 0,
             to: 0,
+            tab,
         })
     }
 
-    /// What was written, with a line end.
-    pub(crate) fn finish(mut self, bytes: &[u8], is_crlf: bool) -> Result<Vec<u8>, AllocError> {
-        self.line_end(bytes, is_crlf)?;
+    /// What was written.
+    pub(crate) fn finish(mut self, bytes: &[u8]) -> Result<Vec<u8>, AllocError> {
+        self.flush(bytes)?;
         Ok(self.out)
     }
 
@@ -177,6 +177,30 @@ impl Made {
         Ok(())
     }
 
+    /// Begins a line after a line end that was written, at this column: with the tabs of the level as far as they fit, and
+    /// spaces.
+    pub(crate) fn start_at(
+        &mut self,
+        bytes: &[u8],
+        indent: usize,
+        level: usize,
+        column: usize,
+    ) -> Result<(), AllocError> {
+        self.flush(bytes)?;
+        self.line = self.out.len();
+        let tabs = match indent {
+            0 => level.min(column / self.tab.max(1)),
+            _ => 0,
+        };
+        for _ in 0..tabs {
+            self.out.push(b'\t')?;
+        }
+        for _ in tabs.saturating_mul(self.tab)..column {
+            self.out.push(b' ')?;
+        }
+        Ok(())
+    }
+
     /// Ends the line.
     pub(crate) fn line_end(&mut self, bytes: &[u8], is_crlf: bool) -> Result<(), AllocError> {
         self.flush(bytes)?;
@@ -214,10 +238,16 @@ impl Made {
             .saturating_add(self.to.saturating_sub(self.from))
     }
 
+    /// How many columns the line has.
+    pub(crate) fn columns_of(&self, line: &[u8]) -> usize {
+        let more = self.tab.saturating_sub(1);
+        columns(line).saturating_add(tabs_in_front(line).saturating_mul(more))
+    }
+
     /// How many columns the current line has.
     pub(crate) fn column(&self, bytes: &[u8]) -> usize {
         let copied = match self.out.as_slice().get(self.line..) {
-            Some(line) => columns(line).saturating_add(tabs_in_front(line).saturating_mul(TAB - 1)),
+            Some(line) => self.columns_of(line),
             None => 0,
         };
         match bytes.get(self.from..self.to) {

@@ -11,6 +11,7 @@ use crate::layout::lines::has_crlf;
 use crate::layout::made::Made;
 use crate::layout::on_line::put_in_line;
 use crate::layout::spacing::Spacing;
+use crate::layout::stars::{is_star_comment, last_line, next_line};
 use std::alloc::{AllocError, Global};
 
 /// Where a lexeme is.
@@ -73,8 +74,7 @@ struct Printer {
 /// The document in the layout. Of a text that is no document it gives some bytes.
 ///
 /// ```text
-/// let style = Spacing { indent: 2, width: 80, last_comma: true };
-/// laid_out(alloc, style, b"{a:1,/* b */b:[1,2,]}")?    // `{ a: 1, /* b */ b: [1, 2] }` and a line end
+/// laid_out(alloc, spacing, b"{a:1,/* b */b:[1,2,]}")?    // `{ a: 1, /* b */ b: [1, 2] }` and a line end
 /// ```
 ///
 /// # Errors
@@ -86,13 +86,21 @@ pub fn laid_out(alloc: Global, style: Spacing, bytes: &[u8]) -> Result<Vec<u8>, 
     loop {
         let lexeme = lexeme_at(bytes, at);
         if lexeme.is_end() {
-            return printer.made.finish(bytes, printer.is_crlf);
+            return printer.finish(bytes);
         }
         at = printer.put(bytes, lexeme)?;
     }
 }
 
 impl Printer {
+    /// What was written.
+    fn finish(mut self, bytes: &[u8]) -> Result<Vec<u8>, AllocError> {
+        if self.style.final_line_end {
+            self.made.line_end(bytes, self.is_crlf)?;
+        }
+        self.made.finish(bytes)
+    }
+
     fn new(alloc: Global, style: Spacing, bytes: &[u8]) -> Result<Printer, AllocError> {
         let room = bytes
             .len()
@@ -107,10 +115,10 @@ impl Printer {
         };
         Ok(Printer {
             style,
-            is_crlf: has_crlf(bytes),
+            is_crlf: style.is_crlf.unwrap_or_else(|| has_crlf(bytes)),
             frames: Vec::new(alloc),
             frame: document,
-            made: Made::new(alloc, room)?,
+            made: Made::new(alloc, room, style.tab_width)?,
             level: 0,
             place: Place::Entry,
             last: Kind::End,
@@ -169,8 +177,48 @@ impl Printer {
         let is_followed = self.comma_due && self.is_followed(bytes, comment.end);
         let lines = self.lines_before(bytes, comment.lines, is_followed)?;
         self.before_comment(bytes, comment, lines)?;
+        if self.moves(bytes, comment) {
+            return self.put_star_comment(bytes, comment);
+        }
         self.part(bytes, comment)?;
         self.note_lines(bytes, comment)
+    }
+
+    /// Whether it is a star comment whose lines move with the first. Those behind a long line stay.
+    fn moves(&self, bytes: &[u8], comment: Lexeme) -> bool
+        requires { IsWithin bytes.now comment }
+    {
+        comment.is_broken
+            && self.style.moves_stars
+            && self.made.column(bytes) <= self.style.width
+            && is_star_comment(&bytes[comment.start..comment.end])
+    }
+
+    /// Writes a star comment, each line at its place relative to the first, as far as there is room to the left.
+    fn put_star_comment(&mut self, bytes: &[u8], comment: Lexeme) -> Result<(), AllocError>
+        requires { IsWithin bytes.now comment }
+    {
+        let text = &bytes[comment.start..comment.end];
+        let was = self.made.columns_of(last_line(&bytes[..comment.start]));
+        let is = self.made.column(bytes);
+        self.last = comment.kind;
+        let mut at = 0;
+        loop {
+            let (line, solid) = next_line(text, at);
+            self.made.part(
+                bytes,
+                comment.start.saturating_add(at),
+                comment.start.saturating_add(line),
+            )?;
+            if solid >= text.len() {
+                return Ok(());
+            }
+            let column = self.made.columns_of(&text[line..solid]);
+            let place = column.saturating_add(is).saturating_sub(was);
+            self.made
+                .start_at(bytes, self.style.indent, self.level, place)?;
+            at = solid;
+        }
     }
 
     /// Writes a word, or the whole entry that begins with it if that is left as it is. Returns where it ends.

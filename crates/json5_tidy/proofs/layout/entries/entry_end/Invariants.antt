@@ -1,4 +1,4 @@
-use Rattle.std.proofs.Common.{◌-◌, ◌≤◌, ◌<◌, length}
+use Rattle.std.proofs.Common.{◌-◌, ◌≤◌, length}
 use Rattle.json5_tidy.proofs.layout.entries.entry_end.Given as goal
 
 abbrev pub invariant-loop-next : goal.invariant-loop-next

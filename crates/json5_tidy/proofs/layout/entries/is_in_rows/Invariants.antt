@@ -1,4 +1,4 @@
-use Rattle.std.proofs.Common.{◌-◌, ◌≤◌, ◌<◌, length}
+use Rattle.std.proofs.Common.{◌-◌, ◌≤◌, length}
 use Rattle.json5_tidy.proofs.layout.entries.is_in_rows.Given as goal
 
 abbrev pub invariant-loop-words : goal.invariant-loop-words

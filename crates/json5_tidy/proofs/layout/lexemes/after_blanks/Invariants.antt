@@ -1,4 +1,4 @@
-use Rattle.std.proofs.Common.{◌-◌, ◌≤◌, ◌<◌, length}
+use Rattle.std.proofs.Common.{◌-◌, ◌≤◌, length}
 use Rattle.json5_tidy.proofs.layout.lexemes.after_blanks.Given as goal
 
 abbrev pub invariant-loop-at : goal.invariant-loop-at

@@ -1,4 +1,4 @@
-use Rattle.std.proofs.Common.{◌-◌, ◌≤◌, ◌<◌, length}
+use Rattle.std.proofs.Common.{◌-◌, ◌≤◌, length}
 use Rattle.json5_tidy.proofs.layout.printer.laid_out.Given as goal
 
 abbrev pub invariant-loop-lexeme : goal.invariant-loop-lexeme
