@@ -13,6 +13,7 @@ use Rattle.cli_files.specs.declared.failure.Failure.TheVariants as failure
 use Rattle.cli_files.specs.Inputs.{RefusesInput}
 use Rattle.cli_files.specs.ShownNames.{shown_name}
 use Rattle.json5_tidy.specs.declared.style.LastCommas.{LastCommas}
+use Rattle.json5_tidy.specs.declared.style.Stars.{Stars}
 use Rattle.cli_tidy.specs.declared.tidied.Tidied.{Tidied}
 use Rattle.cli_tidy.specs.declared.trouble.FileTrouble.{FileTrouble}
 use Rattle.cli_tidy.specs.declared.trouble.FileTrouble.TheVariants as trouble
@@ -73,8 +74,8 @@ held : (input : Option (List ℕ)) (bytes : List ℕ) (text : String Global) →
 held None bytes text all same = tt
 held (Some known) bytes text all same = same ∙ all
 
-module _ (asked : LastCommas) (name : List ℕ) (input : Option (List ℕ)) (bytes : List ℕ) (all : IfSome input (λ known. bytes ≡ known)) where
-  pub tidied_read : (r : Result Tidied FileTrouble) → IfOk r (HoldsTidied asked name (Some bytes)) → IfOk r (HoldsTidied asked name input)
+module _ (stars : Stars) (asked : LastCommas) (name : List ℕ) (input : Option (List ℕ)) (bytes : List ℕ) (all : IfSome input (λ known. bytes ≡ known)) where
+  pub tidied_read : (r : Result Tidied FileTrouble) → IfOk r (HoldsTidied stars asked name (Some bytes)) → IfOk r (HoldsTidied stars asked name input)
   tidied_read (Ok t) k = record { all = held input bytes t.before all k.all; tidies = k.tidies }
   tidied_read (Err e) k = tt
 

@@ -21,9 +21,9 @@ use Rattle.cli_tidy.specs.Troubles.{SaysUsage, memory_line, trouble_line, troubl
 -- what was read, what output and errors held before and after, and the status
 pub data AnswersStream (options : Options) (input output written errors : Option (List ℕ)) : Option (List ℕ) → ℕ → Type 0 where
   -- it wrote the document tidied
-  tidies : IfSome input (WritesTidied options.style.last_commas (input_name options) output written) → AnswersStream options input output written errors errors 0
+  tidies : IfSome input (WritesTidied options.style.stars options.style.last_commas (input_name options) output written) → AnswersStream options input output written errors errors 0
   -- it said why it stopped
-  fails : {said : Option (List ℕ)} (e : FileTrouble) → TidyTrouble options.style.last_commas (input_name options) input output written e
+  fails : {said : Option (List ℕ)} (e : FileTrouble) → TidyTrouble options.style.stars options.style.last_commas (input_name options) input output written e
       → AppendsFront errors said (trouble_line (input_name options) e) → AnswersStream options input output written errors said (trouble_status e)
 
 abbrev pub version_text : List ℕ

@@ -7,6 +7,7 @@ use Rattle.std.specs.Str.Parse.{IsNumeral, digits_value, without_leading_plus}
 use lib.Chars.{codes}
 use Rattle.json5_tidy.specs.declared.style.LastCommas.{LastCommas}
 use Rattle.json5_tidy.specs.declared.style.LastCommas.TheVariants as commas
+use Rattle.json5_tidy.specs.declared.style.Stars.TheVariants as stars
 use Rattle.cli_tidy.specs.declared.styles.ChosenStyle.{ChosenStyle}
 use Rattle.cli_tidy.specs.ChosenStyles.{asked, nothing_asked}
 use Rattle.cli_tidy.specs.declared.options.Flag.{Flag}
@@ -49,6 +50,7 @@ abbrev pub IsFlag : List ℕ → Flag → Type 0
 IsFlag word flags.Help = (word ≡ codes "--help") ⊎ (word ≡ codes "-h")
 IsFlag word flags.Version = word ≡ codes "--version"
 IsFlag word flags.NoLastComma = word ≡ codes "--no-last-comma"
+IsFlag word flags.KeepStars = word ≡ codes "--keep-stars"
 IsFlag word flags.Quiet = word ≡ codes "--quiet"
 
 -- the option that has a value
@@ -134,6 +136,7 @@ with_part (name word) c = record c { others = c.others ++ word ∷ [] }
 with_part (flag flags.Help) c = record c { question = Some questions.Help }
 with_part (flag flags.Version) c = record c { question = Some questions.Version }
 with_part (flag flags.NoLastComma) c = record c { style = record c.style { last_commas = commas.Never } }
+with_part (flag flags.KeepStars) c = record c { style = record c.style { stars = stars.Keep } }
 with_part (flag flags.Quiet) c = record c { is_quiet = true }
 with_part (indent n) c = record c { style = record c.style { indent = asked n } }
 with_part (width n) c = record c { style = record c.style { width = asked n } }

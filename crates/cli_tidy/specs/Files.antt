@@ -78,7 +78,7 @@ WorksOnTidied known w name t = WorksOnTexts (known.replaces name) w name (string
 
 -- the file was opened, what it held was tidied, and the work was done on that; or it held no document; or it could not be opened
 pub data WorksOn (opens : Opening) (replaces : Replacing) (request : FileRequest) (name : List ℕ) (old new : Option (List ℕ)) (result : Result Outcome FileTrouble) : Type 0 where
-  worked : (held : Option (List ℕ)) (before after : List ℕ) → opens (Some held) → IfSome held (λ known. before ≡ known) → Tidies request.options.style.last_commas name before after
+  worked : (held : Option (List ℕ)) (before after : List ℕ) → opens (Some held) → IfSome held (λ known. before ≡ known) → Tidies request.options.style.stars request.options.style.last_commas name before after
       → WorksOnTexts replaces request.work name before after old new result → WorksOn opens replaces request name old new result
   refused : (held : Option (List ℕ)) (e : FileTrouble) → opens (Some held) → IsTroubleOf name held e → result ≡ Err e → Keeps old new → WorksOn opens replaces request name old new result
   unopened : (why : Reason) → opens None → result ≡ Err (trouble.Unopened why) → Keeps old new → WorksOn opens replaces request name old new result

@@ -1,7 +1,7 @@
 //! The .editorconfig files that hold for a file: that of its folder and those further up.
 //!
-//! Plain code, of which no promise is made but that it is safe and ends, and that it chooses no last commas: change it by
-//! the runs of tools/tidy_against_the_system.
+//! Plain code, of which no promise is made but that it is safe and ends, and that it chooses no last commas and lets stars
+//! move as the words ask: change it by the runs of tools/tidy_against_the_system.
 
 ghost use Rattle.std.specs.Prelude.{◌≡◌, IfOk};
 
@@ -52,13 +52,18 @@ impl Configs {
         name: &str,
         chosen: ChosenStyle,
     ) -> Result<ChosenStyle, AllocError>
-        ensures { IfOk result (λ c. c.last_commas ≡ chosen.last_commas) }
+        ensures last_commas { IfOk result (λ c. c.last_commas ≡ chosen.last_commas) }
+        ensures stars { IfOk result (λ c. c.stars ≡ chosen.stars) }
     {
         let told = self.told_of(store, alloc, name)?;
         Ok(ChosenStyle {
             indent: chosen.indent.or(told.indent()),
             width: chosen.width.or(told.width),
             last_commas: chosen.last_commas,
+            stars: chosen.stars,
+            tab_width: told.tab(),
+            line_ends: told.line_ends,
+            final_line_end: told.final_line_end,
         })
     }
 

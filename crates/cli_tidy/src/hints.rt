@@ -9,7 +9,7 @@ use std::alloc::{AllocError, Global};
 use strsim::osa_distance;
 
 /// The words that are known.
-const KNOWN: [&str; 15] = [
+const KNOWN: [&str; 16] = [
     "check",
     "diff",
     "print",
@@ -19,6 +19,7 @@ const KNOWN: [&str; 15] = [
     "--width",
     "--last-commas",
     "--no-last-comma",
+    "--keep-stars",
     "--ext",
     "--exclude",
     "--stdin-name",

@@ -4,6 +4,7 @@
 //! tools/tidy_against_the_system.
 
 use crate::styles::{Chooser, ChosenSize};
+use json5_tokens::char::is_json5_line_terminator;
 use json5_tokens::scanner::Scanner;
 use std::alloc::Global;
 
@@ -34,8 +35,8 @@ fn spaces(front: &str) -> usize {
     front.len().saturating_sub(trimmed.len()).min(MOST_SPACES)
 }
 
-/// What stands on its line before the first element or member, if a line ends between it and its bracket; of brackets on one
-/// line the last counts. None if nothing is in it.
+/// What stands on its line before the first element or member, if a line ends between it and its bracket, in no comment; of
+/// brackets on one line the last counts. None if nothing is in it.
 fn first_front(alloc: Global, text: &str) -> Option<&str> {
     let mut scanner = Scanner::new(alloc, text);
     for _ in 0..text.len() {
@@ -46,7 +47,7 @@ fn first_front(alloc: Global, text: &str) -> Option<&str> {
             return None;
         }
         if before > 0
-            && let Some((_, front)) = between.rsplit_once('\n')
+            && let Some(front) = last_front(between)
         {
             return Some(front);
         }
@@ -55,4 +56,43 @@ fn first_front(alloc: Global, text: &str) -> Option<&str> {
         }
     }
     None
+}
+
+/// What follows the last line end of blanks and comments that is in no comment, if there is one.
+fn last_front(between: &str) -> Option<&str> {
+    let mut front = None;
+    let mut rest = between;
+    for _ in 0..between.len() {
+        if let Some(line) = rest.strip_prefix('\n') {
+            front = Some(line);
+            rest = line;
+        } else {
+            rest = past_blank(rest);
+        }
+    }
+    front
+}
+
+/// What follows the comment in front, or else the character. A line end is no part of a `//` comment.
+fn past_blank(text: &str) -> &str {
+    if let Some(comment) = text.strip_prefix("/*") {
+        return match comment.split_once("*/") {
+            Some((_, rest)) => rest,
+            None => "",
+        };
+    }
+    let len = if text.starts_with("//") {
+        line_len(text)
+    } else {
+        match text.chars().next() {
+            Some(c) => c.len_utf8(),
+            None => 0,
+        }
+    };
+    text.get(len..).unwrap_or("")
+}
+
+/// How many bytes come before the first line end.
+fn line_len(text: &str) -> usize {
+    text.find(is_json5_line_terminator).unwrap_or(text.len())
 }

@@ -38,6 +38,6 @@ pub use host_program::{program, words};
 pub use options::Options;
 pub use requests::{FileRequest, TidyRequest};
 pub use streams::tidy_stream;
-pub use styles::{Chooser, ChosenSize, ChosenStyle};
+pub use styles::{Chooser, ChosenFinalLineEnd, ChosenLineEnds, ChosenSize, ChosenStyle};
 pub use trouble::FileTrouble;
 pub use work::FileWork;

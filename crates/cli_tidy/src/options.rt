@@ -31,6 +31,7 @@ pub(crate) enum Flag {
     Help,
     Version,
     NoLastComma,
+    KeepStars,
     Quiet,
 }
 
@@ -102,6 +103,7 @@ impl Flag {
             "-h" => Some(Flag::Help),
             "--version" => Some(Flag::Version),
             "--no-last-comma" => Some(Flag::NoLastComma),
+            "--keep-stars" => Some(Flag::KeepStars),
             "--quiet" => Some(Flag::Quiet),
             _ => None,
         }

@@ -34,6 +34,8 @@ that the file has, or 2, and a width of 80.
                       always; never; or auto: in .json5 files, never in .json
                       and .jsonc files, in others if the text isn't JSON (auto)
   --no-last-comma     the same as --last-commas never
+  --keep-stars        leaves the lines of star comments as they are; else they keep
+                      their places relative to the first
   --ext ENDING        in folders look for files with this ending too
   --exclude GLOB      in folders pass over what it names, as a line of .ignore would
   --quiet             write doesn't name the files that it writes

@@ -29,8 +29,8 @@ pub fn tidy_stream<R: Read, W: Write>(
     r: &mut R,
     w: &mut W,
 ) -> Result<(), FileTrouble>
-    ensures written { OnOk result (IfSome (R.remaining r.old) (WritesTidied style.last_commas name.now (W.contents w.old) (W.contents w.new))) }
-    ensures stopped { IfErr result (TidyTrouble style.last_commas name.now (R.remaining r.old) (W.contents w.old) (W.contents w.new)) }
+    ensures written { OnOk result (IfSome (R.remaining r.old) (WritesTidied style.stars style.last_commas name.now (W.contents w.old) (W.contents w.new))) }
+    ensures stopped { IfErr result (TidyTrouble style.stars style.last_commas name.now (R.remaining r.old) (W.contents w.old) (W.contents w.new)) }
 {
     let tidied = read_tidied(alloc, name, style, r)?;
     match put_texts(w, &[tidied.after.as_str()]) {

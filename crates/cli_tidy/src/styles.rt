@@ -9,7 +9,7 @@ use crate::configs::Configs;
 use crate::endings::last_commas_for;
 use crate::indents::own_indent;
 use cli_files::shown;
-use json5_tidy::{LastCommas, Style};
+use json5_tidy::{LastCommas, LineEnds, Stars, Style};
 use std::alloc::{AllocError, Global};
 
 /// What chose a size.
@@ -32,6 +32,20 @@ pub struct ChosenSize {
     pub by: Chooser,
 }
 
+/// The line ends that are to be written, and what chose them.
+#[derive(Clone, Copy, Drop)]
+pub struct ChosenLineEnds {
+    pub line_ends: LineEnds,
+    pub by: Chooser,
+}
+
+/// Whether a line end is to follow the document, and what chose that.
+#[derive(Clone, Copy, Drop)]
+pub struct ChosenFinalLineEnd {
+    pub is_wanted: bool,
+    pub by: Chooser,
+}
+
 /// The style as far as it is chosen.
 #[derive(Clone, Copy, Drop)]
 pub struct ChosenStyle {
@@ -40,6 +54,12 @@ pub struct ChosenStyle {
     /// How many columns a line may have.
     pub width: Option<ChosenSize>,
     pub last_commas: LastCommas,
+    /// What becomes of the lines of star comments.
+    pub stars: Stars,
+    /// How many columns a tab has.
+    pub tab_width: Option<ChosenSize>,
+    pub line_ends: Option<ChosenLineEnds>,
+    pub final_line_end: Option<ChosenFinalLineEnd>,
 }
 
 /// The style for a text, and what chose it.
@@ -48,6 +68,8 @@ pub(crate) struct TextStyle {
     pub(crate) style: Style,
     pub(crate) indent_by: Chooser,
     pub(crate) width_by: Chooser,
+    /// The style as it was chosen, without regard to the text.
+    pub(crate) chosen: ChosenStyle,
 }
 
 impl ChosenStyle {
@@ -59,35 +81,54 @@ impl ChosenStyle {
             indent: None,
             width: None,
             last_commas: LastCommas::Auto,
+            stars: Stars::Move,
+            tab_width: None,
+            line_ends: None,
+            final_line_end: None,
         }
     }
 }
 
 /// The style for this text of the file with this name. Where no indentation is chosen it is the text's own.
 pub(crate) fn style_for(alloc: Global, name: &str, chosen: ChosenStyle, text: &str) -> TextStyle
-    ensures { result.style.last_commas ≡ commas.Always → GetsCommas name.now chosen.last_commas }
+    ensures last_commas { result.style.last_commas ≡ commas.Always → GetsCommas name.now chosen.last_commas }
+    ensures stars { result.style.stars ≡ chosen.stars }
 {
     let indent = match chosen.indent {
         Some(size) => size,
         None => own_indent(alloc, text),
     };
-    let usual = ChosenSize {
-        size: 80,
-        by: Chooser::Usual,
-    };
-    let width = chosen.width.unwrap_or(usual);
+    let width = chosen.width.unwrap_or(usual_size(80));
     TextStyle {
         style: Style {
             indent: indent.size,
             width: width.size,
             last_commas: last_commas_for(name, chosen.last_commas),
+            tab_width: chosen.tab_width.unwrap_or(usual_size(4)).size,
+            stars: chosen.stars,
+            line_ends: match chosen.line_ends {
+                Some(told) => told.line_ends,
+                None => LineEnds::Own,
+            },
+            final_line_end: match chosen.final_line_end {
+                Some(told) => told.is_wanted,
+                None => true,
+            },
         },
         indent_by: indent.by,
         width_by: width.by,
+        chosen,
     }
 }
 
-/// The style in the words that ask for it, and behind each size what chose it.
+fn usual_size(size: usize) -> ChosenSize {
+    ChosenSize {
+        size,
+        by: Chooser::Usual,
+    }
+}
+
+/// The style in the words that ask for it, and behind each size what chose it; and what else .editorconfig files tell.
 pub(crate) fn style_line(
     alloc: Global,
     name: &str,
@@ -109,8 +150,40 @@ pub(crate) fn style_line(
         configs.name_of(chosen.width_by),
     );
     let (name, width) = (shown(alloc, name)?, chosen.style.width);
+    let stars = match chosen.style.stars {
+        Stars::Move => "",
+        Stars::Keep => ", --keep-stars",
+    };
+    let told = told_words(alloc, configs, chosen.chosen)?;
     format!(in alloc;
-        "{}: --indent {indent} ({by}), --width {width} ({width_by}), --last-commas {commas}\n",
+        "{}: --indent {indent} ({by}), --width {width} ({width_by}), --last-commas {commas}{stars}{}\n",
         name.as_str(),
+        told.as_str(),
     )
+}
+
+/// What .editorconfig files tell that no word asks for, and which told it.
+fn told_words(alloc: Global, configs: &Configs, chosen: ChosenStyle) -> Result<String, AllocError> {
+    let mut words = String::new(alloc);
+    if let Some(tab) = chosen.tab_width {
+        let by = configs.name_of(tab.by);
+        words.push_str(format!(in alloc; ", tab_width {} ({by})", tab.size)?.as_str())?;
+    }
+    if let Some(ends) = chosen.line_ends {
+        let (name, by) = (name_of_ends(ends.line_ends), configs.name_of(ends.by));
+        words.push_str(format!(in alloc; ", end_of_line {name} ({by})")?.as_str())?;
+    }
+    if let Some(last) = chosen.final_line_end {
+        let (is_wanted, by) = (last.is_wanted, configs.name_of(last.by));
+        words.push_str(format!(in alloc; ", insert_final_newline {is_wanted} ({by})")?.as_str())?;
+    }
+    Ok(words)
+}
+
+fn name_of_ends(line_ends: LineEnds) -> &'static str {
+    match line_ends {
+        LineEnds::Lf => "lf",
+        LineEnds::CrLf => "crlf",
+        LineEnds::Own => "as it is",
+    }
 }

@@ -11,7 +11,7 @@ use crate::options::{
 };
 use crate::styles::{Chooser, ChosenSize};
 use cli_files::push_name;
-use json5_tidy::LastCommas;
+use json5_tidy::{LastCommas, Stars};
 use std::alloc::Global;
 
 /// What the words asked for so far.
@@ -96,6 +96,7 @@ impl Words {
             Flag::Help => self.question = Some(Question::Help),
             Flag::Version => self.question = Some(Question::Version),
             Flag::NoLastComma => self.options.style.last_commas = LastCommas::Never,
+            Flag::KeepStars => self.options.style.stars = Stars::Keep,
             Flag::Quiet => self.options.is_quiet = true,
         }
     }

@@ -43,7 +43,7 @@ pub(crate) fn read_tidied<R: Read>(
     style: ChosenStyle,
     r: &mut R,
 ) -> Result<Tidied, FileTrouble>
-    ensures read { IfOk result (HoldsTidied style.last_commas name.now (R.remaining r.old)) }
+    ensures read { IfOk result (HoldsTidied style.stars style.last_commas name.now (R.remaining r.old)) }
     ensures stopped { IfErr result (IsTroubleOf name.now (R.remaining r.old)) }
 {
     match read_whole(alloc, r) {
@@ -64,7 +64,7 @@ fn tidied_bytes(
     style: ChosenStyle,
     bytes: Vec<u8>,
 ) -> Result<Tidied, FileTrouble>
-    ensures tidied { IfOk result (HoldsTidied style.last_commas name.now (Some bytes.items)) }
+    ensures tidied { IfOk result (HoldsTidied style.stars style.last_commas name.now (Some bytes.items)) }
     ensures refused { IfErr result (IsFaultOf name.now bytes.items) }
 {
     match String::from_utf8(bytes) {
@@ -80,7 +80,7 @@ fn tidied_text(
     style: ChosenStyle,
     before: String,
 ) -> Result<Tidied, FileTrouble>
-    ensures tidied { IfOk result (HoldsTidied style.last_commas name.now (Some (string_bytes before))) }
+    ensures tidied { IfOk result (HoldsTidied style.stars style.last_commas name.now (Some (string_bytes before))) }
     ensures refused { IfErr result (IsFaultOf name.now (string_bytes before)) }
 {
     let style = style_for(alloc, name, style, before.as_str());

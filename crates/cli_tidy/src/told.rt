@@ -4,8 +4,9 @@
 //! tools/tidy_against_the_system.
 
 use crate::options::{indent_of, width_of};
-use crate::styles::{Chooser, ChosenSize};
+use crate::styles::{Chooser, ChosenFinalLineEnd, ChosenLineEnds, ChosenSize};
 use cli_files::matches_glob;
+use json5_tidy::LineEnds;
 use std::alloc::{AllocError, Global};
 
 /// The width where lines may be as long as they like.
@@ -18,7 +19,9 @@ pub(crate) struct Told {
     is_tab: Option<bool>,
     /// How many spaces a level has; 0 for as many as a tab.
     indent_size: Option<usize>,
-    tab_width: Option<usize>,
+    tab_width: Option<ChosenSize>,
+    pub(crate) line_ends: Option<ChosenLineEnds>,
+    pub(crate) final_line_end: Option<ChosenFinalLineEnd>,
     pub(crate) width: Option<ChosenSize>,
     indent_by: Chooser,
 }
@@ -29,6 +32,8 @@ impl Told {
             is_tab: None,
             indent_size: None,
             tab_width: None,
+            line_ends: None,
+            final_line_end: None,
             width: None,
             indent_by: Chooser::Usual,
         }
@@ -62,9 +67,32 @@ impl Told {
             self.indent_by = by;
             self.indent_size = indent_of(value);
         } else if key.eq_ignore_ascii_case("tab_width") {
-            self.tab_width = width_of(value);
+            self.tab_width = tab_told(value, by);
         } else if key.eq_ignore_ascii_case("max_line_length") {
             self.width = width_told(value, by);
+        } else if key.eq_ignore_ascii_case("end_of_line") {
+            self.line_ends = line_ends_told(value, by);
+        } else if key.eq_ignore_ascii_case("insert_final_newline") {
+            self.final_line_end = final_line_end_told(value, by);
+        }
+    }
+
+    /// How many columns a tab has, if it is told: as many as a level where levels are tabs and nothing else is told.
+    pub(crate) fn tab(&self) -> Option<ChosenSize> {
+        match (self.tab_width, self.is_tab, self.indent_size) {
+            (None, Some(true), Some(size)) if size > 0 => Some(ChosenSize {
+                size,
+                by: self.indent_by,
+            }),
+            (tab, _, _) => tab,
+        }
+    }
+
+    /// How many columns a tab has, which is how many spaces a level has where no other number is told.
+    fn tab_size(&self) -> usize {
+        match self.tab_width {
+            Some(tab) => tab.size,
+            None => 2,
         }
     }
 
@@ -72,7 +100,7 @@ impl Told {
     pub(crate) fn indent(&self) -> Option<ChosenSize> {
         let size = match (self.is_tab, self.indent_size) {
             (Some(true), _) => 0,
-            (Some(false), None | Some(0)) => self.tab_width.unwrap_or(2).min(16),
+            (Some(false), None | Some(0)) => self.tab_size(),
             (_, size) => size?,
         };
         Some(ChosenSize {
@@ -80,6 +108,32 @@ impl Told {
             by: self.indent_by,
         })
     }
+}
+
+/// How many columns a tab has: 1 to 16.
+fn tab_told(value: &str, by: Chooser) -> Option<ChosenSize> {
+    let size = width_of(value)?.min(16);
+    Some(ChosenSize { size, by })
+}
+
+/// The line ends that are written. A CR alone isn't written.
+fn line_ends_told(value: &str, by: Chooser) -> Option<ChosenLineEnds> {
+    let line_ends = if value.eq_ignore_ascii_case("lf") {
+        LineEnds::Lf
+    } else if value.eq_ignore_ascii_case("crlf") {
+        LineEnds::CrLf
+    } else {
+        return None;
+    };
+    Some(ChosenLineEnds { line_ends, by })
+}
+
+fn final_line_end_told(value: &str, by: Chooser) -> Option<ChosenFinalLineEnd> {
+    let is_wanted = value.eq_ignore_ascii_case("true");
+    if !is_wanted && !value.eq_ignore_ascii_case("false") {
+        return None;
+    }
+    Some(ChosenFinalLineEnd { is_wanted, by })
 }
 
 /// Whether the style is that of tabs.
