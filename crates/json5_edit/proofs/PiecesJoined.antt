@@ -15,7 +15,7 @@ use Rattle.json5_walk.specs.Seams.{WholeTokens, then_blanks}
 use Rattle.json5_walk.proofs.Rests.{append_nil}
 use Rattle.json5_edit.specs.Pieces.{IsCommaBetween, IsSpace, IsNameAlone, IsEntryAlone, Grows, IsKeyText, SplitsKey, Respells, CutsWith, GoesWith}
 use Rattle.json5_edit.specs.declared.belongings.Lead.{Lead}
-use Rattle.json5_edit.specs.Spots.{EndTokens, IsAroundComma, TakesComma}
+use Rattle.json5_edit.specs.Spots.{EndTokens, EndsInBlanks, IsAroundComma, TakesComma}
 use Rattle.json5_edit.proofs.Placed.{scalars_left, bytes_cut}
 use Rattle.json5_edit.proofs.StepsSurveyed.{found_some}
 
@@ -78,19 +78,20 @@ entry_alone k value x lead name trail l n t e = record { lead = lead; name = nam
 pub takes_none : (x : List ℕ) (last : Option ℕ) → TakesComma x last x [] []
 takes_none x last = record { split = sym (append_nil x); is_comma = inl refl }
 
--- a comma comes where one is due, before blanks alone
-pub takes_there : (x front middle gap left : List ℕ) (last : Option ℕ) (n : ℕ) → last ≡ Some n → length front ≡ n → x ≡ front ++ middle → middle ≡ gap ++ left → Gap (chars gap) (chars left) → left ≡ [] → TakesComma x last front (44 ∷ []) middle
-takes_there x front middle gap left last n is len e f after none = record {
+-- a comma comes where one is due, between blanks alone
+pub takes_there : (x front middle head blank gap left : List ℕ) (last : Option ℕ) (n : ℕ) → last ≡ Some n → length head ≡ n → x ≡ front ++ middle → front ≡ head ++ blank → Blanks (chars blank) → middle ≡ gap ++ left → Gap (chars gap) (chars left) → left ≡ [] → TakesComma x last front (44 ∷ []) middle
+takes_there x front middle head blank gap left last n is len e g b f after none = record {
   split = e;
-  is_comma = inr (refl, is ∙ ap Some (sym len), subst (λ z. LastBlanks (chars z)) (sym (f ∙ ap (λ z. gap ++ z) none ∙ append_nil gap)) (last_gap (chars gap) (chars left) (ap chars none ∙ no_characters) after));
+  is_comma = inr (refl, (head, blank, g, is ∙ ap Some (sym len), b), subst (λ z. LastBlanks (chars z)) (sym (f ∙ ap (λ z. gap ++ z) none ∙ append_nil gap)) (last_gap (chars gap) (chars left) (ap chars none ∙ no_characters) after));
 }
 
 -- whole tokens come before the comma
-comma_between : (x front comma middle more : List ℕ) (n : Option ℕ) → EndTokens x n → x ≡ front ++ more → (comma ≡ []) ⊎ ((comma ≡ 44 ∷ []) × (n ≡ Some (length front)) × LastBlanks (chars middle)) → IsCommaBetween front comma middle
+comma_between : (x front comma middle more : List ℕ) (n : Option ℕ) → EndTokens x n → x ≡ front ++ more → (comma ≡ []) ⊎ ((comma ≡ 44 ∷ []) × EndsInBlanks n front × LastBlanks (chars middle)) → IsCommaBetween front comma middle
 comma_between x front comma middle more n ends was (inl e) = inl e
-comma_between x front comma middle more n ends was (inr (e, at, l)) =
-    let (u, t) = found_some ⊤ (λ m. IsUtf8 (take m x) × WholeTokens true (chars (take m x))) n (length front) at ends in
-    inr (e, subst (λ z. WholeTokens true (chars z)) (ap (take (length front)) was ∙ take-append_seam front more) t, l)
+comma_between x front comma middle more n ends was (inr (e, (head, blank, f, at, b), l)) =
+    let (u, t) = found_some ⊤ (λ m. IsUtf8 (take m x) × WholeTokens true (chars (take m x))) n (length head) at ends in
+    let head_is : take (length head) x ≡ head = ap (take (length head)) (was ∙ ap (λ z. z ++ more) f ∙ append_assoc head blank more) ∙ take-append_seam head (blank ++ more) in
+    inr (e, subst (WholeTokens true) (sym (ap chars f ∙ chars-append head blank (subst IsUtf8 head_is u))) (then_blanks (subst (λ z. WholeTokens true (chars z)) head_is t) b), l)
 
 pub grows : (k : Kind) (value x y head before gone back front middle comma came : List ℕ) (n : Option ℕ) → EndTokens x n → x ≡ head ++ back → head ≡ before ++ gone → TakesComma before n front comma middle → IsSpace gone → IsEntryAlone k value came → y ≡ front ++ (comma ++ (middle ++ (came ++ back))) → Grows k value x y
 grows k value x y head before gone back front middle comma came n ends e f g b a h =

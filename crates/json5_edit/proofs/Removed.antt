@@ -1,5 +1,5 @@
 -- A collection with one entry less in its text.
-use Rattle.std.proofs.Common.{◌≡◌, ℕ, ◌≤◌, Bool, true, false, List, [], ◌∷◌, ◌++◌, length, Option, Some, None, refl, ap, sym, ◌∙◌, append_assoc, subst, inl, inr, ◌⊎◌, take, drop, Result, Ok, Err, arith}
+use Rattle.std.proofs.Common.{◌≡◌, ℕ, ◌+◌, ◌≤◌, Bool, true, false, List, [], ◌∷◌, ◌++◌, length, Option, Some, None, refl, ap, sym, ◌∙◌, append_assoc, subst, inl, inr, ◌⊎◌, take, drop, Result, Ok, Err, arith}
 use Rattle.std.specs.Prelude.{IfOk, OnOk, MatchOption, String, string_bytes}
 use Rattle.std.specs.declared.alloc.Global.{Global}
 use Rattle.json5_edit.specs.Pieces.{CutsWith, MayGo}
@@ -8,6 +8,7 @@ use Rattle.json5_edit.specs.declared.belongings.Lead.TheVariants as leads
 use Rattle.json5_edit.specs.declared.faults.EditError.{EditError}
 use Rattle.std.specs.Str.{chars, IsUtf8, IsCharBoundary, all_scalars, encode_utf8_all}
 use Rattle.std.proofs.Math.Seq.{drop-append_seam, take-append_seam}
+use Rattle.std.proofs.lemmas.List.{length-append}
 use Rattle.json5_tokens.specs.Outcome.{bytes_in}
 use Rattle.std.proofs.lemmas.Str.{chars-append, chars-encodes, encodes-append, scalars-chars}
 use Rattle.json5_grammar.specs.Language.Blanks.{Blanks, LastBlanks, Gap, Solid}
@@ -397,6 +398,15 @@ comma_there x front rest blank rest_after comma middle gap left before n b len e
       split = e ∙ ap (λ z. front ++ z) (f ∙ ap (λ z. blank ++ z) (g ∙ ap (λ z. z ++ middle) is_comma));
       is_comma = inr (refl, b ∙ ap Some (sym len), gap_blanks 44 (chars middle) (subst (Gap (chars blank)) later_is before_gap), subst (λ z. LastBlanks (chars z)) middle_is (last_gap (chars gap) (chars left) (ap chars none ∙ no_characters) after_gap));
     }
+
+-- what comes before a comma, and is passed up to it, is closed
+pub closed_there : (blank whole p left : List ℕ) → whole ≡ blank ++ (44 ∷ []) → whole ≡ p ++ left → Gap (chars p) (chars left) → left ≡ 44 ∷ [] → Blanks (chars blank)
+closed_there blank whole p left e f gap is =
+    let same : blank ++ (44 ∷ []) ≡ p ++ (44 ∷ []) = sym e ∙ f ∙ ap (λ z. p ++ z) is in
+    let size : length blank + 1 ≡ length p + 1 = sym (length-append blank (44 ∷ [])) ∙ ap length same ∙ length-append p (44 ∷ []) in
+    let len : length p ≡ length blank = omega (arith, size) in
+    let p_is : p ≡ blank = sym (take-append_seam p (44 ∷ [])) ∙ ap (λ n. take n (p ++ (44 ∷ []))) len ∙ ap (take (length blank)) (sym same) ∙ take-append_seam blank (44 ∷ []) in
+    subst (λ z. Blanks (chars z)) p_is (gap_blanks 44 [] (subst (Gap (chars p)) (ap chars is ∙ ascii_comma) gap))
 
 pub kept_removed : {s : Step} (l : Lead) (limit : ℕ) (old new : List ℕ) (r : Result (String Global) EditError) → IfOk r (λ made. string_bytes made ≡ new) → OnOk r (IsValue limit (chars new)) → OnOk r (KeepsPlain old new) → ChangesBy (IsWithout s) old new → CutsWith l old new → IfOk r (λ made. Removes s l limit old (string_bytes made))
 kept_removed {s = s} l limit old new (Ok made) same fits plain change how = subst (Removes s l limit old) (sym same) (change, how, fits, plain)

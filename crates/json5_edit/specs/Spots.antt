@@ -300,10 +300,14 @@ pub record IsAroundComma (x : List ℕ) (before : Option ℕ) (front blank middl
   pub split : x ≡ front ++ (blank ++ (comma ++ middle))
   pub is_comma : (comma ≡ []) ⊎ ((comma ≡ comma_sign ∷ []) × (before ≡ Some (length front)) × Blanks (chars blank) × LastBlanks (chars middle))
 
--- x is these two, and a comma comes between them, or nothing: where whole tokens end at the offset, before blanks alone
+-- tokens end at the offset, and blanks alone come after them
+abbrev pub EndsInBlanks : Option ℕ → List ℕ → Type 0
+EndsInBlanks last front = (head blank : List ℕ) × (front ≡ head ++ blank) × (last ≡ Some (length head)) × Blanks (chars blank)
+
+-- x is these two, and a comma comes between them, or nothing: after the tokens that end at the offset, between blanks alone
 pub record TakesComma (x : List ℕ) (last : Option ℕ) (front comma middle : List ℕ) : Type 0 where
   pub split : x ≡ front ++ middle
-  pub is_comma : (comma ≡ []) ⊎ ((comma ≡ comma_sign ∷ []) × (last ≡ Some (length front)) × LastBlanks (chars middle))
+  pub is_comma : (comma ≡ []) ⊎ ((comma ≡ comma_sign ∷ []) × EndsInBlanks last front × LastBlanks (chars middle))
 
 -- the offset at which a comma is due, if one is
 abbrev pub due_at : Bool → ℕ → Option ℕ

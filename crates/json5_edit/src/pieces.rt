@@ -1,11 +1,12 @@
 //! A text with a part taken out of it or put into it.
 
-ghost use Rattle.std.specs.Prelude.{◌≡◌, ◌≤◌, ◌++◌, IfOk, IfErr, OnOk, IsTrue, [], length, string_bytes, take};
+ghost use Rattle.std.specs.Prelude.{◌≡◌, ◌≤◌, ◌++◌, IfOk, IfErr, OnOk, IsTrue, true, [], length, string_bytes, take};
 ghost use Rattle.std.specs.Str.{chars};
 ghost use Rattle.json5_edit.specs.Pieces.{CutsWith, Grows, Respells, IsEntryAlone, IsNameAlone, SplitsKey};
 ghost use Rattle.json5_edit.specs.Refusals.{IsOwn};
 ghost use Rattle.json5_edit.specs.Spots.{EndTokens, IsAroundComma, TakesComma};
 ghost use Rattle.json5_edit.specs.declared.faults.EditError.TheVariants as edit_errors;
+ghost use Rattle.json5_grammar.specs.Language.Blanks.{Blanks};
 ghost use Rattle.json5_grammar.specs.Language.Documents.{max_depth};
 ghost use Rattle.json5_lexemes.specs.Lexemes.{HaveSameLexemes};
 
@@ -66,7 +67,8 @@ pub(crate) fn grown(
     join_five(alloc, front, comma, middle, came.as_str(), back)
 }
 
-/// The text up to the offset, a comma if one comes, and the rest, which is blanks alone then; or the text, and nothing.
+/// The text up to the offset, a comma if one comes, and the rest; or the text, and nothing. Between the comma and the last
+/// token, and after it, there are blanks alone.
 fn with_comma(
     alloc: Global,
     text: &str,
@@ -80,12 +82,24 @@ fn with_comma(
     let (true, Some(end)) = (comes, last) else {
         return Ok((text, "", ""));
     };
-    let (front, middle) = split(text, end)?;
+    let (front, middle) = split(text, at)?;
+    let (_tokens, blank) = split(front, end)?;
+    let is_closed = are_closed_blanks(alloc, blank)?;
     let (_blank, left) = split_blanks(alloc, middle)?;
-    if at == end && left == "" {
+    if is_closed && left == "" {
         return Ok((front, ",", middle));
     }
     Err(EditError::Failed)
+}
+
+/// Whether the text is blanks and comments alone, none of which a comma after them would belong to.
+fn are_closed_blanks(alloc: Global, text: &str) -> Result<bool>
+    ensures blanks { IfOk result (λ yes. yes ≡ true → Blanks (chars text.now)) }
+    ensures own { IfErr result IsOwn }
+{
+    let before_comma = join(alloc, text, ",", "")?;
+    let (_blank, left) = split_blanks(alloc, before_comma.as_str())?;
+    Ok(left == ",")
 }
 
 /// The entry with this value, and what comes around it: blanks and commas alone.
