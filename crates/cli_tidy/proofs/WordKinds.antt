@@ -37,7 +37,7 @@ setting_at word =
     cond (third word == 105) settings.Indent (cond (third word == 119) settings.Width (cond (third word == 108) settings.LastCommas (cond (third word == 101) (cond (fifth word == 99) settings.Exclude settings.Ext) settings.StdinName)))
 
 abbrev flag_at : List ℕ → Flag
-flag_at word = cond (third word == 118) flags.Version (cond (third word == 110) flags.NoLastComma (cond (third word == 113) flags.Quiet flags.Help))
+flag_at word = cond (third word == 118) flags.Version (cond (third word == 110) flags.NoLastComma (cond (third word == 107) flags.KeepStars (cond (third word == 113) flags.Quiet flags.Help)))
 
 abbrev has_equals : List ℕ → Bool
 has_equals [] = false
@@ -54,6 +54,7 @@ flag_found word flags.Help (inl e) = ap flag_at e
 flag_found word flags.Help (inr e) = ap flag_at e
 flag_found word flags.Version e = ap flag_at e
 flag_found word flags.NoLastComma e = ap flag_at e
+flag_found word flags.KeepStars e = ap flag_at e
 flag_found word flags.Quiet e = ap flag_at e
 
 flag_unset : (word : List ℕ) (f : Flag) → IsFlag word f → is_setting word ≡ false
@@ -61,6 +62,7 @@ flag_unset word flags.Help (inl e) = ap is_setting e
 flag_unset word flags.Help (inr e) = ap is_setting e
 flag_unset word flags.Version e = ap is_setting e
 flag_unset word flags.NoLastComma e = ap is_setting e
+flag_unset word flags.KeepStars e = ap is_setting e
 flag_unset word flags.Quiet e = ap is_setting e
 
 flag_no_end : (word : List ℕ) (f : Flag) → IsFlag word f → word ≢ end_word
@@ -68,6 +70,7 @@ flag_no_end word flags.Help (inl e) n = let d : 6 ≡ 2 = ap length (sym e ∙ n
 flag_no_end word flags.Help (inr e) n = let d : 104 ≡ 45 = ap second (sym e ∙ n) in omega (arith, d)
 flag_no_end word flags.Version e n = let d : 9 ≡ 2 = ap length (sym e ∙ n) in omega (arith, d)
 flag_no_end word flags.NoLastComma e n = let d : 15 ≡ 2 = ap length (sym e ∙ n) in omega (arith, d)
+flag_no_end word flags.KeepStars e n = let d : 12 ≡ 2 = ap length (sym e ∙ n) in omega (arith, d)
 flag_no_end word flags.Quiet e n = let d : 7 ≡ 2 = ap length (sym e ∙ n) in omega (arith, d)
 
 -- ---- options with a value
@@ -147,6 +150,7 @@ flag_dashed word flags.Help (inl e) = dashed word minus (codes "help") e
 flag_dashed word flags.Help (inr e) = dashed word 104 [] e
 flag_dashed word flags.Version e = dashed word minus (codes "version") e
 flag_dashed word flags.NoLastComma e = dashed word minus (codes "no-last-comma") e
+flag_dashed word flags.KeepStars e = dashed word minus (codes "keep-stars") e
 flag_dashed word flags.Quiet e = dashed word minus (codes "quiet") e
 
 pub setting_dashed : (s : Setting) (more word : List ℕ) → word ≡ setting_word s ++ more → IsDashed word

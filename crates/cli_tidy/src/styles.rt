@@ -91,8 +91,7 @@ impl ChosenStyle {
 
 /// The style for this text of the file with this name. Where no indentation is chosen it is the text's own.
 pub(crate) fn style_for(alloc: Global, name: &str, chosen: ChosenStyle, text: &str) -> TextStyle
-    ensures last_commas { result.style.last_commas ≡ commas.Always → GetsCommas name.now chosen.last_commas }
-    ensures stars { result.style.stars ≡ chosen.stars }
+    ensures { result.style.last_commas ≡ commas.Always → GetsCommas name.now chosen.last_commas }
 {
     let indent = match chosen.indent {
         Some(size) => size,
@@ -106,18 +105,28 @@ pub(crate) fn style_for(alloc: Global, name: &str, chosen: ChosenStyle, text: &s
             last_commas: last_commas_for(name, chosen.last_commas),
             tab_width: chosen.tab_width.unwrap_or(usual_size(4)).size,
             stars: chosen.stars,
-            line_ends: match chosen.line_ends {
-                Some(told) => told.line_ends,
-                None => LineEnds::Own,
-            },
-            final_line_end: match chosen.final_line_end {
-                Some(told) => told.is_wanted,
-                None => true,
-            },
+            line_ends: line_ends_of(chosen),
+            final_line_end: has_final_line_end(chosen),
         },
         indent_by: indent.by,
         width_by: width.by,
         chosen,
+    }
+}
+
+/// The line ends that are chosen, and else the text's own.
+fn line_ends_of(chosen: ChosenStyle) -> LineEnds {
+    match chosen.line_ends {
+        Some(told) => told.line_ends,
+        None => LineEnds::Own,
+    }
+}
+
+/// Whether a line end follows the document, as it does unless it is chosen that none does.
+fn has_final_line_end(chosen: ChosenStyle) -> bool {
+    match chosen.final_line_end {
+        Some(told) => told.is_wanted,
+        None => true,
     }
 }
 
@@ -166,16 +175,19 @@ pub(crate) fn style_line(
 fn told_words(alloc: Global, configs: &Configs, chosen: ChosenStyle) -> Result<String, AllocError> {
     let mut words = String::new(alloc);
     if let Some(tab) = chosen.tab_width {
-        let by = configs.name_of(tab.by);
-        words.push_str(format!(in alloc; ", tab_width {} ({by})", tab.size)?.as_str())?;
+        let (size, by) = (tab.size, configs.name_of(tab.by));
+        let word = format!(in alloc; ", tab_width {size} ({by})")?;
+        words.push_str(word.as_str())?;
     }
     if let Some(ends) = chosen.line_ends {
         let (name, by) = (name_of_ends(ends.line_ends), configs.name_of(ends.by));
-        words.push_str(format!(in alloc; ", end_of_line {name} ({by})")?.as_str())?;
+        let word = format!(in alloc; ", end_of_line {name} ({by})")?;
+        words.push_str(word.as_str())?;
     }
     if let Some(last) = chosen.final_line_end {
         let (is_wanted, by) = (last.is_wanted, configs.name_of(last.by));
-        words.push_str(format!(in alloc; ", insert_final_newline {is_wanted} ({by})")?.as_str())?;
+        let word = format!(in alloc; ", insert_final_newline {is_wanted} ({by})")?;
+        words.push_str(word.as_str())?;
     }
     Ok(words)
 }

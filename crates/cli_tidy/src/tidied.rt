@@ -8,7 +8,7 @@ use crate::refusals::{refused_text, wrong_bytes};
 use crate::styles::{ChosenStyle, TextStyle, style_for};
 use crate::trouble::FileTrouble;
 use cli_files::read_whole;
-use json5_tidy::tidy_with;
+use json5_tidy::{Style, tidy_with};
 use std::alloc::Global;
 use std::io::Read;
 
@@ -83,12 +83,17 @@ fn tidied_text(
     ensures tidied { IfOk result (HoldsTidied style.stars style.last_commas name.now (Some (string_bytes before))) }
     ensures refused { IfErr result (IsFaultOf name.now (string_bytes before)) }
 {
-    let style = style_for(alloc, name, style, before.as_str());
-    match tidy_with(alloc, style.style, before.as_str()) {
+    let found = style_for(alloc, name, style, before.as_str());
+    // Whatever the text and its name are.
+    let text_style = Style {
+        stars: style.stars,
+        ..found.style
+    };
+    match tidy_with(alloc, text_style, before.as_str()) {
         Ok(after) => Ok(Tidied {
             before,
             after,
-            style,
+            style: found,
         }),
         Err(error) => Err(refused_text(alloc, name, before.as_str(), error)),
     }
