@@ -356,22 +356,27 @@ def one_for_list(good):
     return good.made({i: "" for i in range(entry.value, entry.end) if not first.value <= i < first.end})
 
 
+def methods(good):
+    """The entry that is a list of methods, and their texts; None and none where there is no such entry."""
+    entry = good.entry(lambda entry: entry.type == ("list", METHODS))
+    pieces = good.pieces[entry.value:entry.end] if entry else []
+    return entry, [piece.value for piece in pieces if piece.kind == "enum"]
+
+
 @way
 def elements_without_brackets(good):
-    entry = good.entry(lambda entry: entry.type == ("list", METHODS))
+    entry, texts = methods(good)
     if entry is None:
         return None
-    texts = [piece.value for piece in good.pieces[entry.value:entry.end] if piece.kind == "enum"]
     new = chance.choice(["'%s'" % ", ".join(texts), ", ".join("'%s'" % text for text in texts), ", ".join(texts)])
     return good.made({i: new if i == entry.value else "" for i in range(entry.value, entry.end)})
 
 
 @way
 def object_for_list(good):
-    entry = good.entry(lambda entry: entry.type == ("list", METHODS))
+    entry, texts = methods(good)
     if entry is None:
         return None
-    texts = [piece.value for piece in good.pieces[entry.value:entry.end] if piece.kind == "enum"]
     forms = [", ".join("%s: true" % text for text in texts), ", ".join("%d: '%s'" % pair for pair in enumerate(texts)), ", ".join("'%s'" % text for text in texts)]
     new = "{ %s }" % chance.choice(forms)
     return good.made({i: new if i == entry.value else "" for i in range(entry.value, entry.end)})

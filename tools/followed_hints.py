@@ -662,7 +662,7 @@ def brackets_for_braces(case, said):
     return other_bracket(case.text, said.start, "[")
 
 
-@form("write the object without brackets around it")
+@form("write the object without (?:brackets|parentheses) around it")
 def object_alone(case, said):
     closing = closing_of(case.text, said.start)
     rest = put(case.text, closing, closing + 1, "")
@@ -736,13 +736,6 @@ def other_quotes(case, said, new):
 @form("write \\{ .+: \\.\\. \\} here|write an object in place of the array: .*")
 def other_object(case, said):
     return put(case.text, said.start, value_end(case.text, said.start), fits(case, said))
-
-
-@form("write the object without parentheses around it")
-def no_parentheses(case, said):
-    closing = closing_of(case.text, said.start)
-    rest = put(case.text, closing, closing + 1, "")
-    return put(rest, said.start, said.start + 1, "")
 
 
 @form("a bracket too many stands before this: remove it")
