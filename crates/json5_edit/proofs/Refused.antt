@@ -30,7 +30,7 @@ use Rattle.json5_walk.proofs.Rests.{append_nil}
 use Rattle.json5_edit.specs.Entries.{kind_of as kind_of_tree}
 use Rattle.json5_edit.specs.Parts.{in_member, positions_of}
 use Rattle.json5_edit.specs.Places.{IsValue, IsPart, Leads, LeadsNowhere}
-use Rattle.json5_edit.specs.Refusals.{IsFaulty, Reaches, Misfits, IsNo, HasKey, RefusesText, RefusesPath, RefusesSet, RefusesRemove, RefusesPush, RefusesPutIn, RefusesInsert, RefusesRename, IsFree, IsOwn, RefusesStep, RefusesKey, RefusesKind, RefusesFree, RefusesValue, BeginsNo}
+use Rattle.json5_edit.specs.Refusals.{IsFaulty, Reaches, Misfits, IsNo, HasKey, RefusesText, RefusesPath, RefusesSet, RefusesRemove, RefusesSort, RefusesPush, RefusesPutIn, RefusesInsert, RefusesRename, IsFree, IsOwn, RefusesStep, RefusesKey, RefusesKind, RefusesFree, RefusesValue, BeginsNo}
 use Rattle.json5_edit.specs.declared.faults.EditError.{EditError}
 use Rattle.json5_edit.specs.declared.faults.EditError.TheVariants as error
 use Rattle.json5_edit.specs.declared.paths.Step.{Step}
@@ -203,6 +203,9 @@ outer_nowhere bytes path outer s is (t, d, n) = (t, d, ap (λ z. positions_of z 
 
 pub path_set : (bytes new : List ℕ) (path : List Step) (e : EditError) → RefusesPath bytes path e → RefusesSet bytes path new e
 path_set bytes new path e k = at_path (RefusesSet bytes path new) bytes path e (λ x f. f) (λ n. n) tt k
+
+pub path_sort : (bytes : List ℕ) (path : List Step) (e : EditError) → RefusesPath bytes path e → RefusesSort bytes path e
+path_sort bytes path e k = at_path (RefusesSort bytes path) bytes path e (λ x f. f) (λ n. n) tt k
 
 pub path_push : (bytes value : List ℕ) (path : List Step) (e : EditError) → RefusesPath bytes path e → RefusesPush bytes path value e
 path_push bytes value path e k = at_path (RefusesPush bytes path value) bytes path e (λ x f. f) (λ n. n) tt k

@@ -270,7 +270,7 @@ pub(crate) fn part_text(text: &str, place: Place) -> &str
 }
 
 /// Whether the text begins with such an opening bracket.
-fn begins(alloc: Global, old: &str, kind: BracketKind) -> bool
+pub(crate) fn begins(alloc: Global, old: &str, kind: BracketKind) -> bool
     ensures { result ≡ false → BeginsNo kind (chars old.now) }
 {
     let scanner = Scanner::new(alloc, old);
@@ -376,6 +376,7 @@ pub(crate) fn kept_plain(alloc: Global, old: &str, new: String, room: usize) -> 
     ensures same { IfOk result (λ made. string_bytes made ≡ string_bytes new) }
     ensures value { OnOk result (IsValue room (chars (string_bytes new))) }
     ensures plain { OnOk result (KeepsPlain old.now (string_bytes new)) }
+    ensures own { IfErr result IsOwn }
 {
     if !keeps_plain(old, new.as_str()) {
         return Err(EditError::Failed);

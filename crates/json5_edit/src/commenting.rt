@@ -23,7 +23,7 @@ use json5_read::check_document;
 use std::alloc::{AllocError, Global};
 
 /// The characters that end a line.
-const LINE_ENDS: [char; 4] = ['\n', '\r', '\u{2028}', '\u{2029}'];
+pub(crate) const LINE_ENDS: [char; 4] = ['\n', '\r', '\u{2028}', '\u{2029}'];
 
 /// Returns the text with this comment before the element or the member that the path leads to, in the place of the
 /// comments that belong to it there: one with an empty line below it stays, and so does one that is a switched-off entry,
