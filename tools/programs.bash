@@ -1,6 +1,6 @@
 # What the launchers and ./install share: how a program is proved and built, and whether that is done. They set `root`.
 
-# Sets `crate` and `program` for json5_fmt, json5_tidy or json5_edit.
+# Sets `crate` and `program` for json5_fmt, json5_tidy, json5_edit or json5_convert.
 name_program() {
     name=$1
     crate=$name

@@ -1,0 +1,13 @@
+//! Why a text isn't converted.
+
+use cli_files::Failure;
+
+/// Why a text isn't converted, or its file not written.
+#[derive(Drop)]
+pub(crate) enum Trouble {
+    Failed(Failure),
+    /// The file with this name can't be written.
+    Unwritten(String),
+    /// The file that would be written is the one that is read.
+    SameFile,
+}
