@@ -1,7 +1,8 @@
-//! Answers rows of edits, of patches, of tidying, of reports and of schemas. Standard input has all rows in one document,
+//! Answers rows of edits, of patches, of tidying, of reports, of schemas and of conversions. Standard input has all rows in one document,
 //! and what is said of each is whether what came is what the row says.
 #![tactic(auto)]
 
+mod converts;
 mod edits;
 mod example;
 mod faults;
@@ -43,7 +44,8 @@ fn each_tool(rt: &HostRuntime, document: &Value) -> io::Result<()> {
     each_row(rt, document, "patch")?;
     each_row(rt, document, "tidy")?;
     each_row(rt, document, "report")?;
-    each_row(rt, document, "schema")
+    each_row(rt, document, "schema")?;
+    each_row(rt, document, "convert")
 }
 
 fn each_row(rt: &HostRuntime, document: &Value, tool: &str) -> io::Result<()> {
@@ -70,6 +72,7 @@ fn outcome_of(alloc: Global, document: &Value, tool: &str, row: &Value) -> Outco
         "patch" => patches::outcome_of(alloc, row),
         "tidy" => tidies::outcome_of(alloc, row),
         "schema" => schemas::outcome_of(alloc, row),
+        "convert" => converts::outcome_of(alloc, row),
         _ => reports::outcome_of(alloc, text_of(document, "base"), row),
     }
 }

@@ -1,0 +1,83 @@
+//! Rows of conversions. JSON that comes has to be read by `serde_json` too, without its comments.
+
+use crate::outcomes::{Outcome, said};
+use crate::plain_readers::reads_as_json;
+use crate::rows::{text_of, wanted_of};
+use json5_convert::{Keys, LastCommas, Numbers, Quotes, Spelling, Values, respell, to_lines};
+use json5_types::error::Result;
+use json5_types::value::Value;
+use std::alloc::Global;
+
+/// What comes of the row's text.
+pub(crate) fn outcome_of(alloc: Global, row: &Value) -> Outcome {
+    let (wanted, before, to) = (wanted_of(row), text_of(row, "before"), text_of(row, "to"));
+    if to == "lines" {
+        return match lines_of(alloc, before) {
+            Ok(made) => judged(made, wanted),
+            Err(error) => said(wanted, format!(in alloc; "{error}").ok()),
+        };
+    }
+    let spelling = spelling_of(row, to);
+    match respell(alloc, before, spelling) {
+        Ok(made) if is_json(to) && !reads_as_json(alloc, to == "jsonc", made.as_str()) =>
+            Outcome::NoJson,
+        Ok(made) => judged(made, wanted),
+        Err(error) => said(wanted, format!(in alloc; "{error}").ok()),
+    }
+}
+
+fn is_json(to: &str) -> bool {
+    to == "json" || to == "jsonc"
+}
+
+fn judged(made: String, wanted: &str) -> Outcome {
+    if made.as_str() == wanted {
+        Outcome::Wanted
+    } else {
+        Outcome::Other(made)
+    }
+}
+
+/// The documents of the text, each as JSON on a line of its own.
+fn lines_of(alloc: Global, text: &str) -> Result<String> {
+    let mut values = Values::new(alloc, text);
+    let mut list = Vec::new(alloc);
+    for _ in 0..=text.len() {
+        match values.next()? {
+            Some(value) => list.push(value)?,
+            None => break,
+        }
+    }
+    to_lines(alloc, list.as_slice())
+}
+
+/// The spelling of a row, where each choice may be made alone.
+fn spelling_of(row: &Value, to: &str) -> Spelling {
+    let usual = match to {
+        "json" => Spelling::json().without_comments(),
+        "jsonc" => Spelling::json(),
+        _ => Spelling::json5(),
+    };
+    Spelling {
+        strings: match text_of(row, "strings") {
+            "own" => Quotes::Own,
+            "json" => Quotes::Json,
+            _ => usual.strings,
+        },
+        keys: match text_of(row, "keys") {
+            "own" => Keys::Own,
+            "quoted" => Keys::Quoted,
+            _ => usual.keys,
+        },
+        numbers: match text_of(row, "numbers") {
+            "json" => Numbers::Json,
+            _ => usual.numbers,
+        },
+        last_commas: match text_of(row, "last_commas") {
+            "never" => LastCommas::Never,
+            "lines" => LastCommas::Lines,
+            _ => usual.last_commas,
+        },
+        ..usual
+    }
+}
