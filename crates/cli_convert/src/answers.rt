@@ -1,6 +1,6 @@
 //! The program over its words, its streams and the system's files.
 
-use crate::converted::converted;
+use crate::converted::convert;
 use crate::formats::Format;
 use crate::options::Options;
 use crate::reports::{HELP, no_memory, report_trouble, usage};
@@ -144,7 +144,7 @@ fn read_converted<R: Read>(
         Ok(text) => text,
         Err(failure) => return Err(Trouble::Failed(failure)),
     };
-    match converted(alloc, options, name, text.as_str()) {
+    match convert(alloc, options, name, text.as_str()) {
         Ok(made) => Ok(made),
         Err(error) => Err(Trouble::Failed(Failure::at(error))),
     }

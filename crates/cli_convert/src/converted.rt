@@ -14,14 +14,14 @@ use std::alloc::Global;
 /// else the values written. An array and the lines of its elements are converted into each other.
 ///
 /// ```text
-/// converted(alloc, &Options::usual(), "conf.json5", "{port: 0x50}")?    // {"port": 80}
+/// convert(alloc, &Options::usual(), "conf.json5", "{port: 0x50}")?    // {"port": 80}
 /// ```
 ///
 /// # Errors
 ///
 /// - As `json5_convert::respell`; a number that JSON lacks is refused with a custom fault at its position.
 /// - As `Values::next` of json5_convert, where the text has a document a line.
-pub fn converted(alloc: Global, options: &Options, name: &str, text: &str) -> Result<String> {
+pub fn convert(alloc: Global, options: &Options, name: &str, text: &str) -> Result<String> {
     let target = options.target(name);
     match (options.source(name), target) {
         (Format::Lines, Format::Lines) => to_lines(alloc, documents(alloc, text)?.as_slice()),

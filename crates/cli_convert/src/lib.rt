@@ -14,6 +14,6 @@ mod trouble;
 mod words;
 
 pub use answers::{answer, program};
-pub use converted::converted;
+pub use converted::convert;
 pub use formats::{Format, Layout};
 pub use options::Options;

@@ -45,7 +45,11 @@ impl Request {
             names: Vec::new(alloc),
         };
         let mut left = list;
-        while let Some((word, rest)) = left.split_first() {
+        // Each step takes a word.
+        for _ in 0..list.len() {
+            let Some((word, rest)) = left.split_first() else {
+                break;
+            };
             left = rest;
             match word.as_str() {
                 "--help" | "-h" => return Ok(Request::Help),
@@ -105,7 +109,7 @@ impl Words {
     }
 }
 
-/// Whether the word begins with a dash and isn't the dash alone, which is standard input's name.
+/// Whether the word begins with a dash, and more follows.
 fn is_option(word: &str) -> bool {
     word.starts_with('-') && word.len() > 1
 }
