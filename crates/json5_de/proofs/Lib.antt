@@ -53,3 +53,4 @@ pub mod VariantContents
 pub mod NamesByBytes
 pub mod VariantBrackets
 pub mod OwnEnums
+pub mod ReaderLoops

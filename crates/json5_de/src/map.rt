@@ -119,7 +119,7 @@ impl<I: Input> Deserializer<I> {
 
     /// Reads a colon and the value after a key. The error of a refusal is left in `fault`.
     #[inline(always)]
-    fn take_member_value<V: Deserialize<I>>(&mut self, fault: &mut Error) -> Option<V>
+    pub(crate) fn take_member_value<V: Deserialize<I>>(&mut self, fault: &mut Error) -> Option<V>
         ensures reads { ReadsValueOfMember V.content V.convert V.refuses self.old self.new (answered result fault.new) }
         ensures no_memory { CompletesFreeMemberValue V.convert V.allocation_free (bare_map self.old false true) (answered result fault.new) }
     {
@@ -169,9 +169,15 @@ impl<'a, I: Input> MapAccess<'a, I> {
         ensures { ReadsNextKey K.content K.convert K.refuses self.old self.new result }
     {
         let mut fault = Error::new(ErrorCode::Failed);
-        match self.take_key::<K>(&mut fault) {
-            Some(key) => Ok(key),
-            None => Err(fault),
+        self.de.set_failed(self.progress.failed);
+        let comma_due = self.progress.stage.is_comma_due();
+        match self.de.take_member_key(comma_due, &mut fault) {
+            Some(key) => {
+                self.de.set_failed(true);
+                self.progress.stage = self.progress.stage.with_key(key.is_some());
+                Ok(key)
+            }
+            None => Err(self.de.refuse_access(&mut self.progress, fault)),
         }
     }
 
@@ -197,53 +203,14 @@ impl<'a, I: Input> MapAccess<'a, I> {
         ensures no_memory { ReadsValueFree V.convert V.allocation_free (map_state_of self.old) result }
     {
         let mut fault = Error::new(ErrorCode::Failed);
-        match self.take_value::<V>(&mut fault) {
-            Some(value) => Ok(value),
-            None => Err(fault),
-        }
-    }
-
-    /// The same as `next_key`; the error of a refusal is left in `fault`.
-    #[inline(always)]
-    pub(crate) fn take_key<K: DeserializeKey<I>>(&mut self, fault: &mut Error) -> Option<Option<K>>
-        requires no_key { NoKeyPending self.old }
-        ensures { ReadsNextKey K.content K.convert K.refuses self.old self.new (answered result fault.new) }
-    {
         self.de.set_failed(self.progress.failed);
-        match self
-            .de
-            .take_member_key(self.progress.stage.is_comma_due(), fault)
-        {
-            Some(key) => {
-                self.de.set_failed(true);
-                self.progress.stage = self.progress.stage.with_key(key.is_some());
-                Some(key)
-            }
-            None => {
-                self.de.refuse_access_in(&mut self.progress, fault);
-                None
-            }
-        }
-    }
-
-    /// The same as `next_value`; the error of a refusal is left in `fault`.
-    #[inline(always)]
-    pub(crate) fn take_value<V: Deserialize<I>>(&mut self, fault: &mut Error) -> Option<V>
-        requires key { KeyPending self.old }
-        ensures reads { ReadsNextValue V.content V.convert V.refuses self.old self.new (answered result fault.new) }
-        ensures no_memory { ReadsValueFree V.convert V.allocation_free (map_state_of self.old) (answered result fault.new) }
-    {
-        self.de.set_failed(self.progress.failed);
-        match self.de.take_member_value::<V>(fault) {
+        match self.de.take_member_value::<V>(&mut fault) {
             Some(value) => {
                 self.de.set_failed(true);
                 self.progress.stage = AccessStage::Started;
-                Some(value)
+                Ok(value)
             }
-            None => {
-                self.de.refuse_access_in(&mut self.progress, fault);
-                None
-            }
+            None => Err(self.de.refuse_access(&mut self.progress, fault)),
         }
     }
 

@@ -60,7 +60,7 @@ impl<I: Input> Deserializer<I> {
     /// Reads the next element of an array, or gives None if the closing bracket is next. The error of a refusal is left in
     /// `fault`.
     #[inline(always)]
-    fn take_element<T: Deserialize<I>>(
+    pub(crate) fn take_element<T: Deserialize<I>>(
         &mut self,
         comma_due: bool,
         fault: &mut Error,
@@ -171,31 +171,15 @@ impl<'a, I: Input> SeqAccess<'a, I> {
         ensures { ReadsNext T.content T.convert T.refuses self.old self.new result }
     {
         let mut fault = Error::new(ErrorCode::Failed);
-        match self.take_next::<T>(&mut fault) {
-            Some(next) => Ok(next),
-            None => Err(fault),
-        }
-    }
-
-    /// The same as `next_element`; the error of a refusal is left in `fault`.
-    #[inline(always)]
-    pub(crate) fn take_next<T: Deserialize<I>>(&mut self, fault: &mut Error) -> Option<Option<T>>
-        ensures { ReadsNext T.content T.convert T.refuses self.old self.new (answered result fault.new) }
-    {
         self.de.set_failed(self.progress.failed);
-        match self
-            .de
-            .take_element(self.progress.stage.is_comma_due(), fault)
-        {
+        let comma_due = self.progress.stage.is_comma_due();
+        match self.de.take_element(comma_due, &mut fault) {
             Some(next) => {
                 self.de.set_failed(true);
                 self.progress.stage = self.progress.stage.with_element(next.is_some());
-                Some(next)
+                Ok(next)
             }
-            None => {
-                self.de.refuse_access_in(&mut self.progress, fault);
-                None
-            }
+            None => Err(self.de.refuse_access(&mut self.progress, fault)),
         }
     }
 

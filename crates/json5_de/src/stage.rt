@@ -8,9 +8,7 @@ ghost use Rattle.json5_de.specs.Stages.{is_comma_due, is_pending, with_element, 
 use crate::de::Deserializer;
 use json5_read::brackets::BracketKind;
 use json5_tokens::input::Input;
-use json5_types::ErrorCode;
 use json5_types::error::{Error, Result};
-use std::mem;
 
 /// Where an access is in its array or object.
 #[derive(Clone, Copy)]
@@ -103,16 +101,6 @@ impl<I: Input> Deserializer<I> {
         self.set_failed(true);
         access.failed = true;
         self.with_position_at(access.start, fault)
-    }
-
-    /// The same of the fault that was left.
-    #[cold]
-    #[inline(never)]
-    pub(crate) fn refuse_access_in(&mut self, access: &mut Progress, fault: &mut Error)
-        ensures { RefusesAccess self.old access.old fault.old self.new access.new fault.new }
-    {
-        let own = mem::replace(fault, Error::new(ErrorCode::Failed));
-        *fault = self.refuse_access(access, own);
     }
 
     /// Gives the reader back at the end of an access, and takes the closing bracket; in a variant's content, the variant's brace

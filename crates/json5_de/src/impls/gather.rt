@@ -9,6 +9,7 @@ ghost use Rattle.json5_de.specs.MapFaults.{sides, RefusesMap};
 
 use crate::de::{Deserialize, Deserializer};
 use crate::key::DeserializeKey;
+use json5_read::brackets::BracketKind;
 use json5_tokens::input::Input;
 use json5_types::ErrorCode;
 use json5_types::error::{Error, Result};
@@ -39,17 +40,24 @@ pub(crate) fn gather<I: Input, K: DeserializeKey<I>, V: Deserialize<I>, M: Gathe
     ensures same_text { SameText de.old de.new }
 {
     let mut fault = Error::new(ErrorCode::Failed);
-    let mut map = de.deserialize_map()?;
+    let start = de.open(BracketKind::Object)?;
+    let mut comma_due = false;
     loop {
-        let Some(next) = map.take_key::<K>(&mut fault) else {
-            return Err(fault);
+        let Some(next) = de.take_member_key::<K>(comma_due, &mut fault) else {
+            de.set_failed(true);
+            return Err(de.with_position_at(start, fault));
         };
         let Some(key) = next else { break };
-        let Some(value) = map.take_value::<V>(&mut fault) else {
-            return Err(fault);
+        let Some(value) = de.take_member_value::<V>(&mut fault) else {
+            de.set_failed(true);
+            return Err(de.with_position_at(start, fault));
         };
-        items.put(key, value)?;
+        let Ok(()) = items.put(key, value) else {
+            de.set_failed(true);
+            return Err(Error::new(ErrorCode::OutOfMemory));
+        };
+        comma_due = true;
     }
-    map.end()?;
+    de.close_or_fail(BracketKind::Object, comma_due)?;
     Ok(items)
 }

@@ -1,6 +1,7 @@
 //! Lists of elements of one type, and tuples, which are arrays of a fixed length.
 
 use crate::de::{Deserialize, Deserializer};
+use json5_read::brackets::BracketKind;
 use json5_tokens::input::Input;
 use json5_types::ErrorCode;
 use json5_types::error::{Error, Result};
@@ -23,15 +24,21 @@ impl<I: Input, T: Deserialize<I>> Deserialize<I> for Vec<T> {
     fn deserialize(de: &mut Deserializer<I>) -> Result<Vec<T>> {
         let mut fault = Error::new(ErrorCode::Failed);
         let mut items = Vec::new(de.allocator());
-        let mut seq = de.deserialize_seq()?;
+        let start = de.open(BracketKind::Array)?;
+        let mut comma_due = false;
         loop {
-            let Some(next) = seq.take_next::<T>(&mut fault) else {
-                return Err(fault);
+            let Some(next) = de.take_element::<T>(comma_due, &mut fault) else {
+                de.set_failed(true);
+                return Err(de.with_position_at(start, fault));
             };
             let Some(item) = next else { break };
-            items.push(item)?;
+            let Ok(()) = items.push(item) else {
+                de.set_failed(true);
+                return Err(Error::new(ErrorCode::OutOfMemory));
+            };
+            comma_due = true;
         }
-        seq.end()?;
+        de.close_or_fail(BracketKind::Array, comma_due)?;
         Ok(items)
     }
 }
