@@ -1,0 +1,70 @@
+//! Reads the settings of a shop from layers: what is built in, files, the variables `SHOP_..`, and words `path=value`.
+//! Prints them, or the report of a fault in the layer that it came from. `--` begins with new layers.
+#![tactic(auto)]
+
+mod settings;
+
+use anyhow::Result;
+use json5_report::Report;
+use json5_settings::Layers;
+use settings::Settings;
+use std::{env, fs};
+
+fn main(rt: HostRuntime) -> Result<()> {
+    let mut layers = built_in(&rt)?;
+    for word in env::args(&rt)?.skip(1) {
+        if word.as_str() == "--" {
+            println!(rt; "{}", shown(&rt, &layers)?)?;
+            layers = built_in(&rt)?;
+            continue;
+        }
+        match word.split_once('=') {
+            Some((path, value)) => layers.set(&word, path, value)?,
+            None => layers.add(&word, &fs::read_to_string(&rt, &word)?)?,
+        }
+    }
+    println!(rt; "{}", shown(&rt, &layers)?)?;
+    Ok(())
+}
+
+/// The layers that lie below all others.
+fn built_in(rt: &HostRuntime) -> Result<Layers> {
+    let mut layers = Layers::new(rt.alloc());
+    layers.add(
+        "built in",
+        "{ host: 'localhost', workers: { least: 1, most: 4 } }",
+    )?;
+    for (name, value) in env::vars(rt)? {
+        layers.set_variable("SHOP_", &name, &value)?;
+    }
+    Ok(layers)
+}
+
+/// The settings in a line, or what is wrong with them.
+fn shown(rt: &HostRuntime, layers: &Layers) -> Result<String> {
+    let alloc = rt.alloc();
+    let text = layers.text()?;
+    let settings = match json5::from_str::<Settings>(alloc, &text) {
+        Ok(settings) => settings,
+        Err(error) => return lines(alloc, layers.report(&text, &error)?),
+    };
+    let Settings {
+        host,
+        port,
+        workers,
+    } = settings;
+    if workers.least > workers.most {
+        return lines(
+            alloc,
+            layers.fault("workers.least", "more than `workers.most`")?,
+        );
+    }
+    Ok(format!(in alloc;
+        "{host}:{port}, {} to {} workers",
+        workers.least, workers.most
+    )?)
+}
+
+fn lines(alloc: std::alloc::Global, report: Report) -> Result<String> {
+    Ok(format!(in alloc; "{report}")?)
+}

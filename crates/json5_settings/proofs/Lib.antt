@@ -1,0 +1,2 @@
+-- Lists the lemmas about layers.
+pub mod Layered

@@ -1,0 +1,3 @@
+-- Lists the definitions of layers.
+pub mod Stacks
+pub mod Texts

@@ -1,0 +1,23 @@
+//! Settings from several places, the later over the earlier, and faults told where the value came from.
+//!
+//! ```text
+//! let mut layers = Layers::new(alloc);
+//! layers.add("built in", "{ host: 'localhost', port: 80 }")?;
+//! layers.add("/etc/shop.json5", &system)?;
+//! layers.set_variable("SHOP_", "SHOP_SERVER__PORT", "8080")?;
+//! let text = layers.text()?;
+//! match json5::from_str::<Settings>(alloc, &text) {
+//!     Ok(settings) => ..
+//!     Err(error) => println!(rt; "{}", layers.report(&text, &error)?)?,
+//! }
+//! ```
+#![tactic(auto)]
+
+mod faults;
+mod layers;
+mod names;
+mod origin;
+mod spots;
+
+pub use faults::{Result, SettingError};
+pub use layers::Layers;
