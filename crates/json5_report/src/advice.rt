@@ -11,6 +11,9 @@ pub(crate) const QUOTE_TEXT: &str = "a text needs quotes: @";
 /// Words of what stands in place of a number: one that is likely, and the text with quotes.
 pub(crate) const NO_NUMBER: &str = "this is no number: write @, or @ where a text may stand";
 
+/// Words of a range in place of a number.
+pub(crate) const NO_RANGE: &str = "one number is due here, not a range: write @";
+
 /// A hint: words, in which each `@` stands for a part of the text.
 #[derive(Clone, Copy)]
 pub(crate) struct Advice<'t> {

@@ -8,14 +8,14 @@ use crate::fault::{Fault, Remark};
 use crate::found::Found;
 use crate::hints::{adjacent_advice, escaped_remark};
 use crate::lexemes::{Kind, Lexeme, lexeme_at, line_len};
-use crate::numbers::is_placeholder;
+use crate::numbers::{is_placeholder, no_number_advice};
 use crate::parts::Part;
 use crate::place::line_start;
 use crate::texts::{bare_text, values_at};
 use crate::values::{
     inner_remark, inside_remark, is_number, is_of_member, kind_of, missing_advice,
 };
-use crate::words::{LITERALS, meaning};
+use crate::words::{LITERALS, NOTHING, meaning};
 use json5_tokens::char::{is_json5_identifier, is_json5_whitespace};
 use json5_types::ErrorCode;
 use json5_walk::next::Next;
@@ -60,21 +60,33 @@ pub(crate) fn text_remark<'t>(fault: &Fault<'t>) -> Remark<'t> {
     let is_any = fault.code == Some(ErrorCode::ExpectedValue);
     if !is_any
         && !matches!(fault.found, Found::String)
-        && (fault.word() == "~" || meaning(&LITERALS, fault.word()) == Some("null"))
+        && (fault.word() == "~"
+            || meaning(&LITERALS, fault.word()) == Some("null")
+            || text_due(fault).is_some() && meaning(&NOTHING, fault.word()).is_some())
     {
         return fault.remark(missing_advice(fault, text_due(fault).unwrap_or("a text in quotes")));
     }
+    // A number that goes on behind a colon, as a time does, is a part of a text.
+    let is_key = fault.token().is_some_and(|token| fault.is_key(token));
+    let is_part = fault.is_after(Kind::Colon) && is_key;
     match fault.found {
-        Found::Number if is_number(fault.word()) && !is_part(fault) => {
+        Found::Number if is_number(fault.word()) && !is_part => {
             fault.remark(match text_due(fault) {
                 Some(kind) if !is_any => Advice::with("write @", Part::Text(kind)),
                 _ => Advice::with(QUOTE_TEXT, Part::Quoted(fault.word())),
             })
         }
-        Found::Name(name) if is_before_quote(fault, name) => fault.remark(Advice::with(
-            "nothing stands before a quote: remove `@`",
-            Part::Text(name),
-        )),
+        Found::Name(name) if is_before_quote(fault, name) => {
+            let string = lexeme_at(fault.text, fault.offset.saturating_add(name.len()));
+            let (_, rest) = string.of(fault.text).split_once('{').unwrap_or(("", ""));
+            let words = match rest.split_once('}') {
+                Some(_) if name.contains(['f', 'F']) =>
+                    "nothing stands before a quote: remove `@`, and write the value itself for `{@}`",
+                _ => "nothing stands before a quote: remove `@`",
+            };
+            let (inner, _) = rest.split_once('}').unwrap_or(("", ""));
+            fault.remark(Advice::with_both(words, Part::Text(name), Part::Text(inner)))
+        }
         Found::Name(_) if !is_any && is_of_member(fault) => listed_remark(fault),
         Found::Name(_) | Found::Number => bare_remark(fault, fault.offset, Advice::of(QUOTE_TEXT)),
         Found::Character('~' | '.' | '*' | '@' | '%' | '<' | '^' | '&' | '#') => {
@@ -126,14 +138,6 @@ fn character_remark<'t>(fault: &Fault<'t>, c: char) -> Remark<'t> {
         '|' | '>' => fault.remark(Advice::of("write a text in quotes, with \\n where a line ends")),
         '!' => fault.remark(Advice::of("a file has no variables: write the value itself")),
         _ => fault.plain(),
-    }
-}
-
-/// Whether the number at the fault goes on behind a colon, as a time does.
-fn is_part(fault: &Fault<'_>) -> bool {
-    match fault.token() {
-        Some(token) => fault.is_after(Kind::Colon) && fault.is_key(token),
-        None => false,
     }
 }
 
@@ -231,7 +235,7 @@ fn bare_advice<'t>(text: &'t str, advice: Advice<'t>) -> Advice<'t> {
     if advice.words == QUOTE_TEXT {
         bare_text_advice(text)
     } else if advice.words == NO_NUMBER {
-        Advice::with_both(NO_NUMBER, Part::Likely(text), Part::Quoted(text))
+        no_number_advice(text)
     } else {
         advice
     }

@@ -14,7 +14,9 @@ use crate::near::{name_in, near_name};
 use crate::numbers::range_advice;
 use crate::parts::Part;
 use crate::path::{is_named, unquoted};
-use crate::unclosed::close_of;
+use crate::place::line_start;
+use crate::texts::bare_text;
+use crate::unclosed::{close_of, closed_after};
 use crate::wording::{Change, Changed};
 use std::alloc::{AllocError, Global};
 
@@ -44,6 +46,13 @@ pub(crate) fn custom_remark<'t>(
     let Some(name) = name_in(fault.message) else {
         return Ok(fault.plain());
     };
+    if fault.message.starts_with("missing field `port`") {
+        if let Some(key) = member_key(alloc, fault.text, fault.object_start(), "host", 0)? {
+            if let Some(remark) = address_remark(fault, &[], key) {
+                return Ok(remark);
+            }
+        }
+    }
     if fault.message.starts_with("missing field `") {
         return Ok(fault.remark(missing_advice(alloc, fault, name)?));
     }
@@ -107,7 +116,8 @@ fn name_advice<'t>(fault: &Fault<'t>) -> Option<Advice<'t>> {
     }
 }
 
-/// What is said of a name that isn't known, of what else stands in the place of one, and of a second one.
+/// What is said of a name that isn't known, of what else stands in the place of one, and of a second one: the names that may
+/// stand here, in quotes where a text stands, and else as the message has them.
 fn names_advice<'t>(fault: &Fault<'t>) -> Option<Advice<'t>> {
     let message = fault.message;
     if message.ends_with(" is one too many") {
@@ -116,20 +126,12 @@ fn names_advice<'t>(fault: &Fault<'t>) -> Option<Advice<'t>> {
     let is_name = message.starts_with("unknown variant ")
         || message.starts_with("expected string or object: ")
         || message.starts_with("missing key: ");
-    if is_name { listed_names(fault) } else { None }
-}
-
-/// The names that may stand here: in quotes where a text stands, and else as the message has them.
-fn listed_names<'t>(fault: &Fault<'t>) -> Option<Advice<'t>> {
-    let (_, rest) = fault
-        .message
+    let (_, rest) = message
         .rsplit_once(", expected ")
-        .or(fault.message.split_once(": "))?;
-    let is_value = match fault.token() {
-        Some(token) => !fault.is_key(token),
-        None => false,
-    };
-    let quote = if is_value { '\'' } else { '`' };
+        .or(message.split_once(": "))
+        .filter(|_| is_name)?;
+    let is_key = fault.token().is_none_or(|token| fault.is_key(token));
+    let quote = if is_key { '`' } else { '\'' };
     Some(Advice::with("write @", Part::Names(rest, quote)))
 }
 
@@ -229,7 +231,10 @@ fn early_advice<'t>(fault: &Fault<'t>, name: &str) -> Option<Advice<'t>> {
         next
     };
     let is_last = matches!(next.kind, Kind::End | Kind::Comment) || fault.depth > 0;
-    if is_named(fault.text, member, name) || !is_last && next.kind != Kind::Open {
+    if is_named(fault.text, member, name) {
+        return Some(moved_advice(fault, close, member));
+    }
+    if !is_last && next.kind != Kind::Open {
         return Some(Advice::with(
             "the `}` of @ closes this object, and more follows: remove it",
             Part::Stands(fault.stands(close.start)),
@@ -240,6 +245,27 @@ fn early_advice<'t>(fault: &Fault<'t>, name: &str) -> Option<Advice<'t>> {
     } else {
         Some(Advice::of("this looks like NDJSON: a JSON5 file holds one value"))
     }
+}
+
+/// What is said of a bracket that is closed before a member that belongs before it: where all are closed, it is moved.
+fn moved_advice<'t>(fault: &Fault<'t>, close: Lexeme, member: Lexeme) -> Advice<'t> {
+    let stands = Part::Stands(fault.stands(close.start));
+    let colon = lexeme_at(fault.text, member.end);
+    let last = close_of(fault.text, lexeme_at(fault.text, colon.end));
+    let line = fault.line_of(last.start);
+    let behind = lexeme_at(fault.text, lexeme_at(fault.text, last.end).end);
+    if closed_after(fault.text, 0) > 0 || line == fault.line_of(close.start) {
+        return Advice::with(
+            "the `}` of @ closes this object, and more follows: remove it",
+            stands,
+        );
+    }
+    let words = if matches!(behind.kind, Kind::Text | Kind::Word) {
+        "the `}` of @ closes this object too early: move it behind line @, with a comma"
+    } else {
+        "the `}` of @ closes this object too early: move it behind line @"
+    };
+    Advice::with_both(words, stands, Part::Number(line))
 }
 
 /// A member with this key whose value has no brackets, if the text has one.
@@ -273,6 +299,12 @@ fn unknown_remark<'t>(
     let Some(key) = found.or(fault.token()) else {
         return Ok(fault.plain());
     };
+    let keys = member_keys(alloc, fault.text, fault.object_start())?;
+    if let Some(remark) = address_remark(fault, &keys, key) {
+        return Ok(remark);
+    }
+    let start = key.start;
+    let key = set_key(fault.text, key);
     let word = match key.kind {
         Kind::Word => key.of(fault.text),
         _ => name,
@@ -286,15 +318,89 @@ fn unknown_remark<'t>(
     let is_set = lexeme_at(fault.text, key.end)
         .of(fault.text)
         .starts_with('=');
-    let advice = match near_name(alloc, word, fault.message)? {
-        Some(near) if is_set => Advice::with(
-            "write `@: ..`, with `:` in place of `=`, and a text in quotes",
-            Part::Text(near),
-        ),
-        Some(near) if !word.contains('.') => meant_advice(word, near),
-        _ => stray_advice(alloc, fault, key, name)?,
+    let Some(near) = near_name(alloc, word, fault.message)?.filter(|_| is_set
+        || !word.contains('.')) else {
+        return Ok(Remark::of(key, stray_advice(alloc, fault, key, name)?));
     };
-    Ok(Remark::of(key, advice))
+    if has_key(fault.text, &keys, near) {
+        let line = lexeme_at(fault.text, line_start(fault.text, start));
+        let words = if line.start == start && value_at(fault.text, key) != "{" {
+            "no field of this name is known here: remove it, or begin its line with `//`"
+        } else {
+            "no field of this name is known here: remove it"
+        };
+        return Ok(Remark::of(key, Advice::of(words)));
+    }
+    Ok(if is_set {
+        Remark {
+            start,
+            ..set_remark(fault, key, near)
+        }
+    } else {
+        Remark::of(key, meant_advice(word, near))
+    })
+}
+
+/// The name that is set behind `export`, or the key itself.
+fn set_key(text: &str, key: Lexeme) -> Lexeme {
+    let name = lexeme_at(text, key.end);
+    let sign = lexeme_at(text, name.end);
+    if key.of(text) == "export" && sign.start == name.end && sign.of(text).starts_with('=') {
+        name
+    } else {
+        key
+    }
+}
+
+/// What is said of a name that is set with `=`, as in a shell and in a file of its variables.
+fn set_remark<'t>(fault: &Fault<'t>, key: Lexeme, name: &'t str) -> Remark<'t> {
+    let sign = lexeme_at(fault.text, key.end);
+    let Some(part) = bare_text(fault, sign.start) else {
+        return Remark::of(
+            key,
+            Advice::with("write `@: ..`, with `:` in place of `=`", Part::Text(name)),
+        );
+    };
+    let is_lower = key
+        .of(fault.text)
+        .contains(|c: char| c.is_ascii_lowercase());
+    let words = if is_lower || sign.start > key.end {
+        "write `@: @,`, with `:` in place of `=`"
+    } else {
+        "this is a line of a shell or of a .env file: write `@: @,`"
+    };
+    let value = part.of(fault.text).trim_start_matches('=').trim();
+    let parts = Advice::with_both(words, Part::Text(name), Part::Element(value));
+    Remark {
+        end: part.end,
+        ..Remark::of(key, parts)
+    }
+}
+
+/// What is said of a member whose text has a host and a port in it, such as `'10.0.0.4:9000'`, where both are known and none
+/// is there, or where the port is missing.
+fn address_remark<'t>(fault: &Fault<'t>, keys: &[Lexeme], key: Lexeme) -> Option<Remark<'t>> {
+    let colon = lexeme_at(fault.text, key.end);
+    let value = lexeme_at(fault.text, colon.end);
+    let (host, port) = unquoted(value.of(fault.text)).rsplit_once(':')?;
+    let is_port = port.parse::<u16>().is_ok() && value.kind == Kind::Text;
+    let is_host = host.contains(|c: char| !c.is_ascii_digit()) && !host.contains(['/', ':', '@']);
+    let has_one = has_key(fault.text, keys, "host") || has_key(fault.text, keys, "port");
+    let are_known = known_name(fault, "host")
+        .and(known_name(fault, "port"))
+        .is_some();
+    let are_free = fault.message.starts_with("missing") || are_known && !has_one;
+    if !is_port || !are_free || !is_host {
+        return None;
+    }
+    let words = "write host: @, port: @";
+    Some(Remark {
+        end: value.end,
+        ..Remark::of(
+            key,
+            Advice::with_both(words, Part::Quoted(host), Part::Text(port)),
+        )
+    })
 }
 
 /// What is said of a key in quotes that has its colon, or its value too, within them.

@@ -39,7 +39,20 @@ pub(crate) fn foreign_remark<'t>(fault: &Fault<'t>) -> Option<Remark<'t>> {
     if first_token(fault.text).of(fault.text) == "{" {
         return prompt_remark(fault);
     }
+    let (line, _) = first_lines(fault.text);
+    let front = line.split_once('{').unwrap_or(("", "")).0.trim_end();
     match kind_of(fault.text) {
+        Some("JavaScript") if front.ends_with(" =") || front == "export default" => {
+            let words = if fault.text.trim_end().ends_with(';') {
+                "this looks like JavaScript: take out `@`, and the `;` at the end"
+            } else {
+                "this looks like JavaScript: take out `@`"
+            };
+            Some(Remark {
+                end: fault.offset.saturating_add(front.len()),
+                ..fault.remark(Advice::with(words, Part::Text(front)))
+            })
+        }
         Some(kind) => Some(fault.remark(Advice::with(
             "this looks like @: in JSON5 it is { key: 'value', .. }",
             Part::Text(kind),

@@ -494,6 +494,13 @@ fn escape_remark<'t>(fault: &Fault<'t>) -> Remark<'t> {
             advice: Some(Advice::of("this is half of a character, and its other half is missing")),
         };
     }
+    if let Some(string) = fault.token().filter(|token| token.kind == Kind::Text) {
+        let inner = unquoted(string.of(fault.text));
+        if inner.get(1..).unwrap_or("").starts_with(":\\") {
+            let words = "double every backslash: @";
+            return Remark::of(string, Advice::with(words, Part::Doubled(inner)));
+        }
+    }
     let is_in_word = fault.word_inside().is_some();
     let start = if rest.starts_with('\\') {
         fault.offset
@@ -502,10 +509,18 @@ fn escape_remark<'t>(fault: &Fault<'t>) -> Remark<'t> {
     } else {
         return fault.plain();
     };
+    let escape = fault.text.get(start..).unwrap_or("");
+    let words = if escape.starts_with("\\u") {
+        "`\\u` takes four hexadecimal digits; a backslash itself is `\\\\`"
+    } else if escape.starts_with("\\x") && !is_in_word {
+        "`\\x` takes two hexadecimal digits; a backslash itself is `\\\\`"
+    } else {
+        "there is no such escape; a backslash itself is `\\\\`"
+    };
     Remark {
         start,
         end: start.saturating_add(2),
-        advice: Some(escape_advice(fault.text.get(start..).unwrap_or(""), is_in_word)),
+        advice: Some(Advice::of(words)),
     }
 }
 
@@ -526,17 +541,6 @@ fn surrogate_start(before: &str, rest: &str) -> Option<usize> {
         }
     }
     None
-}
-
-/// What is said of an escape in front: how many digits it takes, if it takes some. A key has no `\x`.
-fn escape_advice<'t>(text: &str, is_in_key: bool) -> Advice<'t> {
-    if text.starts_with("\\u") {
-        return Advice::of("`\\u` takes four hexadecimal digits; a backslash itself is `\\\\`");
-    }
-    if text.starts_with("\\x") && !is_in_key {
-        return Advice::of("`\\x` takes two hexadecimal digits; a backslash itself is `\\\\`");
-    }
-    Advice::of("there is no such escape; a backslash itself is `\\\\`")
 }
 
 /// What is said of a word whose beginning is a number or a literal.
@@ -570,7 +574,8 @@ fn quote_remark<'t>(fault: &Fault<'t>) -> Remark<'t> {
             ),
         );
     }
-    if let Some((name, _)) = key_in(fault, text) {
+    let member = text.get(1..).unwrap_or("").split_once(": ");
+    if let (Next::Key, Some((name, _))) = (fault.due, member) {
         return Remark::of(
             last,
             Advice::with("a quote is missing behind `@`", Part::Text(name)),
@@ -586,14 +591,6 @@ fn quote_remark<'t>(fault: &Fault<'t>) -> Remark<'t> {
         last,
         Advice::of("close this quote on its line, or end the line with a backslash"),
     )
-}
-
-/// The key that the string begins with, and what is behind its colon, if a key is due.
-fn key_in<'t>(fault: &Fault<'t>, string: &'t str) -> Option<(&'t str, &'t str)> {
-    if !matches!(fault.due, Next::Key) {
-        return None;
-    }
-    string.get(1..)?.split_once(": ")
 }
 
 /// What is said of a string that is to be closed before the signs at the end of its line.

@@ -63,6 +63,13 @@ fn numbers_in(text: &str) -> Option<(&str, &str)> {
     (is_port && is_whole(port)).then_some(("", port))
 }
 
+/// The first number of a range, such as `9000-9003`.
+pub(crate) fn range_start(text: &str) -> Option<&str> {
+    let (first, last) = text.split_once(['-', '\u{2013}'])?;
+    let is_range = first.parse::<u128>().ok()? < last.parse::<u128>().ok()?;
+    is_range.then_some(first)
+}
+
 /// Whether the text is of digits.
 fn is_whole(text: &str) -> bool {
     !text.is_empty() && !text.contains(|c: char| !c.is_ascii_digit())

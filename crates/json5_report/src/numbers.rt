@@ -2,19 +2,20 @@
 //!
 //! Plain code, of which no promise is made but that it is safe and ends: change it by the rows of reports, which judge it.
 
-use crate::advice::{Advice, NO_NUMBER};
+use crate::advice::{Advice, NO_NUMBER, NO_RANGE};
 use crate::fault::{Fault, Remark};
 use crate::lexemes::{Lexeme, line_len};
 use crate::message::range_in;
-use crate::number_parts::{has_letters, number_and_unit};
+use crate::number_parts::{has_letters, number_and_unit, range_start};
 use crate::parts::Part;
 use crate::texts::bare_text;
 use crate::words::{PLACEHOLDERS, meaning};
 use json5_tokens::char::is_json5_identifier;
 
 /// What a number that is written in parts is of.
-const PARTS: [char; 13] = [
-    '0', '1', '2', '3', '4', '5', '6', '7', '8', '9', ' ', ',', '\'',
+const PARTS: [char; 16] = [
+    '0', '1', '2', '3', '4', '5', '6', '7', '8', '9', ' ', '\u{a0}', '\u{2009}', '\u{202f}', ',',
+    '\'',
 ];
 
 /// What is said of a word that begins as a number does, and goes on.
@@ -43,10 +44,12 @@ pub(crate) fn number_remark<'t>(fault: &Fault<'t>, word: Lexeme) -> Remark<'t> {
         );
     }
     if let Some(c) = wrong_digit(text) {
-        return Remark::of(
-            word,
-            Advice::with("`@` is no hexadecimal digit", Part::Character(c)),
-        );
+        let advice = if matches!(c, 'O' | 'o') {
+            Advice::with_both("@: write @", Part::Letters(text), Part::Digits(text))
+        } else {
+            Advice::with("`@` is no hexadecimal digit", Part::Character(c))
+        };
+        return Remark::of(word, advice);
     }
     match bare_text(fault, word.start) {
         Some(part) => Remark::of(part, unit_advice(part.of(fault.text))),
@@ -82,22 +85,26 @@ pub(crate) fn unit_advice(text: &str) -> Advice<'_> {
     if unit.starts_with(['*', '+', '<', '>', '?', '|', '&', '=', '(']) {
         return Advice::of("a file has no expressions: write the value itself");
     }
-    if is_unit(unit) {
+    let letters = unit.trim_end_matches(['1', '2', '3', '4', '6', '8']);
+    let is_type = matches!(letters, "u" | "i" | "f");
+    let is_unit = !unit.contains(|c: char| !c.is_alphabetic() && !matches!(c, '%' | ' ' | '$'));
+    if is_type || is_unit {
         Advice::with_both(
             "a number has no unit: write @, or @ where a text may stand",
             Part::WithoutUnit(text),
             Part::Quoted(text),
         )
     } else {
-        Advice::with_both(NO_NUMBER, Part::Likely(text), Part::Quoted(text))
+        no_number_advice(text)
     }
 }
 
-/// Whether it is a unit, or the type of a number.
-fn is_unit(unit: &str) -> bool {
-    let letters = unit.trim_end_matches(['1', '2', '3', '4', '6', '8']);
-    let is_type = matches!(letters, "u" | "i" | "f");
-    is_type || !unit.contains(|c: char| !c.is_alphabetic() && !matches!(c, '%' | ' ' | '$'))
+/// What is said of a text that is no number.
+pub(crate) fn no_number_advice(text: &str) -> Advice<'_> {
+    match range_start(text) {
+        Some(first) => Advice::with(NO_RANGE, Part::Text(first)),
+        None => Advice::with_both(NO_NUMBER, Part::Likely(text), Part::Quoted(text)),
+    }
 }
 
 /// The value of an expression of whole numbers, such as `10 * 1024`.
@@ -199,7 +206,7 @@ pub(crate) fn parts_remark<'t>(fault: &Fault<'t>) -> Option<Remark<'t>> {
     let digits = run
         .get(..len)
         .unwrap_or("")
-        .trim_end_matches([' ', ',', '\'']);
+        .trim_end_matches(|c: char| !c.is_ascii_digit());
     if fault.array_line().is_some() || !before.ends_with(':') {
         return None;
     }

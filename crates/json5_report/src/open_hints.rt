@@ -6,7 +6,7 @@ use crate::advice::Advice;
 use crate::around::Around;
 use crate::fault::{Fault, Remark};
 use crate::found::Found;
-use crate::lexemes::{Kind, Lexeme};
+use crate::lexemes::{Kind, Lexeme, lexeme_at};
 use crate::parts::Part;
 use crate::unclosed::{Unclosed, closed_after, early_close, last_open, left_open};
 use json5_read::brackets::BracketKind;
@@ -27,7 +27,11 @@ pub(crate) fn open_remark<'t>(
         return Ok(Some(Remark {
             start,
             ..fault.remark(Advice::with_all(
-                "the `@` of @ is still open: a `@` is missing before this",
+                if has_entry(fault.text, start) {
+                    "the `@` of @ is still open: a `@,` is missing before this"
+                } else {
+                    "the `@` of @ is still open: a `@` is missing before this"
+                },
                 [
                     Part::Opening(bracket_kind(fault.text, open)),
                     Part::Stands(fault.stands(open)),
@@ -43,7 +47,11 @@ pub(crate) fn open_remark<'t>(
     let (line, before) = (fault.line_of(left.open), fault.line_of(left.before));
     let kind = bracket_kind(fault.text, left.open);
     Ok(Some(fault.remark(Advice::with_all(
-        "the `@` of line @ is still open: a `@` is missing before line @",
+        if has_entry(fault.text, left.before) {
+            "the `@` of line @ is still open: a `@,` is missing before line @"
+        } else {
+            "the `@` of line @ is still open: a `@` is missing before line @"
+        },
         [
             Part::Opening(kind),
             Part::Number(line),
@@ -51,6 +59,14 @@ pub(crate) fn open_remark<'t>(
             Part::Number(before),
         ],
     ))))
+}
+
+/// Whether an entry begins at the offset, so that a comma is due behind what is closed before it.
+fn has_entry(text: &str, start: usize) -> bool {
+    !matches!(
+        lexeme_at(text, start).kind,
+        Kind::Close | Kind::Comma | Kind::End
+    )
 }
 
 /// What is said of a field that is missing or unknown, or of what follows the document, if a bracket closes too early.

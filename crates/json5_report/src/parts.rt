@@ -99,7 +99,14 @@ impl fmt::Display for Part<'_> {
             Part::Elements(members, taken) => write!(f, "{}", Elements(members, *taken)),
             Part::Choices(values) => write!(f, "{}", Choices(values)),
             Part::Names(list, quote) => write!(f, "{}", Changed(list, Change::Quote(*quote))),
-            Part::Between(digits) => f.write_str(between(digits)),
+            Part::Between(digits) => {
+                let sign = digits.chars().find(|c| !c.is_ascii_digit());
+                f.write_str(match sign {
+                    Some(',') => "commas",
+                    Some('\'') => "quotes",
+                    _ => "blanks",
+                })
+            }
             Part::Joined(digits) => write!(f, "{}", Changed(digits, Change::Joined)),
             Part::Pointed(digits) => write!(f, "{}", Changed(digits, Change::Pointed)),
             Part::WithoutUnit(word) => write!(f, "{}", WithoutUnit(word)),
@@ -108,14 +115,5 @@ impl fmt::Display for Part<'_> {
             Part::Digits(word) => write!(f, "{}", Changed(word, Change::Digit)),
             Part::Elsewhere(place) => write!(f, "{place}"),
         }
-    }
-}
-
-/// What stands between digits.
-fn between(digits: &str) -> &'static str {
-    match digits.chars().find(|c| !c.is_ascii_digit()) {
-        Some(',') => "commas",
-        Some('\'') => "quotes",
-        _ => "blanks",
     }
 }

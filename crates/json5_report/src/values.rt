@@ -2,19 +2,19 @@
 //!
 //! Plain code, of which no promise is made but that it is safe and ends: change it by the rows of reports, which judge it.
 
-use crate::advice::{Advice, NO_NUMBER, QUOTE_TEXT};
+use crate::advice::{Advice, NO_NUMBER, NO_RANGE, QUOTE_TEXT};
 use crate::bare_texts::{
     bare_remark, literal_advice, placeholder_remark, slash_remark, text_remark,
 };
 use crate::fault::{Fault, Remark};
 use crate::found::Found;
 use crate::lexemes::{Kind, Lexeme, lexeme_at};
-use crate::number_parts::{has_letters, number_and_unit};
+use crate::number_parts::{has_letters, number_and_unit, range_start};
 use crate::numbers::{signs_advice, whole_of, zero_advice};
 use crate::parts::Part;
 use crate::path::unquoted;
 use crate::place::line_start;
-use crate::texts::values_at;
+use crate::texts::{bare_text, values_at};
 use crate::unclosed::{close_of, closed_after};
 use crate::wording::Taken;
 use crate::words::{BOOLS, LITERALS, NOTHING, meaning};
@@ -84,6 +84,9 @@ fn sign_advice<'t>(fault: &Fault<'t>) -> Option<Advice<'t>> {
     if c == '(' && fault.code == Some(ErrorCode::ExpectedOpeningBrace) {
         return Some(paren_advice(fault));
     }
+    if c == '-' && fault.word() == "-" && fault.gap().contains(is_json5_line_terminator) {
+        return dash_advice(fault);
+    }
     let takes_array = matches!(
         fault.code,
         Some(ErrorCode::ExpectedOpeningBracket | ErrorCode::ExpectedValue)
@@ -97,6 +100,26 @@ fn sign_advice<'t>(fault: &Fault<'t>) -> Option<Advice<'t>> {
         _ => return None,
     };
     Some(Advice::of(words))
+}
+
+/// What is said of a dash before an element, as YAML has them.
+fn dash_advice<'t>(fault: &Fault<'t>) -> Option<Advice<'t>> {
+    if fault.array_line().is_none() {
+        return None;
+    }
+    let key = lexeme_at(fault.text, fault.offset.saturating_add(1));
+    let colon = lexeme_at(fault.text, key.end);
+    let part = bare_text(fault, lexeme_at(fault.text, colon.end).start);
+    if let (true, Some(value)) = (fault.is_key(key), part) {
+        return Some(Advice::with_both(
+            "an element has no dash before it: write { @: @, .. }, with commas",
+            Part::Text(key.of(fault.text)),
+            Part::Element(value.of(fault.text)),
+        ));
+    }
+    Some(Advice::of(
+        "an element has no dash before it: remove this, and write `,` between elements",
+    ))
 }
 
 /// What is expected.
@@ -186,7 +209,7 @@ fn object_advice<'t>(fault: &Fault<'t>) -> Advice<'t> {
     let is_nothing = meaning(&NOTHING, unquoted(fault.word())).is_some();
     let words = match fault.found {
         Found::Literal(_) => "write an object: { .. }, or leave it out if it may be missing",
-        Found::String | Found::Number if is_nothing => {
+        Found::String | Found::Number | Found::Name(_) if is_nothing => {
             "write an object: { .. }, or leave it out if it may be missing"
         }
         Found::String | Found::Number => "write an object that has this in a field: { field: @ }",
@@ -204,33 +227,36 @@ fn before_advice<'t>(fault: &Fault<'t>, bracket: &'t str) -> Option<Advice<'t>> 
     if !is_before || between.contains(is_json5_line_terminator) {
         return None;
     }
+    let text = word.of(fault.text);
+    if let Some(name) = text.strip_prefix('&') {
+        return Some(Advice::with_both(
+            "a file has no anchors: remove `@`, and write the value itself for each `*@`",
+            Part::Text(text),
+            Part::Text(name),
+        ));
+    }
     Some(Advice::with_both(
         "nothing stands before the `@`: remove `@`",
         Part::Text(bracket),
-        Part::Text(word.of(fault.text)),
+        Part::Text(text),
     ))
 }
 
 /// What is said of an array where an object is expected.
 fn object_of_array<'t>(fault: &Fault<'t>) -> Advice<'t> {
     let first = lexeme_at(fault.text, fault.offset.saturating_add(1));
+    let mut behind = lexeme_at(fault.text, close_of(fault.text, first).end);
+    if behind.kind == Kind::Comma {
+        behind = lexeme_at(fault.text, behind.end);
+    }
     let words = match first.kind {
-        Kind::Open if is_alone(fault.text, first) => "write the object without brackets around it",
+        Kind::Open if behind.of(fault.text) == "]" => "write the object without brackets around it",
         Kind::Open => "write an object in place of the array: { name: { .. }, .. }",
         Kind::Text if !fault.is_key(first) =>
             "write an object that has this in a field: { field: @ }",
         _ => "an object is written in braces: { .. }",
     };
     Advice::with(words, Part::Text(first.of(fault.text)))
-}
-
-/// Whether the array ends behind the object that this opens.
-fn is_alone(text: &str, open: Lexeme) -> bool {
-    let mut token = lexeme_at(text, close_of(text, open).end);
-    if token.kind == Kind::Comma {
-        token = lexeme_at(text, token.end);
-    }
-    token.of(text) == "]"
 }
 
 /// What is said of something else where an array is expected.
@@ -307,7 +333,10 @@ pub(crate) fn member_advice<'t>(fault: &Fault<'t>) -> Option<Advice<'t>> {
     }
     let is_member = fault.member().is_some();
     let is_unopened = closed_after(fault.text, fault.offset) > fault.depth;
-    if is_unopened && is_member && is_closed_before(fault) {
+    let start = line_start(fault.text, fault.offset);
+    let front = fault.text.get(start..fault.offset).unwrap_or("").trim_end();
+    let is_closed = front.ends_with("},") && !front.contains(fault.word());
+    if is_unopened && is_member && is_closed {
         return Some(Advice::of("a bracket too many stands before this: remove it"));
     }
     if is_unopened && (is_member || is_key && fault.is_after(Kind::Colon)) {
@@ -328,13 +357,6 @@ pub(crate) fn member_advice<'t>(fault: &Fault<'t>) -> Option<Advice<'t>> {
     } else {
         None
     }
-}
-
-/// Whether an object is closed on the line before the key at the fault, which it doesn't have.
-fn is_closed_before(fault: &Fault<'_>) -> bool {
-    let start = line_start(fault.text, fault.offset);
-    let front = fault.text.get(start..fault.offset).unwrap_or("").trim_end();
-    front.ends_with("},") && !front.contains(fault.word())
 }
 
 /// What is said where a number is expected.
@@ -438,6 +460,9 @@ fn quoted_number_advice<'t>(fault: &Fault<'t>) -> Advice<'t> {
     if is_number(text) {
         return Advice::of("numbers are written without quotes");
     }
+    if let Some(first) = range_start(text) {
+        return Advice::with(NO_RANGE, Part::Text(first));
+    }
     let (number, unit) = number_and_unit(text);
     if number.is_empty() || unit.contains(|c: char| !c.is_alphabetic() && c != '%') {
         Advice::with("a number is due here: write @", Part::Likely(text))
@@ -457,13 +482,18 @@ pub(crate) fn is_number(text: &str) -> bool {
 pub(crate) fn inside_remark<'t>(fault: &Fault<'t>, word: Lexeme) -> Remark<'t> {
     let text = word.of(fault.text);
     if text.starts_with(|c: char| c.is_alphabetic()) {
-        return bare_remark(fault, word.start, word_advice(fault, text));
+        return bare_remark(fault, word.start, word_advice(fault, word.start, text));
     }
     crate::numbers::number_remark(fault, word)
 }
 
 /// What is said of a word that begins as a literal does, where a number is expected, or any value.
-fn word_advice<'t>(fault: &Fault<'t>, word: &'t str) -> Advice<'t> {
+fn word_advice<'t>(fault: &Fault<'t>, start: usize, word: &'t str) -> Advice<'t> {
+    let front = fault.text.get(..start).unwrap_or("").trim_end();
+    let is_nothing = meaning(&NOTHING, word).is_some() && meaning(&LITERALS, word).is_none();
+    if fault.code == Some(ErrorCode::ExpectedNull) && is_nothing && front.ends_with(':') {
+        return Advice::of("write null, or leave the field out");
+    }
     if fault.code != Some(ErrorCode::ExpectedNumber) {
         return Advice::of(QUOTE_TEXT);
     }

@@ -148,7 +148,10 @@ impl fmt::Display for Changed<'_> {
     fn fmt<W: fmt::Write>(&self, f: &mut fmt::Formatter<W>) -> fmt::Result {
         let Changed(text, change) = self;
         for c in text.chars() {
-            let is_between = matches!(c, ',' | ' ' | '_' | '\'');
+            let is_between = matches!(
+                c,
+                ',' | ' ' | '_' | '\'' | '\u{a0}' | '\u{2009}' | '\u{202f}'
+            );
             let made = match change {
                 Change::Plain => plain_of(c).or(letter_of(c)),
                 Change::Digit => digit_of(c),
