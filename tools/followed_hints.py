@@ -193,6 +193,10 @@ instead(r"(\S+) is written as (\S+?)(?: here)?", lambda part, old, new: new)
 instead(r"a number has no (?:blanks|commas|quotes) in it: (\S+)", lambda part, new: new)
 instead("a comma too many", lambda part: part.replace(",", "", 1))
 instead("a bracket too many: remove this|no comment is open here: remove this", lambda part: "")
+instead("a file has no anchors: remove `.+`, and write the value itself .*", lambda part: "")
+instead("write null, or leave the field out", lambda part: "null")
+instead("double every backslash: (.+)", lambda part, new: new)
+instead("(write host: .+, port: .+)", lambda part, new: new[6:])
 instead("nothing stands before (?:a quote|the `.`): remove `.+`", lambda part: "")
 instead("a text is not put together: write (.+)", lambda part, new: new)
 instead("write null, or the name alone in place of the object", lambda part: "null")
@@ -286,10 +290,9 @@ def without_placeholder(case, said):
     return put(case.text, said.start, comma.end() if comma and comma[0] == "," else said.end, "")
 
 
-@form("write `(.+): \\.\\.`, with `:` in place of `=`, and a text in quotes")
-def member_for_setting(case, said, key):
-    found = re.compile(r"\s*=\s*([^\s,}\]]+)").match(case.text, said.end)
-    return put(case.text, said.start, found.end(), "%s: '%s'" % (key, found[1].replace("\\", "\\\\")))
+@form("(?:this is a line of a shell or of a .env file: )?write `(.+: .+),`(?:, with `:` in place of `=`)?")
+def member_for_setting(case, said, member):
+    return put(case.text, said.start, said.end, member)
 
 
 @form("this is a mark of a merge: keep one of its two sides, without the marks")
@@ -302,7 +305,7 @@ def first_value(case, said):
     return case.text[:said.start] + "\n" if case.way == "ndjson" else None
 
 
-@form("this looks like (.+): in JSON5 it is .*")
+@form("this looks like (.+): (?:in JSON5 it is|take out) .*")
 def other_kind(case, said, kind):
     # a person who is told the right kind writes the file anew
     return case.good.text if re.fullmatch(KINDS.get(case.way, ""), kind) else None
@@ -391,7 +394,7 @@ def colon_or_value(case, said, key):
     return put(case.text, name.end(), name.end(), ": " + fits(case, said._replace(path=re.sub(r"\.?%s$" % re.escape(key), "", said.path)), key))
 
 
-@form("(?:this is no number|a number is due here): write (?:(\\d+)(?: or \\d+)?|a number)(?:, or ('.*'|\".*\") where a text may stand)?")
+@form("(?:this is no number|a number is due here|one number is due here, not a range): write (?:(\\d+)(?: or \\d+)?|a number)(?:, or ('.*'|\".*\") where a text may stand)?")
 def no_number(case, said, number, text):
     type = type_at(case.schema, said.path)
     if type and type[0] == "number":
@@ -452,7 +455,7 @@ def same_quote(case, said, quote):
     return put(case.text, said.start + len(part) - 1, said.start + len(part), quote)
 
 
-@form("remove it(?:, or move it .*)?|rename it to `.+`.*, or remove it")
+@form("(?:no field of this name is known here: )?remove it(?:, or move it .*|, or begin its line with `//`)?|rename it to `.+`.*, or remove it")
 def remove_or_move(case, said):
     rest, member = without_member(case.text, said.start)
     name, fields = next(lexemes(member))[0].strip("'\""), case.schema[1]
@@ -472,7 +475,7 @@ def line_start(text, number):
     return ends[min(int(number), len(ends)) - 1]
 
 
-@form("the `.` of line \\d+ is still open: a `(.)` is missing before line (\\d+)")
+@form("the `.` of line \\d+ is still open: a `(.),?` is missing before line (\\d+)")
 def close_before_line(case, said, bracket, line):
     token = next(lexemes(case.text, line_start(case.text, line)), None)
     return closed_at(case.text, token.start() if token else len(case.text), bracket)
@@ -587,7 +590,7 @@ def close_first(case, said, bracket):
     return put(case.text, said.start, said.start, CLOSING[bracket])
 
 
-@form(r"the `.` of (?:line|column) \d+ is still open: a `(.)` is missing before this")
+@form(r"the `.` of (?:line|column) \d+ is still open: a `(.),?` is missing before this")
 def close_before(case, said, bracket):
     return closed_at(case.text, said.start, bracket)
 
@@ -701,7 +704,7 @@ def array_due(case, said, new):
     return put(case.text, said.start, end, fits(case, said) if ".." in new else new)
 
 
-@form("write \\[ .., .. \\], without dashes")
+@form("an element has no dash before it: .*|write \\[ .., .. \\], without dashes")
 def without_dashes(case, said):
     return put(case.text, said.start, value_end(case.text, said.start), fits(case, said))
 
@@ -721,6 +724,14 @@ def object_alone(case, said):
 @form("write an object that has this in a field: .*")
 def object_with(case, said):
     return put(case.text, said.start, said.end, fits(case, said))
+
+
+@form("the `}` of (?:line|column) \\d+ closes this object too early: move it behind line (\\d+)(, with a comma)?")
+def moved_behind(case, said, line, comma):
+    closing = closing_of(case.text, said.start)
+    start = line_start(case.text, line)
+    end = start + len(LINE.split(case.text[start:], maxsplit=1)[0])
+    return put(put(case.text, end, end, " }" + ("," if comma else "")), closing, closing + 1, "")
 
 
 @form("the `}` of (?:line|column) \\d+ closes this object, and more follows: remove it")
