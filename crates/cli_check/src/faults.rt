@@ -7,7 +7,7 @@ use crate::trouble::Unshown;
 use crate::verdict::Source;
 use cli_files::{put_texts, shown};
 use json5_report::Report;
-use json5_schema::Schema;
+use json5_schema::{Fault, MAX_FAULTS, Part, Schema};
 use json5_styles::to_json_string;
 use json5_types::Position;
 use json5_types::error::{Error, Result as Made};
@@ -48,14 +48,42 @@ pub(crate) fn show_refusal<W: Write>(
 pub(crate) fn show_faults<W: Write>(
     alloc: Global,
     options: &Options,
-    _schema: &Schema,
+    schema: &Schema,
     source: Source<'_>,
-    _value: &Value,
+    value: &Value,
     w: &mut W,
 ) -> Result<(), Unshown> {
-    let spot = spot_at(alloc, source.text, "")?;
-    let report = report_at(alloc, source, spot.value, "doesn't conform to the schema")?;
-    put(alloc, options, &report, Some("#"), w)
+    if options.is_quiet {
+        return Ok(());
+    }
+    let faults = schema.faults(alloc, value)?;
+    for fault in &faults {
+        show_fault(alloc, options, source, fault, w)?;
+    }
+    if faults.len() == MAX_FAULTS && !options.is_json {
+        put_texts(w, &["there may be more faults, which aren't shown\n"])?;
+    }
+    Ok(())
+}
+
+/// Shows a fault of a document.
+fn show_fault<W: Write>(
+    alloc: Global,
+    options: &Options,
+    source: Source<'_>,
+    fault: &Fault,
+    w: &mut W,
+) -> Result<(), Unshown> {
+    let place = &fault.place;
+    let pointer = place.pointer(alloc)?;
+    let spot = spot_at(alloc, source.text, pointer.as_str())?;
+    let offset = match place.part {
+        Part::Key => spot.key,
+        Part::Value => spot.value,
+    };
+    let message = format!(in alloc; "{fault}")?;
+    let report = report_at(alloc, source, offset, message.as_str())?;
+    put(alloc, options, &report, Some(place.rule.as_str()), w)
 }
 
 /// The report that says this of the place in a text that so many bytes come before.
@@ -92,7 +120,7 @@ fn put<W: Write>(
     }
     let report = format!(in alloc; "{report}")?;
     match rule {
-        Some(rule) => put_texts(w, &[report.as_str(), "\n  = ", rule, "\n"])?,
+        Some(rule) => put_texts(w, &[report.as_str(), "\n  = rule ", rule, "\n"])?,
         None => put_texts(w, &[report.as_str(), "\n"])?,
     }
     Ok(())

@@ -12,7 +12,7 @@ ghost use Rattle.cli_check.specs.Troubles.{Refuses, RefusesError};
 use crate::choosing::own_schema;
 use crate::faults::{show_bytes, show_faults, show_refusal};
 use crate::options::Options;
-use crate::trouble::Trouble;
+use crate::trouble::{Trouble, Unshown};
 use crate::verdict::{Source, Verdict};
 use cli_files::{Disk, Failure, Reason, read_whole};
 use json5_read::read_document;
@@ -82,7 +82,7 @@ fn check_bytes<D: Disk, W: Write>(
 {
     match String::from_utf8(bytes) {
         Ok(text) => check_text(disk, alloc, options, given, name, text, w),
-        Err(e) => refuse_bytes(alloc, options, name, e.as_bytes(), w),
+        Err(e) => told(show_bytes(alloc, options, name, e.as_bytes(), w)),
     }
 }
 
@@ -176,21 +176,14 @@ fn judge_so<W: Write>(
     if accepted {
         return Ok(Verdict::Conforms);
     }
-    tell(alloc, options, schema, source, value, w)
+    told(show_faults(alloc, options, schema, source, value, w))
 }
 
-/// Shows why the value doesn't conform.
-fn tell<W: Write>(
-    alloc: Global,
-    options: &Options,
-    schema: &Schema,
-    source: Source<'_>,
-    value: &Value,
-    w: &mut W,
-) -> Result<Verdict, Trouble>
+/// What is said of a document of which this was shown.
+fn told(shown: Result<(), Unshown>) -> Result<Verdict, Trouble>
     ensures { Refuses result }
 {
-    match show_faults(alloc, options, schema, source, value, w) {
+    match shown {
         Ok(()) => Ok(Verdict::Differs),
         Err(unshown) => Err(Trouble::of_unshown(unshown)),
     }
@@ -207,39 +200,7 @@ fn refuse<W: Write>(
     ensures { RefusesError error result }
 {
     match Failure::at(error) {
-        Failure::Text(error) => refuse_text(alloc, options, source, &error, w),
+        Failure::Text(error) => told(show_refusal(alloc, options, source, &error, w)),
         _ => Err(Trouble::NoMemory),
-    }
-}
-
-/// Shows why a text is no document.
-fn refuse_text<W: Write>(
-    alloc: Global,
-    options: &Options,
-    source: Source<'_>,
-    error: &Error,
-    w: &mut W,
-) -> Result<Verdict, Trouble>
-    ensures { Refuses result }
-{
-    match show_refusal(alloc, options, source, error, w) {
-        Ok(()) => Ok(Verdict::Differs),
-        Err(unshown) => Err(Trouble::of_unshown(unshown)),
-    }
-}
-
-/// Shows why bytes are no text.
-fn refuse_bytes<W: Write>(
-    alloc: Global,
-    options: &Options,
-    name: &str,
-    bytes: &[u8],
-    w: &mut W,
-) -> Result<Verdict, Trouble>
-    ensures { Refuses result }
-{
-    match show_bytes(alloc, options, name, bytes, w) {
-        Ok(()) => Ok(Verdict::Differs),
-        Err(unshown) => Err(Trouble::of_unshown(unshown)),
     }
 }

@@ -7,4 +7,4 @@ pub returns-then-accepted : goal.returns-then-accepted
 returns-then-accepted g c = λ given. decided given (schema_of c.args.schema.now) (value_of c.args.value.now) c.args.accepted c.if-accepted.true c.requires
 
 pub returns : goal.returns
-returns g c = λ given. differing given (schema_of c.args.schema.now) (value_of c.args.value.now) c.args.accepted c.tell.result c.if-accepted.false c.requires c.tell.ensures
+returns g c = λ given. differing given (schema_of c.args.schema.now) (value_of c.args.value.now) c.args.accepted c.told.result c.if-accepted.false c.requires c.told.ensures

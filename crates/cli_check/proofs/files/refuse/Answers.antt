@@ -4,4 +4,4 @@ use Rattle.cli_check.proofs.Judged.{not_memory, text_refused}
 use Rattle.cli_check.proofs.files.refuse.Goals as goal
 
 pub returns-in-Text : goal.returns-in-Text
-returns-in-Text g c = text_refused c.args.error c.refuse_text.result (not_memory (kind_of c.args.error) c.args.error c.in-Text.error refl (sym c.in-Text.ensures)) c.refuse_text.ensures
+returns-in-Text g c = text_refused c.args.error c.told.result (not_memory (kind_of c.args.error) c.args.error c.in-Text.error refl (sym c.in-Text.ensures)) c.told.ensures

@@ -1,9 +1,5 @@
-use Rattle.std.proofs.Common.{arith}
 use Rattle.cli_check.proofs.NamesLed.{any_here, none_more, none_at_all}
 use Rattle.cli_check.proofs.naming.mapped.Goals as goal
-
-pub loop-map-init : goal.loop-map-init
-loop-map-init c = λ k d file low. absurd (omega arith)
 
 pub returns-in-Some : goal.returns-in-Some
 returns-in-Some c = any_here c.args.schema.now c.args.maps.now c.loop-map.map-index c.map-item.result c.as_str.result.now c.in-Some.file.now c.loop-map-test.true c.map-item.is c.as_str.ensures.value c.in-Some.ensures
