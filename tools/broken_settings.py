@@ -343,8 +343,74 @@ written("comment_ended_twice", COMMENT, "<text> */", where=lambda piece: piece.t
 swapped("comment_not_closed", COMMENT, lambda piece: piece.text[:-2], lambda piece: piece.text[1] == "*")
 
 
+written("entities_of_html", TEXTS, "&quot;<inside>&quot;", "&#39;<inside>&#39;", "&apos;<inside>&apos;")
+written("key_in_entities", KEY, "&quot;<value>&quot;", "&#39;<value>&#39;")
+swapped("entity_in_text", ["text"], lambda piece: piece.value.replace("&", "&amp;"), lambda piece: "&" in piece.value)
+ALIKE = dict(zip("aceiopxyhkmtu", "\u0430\u0441\u0435\u0456\u043e\u0440\u0445\u0443\u04bb\u03ba\u043c\u0442\u03c5"))
+
+
+def with_other_letter(piece):
+    at = chance.choice([place for place, letter in enumerate(piece.value) if letter in ALIKE])
+    other = chance.choice([ALIKE[piece.value[at]], chr(ord(piece.value[at]) + 0xFEE0)])
+    return piece.text.replace(piece.value, piece.value[:at] + other + piece.value[at + 1:])
+
+
+swapped("field_with_other_letter", KEY, with_other_letter, lambda piece: is_name(piece) and set(piece.value) & set(ALIKE))
+swapped("enum_with_other_letter", ["enum"], with_other_letter, lambda piece: set(piece.value) & set(ALIKE))
+written("placeholder", VALUES, "...", "\u2026", "<<field>>", "TODO", "xxx", "CHANGEME", "your-<field>", "???", "@<field>@")
+
+
 def is_field(entry):
     return isinstance(entry.path[-1], str)
+
+
+@way
+def setting_of_a_shell(good):
+    entry = good.entry(lambda entry: is_field(entry) and entry.type[0] == "text" and is_name(good.pieces[entry.start])
+        and not re.search(r"[ {}*]", good.pieces[entry.value].value))
+    if entry is None:
+        return None
+    key, value = (good.pieces[index].value for index in (entry.start, entry.value))
+    return good.made({i: "%s=%s" % (key.upper(), value) if i == entry.start else "" for i in range(entry.start, entry.end)})
+
+
+@way
+def placeholder_for_collection(good):
+    entry = good.entry(lambda entry: entry.type[0] in ("struct", "map", "list"))
+    new = chance.choice(["...", "TODO", "<%s>" % entry.path[-1], "\u2026"])
+    return good.made({i: new if i == entry.value else "" for i in range(entry.value, entry.end)})
+
+
+@way
+def placeholder_among_members(good):
+    return at_line(good, lambda blank: blank.split("\n")[-1] + chance.choice(["...", "...,", "\u2026"]) + blank)
+
+
+@way
+def file_breaks_off(good):
+    end = len(good.pieces)
+    while good.pieces[end - 1].kind in ("close", "blank", "comma", "comment"):
+        end -= 1
+    closes = [piece for piece in good.pieces[end:] if piece.kind == "close"]
+    return "".join(piece.text for piece in good.pieces[:end]) if len(closes) > 1 else None
+
+
+@way
+def section_twice(good):
+    entry = good.entry(lambda entry: len(entry.path) == 1 and entry.type[0] in ("struct", "list", "map"))
+    root = good.some("open", where=lambda piece: piece.path == ())
+    return good.made({root: "{" + good.pieces[root + 1].text + good.text_of(entry) + ","})
+
+
+@way
+def bracket_closes_too_early(good):
+    # behind the last value of an object of several lines, which another one of the same kind closes
+    ends = [entry for entry in good.entries if entry.path[:-1] and good.pieces[entry.owner].text == "{"
+        and "\n" in good.pieces[entry.owner + 1].text]
+    if not ends:
+        return None
+    entry = chance.choice(ends)
+    return good.made({entry.end - 1: good.pieces[entry.end - 1].text + chance.choice([" }", "}"])})
 
 
 @way

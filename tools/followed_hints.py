@@ -269,10 +269,27 @@ def whole_value(text, place):
     return start, start + len(text[start:end].rstrip())
 
 
-@form("a file has no (?:expressions|variables): write the value itself(?:, or .* if the program puts it in)?")
+@form("`.+` is a placeholder: write (?:the text itself in quotes(?:, or .* if the program puts it in)?|.* in its place(?:, or remove it)?)")
+def placeholder_itself(case, said):
+    return put(case.text, said.start, said.end, fits(case, said))
+
+
+@form("a file has no (?:expressions|variables): write the value itself")
 def value_itself(case, said):
     start, end = whole_value(case.text, said.start)
     return put(case.text, start, end, fits(case, said))
+
+
+@form("`.+` is a placeholder: write the members that it stands for, or remove it")
+def without_placeholder(case, said):
+    comma = next(lexemes(case.text, said.end), None)
+    return put(case.text, said.start, comma.end() if comma and comma[0] == "," else said.end, "")
+
+
+@form("write `(.+): \\.\\.`, with `:` in place of `=`, and a text in quotes")
+def member_for_setting(case, said, key):
+    found = re.compile(r"\s*=\s*([^\s,}\]]+)").match(case.text, said.end)
+    return put(case.text, said.start, found.end(), "%s: '%s'" % (key, found[1].replace("\\", "\\\\")))
 
 
 @form("this is a mark of a merge: keep one of its two sides, without the marks")
@@ -395,8 +412,11 @@ def escaped_quote(case, said, quote):
     return put(case.text, at, at, "\\")
 
 
-@form("write (?:a number|a text in quotes|a value|true or false|an object: .*|an array: .*), or leave it out if it may be missing")
-@form("write (?:a number|a text in quotes|a value|null, or a number where one is due)")
+TEXT = "(?:a text|the name of a (?:host|file|folder)|an address|a path) in quotes"
+
+
+@form("write (?:a number|%s|a value|true or false|an object: .*|an array: .*), or leave it out if it may be missing" % TEXT)
+@form("write (?:a number|%s|a value|null, or a number where one is due)" % TEXT)
 def write_value(case, said):
     return put(case.text, said.start, max(said.end, value_end(case.text, said.start)), fits(case, said))
 
@@ -529,9 +549,37 @@ def as_utf8(case, said):
     return case.good.text
 
 
-@form("this `(.)` is never closed")
+@form("this `.` is never closed: write `(.)` at the end of the file")
 def close_at_end(case, said, bracket):
-    return case.text + CLOSING[bracket]
+    return case.text + bracket
+
+
+@form("the file breaks off: write at its end (.*)")
+def close_all(case, said, closers):
+    return case.text + "".join(re.findall("`(.)` for", closers))
+
+
+@form("the file breaks off: close the quote of line (\\d+), and then write (.*)")
+def close_text_and_all(case, said, line, closers):
+    return case.text + case.text[said.start] + "".join(re.findall("`(.)` for", closers))
+
+
+@form("the last `(.)` of line (\\d+) closes the `.` of line \\d+ too early: remove it")
+def without_last(case, said, bracket, line):
+    start = line_start(case.text, line)
+    place = start + LINE.split(case.text[start:], maxsplit=1)[0].rindex(bracket)
+    return put(case.text, place, place + 1, "")
+
+
+@form("`.+` is how HTML writes `.`: write (.+)")
+def without_entities(case, said, new):
+    return put(case.text, said.start, said.end, new)
+
+
+@form("the `(.+)` of line (\\d+) has .* in it: write `(.+)` there")
+def with_letters(case, said, old, line, new):
+    place = case.text.index(old, line_start(case.text, line))
+    return put(case.text, place, place + len(old), new)
 
 
 @form("the `(.)` of (?:line|column) \\d+ is to be closed first")
@@ -610,6 +658,7 @@ def in_brackets(case, said, new):
     return put(case.text, said.start, said.start + len(part), fits(case, said))
 
 
+@form("the `.` in it is .*: write `(.*)`")
 @form("did you mean `(.*)`\\?")
 def meant(case, said, name):
     quote = case.text[said.start:said.start + 1]
@@ -617,8 +666,8 @@ def meant(case, said, name):
     return put(case.text, said.start, said.end, quote + name + quote)
 
 
-@form("`(.*)` stands on line (\\d+) already: remove one of them")
-def only_first(case, said, name, line):
+@form("`.*` stands on line \\d+ (?:already|and on line \\d+): (?:write all .*, or remove one|remove one of them)")
+def only_first(case, said):
     return without_member(case.text, said.start)[0]
 
 
@@ -674,7 +723,7 @@ def object_with(case, said):
     return put(case.text, said.start, said.end, fits(case, said))
 
 
-@form("the bracket of line \\d+ closes this object, and more follows: remove it")
+@form("the `}` of (?:line|column) \\d+ closes this object, and more follows: remove it")
 def closes_early(case, said):
     closing = closing_of(case.text, said.start)
     return put(case.text, closing, closing + 1, "")

@@ -148,6 +148,23 @@ def patched(tree, operations):
     return tree
 
 
+def put(tree, steps, value, if_absent=False):
+    """The tree with the value where the steps, keys and indices, lead: set, or added with what is missing above it; LookupError where it can't be."""
+    if not steps:
+        return tree if if_absent else value
+    step, rest = steps[0], steps[1:]
+    if isinstance(step, int) != is_array(tree) or not isinstance(tree, list):
+        raise LookupError
+    place = place_of(tree, str(step))
+    if place is None:
+        if isinstance(step, int) and step != len(tree):
+            raise LookupError
+        made = value if not rest else put([] if isinstance(rest[0], int) else ["object"], rest, value)
+        return tree + [made if isinstance(step, int) else (step, made)]
+    inner = put(tree[place] if isinstance(step, int) else tree[place][1], rest, value, if_absent)
+    return tree[:place] + [inner if isinstance(step, int) else (step, inner)] + tree[place + 1:]
+
+
 # ---- RFC 7396, section 2
 
 def merged(target, patch):
@@ -210,14 +227,23 @@ def random_operation(tree):
     return operation
 
 
-def random_operations(tree):
+def random_operations(tree, is_long=False):
+    """Some operations of any kind; or many, of which the last alone may be one that can't be made."""
     made = []
-    for _ in range(chance.choice([1, 1, 2, 3, 4])):
-        made.append(random_operation(tree))
+    for _ in range(chance.choice([40, 60, 80]) if is_long else chance.choice([1, 1, 2, 3, 4])):
+        operation = random_operation(tree)
+        if is_long and operation["op"] in ("add", "copy") and len(repr(tree)) > 3000:
+            continue
         try:
-            tree = performed(tree, made[-1])
+            tree = performed(tree, operation)
         except LookupError:
-            pass
+            if is_long and chance.random() < 0.98:
+                continue
+            made.append(operation)
+            if is_long:
+                break
+        else:
+            made.append(operation)
     return made
 
 

@@ -6,6 +6,7 @@ ghost use Rattle.json5_types.specs.Errors.{LacksMemory};
 use crate::advice::Advice;
 use crate::course::Course;
 use crate::fault::Remark;
+use crate::parts::Part;
 use crate::report::{Report, Spot, WIDTH};
 use crate::widths::is_seen;
 use json5_types::Position;
@@ -43,7 +44,7 @@ impl Report {
         let advice = byte_advice(bytes, offset, error.error_len());
         let spot = Spot {
             name,
-            text: if matches!(advice, Advice::Utf16) {
+            text: if advice.words == UTF_16 {
                 ""
             } else {
                 text.as_str()
@@ -59,6 +60,9 @@ impl Report {
     }
 }
 
+/// What is to be done with a file of another encoding.
+const UTF_16: &str = "this file is UTF-16: save it as UTF-8";
+
 /// The character that is shown for the byte, and what is to be done.
 fn byte_remark(offset: usize, advice: Advice<'static>) -> Remark<'static> {
     Remark {
@@ -71,10 +75,18 @@ fn byte_remark(offset: usize, advice: Advice<'static>) -> Remark<'static> {
 /// What is to be done with bytes that are no character. So many belong together, or the file ends within them.
 fn byte_advice(bytes: &[u8], offset: usize, len: Option<usize>) -> Advice<'static> {
     match (bytes.get(offset..).unwrap_or(&[]), len) {
-        _ if bytes.starts_with(&[0xff, 0xfe]) || bytes.starts_with(&[0xfe, 0xff]) => Advice::Utf16,
-        ([0xed, 0xa0..=0xbf, ..], _) => Advice::Surrogate,
-        (_, None | Some(2..)) => Advice::CutCharacter,
-        ([byte, ..], _) if is_seen(char::from(*byte)) => Advice::Latin1(*byte),
-        _ => Advice::SaveAsUtf8,
+        _ if bytes.starts_with(&[0xff, 0xfe]) || bytes.starts_with(&[0xfe, 0xff]) => Advice::of(
+            UTF_16,
+        ),
+        ([0xed, 0xa0..=0xbf, ..], _) => Advice::of(
+            "this is half of a character, and its other half is missing",
+        ),
+        (_, None | Some(2..)) => Advice::of("a character is cut off here"),
+        ([byte, ..], _) if is_seen(char::from(*byte)) => Advice::with_both(
+            "0x@ is @ in Latin-1: save the file as UTF-8",
+            Part::Byte(*byte),
+            Part::Latin(*byte),
+        ),
+        _ => Advice::of("save the file as UTF-8"),
     }
 }

@@ -5,7 +5,7 @@
 use crate::advice::Advice;
 use crate::fault::{Fault, Remark};
 use crate::lexemes::{Kind, Lexeme, lexeme_at};
-use crate::member_advice::MemberAdvice;
+use crate::parts::Part;
 
 /// What is said of what follows a comment that another one within it ended, up to where it was to end.
 pub(crate) fn nested_remark<'t>(fault: &Fault<'t>) -> Option<Remark<'t>> {
@@ -15,7 +15,10 @@ pub(crate) fn nested_remark<'t>(fault: &Fault<'t>) -> Option<Remark<'t>> {
         return None;
     }
     let line = fault.line_of(comment.end);
-    Some(fault.remark(Advice::Member(MemberAdvice::Nested(line))))
+    Some(fault.remark(Advice::with(
+        "comments are not nested: the first `*/` of line @ ended this one; remove that",
+        Part::Number(line),
+    )))
 }
 
 /// The last comment before the offset that another one begins in.

@@ -131,18 +131,6 @@ impl<'t> Fault<'t> {
         }
     }
 
-    /// Whether it is an unknown field of an object that is in another one.
-    pub(crate) fn is_unknown_inside(&self) -> bool {
-        let is_key = !matches!(
-            self.token(),
-            Some(Lexeme {
-                kind: Kind::Open,
-                ..
-            })
-        );
-        self.depth > 1 && is_key && self.message.starts_with("unknown field `")
-    }
-
     /// Where the object begins whose field is at fault: at the offset itself, or it is the innermost one that is open there.
     pub(crate) fn object_start(&self) -> usize {
         match (self.token(), self.open) {

@@ -18,7 +18,9 @@ pub(crate) fn field_messages(
     required: &[&str],
 ) -> Result<Vec<String>, AllocError> {
     let mut messages = Vec::new(alloc);
-    if !is_of_field(error.message()) {
+    let said = error.message();
+    let is_present = said.starts_with("unknown field `") || said.starts_with("duplicate field `");
+    if !is_present && !said.starts_with("missing field `") {
         return Ok(messages);
     }
     let keys = member_keys(alloc, text, offset_of(text, position_of(text, error)))?;
@@ -30,13 +32,6 @@ pub(crate) fn field_messages(
     object.present(known, &mut messages)?;
     object.missing(required, &mut messages)?;
     Ok(messages)
-}
-
-/// Whether the message is that of a fault of a field.
-fn is_of_field(message: &str) -> bool {
-    message.starts_with("unknown field `")
-        || message.starts_with("missing field `")
-        || message.starts_with("duplicate field `")
 }
 
 /// An object of a text, by its keys.

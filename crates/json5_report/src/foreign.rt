@@ -4,9 +4,9 @@
 
 use crate::advice::Advice;
 use crate::fault::{Fault, Remark};
-use crate::left_advice::LeftAdvice;
 use crate::leftovers::{left_remark, prompt_remark};
 use crate::lexemes::{first_token, line_len};
+use crate::parts::Part;
 use crate::place::line_start;
 use json5_tokens::char::{is_json5_identifier, is_json5_whitespace};
 use json5_walk::next::Next;
@@ -28,7 +28,7 @@ const JAVASCRIPT: [&str; 10] = [
 /// What is said of a file of another kind, or of a mark that a program left.
 pub(crate) fn foreign_remark<'t>(fault: &Fault<'t>) -> Option<Remark<'t>> {
     if matches!(fault.text.as_bytes(), [0, ..] | [_, 0, ..]) {
-        return Some(fault.remark(Advice::Utf16));
+        return Some(fault.remark(Advice::of("this file is UTF-16: save it as UTF-8")));
     }
     if let Some(remark) = mark_remark(fault) {
         return Some(remark);
@@ -40,7 +40,10 @@ pub(crate) fn foreign_remark<'t>(fault: &Fault<'t>) -> Option<Remark<'t>> {
         return prompt_remark(fault);
     }
     match kind_of(fault.text) {
-        Some(kind) => Some(fault.remark(Advice::Foreign(kind))),
+        Some(kind) => Some(fault.remark(Advice::with(
+            "this looks like @: in JSON5 it is { key: 'value', .. }",
+            Part::Text(kind),
+        ))),
         None => prompt_remark(fault),
     }
 }
@@ -55,11 +58,13 @@ fn mark_remark<'t>(fault: &Fault<'t>) -> Option<Remark<'t>> {
             return Some(Remark {
                 start,
                 end,
-                advice: Some(Advice::MergeMarks),
+                advice: Some(Advice::of(
+                    "this is a mark of a merge: keep one of its two sides, without the marks",
+                )),
             });
         }
     }
-    if is_fence(line) {
+    if line.starts_with("```") || line.starts_with("~~~") {
         return Some(fence_remark(fault, start));
     }
     let rest = line.strip_prefix(['+', '-']).unwrap_or("-");
@@ -70,14 +75,10 @@ fn mark_remark<'t>(fault: &Fault<'t>) -> Option<Remark<'t>> {
         return Some(Remark {
             start,
             end,
-            advice: Some(Advice::DiffMark),
+            advice: Some(Advice::of("this is a mark of a diff: remove it")),
         });
     }
     None
-}
-
-fn is_fence(line: &str) -> bool {
-    line.starts_with("```") || line.starts_with("~~~")
 }
 
 /// What is said of a fence that begins at the offset, and of the one that closes it.
@@ -86,11 +87,19 @@ fn fence_remark<'t>(fault: &Fault<'t>, start: usize) -> Remark<'t> {
     let end = start.saturating_add(line_len(rest));
     let behind = fault.text.get(end..).unwrap_or("");
     let other = behind.find("\n```").or(behind.find("\n~~~"));
-    let line = other.map(|index| fault.line_of(end.saturating_add(index).saturating_add(1)));
+    let line = match other {
+        Some(index) => Part::Number(fault.line_of(end.saturating_add(index).saturating_add(1))),
+        None => Part::Nothing,
+    };
+    let words = if other.is_some() {
+        "this line is of Markdown: remove it and line @"
+    } else {
+        "this line is of Markdown: remove it"
+    };
     Remark {
         start,
         end,
-        advice: Some(Advice::Left(LeftAdvice::Fence(line))),
+        advice: Some(Advice::with(words, line)),
     }
 }
 

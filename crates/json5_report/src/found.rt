@@ -71,15 +71,8 @@ impl fmt::Display for Found<'_> {
             Found::Array => f.write_str("an array"),
             Found::Literal(word) => f.write_str(word),
             Found::Name(name) => write!(f, "the name {name}"),
-            Found::Character(c) => write_character(f, *c),
+            Found::Character(c) if crate::widths::is_seen(*c) => write!(f, "'{c}'"),
+            Found::Character(c) => write!(f, "U+{:04X}", *c as u32),
         }
     }
-}
-
-/// The character in quotes; one that can't be seen by its code.
-fn write_character<W: fmt::Write>(f: &mut fmt::Formatter<W>, c: char) -> fmt::Result {
-    if crate::widths::is_seen(c) {
-        return write!(f, "'{c}'");
-    }
-    write!(f, "U+{:04X}", c as u32)
 }

@@ -2,28 +2,26 @@
 //!
 //! Plain code, of which no promise is made but that it is safe and ends: change it by the rows of reports, which judge it.
 
-use crate::advice::Advice;
-use crate::around::Around;
+use crate::advice::{Advice, QUOTE_TEXT};
+use crate::bare_texts::{bare_remark, is_choice};
 use crate::comments::nested_remark;
 use crate::custom::custom_remark;
+use crate::entities::entity_remark;
 use crate::fault::{Fault, Remark};
 use crate::foreign::foreign_remark;
 use crate::found::Found;
 use crate::keys::{colon_remark, key_remark};
 use crate::lexemes::{Kind, Lexeme, first_token, lexeme_at, line_len};
 use crate::lookalikes::{is_other_quote, plain_of};
-use crate::member_advice::MemberAdvice;
-use crate::number_advice::NumberAdvice;
 use crate::numbers::{number_remark, parts_remark, value_of};
+use crate::open_hints::{bracket_kind, early_remark, end_remark, open_remark};
+use crate::parts::Part;
 use crate::path::unquoted;
 use crate::place::line_start;
-use crate::text_advice::TextAdvice;
 use crate::texts::bare_text;
-use crate::unclosed::{Unclosed, closed_after, left_open};
-use crate::value_advice::ValueAdvice;
-use crate::values::{bare_remark, is_choice, member_advice, value_remark};
+use crate::unclosed::closed_after;
+use crate::values::{member_advice, value_remark};
 use crate::widths::is_seen;
-use json5_read::brackets::BracketKind;
 use json5_tokens::char::{is_json5_identifier, is_json5_line_terminator, is_json5_whitespace};
 use json5_types::ErrorCode;
 use json5_walk::next::Next;
@@ -31,7 +29,10 @@ use std::alloc::{AllocError, Global};
 
 /// The part at fault, and a hint if one is certain.
 pub(crate) fn remark_of<'t>(alloc: Global, fault: &Fault<'t>) -> Result<Remark<'t>, AllocError> {
-    if let Some(remark) = nested_remark(fault).or(replaced_remark(fault)) {
+    if let Some(remark) = nested_remark(fault)
+        .or(replaced_remark(fault))
+        .or(entity_remark(fault))
+    {
         return Ok(remark);
     }
     if let Some(remark) = foreign_remark(fault) {
@@ -40,96 +41,14 @@ pub(crate) fn remark_of<'t>(alloc: Global, fault: &Fault<'t>) -> Result<Remark<'
     if let Some(remark) = open_remark(alloc, fault)? {
         return Ok(remark);
     }
+    if let Some(remark) = early_remark(alloc, fault)? {
+        return Ok(remark);
+    }
     match fault.code {
         None => custom_remark(alloc, fault),
         Some(_) if fault.is_end() => Ok(end_remark(fault)),
         Some(code) => Ok(code_remark(fault, code)),
     }
-}
-
-/// What is said of a bracket that is left open before the fault, or of which the fault is a member that an array doesn't
-/// have.
-fn open_remark<'t>(alloc: Global, fault: &Fault<'t>) -> Result<Option<Remark<'t>>, AllocError> {
-    let Some(left) = left_open(alloc, fault.text)? else {
-        return Ok(None);
-    };
-    if let Some((open, start)) = open_here(fault, left) {
-        return Ok(Some(Remark {
-            start,
-            ..fault.remark(Advice::StillOpen(kind_of(fault.text, open), fault.stands(open)))
-        }));
-    }
-    if left.before == fault.text.len() || left.before >= fault.offset && !fault.is_end() {
-        return Ok(None);
-    }
-    let (line, before) = (fault.line_of(left.open), fault.line_of(left.before));
-    let kind = kind_of(fault.text, left.open);
-    Ok(Some(fault.remark(Advice::StillOpenBefore(kind, line, before))))
-}
-
-/// The bracket that is to be closed before the fault, or before the key that it is at, and where that is.
-fn open_here(fault: &Fault<'_>, left: Unclosed) -> Option<(usize, usize)> {
-    if left.before == fault.offset && !fault.is_end() {
-        return Some((left.open, fault.offset));
-    }
-    let open = fault.open?.start;
-    if let (true, Some(key)) = (open == left.open, fault.member()) {
-        return Some((open, key.start));
-    }
-    let is_stray = if left.before == fault.text.len() {
-        fault.is_unknown_inside()
-    } else {
-        open == left.open && matches!((fault.due, fault.found), (Next::Key, Found::Object))
-    };
-    if is_stray {
-        Some((open, fault.offset))
-    } else {
-        None
-    }
-}
-
-/// The kind of the bracket at the offset.
-fn kind_of(text: &str, open: usize) -> BracketKind {
-    if text.get(open..).unwrap_or("").starts_with('[') {
-        BracketKind::Array
-    } else {
-        BracketKind::Object
-    }
-}
-
-/// What is said where the text ends too early: which comment, string or bracket isn't closed.
-fn end_remark<'t>(fault: &Fault<'t>) -> Remark<'t> {
-    let around = Around::of(fault.text, fault.text.len());
-    match (fault.code, around.comment, around.last) {
-        (Some(ErrorCode::EofParsingComment), Some(comment), _) => {
-            fault.remark(comment_advice(fault, comment))
-        }
-        (_, _, None) => fault.remark(Advice::NoValue),
-        (Some(ErrorCode::EofParsingString | ErrorCode::EofParsingEscapeSequence), _, Some(last))
-            if last.kind == Kind::Text => {
-            fault.remark(Advice::CloseQuoteOf(fault.line_of(last.start)))
-        }
-        _ => match fault.token() {
-            Some(token) if token.kind == Kind::Open => {
-                Remark::of(token, Advice::NeverClosed(token.of(fault.text)))
-            }
-            _ => fault.plain(),
-        },
-    }
-}
-
-/// What is said of a comment that isn't closed: it may be a part of a key or of a text.
-fn comment_advice<'t>(fault: &Fault<'t>, comment: Lexeme) -> Advice<'t> {
-    let line = fault.line_of(comment.start);
-    let front = fault.text.get(..comment.start).unwrap_or("");
-    if front.ends_with(|c: char| c.is_alphanumeric() || c == '/') {
-        return Advice::Member(MemberAdvice::CommentWithin(line));
-    }
-    let rest = fault.text.get(comment.start..).unwrap_or("");
-    if rest.starts_with("/*:") || rest.starts_with("/*,") {
-        return Advice::Member(MemberAdvice::CommentWithin(line));
-    }
-    Advice::EndComment(line)
 }
 
 /// The part at fault of a text that doesn't end too early, by the fault's code.
@@ -159,11 +78,23 @@ fn replaced_remark<'t>(fault: &Fault<'t>) -> Option<Remark<'t>> {
     let token = fault.token().filter(|token| token.kind == Kind::Word)?;
     let text = token.of(fault.text);
     let first = plain_of(text.chars().next()?)?;
+    if first == '-' && !text.contains(|c: char| c.is_ascii_digit()) {
+        let is_note = matches!(fault.due, Next::Key | Next::Comma) || fault.open.is_none();
+        let words = if fault.is_key(lexeme_at(fault.text, token.end)) {
+            "a member has no dash before it: remove this"
+        } else {
+            "a comment begins with `//`"
+        };
+        return is_note.then_some(Remark::of(token, Advice::of(words)));
+    }
     let is_sign = matches!(
         first,
         ',' | ':' | '=' | '{' | '}' | '[' | ']' | '-' | '0'..='9'
     );
-    is_sign.then_some(Remark::of(token, Advice::Text(TextAdvice::Replaced(text))))
+    is_sign.then_some(Remark::of(
+        token,
+        Advice::with_both("replace `@` by `@`", Part::Text(text), Part::Plain(text)),
+    ))
 }
 
 /// What is said of a character that can't be seen.
@@ -175,7 +106,10 @@ fn unseen_remark<'t>(fault: &Fault<'t>) -> Option<Remark<'t>> {
     Some(Remark {
         start: fault.offset,
         end: fault.offset.saturating_add(c.len_utf8()),
-        advice: Some(Advice::DropUnseen(c)),
+        advice: Some(Advice::with(
+            "this character (U+@) can't be seen: remove it",
+            Part::Code(c),
+        )),
     })
 }
 
@@ -188,16 +122,16 @@ fn sign_advice<'t>(fault: &Fault<'t>) -> Option<Advice<'t>> {
         return bracket_advice(fault, text);
     }
     if fault.gap().ends_with('\u{feff}') {
-        return Some(Advice::DropByteOrderMark);
+        return Some(Advice::of("a byte order mark (U+FEFF) stands before this"));
     }
     if token.kind != Kind::Word {
         return None;
     }
     if is_note(fault, text) {
-        return Some(Advice::CommentSign);
+        return Some(Advice::of("a comment begins with `//`"));
     }
     match text.chars().next() {
-        Some('*') if text == "*/" => Some(Advice::DropCommentEnd),
+        Some('*') if text == "*/" => Some(Advice::of("no comment is open here: remove this")),
         Some(')') => Some(paren_advice(fault)),
         _ => None,
     }
@@ -210,22 +144,31 @@ fn is_note(fault: &Fault<'_>, text: &str) -> bool {
         && fault.open.is_some();
     let is_hash = text.starts_with('#') && !(is_value && text.len() > 1);
     let is_dashes = text.starts_with("--") && !(is_value && text.len() > 2);
-    let is_semicolon = text.starts_with(';') && !matches!(fault.due, Next::Comma | Next::Colon);
+    let is_apart = !matches!(fault.due, Next::Comma | Next::Colon)
+        || fault.gap().contains(is_json5_line_terminator);
+    let is_semicolon = text.starts_with(';') && is_apart;
     is_hash || is_dashes || is_semicolon || text.starts_with("<!--")
 }
 
 /// What is said of a closing parenthesis.
 fn paren_advice<'t>(fault: &Fault<'t>) -> Advice<'t> {
-    match fault.open {
-        Some(open) => Advice::CloseAs(open.kind, fault.stands(open.start)),
-        None => Advice::DropBracket,
-    }
+    let Some(open) = fault.open else {
+        return Advice::of("no bracket is open here: remove this");
+    };
+    let (kind, stands) = (open.kind, Part::Stands(fault.stands(open.start)));
+    let parts = [
+        Part::Closing(kind),
+        Part::Opening(kind),
+        stands,
+        Part::Nothing,
+    ];
+    Advice::with_all("write `@`: this closes the `@` of @", parts)
 }
 
 /// What is said of a closing bracket.
 fn bracket_advice<'t>(fault: &Fault<'t>, closing: &str) -> Option<Advice<'t>> {
     let Some(open) = fault.open else {
-        return Some(Advice::DropBracket);
+        return Some(Advice::of("no bracket is open here: remove this"));
     };
     if closing.starts_with(open.kind.brackets().closing) {
         return None;
@@ -233,12 +176,24 @@ fn bracket_advice<'t>(fault: &Fault<'t>, closing: &str) -> Option<Advice<'t>> {
     let stands = fault.stands(open.start);
     let closed = closed_after(fault.text, fault.offset);
     if closed > fault.depth {
-        return Some(Advice::DropClosing);
+        return Some(Advice::of("a bracket too many: remove this"));
     }
     Some(if closed == fault.depth {
-        Advice::CloseAs(open.kind, stands)
+        Advice::with_all(
+            "write `@`: this closes the `@` of @",
+            [
+                Part::Closing(open.kind),
+                Part::Opening(open.kind),
+                Part::Stands(stands),
+                Part::Nothing,
+            ],
+        )
     } else {
-        Advice::CloseFirst(open.kind, stands)
+        Advice::with_both(
+            "the `@` of @ is to be closed first",
+            Part::Opening(open.kind),
+            Part::Stands(stands),
+        )
     })
 }
 
@@ -257,7 +212,7 @@ fn comma_remark<'t>(fault: &Fault<'t>) -> Remark<'t> {
         return remark;
     }
     match fault.found {
-        Found::Character(';') => fault.remark(Advice::UseComma),
+        Found::Character(';') => fault.remark(Advice::of("write `,` between entries")),
         Found::Character(':') if fault.member().is_some() => fault.advised(member_advice(fault)),
         Found::Character(':') if fault.is_after(Kind::Word) => match fault.around.last {
             Some(last) => word_remark(fault, last),
@@ -293,7 +248,11 @@ fn joined_remark<'t>(fault: &Fault<'t>, behind: usize) -> Option<Remark<'t>> {
     Some(Remark {
         start: first.start,
         end: second.end,
-        advice: Some(Advice::Text(TextAdvice::Joined(one, other))),
+        advice: Some(Advice::with_both(
+            "a text is not put together: write '@@'",
+            Part::Text(one),
+            Part::Text(other),
+        )),
     })
 }
 
@@ -303,26 +262,32 @@ fn note_remark<'t>(fault: &Fault<'t>) -> Remark<'t> {
     let line = rest.get(..line_len(rest)).unwrap_or("");
     let note = line.strip_prefix('(').unwrap_or("").split_once(')');
     let Some((note, _)) = note else {
-        return fault.remark(Advice::NoExpressions);
+        return fault.remark(Advice::of("a file has no expressions: write the value itself"));
     };
     Remark {
         start: fault.offset,
         end: fault.offset.saturating_add(note.len()).saturating_add(2),
-        advice: Some(Advice::Text(TextAdvice::Note(note))),
+        advice: Some(Advice::with("write it as a comment: /* @ */", Part::Text(note))),
     }
 }
 
 /// What is said of a value that goes on as an expression.
 fn operator_remark<'t>(fault: &Fault<'t>) -> Remark<'t> {
-    let plain = fault.remark(Advice::NoExpressions);
+    let plain = fault.remark(Advice::of("a file has no expressions: write the value itself"));
     let Some(last) = fault.around.last else {
         return plain;
     };
     let part = bare_text(fault, last.start).unwrap_or(last);
     let text = part.of(fault.text);
     match value_of(text) {
-        Some(number) => Remark::of(part, Advice::Number(NumberAdvice::Product(number))),
-        None if is_choice(text) => Remark::of(part, Advice::Value(ValueAdvice::Choice(text))),
+        Some(number) => Remark::of(
+            part,
+            Advice::with("a file has no expressions: write @", Part::Number(number)),
+        ),
+        None if is_choice(text) => Remark::of(
+            part,
+            Advice::with("write one of them: @", Part::Choices(text)),
+        ),
         None => plain,
     }
 }
@@ -336,21 +301,21 @@ fn entry_remark<'t>(fault: &Fault<'t>) -> Remark<'t> {
     if is_stray_quote(fault, token) {
         return Remark {
             end: fault.offset.saturating_add(1),
-            ..fault.remark(Advice::DropQuote)
+            ..fault.remark(Advice::of("no text begins here: remove this quote"))
         };
     }
     if last.kind == Kind::Word && matches!(fault.found, Found::Name(_)) && !is_apart {
         return word_remark(fault, last);
     }
     if !is_apart && fault.array_line().is_some() && matches!(token.of(fault.text), "and" | "or") {
-        return fault.remark(Advice::UseComma);
+        return fault.remark(Advice::of("write `,` between entries"));
     }
     if is_apart || fault.array_line().is_some() {
         return fault.remark(missing_comma(fault, last));
     }
     match joined_remark(fault, 0) {
         Some(remark) => remark,
-        None => fault.remark(Advice::Missing("a comma, or a comma and a key,")),
+        None => fault.remark(Advice::of("a comma, or a comma and a key, is missing before this")),
     }
 }
 
@@ -367,9 +332,13 @@ fn is_stray_quote(fault: &Fault<'_>, token: Lexeme) -> bool {
 fn missing_comma<'t>(fault: &Fault<'t>, last: Lexeme) -> Advice<'t> {
     let line = fault.line_of(last.start);
     if line == fault.line_of(fault.offset) {
-        return Advice::Missing("a comma");
+        return Advice::of("a comma is missing before this");
     }
-    Advice::Member(MemberAdvice::CommaBehind(last.of(fault.text), line))
+    Advice::with_both(
+        "a comma is missing before this, behind `@` of line @",
+        Part::Text(last.of(fault.text)),
+        Part::Number(line),
+    )
 }
 
 /// What is said of a string that something is right after: a quote within the text, or two or three on each side.
@@ -384,11 +353,14 @@ pub(crate) fn adjacent_advice<'t>(fault: &Fault<'t>, string: Lexeme) -> Option<A
     match end {
         Some(end) => {
             let inner = text.get(1..end)?;
-            Some(Advice::MissingQuote(if text.get(end..)?.starts_with(other) {
-                inner
-            } else {
-                inner.trim_end_matches([']', '}', ' '])
-            }))
+            Some(Advice::with(
+                "a quote is missing behind `@`",
+                Part::Text(if text.get(end..)?.starts_with(other) {
+                    inner
+                } else {
+                    inner.trim_end_matches([']', '}', ' '])
+                }),
+            ))
         }
         None => Some(inside_advice(fault, string.start, quote)),
     }
@@ -399,7 +371,10 @@ pub(crate) fn escaped_remark<'t>(fault: &Fault<'t>, string: Lexeme) -> Option<Re
     let inner = escaped_end(string.of(fault.text))?;
     Some(Remark {
         end: string.start.saturating_add(inner.len()).saturating_add(2),
-        ..Remark::of(string, Advice::Text(TextAdvice::Backslash(inner)))
+        ..Remark::of(
+            string,
+            Advice::with("a backslash itself is `\\\\`: @", Part::Doubled(inner)),
+        )
     })
 }
 
@@ -408,7 +383,10 @@ fn escaped_end(string: &str) -> Option<&str> {
     for (index, c) in string.char_indices() {
         let rest = string.get(index..).unwrap_or("");
         let behind = rest.get(2..).unwrap_or("").trim_start();
-        let is_end = rest.starts_with("\\\n") || rest.starts_with("\\\r") || is_escaped_quote(rest);
+        let is_end = rest.starts_with("\\\n")
+            || rest.starts_with("\\\r")
+            || rest.starts_with("\\'")
+            || rest.starts_with("\\\"");
         let is_apart = behind.is_empty()
             || behind.starts_with([',', '}', ']'])
             || rest.starts_with("\\\n");
@@ -419,10 +397,6 @@ fn escaped_end(string: &str) -> Option<&str> {
     None
 }
 
-fn is_escaped_quote(rest: &str) -> bool {
-    rest.starts_with("\\'") || rest.starts_with("\\\"")
-}
-
 /// What is said of a text with several quotes on each side.
 fn single_advice<'t>(fault: &Fault<'t>, start: usize, quote: char) -> Advice<'t> {
     let rest = fault
@@ -431,10 +405,10 @@ fn single_advice<'t>(fault: &Fault<'t>, start: usize, quote: char) -> Advice<'t>
         .unwrap_or("")
         .trim_start_matches(quote);
     let line = rest.get(..line_len(rest)).unwrap_or("");
-    match line.split_once(quote) {
-        Some((text, _)) => Advice::Text(TextAdvice::Single(text)),
-        None => Advice::OneQuote,
-    }
+    let Some((text, _)) = line.split_once(quote) else {
+        return Advice::of("a text has one quote on each side");
+    };
+    Advice::with("a text has one quote on each side: @", Part::Doubled(text))
 }
 
 /// What is said of a text in which its own quotes stand: the other quotes go around it, if it is all that is on its line.
@@ -447,9 +421,13 @@ fn inside_advice<'t>(fault: &Fault<'t>, start: usize, quote: char) -> Advice<'t>
         .strip_suffix(quote)
     {
         Some(text) if !text.contains([',', ':', '\\']) && !text.contains(other) => {
-            Advice::Text(TextAdvice::Inside(text))
+            Advice::with("write the text in other quotes: @", Part::Quoted(text))
         }
-        _ => Advice::EscapeQuote(quote),
+        _ => Advice::with_both(
+            "a `@` within a text is written `\\@`",
+            Part::Character(quote),
+            Part::Character(quote),
+        ),
     }
 }
 
@@ -468,7 +446,7 @@ fn quotes_remark<'t>(fault: &Fault<'t>) -> Option<Remark<'t>> {
     let end = line.find(|c| is_other_quote(c) || matches!(c, '\'' | '"'));
     let text = line.get(..end.unwrap_or(open.len())).unwrap_or("");
     if text.is_empty() || end.is_none() && text.contains([',', ':']) {
-        return Some(fault.remark(Advice::PlainQuotes));
+        return Some(fault.remark(Advice::of("quotes are ' or \"")));
     }
     let behind = line.get(text.len()..).unwrap_or("").chars().next();
     let closing = match (end, behind) {
@@ -484,9 +462,9 @@ fn quotes_remark<'t>(fault: &Fault<'t>) -> Option<Remark<'t>> {
 /// What is said of a text in quotes that are none of JSON5.
 fn plain_advice<'t>(fault: &Fault<'t>, text: &'t str) -> Advice<'t> {
     if fault.code == Some(ErrorCode::ExpectedNumber) && text.parse::<f64>().is_ok() {
-        Advice::Number(NumberAdvice::Alone(text))
+        Advice::with("write the number alone: @", Part::Text(text))
     } else {
-        Advice::Text(TextAdvice::Plain(text))
+        Advice::with("quotes are ' or \": @", Part::Doubled(text))
     }
 }
 
@@ -513,7 +491,7 @@ fn escape_remark<'t>(fault: &Fault<'t>) -> Remark<'t> {
         return Remark {
             start,
             end,
-            advice: Some(Advice::Surrogate),
+            advice: Some(Advice::of("this is half of a character, and its other half is missing")),
         };
     }
     let is_in_word = fault.word_inside().is_some();
@@ -553,12 +531,12 @@ fn surrogate_start(before: &str, rest: &str) -> Option<usize> {
 /// What is said of an escape in front: how many digits it takes, if it takes some. A key has no `\x`.
 fn escape_advice<'t>(text: &str, is_in_key: bool) -> Advice<'t> {
     if text.starts_with("\\u") {
-        return Advice::EscapeFourDigits;
+        return Advice::of("`\\u` takes four hexadecimal digits; a backslash itself is `\\\\`");
     }
     if text.starts_with("\\x") && !is_in_key {
-        return Advice::EscapeTwoDigits;
+        return Advice::of("`\\x` takes two hexadecimal digits; a backslash itself is `\\\\`");
     }
-    Advice::EscapeBackslash
+    Advice::of("there is no such escape; a backslash itself is `\\\\`")
 }
 
 /// What is said of a word whose beginning is a number or a literal.
@@ -567,7 +545,7 @@ fn word_remark<'t>(fault: &Fault<'t>, word: Lexeme) -> Remark<'t> {
     if text.starts_with(|c: char| c.is_ascii_digit() || matches!(c, '+' | '-' | '.')) {
         return number_remark(fault, word);
     }
-    bare_remark(fault, word.start, Advice::QuoteText(""))
+    bare_remark(fault, word.start, Advice::of(QUOTE_TEXT))
 }
 
 /// The string that a line ends in: its quote is missing, or is on the next line.
@@ -577,17 +555,26 @@ fn quote_remark<'t>(fault: &Fault<'t>) -> Remark<'t> {
     };
     let front = fault.text.get(..last.start).unwrap_or("");
     if front.ends_with("''") || front.ends_with("\"\"") {
-        return Remark::of(last, Advice::OneQuote);
+        return Remark::of(last, Advice::of("a text has one quote on each side"));
     }
     let text = last.of(fault.text);
     if let Some(remark) = escaped_remark(fault, last) {
         return remark;
     }
     if let Some(quote) = other_quote(text) {
-        return Remark::of(last, Advice::OtherQuote(quote));
+        return Remark::of(
+            last,
+            Advice::with(
+                "a text ends with the quote that it begins with: @",
+                Part::Character(quote),
+            ),
+        );
     }
     if let Some((name, _)) = key_in(fault, text) {
-        return Remark::of(last, Advice::MissingQuote(name));
+        return Remark::of(
+            last,
+            Advice::with("a quote is missing behind `@`", Part::Text(name)),
+        );
     }
     let next = fault.text.get(fault.offset..).unwrap_or("").trim_start();
     let (begun, _) = next.split_once(['\'', '"']).unwrap_or(("", ""));
@@ -595,7 +582,10 @@ fn quote_remark<'t>(fault: &Fault<'t>) -> Remark<'t> {
     if is_whole || begun.is_empty() || begun.contains(": ") || begun.contains('\n') {
         return Remark::of(last, close_advice(last.of(fault.text)));
     }
-    Remark::of(last, Advice::Value(ValueAdvice::EndOrGoOn))
+    Remark::of(
+        last,
+        Advice::of("close this quote on its line, or end the line with a backslash"),
+    )
 }
 
 /// The key that the string begins with, and what is behind its colon, if a key is due.
@@ -613,19 +603,22 @@ fn close_advice<'t>(text: &'t str) -> Advice<'t> {
         .unwrap_or("")
         .trim_end_matches([',', ' ', '}', ']']);
     if let Some(value) = value_before_key(inner) {
-        return Advice::MissingQuote(value);
+        return Advice::with("a quote is missing behind `@`", Part::Text(value));
     }
     if let Some(value) = inner.strip_suffix(is_other_quote) {
-        return Advice::Text(TextAdvice::Plain(value));
+        return Advice::with("quotes are ' or \": @", Part::Doubled(value));
     }
     if inner.is_empty()
         || inner.contains([',', '\\'])
         || inner.contains(": ")
         || inner.contains(" /")
     {
-        return Advice::CloseQuote;
+        return Advice::of("this quote is not closed on its line");
     }
-    Advice::Text(TextAdvice::Close(inner))
+    Advice::with(
+        "this quote is not closed on its line: @",
+        Part::Quoted(inner),
+    )
 }
 
 /// The text before a comma that a key with its colon follows.
@@ -656,20 +649,30 @@ fn trailing_remark<'t>(fault: &Fault<'t>) -> Remark<'t> {
         return word_remark(fault, word);
     }
     if let Found::Character(':') = fault.found {
-        return fault.remark(Advice::UseBracesOfFile);
+        return fault.remark(Advice::of("members need braces around them: { .. }"));
     }
     let Some(last) = fault.around.last else {
-        return fault.remark(Advice::OneValue);
+        return fault.remark(Advice::of(
+            "a file holds one value, and this comes after it: remove it",
+        ));
     };
     let first = first_token(fault.text);
     if last.kind == Kind::Close && closed_after(fault.text, fault.offset) > 0 {
-        let kind = kind_of(fault.text, first.start);
-        return fault.remark(Advice::Closes(kind, fault.stands(first.start)));
+        let kind = bracket_kind(fault.text, first.start);
+        return fault.remark(Advice::with_all(
+            "the `@` before this closes the `@` of @",
+            [
+                Part::Closing(kind),
+                Part::Opening(kind),
+                Part::Stands(fault.stands(first.start)),
+                Part::Nothing,
+            ],
+        ));
     }
     let is_line = lexeme_at(fault.text, line_start(fault.text, last.start)).start == first.start
         && fault.gap().contains(is_json5_line_terminator);
     if is_line && matches!(fault.found, Found::Object | Found::Array) && first.kind == Kind::Open {
-        return fault.remark(Advice::Ndjson);
+        return fault.remark(Advice::of("this looks like NDJSON: a JSON5 file holds one value"));
     }
-    fault.remark(Advice::OneValue)
+    fault.remark(Advice::of("a file holds one value, and this comes after it: remove it"))
 }

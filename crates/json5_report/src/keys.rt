@@ -3,15 +3,15 @@
 //! Plain code, of which no promise is made but that it is safe and ends: change it by the rows of reports, which judge it.
 
 use crate::advice::Advice;
+use crate::bare_texts::placeholder_remark;
 use crate::fault::{Fault, Remark};
 use crate::found::Found;
 use crate::lexemes::{Kind, Lexeme, lexeme_at};
-use crate::member_advice::MemberAdvice;
 use crate::numbers::parts_remark;
+use crate::parts::Part;
 use crate::path::unquoted;
-use crate::texts::values_at;
+use crate::texts::{bare_text, values_at};
 use crate::unclosed::closed_after;
-use crate::value_advice::ValueAdvice;
 use json5_tokens::char::{is_json5_identifier, is_json5_line_terminator};
 use json5_walk::next::Next;
 
@@ -21,38 +21,52 @@ pub(crate) fn key_remark<'t>(fault: &Fault<'t>) -> Remark<'t> {
         return fault.plain();
     };
     if token.kind == Kind::Word && fault.is_key(token) && !token.of(fault.text).starts_with("<<") {
-        return Remark::of(token, Advice::QuoteKey(token.of(fault.text)));
+        return Remark::of(
+            token,
+            Advice::with(
+                "this key needs quotes: '@'",
+                Part::Text(token.of(fault.text)),
+            ),
+        );
     }
     if let Some(remark) = parts_remark(fault).or(several_remark(fault)) {
         return remark;
     }
+    if let Some(remark) = placeholder_remark(fault) {
+        return remark;
+    }
     match fault.found {
-        Found::Character(',') => fault.remark(Advice::DropComma),
-        Found::Character('(') => fault.remark(Advice::CommentSign),
-        Found::Character('.' | '@' | '…' | '<') => fault.remark(Advice::Write(
-            "the fields themselves: a file includes no other",
+        Found::Character(',') => fault.remark(Advice::of("a comma too many")),
+        Found::Character('(') => fault.remark(Advice::of("a comment begins with `//`")),
+        Found::Character('.' | '@' | '…' | '<') => fault.remark(Advice::of(
+            "write the fields themselves: a file includes no other",
         )),
-        Found::Character('-') => fault.remark(Advice::DropDash),
-        Found::Character(':') => fault.remark(Advice::DropColon),
-        Found::Character('%') => fault.remark(Advice::CommentSign),
+        Found::Character('-') => fault.remark(Advice::of(
+            "a member has no dash before it: remove this",
+        )),
+        Found::Character(':') => fault.remark(Advice::of("a colon too many")),
+        Found::Character('%') => fault.remark(Advice::of("a comment begins with `//`")),
         Found::Object if fault.is_after(Kind::Open) && fault.gap().is_empty() => {
-            fault.remark(Advice::DropClosing)
+            fault.remark(Advice::of("a bracket too many: remove this"))
         }
         Found::Array if bracketed_key(fault, token).is_some() => {
             fault.advised(bracketed_key(fault, token))
         }
         Found::Object | Found::Array if closed_after(fault.text, fault.offset) > fault.depth => {
-            fault.remark(Advice::Member(MemberAdvice::BracketBefore))
+            fault.remark(Advice::of("a bracket too many stands before this: remove it"))
         }
         Found::Object | Found::Array | Found::Number if fault.is_after(Kind::Comma) => {
-            fault.remark(Advice::Missing("a key with its colon"))
+            fault.remark(Advice::of("a key with its colon is missing before this"))
         }
         Found::Object | Found::Number => {
             let start = match fault.open {
                 Some(open) => open.start,
                 None => fault.offset,
             };
-            fault.remark(Advice::UseBracketsInObject(fault.line_of(start)))
+            fault.remark(Advice::with(
+                "elements need brackets, and line @ opens an object",
+                Part::Number(fault.line_of(start)),
+            ))
         }
         _ => fault.plain(),
     }
@@ -72,7 +86,14 @@ pub(crate) fn several_remark<'t>(fault: &Fault<'t>) -> Option<Remark<'t>> {
     if !is_value || !is_within || !text.contains(',') {
         return None;
     }
-    Some(Remark::of(run, Advice::Value(ValueAdvice::Several(text))))
+    Some(Remark::of(
+        run,
+        Advice::with_both(
+            "a key has one value: write @, or @ if an array may stand here",
+            Part::First(text),
+            Part::All(text),
+        ),
+    ))
 }
 
 /// What is said of a key in brackets, or of a section as other files have it.
@@ -85,11 +106,12 @@ fn bracketed_key<'t>(fault: &Fault<'t>, open: Lexeme) -> Option<Advice<'t>> {
     }
     let name = key.of(fault.text);
     if fault.is_key(close) || behind.trim_start().starts_with('=') {
-        return Some(Advice::Member(MemberAdvice::DropBrackets(name)));
+        return Some(Advice::with("a key has no brackets: @", Part::Text(name)));
     }
-    behind
-        .starts_with(is_json5_line_terminator)
-        .then_some(Advice::Member(MemberAdvice::Section(name)))
+    behind.starts_with(is_json5_line_terminator).then_some(Advice::with(
+        "a section is written as @: { .. }",
+        Part::Text(name),
+    ))
 }
 
 /// What is said where a colon is expected.
@@ -115,32 +137,45 @@ pub(crate) fn colon_remark<'t>(fault: &Fault<'t>) -> Remark<'t> {
         Found::Character('-') if token.of(fault.text) == "->" => {
             fault.remark(sign_advice(fault, key, next))
         }
-        Found::Character(',') if next.kind == Kind::Colon => fault.remark(Advice::DropComma),
+        Found::Character(',') if next.kind == Kind::Colon => fault.remark(Advice::of(
+            "a comma too many",
+        )),
         Found::Character(',') if is_value => fault.remark(sign_advice(fault, key, next)),
-        Found::Character(',' | '}') if last.kind == Kind::Word => fault.remark(Advice::AddValueOf(
-            key,
+        Found::Character(',' | '}') if last.kind == Kind::Word => fault.remark(Advice::with(
+            "write `@: ..`",
+            Part::Text(key),
         )),
         Found::Character(_) => fault.plain(),
-        _ if fault.is_key(token) && is_apart => fault.remark(Advice::AddValueOf(key)),
+        _ if fault.is_key(token) && is_apart => fault.remark(Advice::with(
+            "write `@: ..`",
+            Part::Text(key),
+        )),
         _ if fault.is_key(token) => {
             let key = Lexeme {
                 end: token.end,
                 ..last
             };
-            Remark::of(key, Advice::QuoteKey(key.of(fault.text)))
+            Remark::of(
+                key,
+                Advice::with("this key needs quotes: '@'", Part::Text(key.of(fault.text))),
+            )
         }
         Found::String if fault.gap().is_empty() && last.kind == Kind::Word => {
             let end = fault.offset.saturating_add(1);
             Remark {
                 end,
-                ..Remark::of(last, Advice::QuoteKey(key))
+                ..Remark::of(
+                    last,
+                    Advice::with("this key needs quotes: '@'", Part::Text(key)),
+                )
             }
         }
-        Found::String | Found::Number => fault.remark(Advice::Member(MemberAdvice::MissingColon(
-            key,
-            fault.word(),
-        ))),
-        _ => fault.remark(Advice::Missing("a colon")),
+        Found::String | Found::Number => fault.remark(Advice::with_both(
+            "a colon is missing before this: @: @",
+            Part::Text(key),
+            Part::Text(fault.word()),
+        )),
+        _ => fault.remark(Advice::of("a colon is missing before this")),
     }
 }
 
@@ -148,18 +183,24 @@ pub(crate) fn colon_remark<'t>(fault: &Fault<'t>) -> Remark<'t> {
 fn torn_remark<'t>(fault: &Fault<'t>, key: Lexeme) -> Option<Remark<'t>> {
     let (name, _) = unquoted(key.of(fault.text)).split_once(':')?;
     let is_torn = key.kind == Kind::Text && key.end == fault.offset;
-    is_torn.then_some(Remark::of(key, Advice::MissingQuote(name)))
+    is_torn.then_some(Remark::of(
+        key,
+        Advice::with("a quote is missing behind `@`", Part::Text(name)),
+    ))
 }
 
 /// What is said of another sign in place of the colon after a key.
 fn sign_advice<'t>(fault: &Fault<'t>, key: &'t str, value: Lexeme) -> Advice<'t> {
+    let words = "write `:` between a key and its value: @: @";
     let shown = match value.kind {
-        Kind::Word if value.of(fault.text) == "=" => return Advice::UseColon,
-        Kind::Text | Kind::Word => value.of(fault.text),
-        Kind::Open => "..",
-        _ => return Advice::UseColon,
+        Kind::Open => return Advice::with_both(words, Part::Text(key), Part::Text("..")),
+        Kind::Text => value,
+        Kind::Word if value.of(fault.text) != "=" => {
+            bare_text(fault, value.start).unwrap_or(value)
+        }
+        _ => return Advice::of("write `:` between a key and its value"),
     };
-    Advice::Member(MemberAdvice::Colon(key, shown))
+    Advice::with_both(words, Part::Text(key), Part::Element(shown.of(fault.text)))
 }
 
 /// What is said of a key whose first characters are a name: it needs quotes, or names a field of a section.
@@ -169,12 +210,15 @@ fn dashed_remark<'t>(fault: &Fault<'t>, word: Lexeme) -> Remark<'t> {
         word,
         match text.split_once('.') {
             Some((section, name)) if !name.contains(|c| !is_json5_identifier(c)) => {
-                Advice::Nest(section, name)
+                Advice::with_both("write @: { @: .. }", Part::Text(section), Part::Text(name))
             }
             _ if text.ends_with(['?', '!', '*']) => {
-                Advice::Member(MemberAdvice::KeyAlone(text.trim_end_matches(['?', '!', '*'])))
+                Advice::with(
+                    "write the key alone: @",
+                    Part::Text(text.trim_end_matches(['?', '!', '*'])),
+                )
             }
-            _ => Advice::QuoteKey(text),
+            _ => Advice::with("this key needs quotes: '@'", Part::Text(text)),
         },
     )
 }

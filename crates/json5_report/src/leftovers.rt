@@ -3,9 +3,10 @@
 //! Plain code, of which no promise is made but that it is safe and ends: change it by the rows of reports, which judge it.
 
 use crate::advice::Advice;
+use crate::bare_texts::variable_remark;
 use crate::fault::{Fault, Remark};
-use crate::left_advice::LeftAdvice;
 use crate::lexemes::{Kind, Lexeme, lexeme_at, line_len};
+use crate::parts::Part;
 use crate::place::line_start;
 use crate::unclosed::close_of;
 use json5_walk::next::Next;
@@ -19,13 +20,15 @@ pub(crate) fn left_remark<'t>(fault: &Fault<'t>) -> Option<Remark<'t>> {
         return Some(remark);
     }
     if let Some(part) = command_at(fault) {
-        return Some(left(part, LeftAdvice::Command));
+        return Some(Remark::of(
+            part,
+            Advice::of("this is a command of an editor: remove it"),
+        ));
     }
-    Some(left(number_before(fault)?, LeftAdvice::LineNumber))
-}
-
-fn left<'t>(part: Lexeme, advice: LeftAdvice) -> Remark<'t> {
-    Remark::of(part, Advice::Left(advice))
+    Some(Remark::of(
+        number_before(fault)?,
+        Advice::of("this is the number of a line: remove it wherever it stands in front"),
+    ))
 }
 
 /// A part of the text.
@@ -51,9 +54,12 @@ fn template_remark<'t>(fault: &Fault<'t>) -> Option<Remark<'t>> {
     let part = part_of(start, end.saturating_add(2));
     let inner = line.strip_prefix("{{").unwrap_or("#");
     if inner.starts_with(['#', '/', '-', '%', '>', '!']) {
-        return Some(left(part, LeftAdvice::Template));
+        return Some(Remark::of(
+            part,
+            Advice::of("this is a line of a template: remove it, or let its program fill it in"),
+        ));
     }
-    Some(Remark::of(part, Advice::NoVariables))
+    Some(variable_remark(fault, part))
 }
 
 /// Where a template's braces begin: at the fault, or one before it.
@@ -121,14 +127,20 @@ pub(crate) fn prompt_remark<'t>(fault: &Fault<'t>) -> Option<Remark<'t>> {
     let line = line_from(fault.text, fault.offset);
     let part = part_of(fault.offset, line.trim_end().len());
     if is_prompt(line.trim_end()) {
-        return Some(left(part, LeftAdvice::Prompt));
+        return Some(Remark::of(part, Advice::of("this is a line of a shell: remove it")));
     }
     if line.starts_with("> ") {
-        return Some(left(part_of(fault.offset, 1), LeftAdvice::Quoted));
+        return Some(Remark::of(
+            part_of(fault.offset, 1),
+            Advice::of("this is a mark of a quoted text: remove it from each line"),
+        ));
     }
     let open = object_behind(fault)?;
     let line = fault.line_of(open.start);
-    Some(fault.remark(Advice::Left(LeftAdvice::Before(line))))
+    Some(fault.remark(Advice::with(
+        "a file holds one value: remove what stands before the `{` of line @",
+        Part::Number(line),
+    )))
 }
 
 /// Whether the line is that of a shell.

@@ -51,7 +51,7 @@ impl Lexeme {
 /// The lexeme in front, from this offset on.
 pub(crate) fn lexeme_at(text: &str, from: usize) -> Lexeme {
     let rest = text.get(from..).unwrap_or("");
-    let blanks = blanks_len(rest);
+    let blanks = rest.find(|c| !is_json5_whitespace(c)).unwrap_or(rest.len());
     let rest = rest.get(blanks..).unwrap_or("");
     let (kind, len) = kind_and_len(rest);
     let start = from.saturating_add(blanks);
@@ -90,11 +90,6 @@ fn kind_and_len(text: &str) -> (Kind, usize) {
     }
 }
 
-/// How long the blanks in front are.
-fn blanks_len(text: &str) -> usize {
-    text.find(|c| !is_json5_whitespace(c)).unwrap_or(text.len())
-}
-
 /// How long the line in front is, without its end.
 pub(crate) fn line_len(text: &str) -> usize {
     text.find(is_json5_line_terminator).unwrap_or(text.len())
@@ -106,7 +101,11 @@ fn string_len(text: &str, quote: char) -> usize {
     let mut is_escaped = true;
     for (index, c) in text.char_indices() {
         if is_escaped {
-            is_escaped = c == '\r' && is_line_feed(text, index);
+            is_escaped = c == '\r'
+                && text
+                    .get(index.saturating_add(1)..)
+                    .unwrap_or("")
+                    .starts_with('\n');
             continue;
         }
         if c == quote {
@@ -118,11 +117,6 @@ fn string_len(text: &str, quote: char) -> usize {
         is_escaped = c == '\\';
     }
     text.len()
-}
-
-/// Whether an LF follows the byte at this offset.
-fn is_line_feed(text: &str, offset: usize) -> bool {
-    text.as_bytes().get(offset.saturating_add(1)).copied() == Some(b'\n')
 }
 
 /// How long the `/* */` comment is that the text begins with.

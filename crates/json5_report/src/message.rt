@@ -2,9 +2,11 @@
 //!
 //! Plain code, of which no promise is made but that it is safe and ends: change it by the rows of reports, which judge it.
 
+use crate::around::Around;
 use crate::fault::Fault;
 use crate::found::Found;
 use crate::lexemes::{Kind, first_token};
+use crate::words::{RANGES, meaning};
 use json5_types::ErrorCode;
 use std::alloc::{AllocError, Global};
 
@@ -16,7 +18,15 @@ pub(crate) fn message_of(alloc: Global, fault: &Fault<'_>) -> Result<String, All
     if let Some(words) = end_words(code) {
         let is_empty = first_token(fault.text).kind == Kind::End
             && code != ErrorCode::EofParsingComment;
-        let words = if is_empty { "expected value" } else { words };
+        let last = Around::of(fault.text, fault.text.len()).last;
+        let is_text = last.is_some_and(|token| token.kind == Kind::Text);
+        let words = match fault.word() {
+            _ if is_empty => "expected value",
+            _ if is_text || code == ErrorCode::EofParsingComment => words,
+            "[" if words.starts_with("unfinished") => "unfinished array",
+            "{" if words.starts_with("unfinished") => "unfinished object",
+            _ => words,
+        };
         return format!(in alloc; "{words}, found {}", Found::End);
     }
     if names_found(code) {
@@ -126,28 +136,9 @@ fn seen_text(alloc: Global, words: &str, text: &str) -> Result<String, AllocErro
 /// The range of the integers that the message names, or whose type it names.
 pub(crate) fn range_in(message: &str) -> Option<(&str, &str)> {
     let (_, expected) = message.rsplit_once(", expected ")?;
-    let range = match range_of(expected) {
+    let range = match meaning(&RANGES, expected) {
         Some(range) => range,
         None => expected.strip_prefix("a whole number from ")?,
     };
     range.split_once(" to ")
-}
-
-/// The range of an integer type.
-fn range_of(name: &str) -> Option<&'static str> {
-    match name {
-        "u8" => Some("0 to 255"),
-        "u16" => Some("0 to 65535"),
-        "u32" => Some("0 to 4294967295"),
-        "u64" => Some("0 to 18446744073709551615"),
-        "u128" => Some("0 to 340282366920938463463374607431768211455"),
-        "i8" => Some("-128 to 127"),
-        "i16" => Some("-32768 to 32767"),
-        "i32" => Some("-2147483648 to 2147483647"),
-        "i64" => Some("-9223372036854775808 to 9223372036854775807"),
-        "i128" => Some(
-            "-170141183460469231731687303715884105728 to 170141183460469231731687303715884105727",
-        ),
-        _ => None,
-    }
 }

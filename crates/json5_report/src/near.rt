@@ -2,6 +2,7 @@
 //!
 //! Plain code, of which no promise is made but that it is safe and ends: change it by the rows of reports, which judge it.
 
+use crate::wording::{Change, Changed};
 use std::alloc::{AllocError, Global};
 use strsim::osa_distance;
 
@@ -13,7 +14,7 @@ pub(crate) fn name_in(message: &str) -> Option<&str> {
 }
 
 /// The known name of the message that is nearest to this one, if one is near: its letters in other case, or one letter
-/// away of three at least, or two of six.
+/// away of three at least, or two of six. Letters of other alphabets count as those that they look like.
 pub(crate) fn near_name<'m>(
     alloc: Global,
     name: &str,
@@ -22,12 +23,18 @@ pub(crate) fn near_name<'m>(
     let Some((_, known)) = message.split_once(", expected ") else {
         return Ok(None);
     };
+    let plain = format!(in alloc; "{}", Changed(name, Change::Plain))?;
     let mut least: usize = 2;
     let mut near = None;
     let mut is_known = false;
     for part in known.split('`') {
         if is_known {
-            let distance = distance_of(alloc, name, part)?;
+            let is_same = plain.eq_ignore_ascii_case(part);
+            let distance = if is_same {
+                0
+            } else {
+                osa_distance(alloc, plain.as_str(), part)?
+            };
             let is_near = distance <= name.len().max(part.len()) / 3;
             if is_near && (distance < least || distance == least && near.is_none()) {
                 (near, least) = (Some(part), distance);
@@ -35,7 +42,7 @@ pub(crate) fn near_name<'m>(
         }
         is_known = !is_known;
     }
-    Ok(near.or(begun_name(name, known)))
+    Ok(near.or(begun_name(plain.as_str(), known)))
 }
 
 /// The only known name that begins as this one does, or that this one begins with: three letters are the same at least.
@@ -61,12 +68,4 @@ fn is_begun(name: &str, known: &str) -> bool {
         (Some(name), Some(known)) => len >= 3 && name.eq_ignore_ascii_case(known),
         _ => false,
     }
-}
-
-/// How many letters the names differ in; 0 if only in case.
-fn distance_of(alloc: Global, name: &str, known: &str) -> Result<usize, AllocError> {
-    if name.eq_ignore_ascii_case(known) {
-        return Ok(0);
-    }
-    osa_distance(alloc, name, known)
 }

@@ -2,12 +2,15 @@
 //!
 //! Plain code, of which no promise is made but that it is safe and ends: change it by the rows of reports, which judge it.
 
-use crate::advice::Advice;
+use crate::advice::{Advice, NO_NUMBER};
 use crate::fault::{Fault, Remark};
 use crate::lexemes::{Lexeme, line_len};
 use crate::message::range_in;
-use crate::number_advice::{NumberAdvice, has_letters, number_and_unit};
+use crate::number_parts::{has_letters, number_and_unit};
+use crate::parts::Part;
 use crate::texts::bare_text;
+use crate::words::{PLACEHOLDERS, meaning};
+use json5_tokens::char::is_json5_identifier;
 
 /// What a number that is written in parts is of.
 const PARTS: [char; 13] = [
@@ -18,16 +21,32 @@ const PARTS: [char; 13] = [
 pub(crate) fn number_remark<'t>(fault: &Fault<'t>, word: Lexeme) -> Remark<'t> {
     let text = word.of(fault.text);
     if text.contains('_') {
-        return Remark::of(word, Advice::Number(NumberAdvice::Underscores(text)));
+        return Remark::of(
+            word,
+            Advice::with("a number has no `_` in it: @", Part::Joined(text)),
+        );
     }
     if has_letters(text) {
-        return Remark::of(word, Advice::Number(NumberAdvice::Letters(text)));
+        return Remark::of(
+            word,
+            Advice::with_both("@: write @", Part::Letters(text), Part::Digits(text)),
+        );
     }
     if let Some(number) = based_number(text) {
-        return Remark::of(word, Advice::Number(NumberAdvice::Based(text, number)));
+        return Remark::of(
+            word,
+            Advice::with_both(
+                "@ is written as @ here",
+                Part::Text(text),
+                Part::Number(number),
+            ),
+        );
     }
     if let Some(c) = wrong_digit(text) {
-        return Remark::of(word, Advice::NoHexDigit(c));
+        return Remark::of(
+            word,
+            Advice::with("`@` is no hexadecimal digit", Part::Character(c)),
+        );
     }
     match bare_text(fault, word.start) {
         Some(part) => Remark::of(part, unit_advice(part.of(fault.text))),
@@ -54,19 +73,23 @@ fn wrong_digit(text: &str) -> Option<char> {
 /// What is said of a number that goes on as an expression, with a unit, or as something else.
 pub(crate) fn unit_advice(text: &str) -> Advice<'_> {
     if let Some(number) = value_of(text) {
-        return Advice::Number(NumberAdvice::Product(number));
+        return Advice::with("a file has no expressions: write @", Part::Number(number));
     }
     if let Some(number) = text.strip_prefix("--") {
-        return Advice::Number(NumberAdvice::Signed('-', number));
+        return Advice::with_both("write @@", Part::Character('-'), Part::Text(number));
     }
     let (_, unit) = number_and_unit(text);
     if unit.starts_with(['*', '+', '<', '>', '?', '|', '&', '=', '(']) {
-        return Advice::NoExpressions;
+        return Advice::of("a file has no expressions: write the value itself");
     }
     if is_unit(unit) {
-        Advice::Number(NumberAdvice::Unit(text))
+        Advice::with_both(
+            "a number has no unit: write @, or @ where a text may stand",
+            Part::WithoutUnit(text),
+            Part::Quoted(text),
+        )
     } else {
-        Advice::Number(NumberAdvice::Part(text))
+        Advice::with_both(NO_NUMBER, Part::Likely(text), Part::Quoted(text))
     }
 }
 
@@ -107,12 +130,19 @@ fn product_of(text: &str) -> Option<u128> {
 /// What is said of a number that begins with 0: it may be octal.
 pub(crate) fn zero_advice<'t>(word: &'t str) -> Advice<'t> {
     let digits = word.trim_start_matches(['+', '-']).trim_start_matches('0');
-    Advice::Number(match u128::from_str_radix(digits, 8) {
+    match u128::from_str_radix(digits, 8) {
         Ok(octal) if octal > 7 && word.starts_with('0') && !word.starts_with("00") => {
-            NumberAdvice::Octal(digits, octal)
+            Advice::with_both(
+                "a number does not begin with 0: write @, or @ if this is octal",
+                Part::Text(digits),
+                Part::Number(octal),
+            )
         }
-        _ => NumberAdvice::Zeros(digits),
-    })
+        _ => Advice::with(
+            "a number does not begin with 0: write @",
+            Part::Text(digits),
+        ),
+    }
 }
 
 /// What is said of signs in place of a number, or before one.
@@ -126,23 +156,33 @@ pub(crate) fn signs_advice<'t>(fault: &Fault<'t>) -> Advice<'t> {
         .unwrap_or(number.len());
     let number = number.get(..len).unwrap_or("");
     let front = fault.text.get(..fault.offset).unwrap_or("");
-    if number.is_empty() && is_placeholder(rest.trim_end_matches([',', ' ', '}', ']'])) {
-        Advice::NoVariables
-    } else if number.is_empty() {
-        Advice::Write("a number")
-    } else if front.ends_with('-') || rest.starts_with("--") {
-        Advice::Number(NumberAdvice::Signed('-', number))
-    } else {
-        Advice::Number(NumberAdvice::Alone(number))
+    if number.is_empty() {
+        return Advice::of("write a number");
     }
+    if front.ends_with('-') || rest.starts_with("--") {
+        return Advice::with("write -@", Part::Text(number));
+    }
+    Advice::with("write the number alone: @", Part::Text(number))
 }
 
-/// Whether a program or a person is to put a value in place of the text, as of `<port>`, `@PORT@` and `%PORT%`.
+/// Whether a program or a person is to put a value in place of the text, as of `TODO`, `<port>`, `@PORT@` and `%PORT%`.
 pub(crate) fn is_placeholder(text: &str) -> bool {
+    if meaning(&PLACEHOLDERS, text).is_some() {
+        return true;
+    }
+    let name = text.strip_prefix('*').unwrap_or("");
+    if !name.is_empty() && !name.contains(|c| !is_json5_identifier(c)) {
+        return true;
+    }
     let sign = match text.chars().next() {
         Some('<') => '>',
         Some(c @ ('@' | '%')) => c,
-        _ => return false,
+        Some('x' | 'X' | '_') => return text.len() > 2
+            && text.trim_matches(['x', 'X', '_']).is_empty(),
+        _ => {
+            let front = text.get(..5).unwrap_or("");
+            return front.eq_ignore_ascii_case("your_") || front.eq_ignore_ascii_case("your-");
+        }
     };
     let inner = text.get(1..).unwrap_or("").strip_suffix(sign).unwrap_or("");
     !inner.is_empty() && !inner.contains(['/', '@', '<', '>', ','])
@@ -181,13 +221,20 @@ fn parts_advice(digits: &str) -> Option<Advice<'_>> {
         are_threes = are_threes && part.len() == 3 && !part.contains(|c: char| !c.is_ascii_digit());
     }
     if are_threes {
-        return Some(Advice::JoinDigits(digits));
+        return Some(Advice::with_both(
+            "a number has no @ in it: @",
+            Part::Between(digits),
+            Part::Joined(digits),
+        ));
     }
     let is_decimal = sign == ','
         && !rest.is_empty()
         && !rest.contains(|c: char| !c.is_ascii_digit());
     if is_decimal {
-        Some(Advice::UsePoint(digits))
+        Some(Advice::with(
+            "a number has a point, and no comma: @",
+            Part::Pointed(digits),
+        ))
     } else {
         None
     }
@@ -205,7 +252,7 @@ pub(crate) fn range_advice<'t>(fault: &Fault<'t>) -> Option<Advice<'t>> {
         return match range {
             _ if word.contains('.') => fraction_advice(word),
             Some((_, most)) if !word.contains(|c: char| !c.is_ascii_digit()) => {
-                Some(Advice::TooLarge(0, most))
+                Some(Advice::with("too large: at most @", Part::Text(most)))
             }
             _ => None,
         };
@@ -215,7 +262,15 @@ pub(crate) fn range_advice<'t>(fault: &Fault<'t>) -> Option<Advice<'t>> {
         None => None,
     };
     advice.or(if is_decimal {
-        Some(Advice::WrittenAs(word, sign, number))
+        Some(Advice::with_all(
+            "@ is written as @@ here",
+            [
+                Part::Text(word),
+                Part::Text(sign),
+                Part::Number(number),
+                Part::Nothing,
+            ],
+        ))
     } else {
         None
     })
@@ -225,7 +280,11 @@ pub(crate) fn range_advice<'t>(fault: &Fault<'t>) -> Option<Advice<'t>> {
 fn fraction_advice<'t>(word: &'t str) -> Option<Advice<'t>> {
     let (whole, _) = word.split_once('.')?;
     let below = whole.parse::<u128>().unwrap_or(0);
-    Some(Advice::Number(NumberAdvice::Whole(below)))
+    Some(Advice::with_both(
+        "a whole number has no fraction: write @ or @",
+        Part::Number(below),
+        Part::Number(below.saturating_add(1)),
+    ))
 }
 
 /// By how much a number is outside of a range.
@@ -234,7 +293,11 @@ fn bound_advice<'t>(sign: &str, number: u128, least: &'t str, most: &'t str) -> 
     let most_size = most.parse::<u128>().ok()?;
     if sign.is_empty() {
         if number > most_size {
-            return Some(Advice::TooLarge(number.saturating_sub(most_size), most));
+            return Some(Advice::with_both(
+                "too large by @: at most @",
+                Part::Number(number.saturating_sub(most_size)),
+                Part::Text(most),
+            ));
         }
         return None;
     }
@@ -244,7 +307,11 @@ fn bound_advice<'t>(sign: &str, number: u128, least: &'t str, most: &'t str) -> 
         } else {
             number.saturating_add(least_size)
         };
-        return Some(Advice::TooSmall(by, least));
+        return Some(Advice::with_both(
+            "too small by @: at least @",
+            Part::Number(by),
+            Part::Text(least),
+        ));
     }
     None
 }

@@ -5,7 +5,12 @@
 use crate::lexemes::{Kind, Lexeme, lexeme_at};
 use crate::place::line_start;
 use json5_tokens::char::is_json5_line_terminator;
+use json5_types::Position;
 use std::alloc::{AllocError, Global};
+use std::fmt;
+
+/// Of how many brackets it is said what closes them.
+const MOST: usize = 32;
 
 /// A bracket that is left open, and the token that it is to be closed before.
 #[derive(Clone, Copy, Debug)]
@@ -119,6 +124,49 @@ impl Nest<'_> {
     }
 }
 
+/// The closing bracket of a text with one too many, and the bracket that it closes too early: one that is the last of its
+/// line is to be closed by the first of another. None if there is none that isn't, or several.
+pub(crate) fn early_close(
+    alloc: Global,
+    text: &str,
+) -> Result<Option<(Lexeme, Lexeme)>, AllocError> {
+    let mut nest = Vec::new(alloc);
+    let mut found = None;
+    let mut token = lexeme_at(text, 0);
+    let mut end: usize = 0;
+    for _ in 0..text.len() {
+        match token.kind {
+            Kind::End => break,
+            Kind::Open => nest.push(token)?,
+            Kind::Close => {
+                let Some(open) = nest.pop() else {
+                    break;
+                };
+                if is_early(text, open, token, end) {
+                    if found.is_some() {
+                        return Ok(None);
+                    }
+                    found = Some((token, open));
+                }
+            }
+            _ => {}
+        }
+        end = token.end;
+        token = lexeme_at(text, end);
+    }
+    Ok(found)
+}
+
+/// Whether the bracket, before which a token ends, isn't the first of its line, and closes one that is the last of its own.
+fn is_early(text: &str, open: Lexeme, close: Lexeme, end: usize) -> bool {
+    let next = lexeme_at(text, open.end);
+    let inner = text.get(open.end..next.start).unwrap_or("");
+    let before = text.get(end..close.start).unwrap_or("");
+    close.closes(text, open)
+        && inner.contains(is_json5_line_terminator)
+        && !before.contains(is_json5_line_terminator)
+}
+
 /// How many closing brackets of the rest, from the offset on, close none that is opened there.
 pub(crate) fn closed_after(text: &str, from: usize) -> usize {
     let mut count: usize = 0;
@@ -154,4 +202,51 @@ pub(crate) fn close_of(text: &str, open: Lexeme) -> Lexeme {
         token = lexeme_at(text, token.end);
     }
     lexeme_at(text, text.len())
+}
+
+/// The last bracket of the text that is opened with so many open around it, and how many are open where the text ends.
+pub(crate) fn last_open(text: &str, level: usize) -> (Lexeme, usize) {
+    let mut found = lexeme_at(text, text.len());
+    let mut depth: usize = 0;
+    let mut token = lexeme_at(text, 0);
+    for _ in 0..text.len() {
+        match token.kind {
+            Kind::End => break,
+            Kind::Open => {
+                if depth == level {
+                    found = token;
+                }
+                depth = depth.saturating_add(1);
+            }
+            Kind::Close => depth = depth.saturating_sub(1),
+            _ => {}
+        }
+        token = lexeme_at(text, token.end);
+    }
+    (found, depth)
+}
+
+/// What closes the brackets that are open where the text ends.
+#[derive(Clone, Copy)]
+pub(crate) struct Closers<'t>(pub(crate) &'t str);
+
+/// Prints each closing bracket with its opening one, the innermost first.
+impl fmt::Display for Closers<'_> {
+    fn fmt<W: fmt::Write>(&self, f: &mut fmt::Formatter<W>) -> fmt::Result {
+        let Closers(text) = self;
+        let (_, depth) = last_open(text, 0);
+        let mut lead = "";
+        for index in 0..depth.min(MOST) {
+            let level = depth.saturating_sub(1).saturating_sub(index);
+            let (open, _) = last_open(text, level);
+            let line = Position::after(text.get(..open.start).unwrap_or("")).line as u128 + 1;
+            let (opening, closing) = match open.of(text) {
+                "[" => ('[', ']'),
+                _ => ('{', '}'),
+            };
+            write!(f, "{lead}`{closing}` for the `{opening}` of line {line}")?;
+            lead = ", then ";
+        }
+        Ok(())
+    }
 }

@@ -2,6 +2,8 @@
 //!
 //! Plain code, of which no promise is made but that it is safe and ends: change it by the rows of reports, which judge it.
 
+use crate::lookalikes::{letter_of, plain_of};
+use crate::number_parts::digit_of;
 use std::fmt;
 
 /// A text in quotes.
@@ -88,7 +90,12 @@ impl fmt::Display for Elements<'_> {
         let Elements(text, taken) = self;
         let mut is_first = true;
         for part in text.split(',') {
-            let element = taken_of(*taken, part).trim();
+            let (key, value) = part.split_once(':').unwrap_or((part, ""));
+            let element = match taken {
+                Taken::All => part.trim(),
+                Taken::Key => key.trim(),
+                Taken::Value => value.trim(),
+            };
             if !element.is_empty() {
                 f.write_str(if is_first { "[" } else { ", " })?;
                 write!(f, "{}", Element(element))?;
@@ -96,16 +103,6 @@ impl fmt::Display for Elements<'_> {
             }
         }
         f.write_char(']')
-    }
-}
-
-/// What is taken of a member.
-fn taken_of(taken: Taken, part: &str) -> &str {
-    let (key, value) = part.split_once(':').unwrap_or((part, ""));
-    match taken {
-        Taken::All => part,
-        Taken::Key => key,
-        Taken::Value => value,
     }
 }
 
@@ -128,18 +125,39 @@ impl fmt::Display for Choices<'_> {
     }
 }
 
-/// Names as a message lists them, in backquotes.
+/// What is printed in place of each character of a text.
 #[derive(Clone, Copy)]
-pub(crate) struct Names<'t> {
-    pub(crate) list: &'t str,
-    /// What stands for the backquotes.
-    pub(crate) quote: char,
+pub(crate) enum Change {
+    /// The character that it looks like.
+    Plain,
+    /// The digit that it stands for.
+    Digit,
+    /// This in place of a backquote.
+    Quote(char),
+    /// Nothing for a sign between digits.
+    Joined,
+    /// A point for a sign between digits.
+    Pointed,
 }
 
-impl fmt::Display for Names<'_> {
+/// A text with other characters.
+#[derive(Clone, Copy)]
+pub(crate) struct Changed<'t>(pub(crate) &'t str, pub(crate) Change);
+
+impl fmt::Display for Changed<'_> {
     fn fmt<W: fmt::Write>(&self, f: &mut fmt::Formatter<W>) -> fmt::Result {
-        for c in self.list.chars() {
-            f.write_char(if c == '`' { self.quote } else { c })?;
+        let Changed(text, change) = self;
+        for c in text.chars() {
+            let is_between = matches!(c, ',' | ' ' | '_' | '\'');
+            let made = match change {
+                Change::Plain => plain_of(c).or(letter_of(c)),
+                Change::Digit => digit_of(c),
+                Change::Quote(quote) if c == '`' => Some(*quote),
+                Change::Joined if is_between => continue,
+                Change::Pointed if is_between => Some('.'),
+                _ => None,
+            };
+            f.write_char(made.unwrap_or(c))?;
         }
         Ok(())
     }

@@ -1,96 +1,12 @@
-//! What a report says is to be done with a number.
+//! Numbers as hints show them.
 //!
 //! Plain code, of which no promise is made but that it is safe and ends: change it by the rows of reports, which judge it.
 
-use crate::wording::Quoted;
 use std::fmt;
-
-/// A hint about a number.
-#[derive(Clone, Copy)]
-pub(crate) enum NumberAdvice<'t> {
-    /// The number, without the signs before it.
-    Alone(&'t str),
-    /// The text and the number that it says in another base.
-    Based(&'t str, u128),
-    /// The text in place of a number, which has one or two of them.
-    Due(&'t str),
-    /// The number with letters in place of digits.
-    Letters(&'t str),
-    /// The same in place of a number or a text.
-    Part(&'t str),
-    /// The expression and its value.
-    Product(u128),
-    /// The number without its zeros, and what it is if it is octal.
-    Octal(&'t str, u128),
-    /// The sign, and the number without it.
-    Signed(char, &'t str),
-    /// A number with a unit.
-    Unit(&'t str),
-    /// The same in quotes.
-    UnitInQuotes(&'t str),
-    /// The number with underscores.
-    Underscores(&'t str),
-    /// The whole numbers below and above.
-    Whole(u128),
-    /// The number without its zeros.
-    Zeros(&'t str),
-}
-
-impl fmt::Display for NumberAdvice<'_> {
-    fn fmt<W: fmt::Write>(&self, f: &mut fmt::Formatter<W>) -> fmt::Result {
-        match self {
-            NumberAdvice::Alone(number) => write!(f, "write the number alone: {number}"),
-            NumberAdvice::Based(word, number) => write!(f, "{word} is written as {number} here"),
-            NumberAdvice::Due(text) => write!(f, "a number is due here: write {}", Likely(text)),
-            NumberAdvice::Letters(word) => {
-                write!(f, "{}: write {}", letters_of(word), Digits(word))
-            }
-            NumberAdvice::Part(text) => {
-                let (number, text) = (Likely(text), Quoted(text));
-                write!(
-                    f,
-                    "this is no number: write {number}, or {text} where a text may stand"
-                )
-            }
-            NumberAdvice::Product(number) => write!(f, "a file has no expressions: write {number}"),
-            NumberAdvice::Octal(number, octal) => write!(
-                f,
-                "a number does not begin with 0: write {number}, or {octal} if this is octal"
-            ),
-            NumberAdvice::Signed(sign, number) => write!(f, "write {sign}{number}"),
-            NumberAdvice::Unit(word) => {
-                let (alone, text) = (WithoutUnit(word), Quoted(word));
-                write!(
-                    f,
-                    "a number has no unit: write {alone}, or {text} where a text may stand"
-                )
-            }
-            NumberAdvice::UnitInQuotes(word) => {
-                let alone = WithoutUnit(word);
-                write!(f, "a number has no quotes and no unit: write {alone}")
-            }
-            NumberAdvice::Underscores(word) => {
-                f.write_str("a number has no `_` in it: ")?;
-                write_without(f, word, '_')
-            }
-            NumberAdvice::Whole(number) => {
-                let next = number.saturating_add(1);
-                write!(
-                    f,
-                    "a whole number has no fraction: write {number} or {next}"
-                )
-            }
-            NumberAdvice::Zeros(number) => write!(
-                f,
-                "a number does not begin with 0: write {number}"
-            ),
-        }
-    }
-}
 
 /// A number with a unit: the number alone, and what it may be if another unit is counted.
 #[derive(Clone, Copy)]
-struct WithoutUnit<'t>(&'t str);
+pub(crate) struct WithoutUnit<'t>(pub(crate) &'t str);
 
 impl fmt::Display for WithoutUnit<'_> {
     fn fmt<W: fmt::Write>(&self, f: &mut fmt::Formatter<W>) -> fmt::Result {
@@ -115,7 +31,7 @@ pub(crate) fn number_and_unit(word: &str) -> (&str, &str) {
 
 /// What a text that is due to be a number has of numbers.
 #[derive(Clone, Copy)]
-struct Likely<'t>(&'t str);
+pub(crate) struct Likely<'t>(pub(crate) &'t str);
 
 impl fmt::Display for Likely<'_> {
     fn fmt<W: fmt::Write>(&self, f: &mut fmt::Formatter<W>) -> fmt::Result {
@@ -156,8 +72,8 @@ fn is_whole(text: &str) -> bool {
 pub(crate) fn has_letters(word: &str) -> bool {
     let text = word.trim_start_matches(['+', '-']);
     let is_other = text.contains(|c: char| digit_of(c).is_none());
-    let has_zero = text.contains(['O', 'o']);
-    let has_one = text.contains(['l', 'I']);
+    let has_zero = text.contains(['O', 'o', '\u{41e}', '\u{43e}']);
+    let has_one = text.contains(['l', 'I', '\u{417}', '\u{437}']);
     let has_digit = text.contains(|c: char| c.is_ascii_digit()) || matches!(text, "O" | "o");
     let is_suffix = text.ends_with(['l', 'I']) && !has_zero;
     let begins_zero = text.starts_with(['0', 'O', 'o']) && text.len() > 1;
@@ -165,35 +81,22 @@ pub(crate) fn has_letters(word: &str) -> bool {
 }
 
 /// The digit that the character is, or that it stands for.
-fn digit_of(c: char) -> Option<char> {
+pub(crate) fn digit_of(c: char) -> Option<char> {
     match c {
-        'O' | 'o' => Some('0'),
+        'O' | 'o' | '\u{41e}' | '\u{43e}' => Some('0'),
         'l' | 'I' => Some('1'),
+        '\u{417}' | '\u{437}' => Some('3'),
         '0'..='9' => Some(c),
         _ => None,
     }
 }
 
 /// What is said of the letters in place of digits.
-fn letters_of(word: &str) -> &'static str {
+pub(crate) fn letters_of(word: &str) -> &'static str {
     match (word.contains(['O', 'o']), word.contains('l')) {
         (true, false) => "the letter O stands in place of a zero",
         (false, true) => "the letter l stands in place of a one",
         _ => "letters stand in place of digits",
-    }
-}
-
-/// A number with letters in place of digits.
-#[derive(Clone, Copy)]
-struct Digits<'t>(&'t str);
-
-impl fmt::Display for Digits<'_> {
-    fn fmt<W: fmt::Write>(&self, f: &mut fmt::Formatter<W>) -> fmt::Result {
-        let Digits(word) = self;
-        for c in word.chars() {
-            f.write_char(digit_of(c).unwrap_or(c))?;
-        }
-        Ok(())
     }
 }
 
@@ -209,16 +112,4 @@ fn times_of(unit: &str) -> Option<(u128, &'static str)> {
         "d" => Some((86400, "seconds")),
         _ => None,
     }
-}
-
-/// The text without a character.
-fn write_without<W: fmt::Write>(
-    f: &mut fmt::Formatter<W>,
-    text: &str,
-    without: char,
-) -> fmt::Result {
-    for part in text.split(without) {
-        f.write_str(part)?;
-    }
-    Ok(())
 }

@@ -1,0 +1,4 @@
+-- Lists the definitions for documents that are spelled anew.
+pub mod Respelled
+pub mod Spellings
+pub mod Streams

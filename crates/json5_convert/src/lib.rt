@@ -1,0 +1,20 @@
+//! Spells the tokens of a JSON5 document anew, as JSON or as JSON5, and keeps its comments where they are.
+//!
+//! ```text
+//! respell(alloc, "{port: 0x50,} // web", Spelling::json())?    // {"port": 80} // web
+//! ```
+#![tactic(auto)]
+
+mod faults;
+mod gaps;
+mod lines;
+mod numbers;
+mod respelled;
+mod spelling;
+mod strings;
+mod tokens;
+
+pub use faults::{RespellError, Result};
+pub use lines::{Values, to_lines};
+pub use respelled::respell;
+pub use spelling::{Blanks, Comments, Keys, LastCommas, Numbers, Quotes, Spelling};

@@ -1,0 +1,68 @@
+//! Numbers as JSON has them.
+//!
+//! Plain code: what it makes is read again.
+
+use crate::faults::{RespellError, Result};
+use json5_lexemes::is_plain_with;
+use json5_types::Position;
+use json5_types::number::Number;
+use json5_types::whole::Whole;
+use std::fmt::Write;
+
+/// Appends a number that is spelled so, as JSON has it: with the same digits, but that a hexadecimal one is in decimal
+/// digits. The number stands at this position.
+pub(crate) fn push_number(
+    made: &mut String,
+    token: &str,
+    number: &Number,
+    position: Position,
+) -> Result<()> {
+    if is_plain_with(false, token) {
+        return Ok(made.push_str(token)?);
+    }
+    let (sign, digits) = parted(token);
+    made.push_str(sign)?;
+    match number {
+        Number::Whole(whole) => push_whole(made, digits, *whole),
+        Number::Decimal(decimal) if decimal.is_infinite() || decimal.is_nan() => {
+            Err(RespellError::Number(position))
+        }
+        Number::Decimal(_) => push_decimal(made, digits),
+    }
+}
+
+/// The sign, if it is a minus, and the number without a sign.
+fn parted(token: &str) -> (&'static str, &str) {
+    if let Some(digits) = token.strip_prefix('-') {
+        return ("-", digits);
+    }
+    match token.strip_prefix('+') {
+        Some(digits) => ("", digits),
+        None => ("", token),
+    }
+}
+
+/// Appends a whole number of these digits, which may be hexadecimal, without its sign.
+fn push_whole(made: &mut String, digits: &str, whole: Whole) -> Result<()> {
+    if !digits.starts_with("0x") && !digits.starts_with("0X") {
+        return Ok(made.push_str(digits)?);
+    }
+    let size = match whole.as_u128() {
+        Some(size) => size,
+        None => whole.as_i128().unwrap_or(0).unsigned_abs(),
+    };
+    Ok(write!(made, "{size}")?)
+}
+
+/// Appends a decimal with digits on both sides of its point.
+fn push_decimal(made: &mut String, digits: &str) -> Result<()> {
+    let Some((front, fraction)) = digits.split_once('.') else {
+        return Ok(made.push_str(digits)?);
+    };
+    made.push_str(if front.is_empty() { "0" } else { front })?;
+    made.push('.')?;
+    if !matches!(fraction.bytes().next(), Some(b'0'..=b'9')) {
+        made.push('0')?;
+    }
+    Ok(made.push_str(fraction)?)
+}
