@@ -116,7 +116,7 @@ fn any_of(pairs: Vec<Pair<'_>>) -> Asked<'_>
 }
 
 /// The schema that a reference means.
-fn target_of<'a>(root: &'a Value, reference: &Value) -> Option<&'a Value>
+pub fn target_of<'a>(root: &'a Value, reference: &Value) -> Option<&'a Value>
     ensures { option_map (λ v. value_of v.now) result ≡ target_of (value_of root.now) (value_of reference.now) }
 {
     match reference {
@@ -157,7 +157,7 @@ fn speaks_of(keywords: &[(String, Value)], name: &str) -> bool
 }
 
 /// Whether neither a later member has the name, nor `properties` speaks of it.
-fn is_additional(keywords: &[(String, Value)], name: &str, after: &[(String, Value)]) -> bool
+pub fn is_additional(keywords: &[(String, Value)], name: &str, after: &[(String, Value)]) -> bool
     ensures { result ≡ is_additional (fields_view keywords.now) (chars name.now) (fields_view after.now) }
 {
     !is_named(after, name) && !speaks_of(keywords, name)
@@ -233,7 +233,7 @@ fn prefix_on<'a>(alloc: Global, schemas: &'a Value, value: &'a Value) -> Result<
 }
 
 /// How many schemas there are for the elements in front.
-fn schemas_in_front(schemas: Option<&Value>) -> usize
+pub fn schemas_in_front(schemas: Option<&Value>) -> usize
     ensures { result ≡ schemas_in_front (part_view schemas.entry) }
 {
     match schemas {
@@ -360,7 +360,7 @@ fn if_on<'a>(schema: &'a Value, keywords: &'a [(String, Value)], value: &'a Valu
 }
 
 /// Whether the schema of a name is applied: no later one has the name, there is a member with it, and it is no array of names.
-fn is_dependent(
+pub fn is_dependent(
     name: &str,
     schema: &Value,
     after: &[(String, Value)],

@@ -28,7 +28,7 @@ pub fn conforms(alloc: Global, schema: &Value, value: &Value) -> Result<bool>
 
 /// The same of a schema inside of `root`.
 #[cycle(conforms)]
-fn conforms_within(
+pub fn conforms_within(
     alloc: Global,
     root: &Value,
     schema: &Value,
@@ -78,7 +78,7 @@ fn keywords_hold(
 
 /// Whether this keyword holds, unless a later one has the same name.
 #[cycle(conforms)]
-fn keyword_holds(
+pub fn keyword_holds(
     alloc: Global,
     root: &Value,
     members: &[(String, Value)],

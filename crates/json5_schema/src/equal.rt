@@ -137,7 +137,7 @@ fn names_within(members: &[(String, Value)], others: &[(String, Value)]) -> bool
 }
 
 /// Whether the value is equal to one of these.
-fn is_among(alloc: Global, value: &Value, others: &[Value]) -> Result<bool>
+pub fn is_among(alloc: Global, value: &Value, others: &[Value]) -> Result<bool>
     ensures { MatchResult result (λ b. b ≡ is_among (value_of value.now) (items_view others.now)) LacksMemory }
 {
     for other in others {

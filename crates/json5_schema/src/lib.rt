@@ -3,8 +3,11 @@
 
 mod asked;
 mod conforms;
+pub mod document_faults;
 mod equal;
+mod explain;
 pub mod faults;
+mod found;
 mod keyword;
 mod kind;
 pub mod laws;
@@ -12,9 +15,14 @@ mod limits;
 mod looking;
 mod members;
 mod multiples;
+mod near;
+mod own_faults;
 mod references;
 mod schemas;
 pub mod shape;
+mod words;
 
+pub use document_faults::{Fault, Part, Place, Step};
 pub use faults::{Problem, SchemaFault};
+pub use found::MAX_FAULTS;
 pub use schemas::Schema;

@@ -1,16 +1,22 @@
 //! Schemas, looked at once, and whether documents conform to them.
 
-ghost use Rattle.std.specs.Prelude.{◌≡◌, IfOk, MatchResult};
+ghost use Rattle.std.specs.Prelude.{◌≡◌, ◌==◌, false, vec_len, IfOk, MatchResult};
+ghost use Rattle.json5_types.specs.Errors.{LacksMemory};
 ghost use Rattle.json5_types.specs.ValueMeanings.{value_of};
 ghost use Rattle.json5_schema.specs.Conformance.{Conforms};
 ghost use Rattle.json5_schema.specs.Views.{IsRefusal, schema_of};
 
-use crate::conforms::conforms;
+use crate::conforms::{MAX_DEPTH, conforms};
+use crate::document_faults::{Fault, Place};
+use crate::explain::explain;
 use crate::faults::{Problem, SchemaFault};
+use crate::found::Found;
 use crate::looking::{Seen, fault, look};
 use crate::references::follow;
-use json5_types::error;
+use crate::words::shown;
+use json5_types::error::Error;
 use json5_types::value::Value;
+use json5_types::{ErrorCode, error};
 use std::alloc::Global;
 
 /// A JSON Schema that was looked at once: this version decides each of its keywords, each argument is what its keyword wants,
@@ -59,6 +65,59 @@ impl Schema {
     {
         conforms(alloc, &self.root, value)
     }
+
+    /// Says where the value doesn't conform to the schema, and why: nowhere exactly where it conforms. At most `MAX_FAULTS`
+    /// are told, in the order of the document.
+    ///
+    /// # Errors
+    ///
+    /// As `accepts`.
+    pub fn faults(&self, alloc: Global, value: &Value) -> error::Result<Vec<Fault>>
+        ensures { MatchResult result (λ faults. Conforms (schema_of self.now) (value_of value.now) (vec_len faults == 0)) IsRefusal }
+    {
+        if self.accepts(alloc, value)? {
+            return Ok(Vec::new(alloc));
+        }
+        Ok(reasons(alloc, &self.root, value)?)
+    }
+}
+
+/// Why the value doesn't conform to the schema: at least that it doesn't.
+fn reasons(alloc: Global, root: &Value, value: &Value) -> error::Result<Vec<Fault>>
+    ensures { MatchResult result (λ faults. (vec_len faults == 0) ≡ false) LacksMemory }
+{
+    let Ok(faults) = found_in(alloc, root, value) else {
+        return Err(Error::new(ErrorCode::OutOfMemory));
+    };
+    if !faults.is_empty() {
+        return Ok(faults);
+    }
+    let Ok(fault) = whole_fault(alloc, value) else {
+        return Err(Error::new(ErrorCode::OutOfMemory));
+    };
+    let mut faults = Vec::new(alloc);
+    faults.push(fault)?;
+    Ok(faults)
+}
+
+/// The faults that are found where it is gone into each keyword, as far as it can be.
+fn found_in(alloc: Global, root: &Value, value: &Value) -> error::Result<Vec<Fault>> {
+    let mut found = Found::new(alloc);
+    let place = Place::top(alloc);
+    match explain(alloc, root, root, value, &place, MAX_DEPTH, &mut found) {
+        Err(error) if error.code() == Some(ErrorCode::OutOfMemory) => Err(error),
+        _ => Ok(found.faults),
+    }
+}
+
+/// That the document as a whole doesn't conform.
+fn whole_fault(alloc: Global, value: &Value) -> error::Result<Fault> {
+    Ok(Fault {
+        place: Place::top(alloc),
+        expected: String::from_str(alloc, "a document that conforms to the schema")?,
+        found: shown(alloc, value)?,
+        likeliest: None,
+    })
 }
 
 /// Whether a draft is named in which keywords beside `$ref` count: drafts 6 and 7 pass over them.

@@ -2,7 +2,7 @@
 
 use crate::outcomes::{Outcome, said};
 use crate::rows::text_of;
-use json5_schema::Schema;
+use json5_schema::{Part, Schema};
 use json5_types::error::Error;
 use json5_types::value::Value;
 use std::alloc::Global;
@@ -13,12 +13,43 @@ pub(crate) fn outcome_of(alloc: Global, row: &Value) -> Outcome {
         Ok(schema) => schema,
         Err(fault) => return said(text_of(row, "fault"), format!(in alloc; "{fault}").ok()),
     };
+    if let (Some(document), Some(Value::Array(lines))) = (row.get("document"), row.get("faults")) {
+        return match lines_of(alloc, lines) {
+            Ok(wanted) => said(wanted.as_str(), told(alloc, &schema, document).ok()),
+            Err(_) => Outcome::NoMemory,
+        };
+    }
     match other_verdict(alloc, &schema, row) {
         Ok(None) if row.get("fault").is_none() => Outcome::Wanted,
         Ok(None) => said("", String::from_str(alloc, "the schema is taken").ok()),
         Ok(Some(document)) => shown(alloc, document),
         Err(error) => said("", format!(in alloc; "{error}").ok()),
     }
+}
+
+/// The lines that are wanted, one below the other.
+fn lines_of(alloc: Global, lines: &[Value]) -> Result<String, Error> {
+    let mut text = String::new(alloc);
+    for line in lines {
+        text.push_str(line.as_str().unwrap_or(""))?;
+        text.push('\n')?;
+    }
+    Ok(text)
+}
+
+/// A line for each fault of the document: where it is, by which rule, and what is wrong.
+fn told(alloc: Global, schema: &Schema, document: &Value) -> Result<String, Error> {
+    let mut text = String::new(alloc);
+    for fault in schema.faults(alloc, document)? {
+        let pointer = fault.place.pointer(alloc)?;
+        let part = match fault.place.part {
+            Part::Key => "key of ",
+            Part::Value => "",
+        };
+        let rule = fault.place.rule.as_str();
+        text.push_str(format!(in alloc; "{part}`{pointer}` by `{rule}`: {fault}\n")?.as_str())?;
+    }
+    Ok(text)
 }
 
 /// The first document of which the schema says something else than the row.
@@ -42,7 +73,8 @@ fn first_with<'r>(
 ) -> Result<Option<&'r Value>, Error> {
     if let Some(Value::Array(documents)) = documents {
         for document in documents {
-            if schema.accepts(alloc, document)? == verdict {
+            let has_faults = !schema.faults(alloc, document)?.is_empty();
+            if schema.accepts(alloc, document)? == verdict || has_faults != verdict {
                 return Ok(Some(document));
             }
         }

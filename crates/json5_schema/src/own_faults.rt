@@ -1,0 +1,250 @@
+//! The faults of single keywords.
+//!
+//! Plain code, of which no promise is made but that it is safe and ends: change it by the rows of schemas, which judge it.
+
+use crate::document_faults::{Fault, Place, Way};
+use crate::equal::is_among;
+use crate::found::{Found, MAX_FAULTS};
+use crate::keyword::{Applicator, Assertion};
+use crate::members::{find, is_named};
+use crate::near::nearest;
+use crate::words::{expected_by, found_by, listed, shown, shown_key};
+use json5_types::error::Result;
+use json5_types::value::Value;
+use std::alloc::Global;
+
+/// A fault in so many words.
+fn fault(alloc: Global, place: Place, expected: &str, found: String) -> Result<Fault> {
+    Ok(Fault {
+        place,
+        expected: String::from_str(alloc, expected)?,
+        found,
+        likeliest: None,
+    })
+}
+
+/// Adds what an assertion finds wrong.
+pub fn add_assertion(
+    alloc: Global,
+    assertion: Assertion,
+    keywords: &[(String, Value)],
+    argument: &Value,
+    value: &Value,
+    place: &Place,
+    found: &mut Found,
+) -> Result<()> {
+    match (assertion, value) {
+        (Assertion::Required, Value::Object(members)) => {
+            add_missing(alloc, keywords, argument, members, "", place, found)
+        }
+        (Assertion::DependentRequired, _) => add_dependents(alloc, argument, value, place, found),
+        (Assertion::UniqueItems, Value::Array(items)) => add_repeated(alloc, items, place, found),
+        _ => found.add(Fault {
+            place: place.copy(alloc)?,
+            expected: expected_by(alloc, assertion, argument)?,
+            found: found_by(alloc, assertion, value)?,
+            likeliest: likeliest_text(alloc, assertion, argument, value)?,
+        }),
+    }
+}
+
+/// The text of `enum` or `const` that is nearest to this one.
+fn likeliest_text(
+    alloc: Global,
+    assertion: Assertion,
+    argument: &Value,
+    value: &Value,
+) -> Result<Option<String>> {
+    let mut known = Vec::new(alloc);
+    match assertion {
+        Assertion::Enum => {
+            for text in argument.as_array().unwrap_or(&[]) {
+                known.push(text.as_str().unwrap_or(""))?;
+            }
+        }
+        Assertion::Const => known.push(argument.as_str().unwrap_or(""))?,
+        _ => return Ok(None),
+    }
+    match nearest(alloc, value.as_str().unwrap_or(""), &known)? {
+        Some(text) if !text.is_empty() => Ok(Some(shown(alloc, &Value::text(alloc, text)?)?)),
+        _ => Ok(None),
+    }
+}
+
+/// Adds the names that there is no member for; `beside` says what asks for them.
+fn add_missing(
+    alloc: Global,
+    keywords: &[(String, Value)],
+    names: &Value,
+    members: &[(String, Value)],
+    beside: &str,
+    place: &Place,
+    found: &mut Found,
+) -> Result<()> {
+    for name in names.as_array().unwrap_or(&[]) {
+        let name = name.as_str().unwrap_or("");
+        if !is_named(members, name) {
+            let key = shown_key(alloc, name)?;
+            let expected = format!(in alloc; "the key {key}{beside}")?;
+            let there = instead_of(alloc, keywords, name, members)?;
+            found.add(fault(alloc, place.copy(alloc)?, expected.as_str(), there)?)?;
+        }
+    }
+    Ok(())
+}
+
+/// The members of `properties`.
+fn properties_of(keywords: &[(String, Value)]) -> &[(String, Value)] {
+    match find(keywords, "properties") {
+        Some(properties) => properties.entries(),
+        None => &[],
+    }
+}
+
+/// What there is in place of a key: a near one that `properties` doesn't speak of.
+fn instead_of(
+    alloc: Global,
+    keywords: &[(String, Value)],
+    name: &str,
+    members: &[(String, Value)],
+) -> Result<String> {
+    let known = properties_of(keywords);
+    let mut others = Vec::new(alloc);
+    for (key, _) in members {
+        if !is_named(known, key.as_str()) {
+            others.push(key.as_str())?;
+        }
+    }
+    match nearest(alloc, name, &others)? {
+        Some(key) => shown_key(alloc, key),
+        None => Ok(String::from_str(alloc, "none")?),
+    }
+}
+
+/// Adds the names that other names ask for and that there is no member for.
+pub fn add_dependents(
+    alloc: Global,
+    dependents: &Value,
+    value: &Value,
+    place: &Place,
+    found: &mut Found,
+) -> Result<()> {
+    let members = value.entries();
+    for (index, dependent) in dependents.entries().iter().enumerate() {
+        let name = dependent.0.as_str();
+        if is_named(members, name) && !is_named(&dependents.entries()[index + 1..], name) {
+            let key = shown_key(alloc, name)?;
+            let beside = format!(in alloc; " beside {key}")?;
+            let here = place.copy(alloc)?.ruled(alloc, Way::Key(name, 0))?;
+            add_missing(
+                alloc,
+                &[],
+                &dependent.1,
+                members,
+                beside.as_str(),
+                &here,
+                found,
+            )?;
+        }
+    }
+    Ok(())
+}
+
+/// Adds the first element that is equal to one before it.
+fn add_repeated(alloc: Global, items: &[Value], place: &Place, found: &mut Found) -> Result<()> {
+    for (index, item) in items.iter().enumerate() {
+        if is_among(alloc, item, &items[..index])? {
+            let there = place.copy(alloc)?.entered(alloc, Way::Index(index))?;
+            let seen = shown(alloc, item)?;
+            let again = format!(in alloc; "{seen} again")?;
+            return found.add(fault(alloc, there, "elements that differ", again)?);
+        }
+    }
+    Ok(())
+}
+
+/// Adds that the keyword as a whole doesn't hold.
+pub fn add_own(
+    alloc: Global,
+    applicator: Applicator,
+    value: &Value,
+    place: &Place,
+    found: &mut Found,
+) -> Result<()> {
+    let expected = match applicator {
+        Applicator::Not => "a value that the schema of `not` refuses",
+        Applicator::Contains => "as many elements as `contains` asks for",
+        _ => return Ok(()),
+    };
+    found.add(fault(alloc, place.copy(alloc)?, expected, shown(alloc, value)?)?)
+}
+
+/// That a key isn't known, with the keys that are.
+pub fn unknown_key(
+    alloc: Global,
+    keywords: &[(String, Value)],
+    key: &str,
+    place: Place,
+) -> Result<Fault> {
+    let mut known = Vec::new(alloc);
+    let mut words = Vec::new(alloc);
+    for (name, _) in properties_of(keywords) {
+        known.push(name.as_str())?;
+        words.push(shown_key(alloc, name.as_str())?)?;
+    }
+    if words.is_empty() {
+        words.push(String::from_str(alloc, "no such key")?)?;
+    }
+    let expected = listed(alloc, &words, " or ")?;
+    let likeliest = match nearest(alloc, key, &known)? {
+        Some(name) => Some(shown_key(alloc, name)?),
+        None => None,
+    };
+    let found = shown_key(alloc, key)?;
+    Ok(fault(alloc, place, expected.as_str(), found)?.or_likely(likeliest))
+}
+
+/// The rank of a branch whose faults are those of another kind of value.
+const STRANGE: usize = 2 * (MAX_FAULTS + 1);
+
+/// How far a branch is: 0 where it conforms.
+fn rank(branch: &Found, depth: usize) -> usize {
+    let count = branch.faults.len().min(MAX_FAULTS);
+    branch.strangeness(depth).min(2) * (MAX_FAULTS + 1) + count
+}
+
+/// Adds the faults of the branch that is nearest; where each is for another kind of value, one fault that says so.
+pub fn choose_branch(
+    alloc: Global,
+    branches: Vec<Found>,
+    value: &Value,
+    place: &Place,
+    found: &mut Found,
+) -> Result<()> {
+    let depth = place.path.len();
+    let mut least = usize::MAX;
+    let mut words = Vec::new(alloc);
+    for branch in &branches {
+        least = least.min(rank(branch, depth));
+        for fault in &branch.faults {
+            if branch.strangeness(depth) == 2 && words.len() < 100 {
+                words.push(String::from_str(alloc, fault.expected.as_str())?)?;
+                break;
+            }
+        }
+    }
+    if least == 0 || least >= STRANGE {
+        let expected = match least {
+            0 => String::from_str(alloc, "to conform to one schema alone")?,
+            _ => listed(alloc, &words, " or ")?,
+        };
+        let seen = shown(alloc, value)?;
+        return found.add(fault(alloc, place.copy(alloc)?, expected.as_str(), seen)?);
+    }
+    for branch in branches {
+        if rank(&branch, depth) == least {
+            return found.add_all(branch);
+        }
+    }
+    Ok(())
+}
