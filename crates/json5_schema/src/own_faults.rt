@@ -130,9 +130,10 @@ pub fn add_dependents(
     found: &mut Found,
 ) -> Result<()> {
     let members = value.entries();
-    for (index, dependent) in dependents.entries().iter().enumerate() {
+    let dependents = dependents.entries();
+    for (index, dependent) in dependents.iter().enumerate() {
         let name = dependent.0.as_str();
-        if is_named(members, name) && !is_named(&dependents.entries()[index + 1..], name) {
+        if is_named(members, name) && !is_named(&dependents[index + 1..], name) {
             let key = shown_key(alloc, name)?;
             let beside = format!(in alloc; " beside {key}")?;
             let here = place.copy(alloc)?.ruled(alloc, Way::Key(name, 0))?;
