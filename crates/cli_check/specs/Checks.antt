@@ -13,6 +13,7 @@ use Rattle.json5_schema.specs.Conformance.{Conforms}
 use Rattle.json5_schema.specs.Views.{IsRefusal, schema_of}
 use Rattle.json5_schema.specs.declared.schemas.Schema.{Schema}
 use Rattle.cli_files.specs.Stores.{Opening}
+use Rattle.cli_files.specs.declared.reason.Reason.{Reason}
 use Rattle.cli_check.specs.declared.verdict.Verdict.{Verdict}
 use Rattle.cli_check.specs.declared.verdict.Verdict.TheVariants as verdict
 use Rattle.cli_check.specs.declared.trouble.Trouble.{Trouble}
@@ -88,7 +89,7 @@ pub data Holds (opens : List ℕ → Opening) (name : List ℕ) (input : Option 
 -- the file was read, and this is what is said of it; or it can't be opened; or there is another cause that it isn't checked
 pub data JudgesFile (opens : List ℕ → Opening) (given : Option Datum) (maps : List (String Global)) (input : Option (List ℕ)) (name : List ℕ) (left : Option (List ℕ)) : Result Verdict Trouble → Type 0 where
   judged : {held : Option (List ℕ)} (v : Verdict) → Holds opens name input left held → IfSome held (Judges (SchemaFor opens given maps name) v) → JudgesFile opens given maps input name left (Ok v)
-  unopened : (t : Trouble) → opens name None → JudgesFile opens given maps input name left (Err t)
+  unopened : (why : Reason) → name ≢ codes "-" → opens name None → JudgesFile opens given maps input name left (Err (trouble.Unopened why))
   failed : (t : Trouble) → IsCause given t → JudgesFile opens given maps input name left (Err t)
 
 abbrev pub status_of : Result Verdict Trouble → ℕ

@@ -118,7 +118,7 @@ fn check_value<D: Disk, W: Write>(
     value: &Value,
     w: &mut W,
 ) -> Result<Verdict, Trouble>
-    ensures { JudgesValue (SchemaFor (D.opens disk.now) (given_schema given.entry) options.now.maps.items source.name.now) (given_schema given.entry) (value_of value.now) result }
+    ensures { JudgesValue (SchemaFor (D.opens disk.now) (given_schema given.entry) options.now.maps.items source.entry.name.now) (given_schema given.entry) (value_of value.now) result }
 {
     match given {
         Some(schema) => judge(alloc, options, schema, source, value, w),
@@ -135,7 +135,7 @@ fn check_by_own<D: Disk, W: Write>(
     value: &Value,
     w: &mut W,
 ) -> Result<Verdict, Trouble>
-    ensures { JudgesValue (SchemaFor (D.opens disk.now) None options.now.maps.items source.name.now) None (value_of value.now) result }
+    ensures { JudgesValue (SchemaFor (D.opens disk.now) None options.now.maps.items source.entry.name.now) None (value_of value.now) result }
 {
     match own_schema(disk, alloc, options, source.name, value) {
         Ok(schema) => judge(alloc, options, &schema, source, value, w),

@@ -12,4 +12,4 @@ returns-in-Ok g c =
     file_judged (g.D.Disk.opens c.args.disk.now) (given_schema c.args.given) c.args.options.now.maps.items (g.R.Read.remaining c.args.r.now) c.args.name.now _ _ c.check_input-in-Ok.result (file (λ is. true≢false (sym (c.if-is_stdin.ensures.1 is))) c.in-Ok.ensures) c.check_input-in-Ok.ensures
 
 pub returns-in-Err : goal.returns-in-Err
-returns-in-Err g c = unopened _ c.in-Err.ensures
+returns-in-Err g c = unopened _ (λ is. true≢false (sym (c.if-is_stdin.ensures.1 is))) c.in-Err.ensures
