@@ -6,6 +6,7 @@ use crate::keys::key_for;
 use crate::lines::{has_lines, indentation, line_start};
 use crate::removing::joined;
 use crate::spots::{Around, Spot, Which, find_around};
+use crate::switched_off::after_switched_off;
 use json5_read::brackets::BracketKind;
 use json5_types::ErrorCode;
 use json5_types::error::{Error, Result};
@@ -169,7 +170,7 @@ fn growth_at(
     Ok(growth)
 }
 
-/// Puts it before the entry and the comments that belong to that.
+/// Puts it before the entry and the comments that belong to that, below a switched-off entry.
 fn before_entry(
     alloc: Global,
     collection: &Collection<'_>,
@@ -177,12 +178,9 @@ fn before_entry(
     here: Spot,
 ) -> Result<Growth> {
     let text = collection.text();
-    let from = match around.before {
-        Some(spot) => spot.full_end(),
-        None => 1,
-    };
+    let from = after_switched_off(alloc, text, around.from(), here.start)?;
     let gap = Gap::of(text, from, here.start);
-    if here.begins_line(text) {
+    if gap.line_end.is_some() {
         let trail = joined(alloc, &[",", collection.line_end()])?;
         let indent = indentation(text, here.start);
         put(alloc, gap.lead, gap.lead, indent, trail.as_str())

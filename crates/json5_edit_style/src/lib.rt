@@ -14,6 +14,7 @@ mod keys;
 mod lines;
 mod removing;
 mod spots;
+mod switched_off;
 mod value_lines;
 
 pub use adding::{

@@ -3,6 +3,7 @@
 use crate::gaps::{Gap, between};
 use crate::lines::after_empty_line;
 use crate::spots::{Around, Spot, Which, find_around};
+use crate::switched_off::after_switched_off;
 use json5_types::ErrorCode;
 use json5_types::error::{Error, Result};
 use std::alloc::Global;
@@ -23,7 +24,8 @@ pub struct Cut {
 }
 
 /// Returns what goes from the collection's text with this entry: with its comma, the comments that belong to it, and
-/// its line, if it has one to itself.
+/// its line, if it has one to itself. A comment that would be an entry without its marks, as `// b: 2,`, belongs to none,
+/// and neither does what stands above it.
 ///
 /// ```text
 /// cut_for(alloc, "{ a: 1, /* b */ b: 2 }", Which::Key("b"))?    // leaves { a: 1 }
@@ -54,7 +56,7 @@ pub fn cut_alone_for(alloc: Global, text: &str, which: Which<'_>) -> Result<Cut>
 fn found_cut(alloc: Global, text: &str, which: Which<'_>, keeps: bool) -> Result<Cut> {
     let around = find_around(alloc, text, which)?;
     match around.here {
-        Some(here) => Ok(cut_of(text, around, here, keeps)),
+        Some(here) => cut_of(alloc, text, around, here, keeps),
         None => Err(Error::new(ErrorCode::Failed)),
     }
 }
@@ -68,11 +70,8 @@ pub(crate) fn joined(alloc: Global, parts: &[&str]) -> Result<String> {
 }
 
 /// What goes with the entry.
-fn cut_of(text: &str, around: Around, here: Spot, keeps: bool) -> Cut {
-    let from = match around.before {
-        Some(spot) => spot.full_end(),
-        None => 1,
-    };
+fn cut_of(alloc: Global, text: &str, around: Around, here: Spot, keeps: bool) -> Result<Cut> {
+    let from = after_switched_off(alloc, text, around.from(), here.start)?;
     let until = match around.after {
         Some(spot) => spot.start,
         None => around.close,
@@ -85,19 +84,19 @@ fn cut_of(text: &str, around: Around, here: Spot, keeps: bool) -> Cut {
         part(text, around, from, left, right)
     };
     if around.count == 1 && !has_comment(text, 1, start) && !has_comment(text, end, around.close) {
-        return Cut {
+        return Ok(Cut {
             index: around.index,
             comma: false,
             start: 1,
             end: around.close,
-        };
+        });
     }
-    Cut {
+    Ok(Cut {
         index: around.index,
         comma: takes_comma(around, here),
         start,
         end,
-    }
+    })
 }
 
 /// Whether the comma before it goes: with a last entry that has none itself.
@@ -105,13 +104,15 @@ fn takes_comma(around: Around, here: Spot) -> bool {
     around.before.is_some() && around.after.is_none() && here.comma.is_none()
 }
 
-/// From where to where it goes, by the lines that it shares with others.
+/// From where to where it goes, by the lines that it shares with others. What is before it ends at the offset.
 fn part(text: &str, around: Around, from: usize, left: Gap, right: Gap) -> (usize, usize) {
     let is_last = around.after.is_none();
     match (left.line_end, right.line_end) {
-        (Some(_), Some(_)) => lines(text, around, left, right),
+        (Some(_), Some(_)) => lines(text, around, from, left, right),
         (_, None) if !is_last => (left.own, right.first),
-        (Some(at), None) if left.tail == from && left.lead == left.next_line => (at, right.tail),
+        (Some(at), None) if left.tail == around.from() && left.lead == left.next_line => (
+            at, right.tail,
+        ),
         (Some(_), None) => (left.own, right.tail),
         (None, Some(_)) => (from, right.tail),
         (None, None) => (from, right.tail),
@@ -130,13 +131,13 @@ fn part_alone(around: Around, here: Spot, left: Gap, right: Gap) -> (usize, usiz
 }
 
 /// From where to where its lines go, with an empty line where two would meet or one would stand beside a bracket.
-fn lines(text: &str, around: Around, left: Gap, right: Gap) -> (usize, usize) {
+fn lines(text: &str, around: Around, from: usize, left: Gap, right: Gap) -> (usize, usize) {
     let is_after_empty = left.lead > left.next_line;
     let closes = around.after.is_none() && right.last_line == right.next_line;
     if closes && is_after_empty && !has_comment(text, left.next_line, left.lead) {
         return (left.next_line, right.next_line);
     }
-    if is_after_empty || around.before.is_none() {
+    if is_after_empty || from == 1 {
         return (left.lead, after_empty_line(text, right.next_line));
     }
     (left.lead, right.next_line)

@@ -75,6 +75,16 @@ pub(crate) struct Around {
     pub(crate) close: usize,
 }
 
+impl Around {
+    /// Where the entry before it ends with its comma, or after the opening bracket.
+    pub(crate) fn from(self) -> usize {
+        match self.before {
+            Some(spot) => spot.full_end(),
+            None => 1,
+        }
+    }
+}
+
 /// The entry that is meant, and what is beside it; where there is none, the last entry is before it.
 pub(crate) fn find_around(alloc: Global, text: &str, which: Which<'_>) -> Result<Around> {
     let mut walk = opened(alloc, text)?;
