@@ -135,9 +135,7 @@ impl Place {
                 place.rule.push_str(format!(in alloc; "{step}")?.as_str())?;
             }
             Way::Index(index) => {
-                place
-                    .rule
-                    .push_str(format!(in alloc; "/{index}")?.as_str())?;
+                place.rule.push_str(format!(in alloc; "/{index}")?.as_str())?;
             }
             Way::Target(text) => {
                 place.rule = String::from_str(alloc, text.strip_prefix('#').unwrap_or(text))?;
