@@ -4,3 +4,5 @@ pub mod Refused
 pub mod PatchesMade
 pub mod PathsJoined
 pub mod MergesMade
+pub mod PutsMade
+pub mod PathsPut

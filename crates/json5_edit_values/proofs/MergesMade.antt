@@ -96,7 +96,7 @@ depth_within (g ∷ fs) (suc i) f h is = let inside = depth_within fs i f (omega
 
 -- ---- a change at the root
 
-change_whole : (Change : Tree → Tree → Type 0) (t u : Tree) → ChangesAt Change [] t u → Change t u
+pub change_whole : (Change : Tree → Tree → Type 0) (t u : Tree) → ChangesAt Change [] t u → Change t u
 change_whole Change t u c =
     let led = c.led in
     let none : c.positions ≡ [] = cc in

@@ -2,7 +2,7 @@
 use denote.Ref.{Bor}
 use Rattle.std.proofs.Common.{◌≡◌, ◌≤◌, ◌<◌, ◌+◌, ℕ, zero, suc, List, [], ◌∷◌, ◌++◌, append-nil, length, take, get_or, refl, sym, ap, ◌∙◌, subst, arith}
 use Rattle.std.specs.declared.alloc.Global.{Global}
-use Rattle.std.specs.Prelude.{Bool, true, false, IfOk, IfSome, Option, Some, None, Result, Ok, Err, String, string_bytes, slice_range}
+use Rattle.std.specs.Prelude.{Bool, true, false, IfOk, IfNone, IfSome, Option, Some, None, Result, Ok, Err, String, string_bytes, slice_range}
 use Rattle.std.specs.Bool.{OnTrue}
 use Rattle.std.specs.Str.{chars, IsUtf8, all_scalars}
 use Rattle.std.proofs.lemmas.Str.{chars-encodes, scalars-chars}
@@ -28,7 +28,7 @@ use Rattle.json5_edit.specs.Changes.{ChangesBy, IsChanged, IsInserted, IsPushed,
 use Rattle.json5_edit.specs.Comparing.{IsWithAt, IsWithLast}
 use Rattle.json5_edit.specs.Entries.{elements, entries, members}
 use Rattle.json5_edit.specs.Parts.{part, positions_of, put}
-use Rattle.json5_edit.specs.Refusals.{Reaches}
+use Rattle.json5_edit.specs.Refusals.{IsNo, Reaches}
 use Rattle.json5_edit.specs.Sets.{IsSet}
 use Rattle.json5_edit.specs.declared.paths.Step.{Step}
 use Rattle.json5_edit.specs.declared.paths.Step.TheVariants as step
@@ -161,6 +161,20 @@ count_found bytes spelled steps p t d x is None e = tt
 count_found bytes spelled steps p t d x is (Some k) e =
     let same : t ≡ p.value = one_tree max_depth (depth p.value) (chars spelled) t p.value d (alone (depth p.value) (chars spelled) p.value p.such (itself (depth p.value))) in
     record { tree = p.tree; document = p.document; positions = p.positions; led = p.led; value = p.value; there = p.there; such = entries_len p.value k (sym (e ∙ ap len_of (is ∙ ap datum_of same))) }
+
+no_array : (t : Tree) → len_of (datum_of t) ≡ None → IsNo kind.Array t
+no_array null e k = absurd (cc)
+no_array (boolean b) e k = absurd (cc)
+no_array (number n) e k = absurd (cc)
+no_array (text u b) e k = absurd (cc)
+no_array (array ts) e k = absurd (cc)
+no_array (object ps) e k = absurd (cc)
+
+pub none_found : (bytes spelled : List ℕ) (steps : List Step) → Reaches (Val (chars spelled)) bytes steps → (t : Tree) → Doc max_depth (chars spelled) t → (x : Datum) → x ≡ datum_of t → (n : Option ℕ) → n ≡ len_of x → IfNone n (Reaches (IsNo kind.Array) bytes steps)
+none_found bytes spelled steps p t d x is (Some k) e = tt
+none_found bytes spelled steps p t d x is None e =
+    let same = one_alone (chars spelled) t p.value d p.such in
+    record { tree = p.tree; document = p.document; positions = p.positions; led = p.led; value = p.value; there = p.there; such = no_array p.value (sym (e ∙ ap len_of (is ∙ ap datum_of same))) }
 
 last_at : (i : ℕ) (v t u : Tree) → length (entries t) ≡ i → IsWithLast kind.Array [] v t u → IsWithAt i v t u
 last_at i v t u e w = record { was_kind = w.was_kind; kind = w.kind; before = entries t; after = []; was = sym (append-nil (entries t)); now = w.one_more; there = e }

@@ -117,7 +117,7 @@ mutual
 
 -- ---- parts of a collection
 
-part_of_element : (i : ℕ) (js : List ℕ) (ts : Trees) (s : Tree) → element_of i ts ≡ Some s → part_at i js ts ≡ part js s
+pub part_of_element : (i : ℕ) (js : List ℕ) (ts : Trees) (s : Tree) → element_of i ts ≡ Some s → part_at i js ts ≡ part js s
 part_of_element i js no_more s e = absurd (cc)
 part_of_element zero js (more t ts) s e = let same : t ≡ s = cc in ap (part js) same
 part_of_element (suc i) js (more t ts) s e = part_of_element i js ts s e
@@ -155,7 +155,7 @@ part_there : (k js : List ℕ) (ps : Members) (u : List ℕ) (b : Bool) (t : Tre
 part_there k js ps u b t i s rest (behind j is index) = ap (λ n. part_under n js (member u b t ps)) index ∙ rest j is
 part_there k js ps u b t i s rest (here is eq index value) = ap (λ n. part_under n js (member u b t ps)) index ∙ ap (part js) value
 
-part_of_member : (k js : List ℕ) (ps : Members) (i : ℕ) (s : Tree) → member_of k ps ≡ Some (i, s) → part_under i js ps ≡ part js s
+pub part_of_member : (k js : List ℕ) (ps : Members) (i : ℕ) (s : Tree) → member_of k ps ≡ Some (i, s) → part_under i js ps ≡ part js s
 part_of_member k js no_member i s e = absurd (cc)
 part_of_member k js (member u b t ps) i s e = part_there k js ps u b t i s (λ j f. part_of_member k js ps j s f) (stands k ps u b t i s (member_of k ps) (pointwise nat_eq (encode_utf8_all u) k) refl refl e)
 

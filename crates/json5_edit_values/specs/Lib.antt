@@ -6,3 +6,4 @@ pub mod Locations
 pub mod Patches
 pub mod Merges
 pub mod News
+pub mod Puts

@@ -11,6 +11,7 @@ mod json;
 mod laid_out;
 mod lines;
 pub mod patch;
+mod putting;
 mod seats;
 mod spelled;
 
@@ -20,3 +21,4 @@ pub use edits::{
     push_value_in, set_value, set_value_in,
 };
 pub use json5_styles::Layout;
+pub use putting::{put, put_if_absent, put_in};

@@ -5,11 +5,11 @@
 //! let text = apply_patch(alloc, "{ port: 80 } // web", &patch)?;    // { port: 8080 } // web
 //! ```
 
-mod adding;
+pub(crate) mod adding;
 mod applying;
 mod faults;
 mod merging;
-mod new_values;
+pub(crate) mod new_values;
 mod operations;
 mod pointers;
 mod reading;

@@ -1,11 +1,12 @@
 //! A value that comes to where a pointer leads.
 
-ghost use Rattle.std.specs.Prelude.{◌≡◌, [], ◌++◌, ◌∷◌, IfOk, IfSome, IfErr, string_bytes};
+ghost use Rattle.std.specs.Prelude.{◌≡◌, [], ◌++◌, ◌∷◌, IfOk, IfNone, IfSome, IfErr, string_bytes};
 ghost use Rattle.std.specs.Str.{chars};
 ghost use Rattle.json5_grammar.specs.Language.Trees.{Tree};
 ghost use Rattle.json5_grammar.specs.Language.Values.{Val};
 ghost use Rattle.json5_edit.specs.Changes.{ChangesBy};
 ghost use Rattle.json5_edit.specs.Comparing.{IsWithAt, IsWithLast};
+ghost use Rattle.json5_edit.specs.Refusals.{IsNo, Reaches, RefusesPath};
 ghost use Rattle.json5_edit_values.specs.Locations.{Becomes};
 ghost use Rattle.json5_edit_values.specs.News.{AddsKeyed, AddsNew, Brings, BringsAt, HasCount, IsNew};
 ghost use Rattle.json5_edit_values.specs.Patches.{Joins};
@@ -140,8 +141,10 @@ fn put_in_at(
 }
 
 /// How many entries the value has to which the steps lead, if it can have any.
-fn count_at(alloc: Global, text: &str, steps: &[Step<'_>]) -> Result<Option<usize>>
-    ensures { IfOk result (λ count. IfSome count (HasCount text.now steps.now)) }
+pub(crate) fn count_at(alloc: Global, text: &str, steps: &[Step<'_>]) -> Result<Option<usize>>
+    ensures count { IfOk result (λ count. IfSome count (HasCount text.now steps.now)) }
+    ensures none { IfOk result (λ count. IfNone count (Reaches (IsNo kind.Array) text.now steps.now)) }
+    ensures refused { IfErr result (RefusesPath text.now steps.now) }
 {
     let part = part_at(alloc, text, steps)?;
     match read_document(alloc, part) {

@@ -1,9 +1,10 @@
 //! What a patch puts into a text.
 
-ghost use Rattle.std.specs.Prelude.{◌≡◌, IfOk, string_bytes};
+ghost use Rattle.std.specs.Prelude.{◌≡◌, IfErr, IfOk, string_bytes};
 ghost use Rattle.std.specs.Str.{chars};
 ghost use Rattle.json5_grammar.specs.Language.Trees.{Tree};
 ghost use Rattle.json5_grammar.specs.Language.Values.{Val};
+ghost use Rattle.json5_edit.specs.declared.faults.EditError.TheVariants as edit_errors;
 ghost use Rattle.json5_edit_values.specs.News.{Brings, IsNew};
 
 use crate::laid_out::lays_out;
@@ -52,7 +53,8 @@ fn lined(alloc: Global, part: &str, text: &str, path: &[Step<'_>], goes: Goes) -
 
 /// A copy.
 pub(crate) fn owned(alloc: Global, text: &str) -> Result<String>
-    ensures { IfOk result (λ made. string_bytes made ≡ text.now) }
+    ensures same { IfOk result (λ made. string_bytes made ≡ text.now) }
+    ensures full { IfErr result (λ e. e ≡ edit_errors.NoMemory) }
 {
     match String::from_str(alloc, text) {
         Ok(made) => Ok(made),

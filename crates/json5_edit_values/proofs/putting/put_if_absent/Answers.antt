@@ -1,0 +1,18 @@
+use Rattle.std.proofs.Common.{inl, inr, string_bytes}
+use Rattle.json5_edit.proofs.Placed.{ok_then}
+use Rattle.json5_edit_values.proofs.PathsPut.{leads_none, leads_there, path_refused}
+use Rattle.json5_edit_values.proofs.putting.put_if_absent.Goals as goal
+
+pub add_missing-requires : goal.add_missing-requires
+add_missing-requires c = leads_none c.args.text.now c.args.path.now _ c.in-Ok-None.field-0-is c.in-Ok-None.ensures.found
+
+pub returns-in-Ok-Some-clause-put : goal.returns-in-Ok-Some-clause-put
+returns-in-Ok-Some-clause-put c =
+    ok_then c.owned.result (λ made k. inl (leads_there c.args.text.now c.args.path.now _ _ c.in-Ok-Some.field-0-is c.in-Ok-Some.ensures.found, k)) c.owned.ensures.same
+
+pub returns-in-Ok-None-clause-put : goal.returns-in-Ok-None-clause-put
+returns-in-Ok-None-clause-put c = ok_then c.add_missing.result (λ made k. inr k) c.add_missing.ensures.added
+
+pub returns-in-Err-clause-refused : goal.returns-in-Err-clause-refused
+returns-in-Err-clause-refused c =
+    path_refused c.args.text.now c.args.value.now c.args.path.now c.of_text.result (c.of_text.ensures c.args.text.now c.args.path.now c.in-Err.ensures.refused)
