@@ -5,4 +5,5 @@ pub mod PatchesMade
 pub mod PathsJoined
 pub mod MergesMade
 pub mod PutsMade
+pub mod PutsRefused
 pub mod PathsPut

@@ -76,7 +76,7 @@ mutual
 -- ---- a part within a part
 
 mutual
-  part_on : (is ks : List ℕ) (t x : Tree) → part is t ≡ Some x → part (is ++ ks) t ≡ part ks x
+  pub part_on : (is ks : List ℕ) (t x : Tree) → part is t ≡ Some x → part (is ++ ks) t ≡ part ks x
   part_on [] ks t x e = let same : t ≡ x = cc in ap (part ks) same
   part_on (i ∷ is) ks null x e = absurd (cc)
   part_on (i ∷ is) ks (boolean b) x e = absurd (cc)
@@ -237,7 +237,7 @@ member_onward key outer rest ps x js (Some (i, s)) is k e p =
     ap (under i) (k s ks led found) ∙ within i ks (positions_of rest x) ∙ ap (onward rest x) (sym at)
 
 -- further steps lead on from the part to which a path leads
-led_on : (outer rest : List Step) (t x : Tree) (js : List ℕ) → positions_of outer t ≡ Some js → part js t ≡ Some x → positions_of (outer ++ rest) t ≡ onward rest x js
+pub led_on : (outer rest : List Step) (t x : Tree) (js : List ℕ) → positions_of outer t ≡ Some js → part js t ≡ Some x → positions_of (outer ++ rest) t ≡ onward rest x js
 led_on [] rest t x js e p =
     let none : js ≡ [] = cc in
     let found : Some t ≡ Some x = ap (λ z. part z t) (sym none) ∙ p in
@@ -305,11 +305,11 @@ changes_within Change outer rest t u x js led there c =
       changed = record { positions = ks; led = on; old = c.old; new = c.new; there = sym (part_on js ks t x there) ∙ ap (λ z. part z t) (sym at) ∙ c.there; now = refl; changed = c.changed };
     }
 
-no_more_steps : (js : List ℕ) (r : Option (List ℕ)) → option_map (λ ks. js ++ ks) r ≡ None → r ≡ None
+pub no_more_steps : (js : List ℕ) (r : Option (List ℕ)) → option_map (λ ks. js ++ ks) r ≡ None → r ≡ None
 no_more_steps js None e = refl
 no_more_steps js (Some ks) e = absurd (cc)
 
-led_by_key : (k : Bor (List ℕ)) (t : Tree) → positions_of (step.Key k ∷ []) t ≡ None → HasKey k.now t → ⊥
+pub led_by_key : (k : Bor (List ℕ)) (t : Tree) → positions_of (step.Key k ∷ []) t ≡ None → HasKey k.now t → ⊥
 led_by_key k null e h = h
 led_by_key k (boolean b) e h = h
 led_by_key k (number n) e h = h

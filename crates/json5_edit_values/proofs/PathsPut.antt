@@ -1,19 +1,23 @@
 -- Entries that are put in for the steps of a path.
-use Rattle.std.proofs.Common.{◌≡◌, ◌≢◌, inl, inr, ℕ, ◌≤◌, zero, suc, List, [], ◌∷◌, ◌++◌, length, take, drop, refl, sym, ap, ◌∙◌, subst, arith}
+use Rattle.std.proofs.Common.{◌≡◌, ◌≢◌, inl, inr, ℕ, ◌≤◌, ◌<◌, ◌+◌, zero, suc, List, [], ◌∷◌, ◌++◌, length, take, drop, refl, sym, ap, ◌∙◌, subst, arith}
 use Rattle.std.specs.declared.alloc.Global.{Global}
 use Rattle.std.specs.Prelude.{Bool, true, false, Option, Some, None, is_some, IfErr, IfOk, Result, Ok, Err, String, string_bytes}
+use Rattle.std.specs.Str.{chars}
 use Rattle.json5_edit.specs.Changes.{IsPushed}
+use Rattle.json5_edit.specs.Parts.{positions_of}
 use Rattle.json5_edit.specs.Places.{LeadsNowhere, LeadsTo}
-use Rattle.json5_edit.specs.Refusals.{Reaches, RefusesPath, RefusesPush}
+use Rattle.json5_edit.specs.Refusals.{Reaches, RefusesPath, RefusesPush, RefusesSet}
 use Rattle.json5_edit.specs.declared.faults.EditError.{EditError}
 use Rattle.json5_edit.specs.declared.faults.EditError.TheVariants as error
 use Rattle.json5_edit.specs.declared.paths.Step.{Step}
 use Rattle.json5_edit.specs.declared.paths.Step.TheVariants as step
 use Rattle.json5_edit.specs.declared.places.ValueSpan.{ValueSpan}
 use Rattle.json5_edit_values.specs.News.{HasCount, LeadsSo}
-use Rattle.json5_edit_values.specs.Puts.{GetsAlong, GetsText, IsAdded, RefusesAlong, RefusesEntry, RefusesPut, first_in}
+use Rattle.json5_edit_values.specs.Puts.{EndsAfter, GetsAlong, GetsText, IsAdded, RefusesAlong, RefusesEntry, RefusesPut, first_in}
 use Rattle.json5_edit_values.proofs.MergesMade.{leads_so}
+use Rattle.json5_edit_values.proofs.PatchesMade.{one_document}
 use Rattle.json5_edit_values.proofs.PutsMade.{along_added}
+use Rattle.json5_edit_values.proofs.PutsRefused.{Ends, ends_at, refused_from, refused_whole, too_deep}
 
 more_taken : (n : ℕ) (xs ys : List Step) (s : Step) → drop n xs ≡ s ∷ ys → take (suc n) xs ≡ take n xs ++ (s ∷ [])
 more_taken zero [] ys s e = absurd (cc)
@@ -64,32 +68,62 @@ joined zero xs = refl
 joined (suc n) [] = refl
 joined (suc n) (x ∷ xs) = ap (λ z. x ∷ z) (joined n xs)
 
-some_left : (n : ℕ) (xs : List Step) → n ≤ length xs → n ≢ length xs → drop n xs ≢ []
-some_left zero [] p q e = q refl
-some_left zero (x ∷ xs) p q e = absurd (cc)
-some_left (suc n) [] p q e = absurd (omega (arith, p))
-some_left (suc n) (x ∷ xs) p q e = some_left n xs (omega (arith, p)) (λ k. q (ap suc k)) e
+some_left : (n : ℕ) (xs : List Step) → n < length xs → (s : Step) × (ss : List Step) × (drop n xs ≡ s ∷ ss)
+some_left n [] p = absurd (omega (arith, p))
+some_left zero (x ∷ xs) p = (x, xs, refl)
+some_left (suc n) (x ∷ xs) p = some_left n xs (omega (arith, p))
 
-module _ (bytes value : List ℕ) (steps : List Step) (nowhere : LeadsNowhere bytes steps) where
-  pub all_added : (n : ℕ) → n ≤ length steps → n ≢ length steps → (r : Result (String Global) EditError)
+no_nil : (s : Step) (ss : List Step) → s ∷ ss ≢ []
+no_nil s ss e = absurd (cc)
+
+module _ (bytes value : List ℕ) (steps : List Step) (n : ℕ) (e : EndsAfter bytes steps n) where
+  pub all_added : LeadsNowhere bytes steps → (r : Result (String Global) EditError)
       → IfOk r (λ made. GetsAlong bytes (take n steps) (drop n steps) value (string_bytes made)) → IfOk r (λ made. IsAdded bytes steps value (string_bytes made))
-  all_added n p q (Ok made) k = along_added bytes value (string_bytes made) steps (take n steps) (drop n steps) nowhere (joined n steps) (some_left n steps p q) k
-  all_added n p q (Err e) k = tt
+  all_added nowhere (Ok made) k =
+      let (s, ss, left) = some_left n steps e.0 in
+      along_added bytes value (string_bytes made) steps (take n steps) (drop n steps) nowhere (joined n steps) (λ none. no_nil s ss (sym left ∙ none)) k
+  all_added nowhere (Err x) k = tt
 
-  pub put_refused : (n : ℕ) (r : Result (String Global) EditError) → IfErr r (RefusesAlong bytes (take n steps) (drop n steps) value) → IfErr r (RefusesPut bytes steps value)
-  put_refused n (Ok made) k = tt
-  put_refused n (Err e) k = inr (nowhere, (take n steps, drop n steps, joined n steps, k))
+  ends : (s : Step) (ss : List Step) → drop n steps ≡ s ∷ ss → Ends bytes (take n steps) s
+  ends s ss left =
+      let next : n + 1 ≡ suc n = omega arith in
+      let one = ap (λ z. take z steps) next ∙ more_taken n steps ss s left in
+      ends_at bytes (take n steps) s e.1 (subst (LeadsNowhere bytes) one e.2)
 
-pub path_refused : (bytes value : List ℕ) (steps : List Step) (e : EditError) → RefusesPath bytes steps e → RefusesPut bytes steps value e
-path_refused bytes value steps (error.Text e) k = inl k
-path_refused bytes value steps error.Nowhere k = inl k
-path_refused bytes value steps error.NoMemory k = inl k
+  pub put_refused : (r : Result (String Global) EditError) → IfErr r (RefusesAlong bytes (take n steps) (drop n steps) value) → IfErr r (RefusesPut bytes steps value)
+  put_refused (Ok made) k = tt
+  put_refused (Err x) k =
+      let (s, ss, left) = some_left n steps e.0 in
+      let from = refused_from s ss bytes value (take n steps) x (ends s ss left) (subst (λ z. RefusesAlong bytes (take n steps) z value x) left k) in
+      refused_whole bytes value steps (take n steps) (s ∷ ss) x (joined n steps ∙ ap (λ z. take n steps ++ z) left) from
+
+pub path_refused : (bytes value : List ℕ) (steps : List Step) (e : EditError) → RefusesPath bytes [] e → RefusesPut bytes steps value e
+path_refused bytes value steps (error.Text e) k = k
+path_refused bytes value steps error.Nowhere (t, d, none) = absurd (cc)
+path_refused bytes value steps error.NoMemory k = tt
 path_refused bytes value steps (error.Value e) k = absurd k
 path_refused bytes value steps error.Taken k = absurd k
 path_refused bytes value steps error.NotObject k = absurd k
 path_refused bytes value steps error.NotArray k = absurd k
 path_refused bytes value steps error.NoKey k = absurd k
 path_refused bytes value steps error.Failed k = absurd k
+
+pub leads_not : (bytes : List ℕ) (steps : List Step) → LeadsSo true bytes steps → LeadsNowhere bytes steps → ⊥
+leads_not bytes steps r (t, d, none) =
+    let same = one_document (chars bytes) r.tree t r.document d in
+    let no : Some r.positions ≡ None = sym r.led ∙ ap (positions_of steps) same ∙ none in
+    absurd (cc)
+
+pub set_refused : (bytes value : List ℕ) (steps : List Step) (e : EditError) → LeadsSo true bytes steps → RefusesSet bytes steps value e → RefusesPut bytes steps value e
+set_refused bytes value steps (error.Text e) r k = k
+set_refused bytes value steps error.Nowhere r k = absurd (leads_not bytes steps r k)
+set_refused bytes value steps error.NoMemory r k = tt
+set_refused bytes value steps (error.Value e) r k = λ v spelled. let deep = too_deep 0 bytes value steps k v spelled in omega (arith, deep)
+set_refused bytes value steps error.Taken r k = absurd k
+set_refused bytes value steps error.NotObject r k = absurd k
+set_refused bytes value steps error.NotArray r k = absurd k
+set_refused bytes value steps error.NoKey r k = absurd k
+set_refused bytes value steps error.Failed r k = absurd k
 
 -- ---- elements
 

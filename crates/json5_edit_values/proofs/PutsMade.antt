@@ -72,12 +72,12 @@ member_instead k (member u b t ps) (d ∷ es) v w e =
     ap (λ z. z ∷ members (put_under (length es) [] ps w)) first ∙ ap (λ z. d ∷ z) (member_instead k ps es v w rest)
 
 -- the step goes to the entry that came, and there another value can be put
-record Last (s : Step) (v x y : Tree) : Type 0 where
-  led : positions_of (s ∷ []) y ≡ Some (length (entries x) ∷ [])
-  there : part (length (entries x) ∷ []) y ≡ Some v
-  instead : (w : Tree) → IsWithLast (step_kind s) (step_key s) w x (put (length (entries x) ∷ []) y w)
+pub record Last (s : Step) (v x y : Tree) : Type 0 where
+  pub led : positions_of (s ∷ []) y ≡ Some (length (entries x) ∷ [])
+  pub there : part (length (entries x) ∷ []) y ≡ Some v
+  pub instead : (w : Tree) → IsWithLast (step_kind s) (step_key s) w x (put (length (entries x) ∷ []) y w)
 
-last_at : (s : Step) (v x y : Tree) → Gets s v x y → Last s v x y
+pub last_at : (s : Step) (v x y : Tree) → Gets s v x y → Last s v x y
 last_at (step.Index i) v x null (at, g) = let no = g.kind in absurd (cc)
 last_at (step.Index i) v x (boolean b) (at, g) = let no = g.kind in absurd (cc)
 last_at (step.Index i) v x (number n) (at, g) = let no = g.kind in absurd (cc)
@@ -132,8 +132,12 @@ pub begun_spelled : (s : Step) (ss : List Step) (value : List ℕ) (b : Tree) �
 begun_spelled (step.Key k) ss value b v = one_value (codes "{}") b (object no_member) (subst (λ z. Val z b) braces_spelled v) (is_empty_object empty)
 begun_spelled (step.Index i) ss value b v = one_value (codes "[]") b (array no_more) (subst (λ z. Val z b) brackets_spelled v) (is_empty_array empty)
 
+pub begun_value : (s : Step) (ss : List Step) (value : List ℕ) → Val (chars (first_in (s ∷ ss) value)) (begun (s ∷ ss))
+begun_value (step.Key k) ss value = subst (λ z. Val z (object no_member)) (sym braces_spelled) (is_empty_object empty)
+begun_value (step.Index i) ss value = subst (λ z. Val z (array no_more)) (sym brackets_spelled) (is_empty_array empty)
+
 -- what an insertion and a push make of a tree
-gained : (s : Step) (bytes value made : List ℕ) (outer : List Step) → GetsText s bytes outer value made → ChangesBy (λ t u. (v : Tree) × Val (chars value) v × ChangesAt (Gets s v) outer t u) bytes made
+pub gained : (s : Step) (bytes value made : List ℕ) (outer : List Step) → GetsText s bytes outer value made → ChangesBy (λ t u. (v : Tree) × Val (chars value) v × ChangesAt (Gets s v) outer t u) bytes made
 gained (step.Key k) bytes value made outer p =
     let c = p.0 in
     let (v, spelled, w) = c.changed in

@@ -1,21 +1,24 @@
 -- A value that is put where a path leads, whether one was there or not.
 -- A promise rests on this.
-use Rattle.std.specs.Prelude.{⊤, ◌≡◌, ◌≢◌, ◌⊎◌, ℕ, List, [], ◌∷◌, ◌++◌, length}
+use Rattle.std.specs.Prelude.{⊤, ◌≡◌, ◌≢◌, ◌⊎◌, ℕ, ◌+◌, ◌<◌, List, [], ◌∷◌, ◌++◌, length, take, None}
 use Rattle.std.specs.Str.{chars}
 use lib.Chars.{codes}
-use Rattle.json5_grammar.specs.Language.Trees.{Tree, null}
+use Rattle.json5_grammar.specs.Language.Documents.{Doc, max_depth}
+use Rattle.json5_grammar.specs.Language.Trees.{Tree, null, depth}
 use Rattle.json5_grammar.specs.Language.Values.{Val}
+use Rattle.json5_read.specs.declared.brackets.BracketKind.TheVariants as kind
 use Rattle.json5_edit.specs.Changes.{ChangesBy, IsInserted, IsPushed}
 use Rattle.json5_edit.specs.Comparing.{IsWithLast, step_key, step_kind}
 use Rattle.json5_edit.specs.Entries.{empty_of, entries}
+use Rattle.json5_edit.specs.Parts.{positions_of}
 use Rattle.json5_edit.specs.Places.{LeadsNowhere}
-use Rattle.json5_edit.specs.Refusals.{HasKey, Reaches, RefusesInsert, RefusesPush, RefusesSet}
+use Rattle.json5_edit.specs.Refusals.{HasKey, IsFaulty, IsNo, Reaches, RefusesInsert, RefusesPush}
 use Rattle.json5_edit.specs.Sets.{IsSet}
 use Rattle.json5_edit.specs.declared.faults.EditError.{EditError}
 use Rattle.json5_edit.specs.declared.faults.EditError.TheVariants as error
 use Rattle.json5_edit.specs.declared.paths.Step.{Step}
 use Rattle.json5_edit.specs.declared.paths.Step.TheVariants as step
-use Rattle.json5_edit_values.specs.Locations.{ChangesAt}
+use Rattle.json5_edit_values.specs.Locations.{ChangesAt, HasAt}
 
 -- ---- trees
 
@@ -78,6 +81,35 @@ IsPutIfAbsent text path value made = (Reaches (λ t. ⊤) text path × (made ≡
 
 -- ---- why it isn't
 
+-- there is no such entry, and none can come behind the others: t is another value, or has fewer elements
+abbrev pub RefusesStep : Step → Tree → EditError → Type 0
+RefusesStep (step.Key k) t error.NotObject = IsNo kind.Object t
+RefusesStep (step.Index i) t error.NotArray = IsNo kind.Array t
+RefusesStep (step.Index i) t error.Nowhere = length (entries t) ≢ i
+RefusesStep s t e = ⊥
+
+-- at one of the steps, in t or in what is begun for the steps behind one that leads nowhere
+abbrev pub RefusesSteps : List Step → Tree → EditError → Type 0
+RefusesSteps [] t e = ⊥
+RefusesSteps (s ∷ ss) t e = ((x : Tree) × HasAt (s ∷ []) t x × RefusesSteps ss x e) ⊎ ((positions_of (s ∷ []) t ≡ None) × (RefusesStep s t e ⊎ RefusesSteps ss (begun ss) e))
+
+-- the bytes are no value alone, or one that is too deep within so many brackets
+abbrev pub IsNoValueWithin : ℕ → List ℕ → Type 0
+IsNoValueWithin n value = (v : Tree) → Val (chars value) v → max_depth < n + depth v
+
+-- `put`
+abbrev pub RefusesPut : List ℕ → List Step → (value : List ℕ) → EditError → Type 0
+RefusesPut text path value (error.Text e) = IsFaulty text e
+RefusesPut text path value (error.Value e) = IsNoValueWithin (length path) value
+RefusesPut text path value error.NoMemory = ⊤
+RefusesPut text path value e = (t : Tree) × Doc max_depth (chars text) t × RefusesSteps path t e
+
+-- ---- private clauses alone cite these
+
+-- so many steps lead somewhere, and one more leads nowhere
+abbrev pub EndsAfter : List ℕ → List Step → ℕ → Type 0
+EndsAfter text path n = (n < length path) × Reaches (λ t. ⊤) text (take n path) × LeadsNowhere text (take (n + 1) path)
+
 abbrev pub RefusesEntry : Step → List ℕ → (outer : List Step) → (value : List ℕ) → EditError → Type 0
 RefusesEntry (step.Key k) text outer value e = RefusesInsert text outer k.now value e
 RefusesEntry (step.Index i) text outer value e = RefusesPush text outer value e ⊎ (Reaches (λ t. length (entries t) ≢ i) text outer × (e ≡ error.Nowhere))
@@ -86,8 +118,3 @@ abbrev pub RefusesAlong : List ℕ → (outer steps : List Step) → (value : Li
 RefusesAlong text outer [] value e = e ≡ error.NoMemory
 RefusesAlong text outer (s ∷ ss) value e =
     RefusesEntry s text outer (first_in ss value) e ⊎ ((between : List ℕ) × GetsText s text outer (first_in ss value) between × RefusesAlong between (outer ++ (s ∷ [])) ss value e)
-
--- `put`: as `set`, or at one of the entries that are missing
-abbrev pub RefusesPut : List ℕ → List Step → (value : List ℕ) → EditError → Type 0
-RefusesPut text path value e =
-    RefusesSet text path value e ⊎ (LeadsNowhere text path × ((outer : List Step) × (rest : List Step) × (path ≡ outer ++ rest) × RefusesAlong text outer rest value e))

@@ -1,9 +1,10 @@
 //! A value that is put where a path leads, whether one was there or not.
 
-ghost use Rattle.std.specs.Prelude.{◌≡◌, ◌≤◌, drop, length, take, IfErr, IfOk, string_bytes};
+ghost use Rattle.std.specs.Prelude.{◌≡◌, ◌≤◌, [], drop, length, take, IfErr, IfOk, string_bytes};
 ghost use Rattle.json5_edit.specs.Places.{LeadsNowhere};
+ghost use Rattle.json5_edit.specs.Refusals.{RefusesPath};
 ghost use Rattle.json5_edit.specs.declared.paths.Step.TheVariants as steps;
-ghost use Rattle.json5_edit_values.specs.Puts.{GetsAlong, GetsText, IsAdded, IsPut, IsPutIfAbsent, RefusesAlong, RefusesEntry, RefusesPut, first_in};
+ghost use Rattle.json5_edit_values.specs.Puts.{EndsAfter, GetsAlong, GetsText, IsAdded, IsPut, IsPutIfAbsent, RefusesAlong, RefusesEntry, RefusesPut, first_in};
 
 use crate::patch::adding::count_at;
 use crate::patch::new_values::owned;
@@ -96,24 +97,24 @@ fn add_missing(
     ensures added { IfOk result (λ made. IsAdded text.now path.now value.now (string_bytes made)) }
     ensures refused { IfErr result (RefusesPut text.now path.now value.now) }
 {
-    let count = steps_that_lead(alloc, text, path);
-    if count == path.len() {
-        return Err(EditError::Nowhere);
-    }
+    let count = steps_that_lead(alloc, text, path)?;
     add_along(alloc, text, path, count, value, names)
 }
 
-/// How many steps lead somewhere.
-fn steps_that_lead(alloc: Global, text: &str, path: &[Step<'_>]) -> usize
-    ensures { result ≤ length path.now }
+/// How many steps lead somewhere, where one more leads nowhere.
+fn steps_that_lead(alloc: Global, text: &str, path: &[Step<'_>]) -> Result<usize>
+    requires { LeadsNowhere text.now path.now }
+    ensures count { IfOk result (EndsAfter text.now path.now) }
+    ensures refused { IfErr result (RefusesPath text.now []) }
 {
-    for count in 1..=path.len() {
-        match find(alloc, text, &path[..count]) {
+    for count in 0..path.len() {
+        match find(alloc, text, &path[..count + 1]) {
             Ok(Some(_)) => {}
-            _ => return count - 1,
+            Ok(None) => return Ok(count),
+            Err(error) => return Err(EditError::of_text(error)),
         }
     }
-    path.len()
+    unreachable!()
 }
 
 /// The text with an entry for each of the steps but the first ones, so many, one within the other, and the value in the

@@ -1,4 +1,4 @@
-use Rattle.std.proofs.Common.{inl, inr, string_bytes}
+use Rattle.std.proofs.Common.{[], inl, inr, string_bytes}
 use Rattle.json5_edit.proofs.Placed.{ok_then}
 use Rattle.json5_edit_values.proofs.PathsPut.{leads_none, leads_there, path_refused}
 use Rattle.json5_edit_values.proofs.putting.put_if_absent.Goals as goal
@@ -15,4 +15,4 @@ returns-in-Ok-None-clause-put c = ok_then c.add_missing.result (λ made k. inr k
 
 pub returns-in-Err-clause-refused : goal.returns-in-Err-clause-refused
 returns-in-Err-clause-refused c =
-    path_refused c.args.text.now c.args.value.now c.args.path.now c.of_text.result (c.of_text.ensures c.args.text.now c.args.path.now c.in-Err.ensures.refused)
+    path_refused c.args.text.now c.args.value.now c.args.path.now c.of_text.result (c.of_text.ensures c.args.text.now [] c.in-Err.ensures.refused)
