@@ -21,6 +21,7 @@ use Rattle.json5_edit.specs.declared.paths.Step.TheVariants as step
 use Rattle.json5_edit_style.specs.declared.habits.Names.{Names}
 use Rattle.json5_edit_values.specs.Merges.{Merges}
 use Rattle.json5_edit_values.specs.Patches.{Copies, Moves, Patches}
+use Rattle.json5_edit_values.specs.Puts.{IsPut, IsPutIfAbsent, RefusesPut}
 use Rattle.json5_edit_values.specs.declared.patch.operations.Operation.{Operation}
 use Rattle.cli_edit.specs.declared.requests.Command.{Command}
 use Rattle.cli_edit.specs.declared.requests.Command.TheVariants as work
@@ -28,7 +29,6 @@ use Rattle.cli_edit.specs.declared.trouble.TextTrouble.{TextTrouble}
 use Rattle.cli_edit.specs.declared.trouble.TextTrouble.TheVariants as trouble
 use Rattle.cli_edit.specs.Requests.{PutsValue}
 use Rattle.cli_edit.specs.Parts.{IsShownAt, RefusesShowing}
-use Rattle.cli_edit.specs.Puts.{PutsAt, RefusesPut}
 
 -- with a member of this key more, or with an element more before that with this index
 abbrev pub InsertsBy : Step → List ℕ → List Step → List ℕ → List ℕ → Type 0
@@ -99,8 +99,8 @@ Makes work.Set text steps value made = IsSet text steps value made
 Makes work.Insert text steps value made = Inserts text steps value made
 Makes (work.InsertBefore b) text steps value made = InsertsAhead b text steps value made
 Makes work.Push text steps value made = IsPushed text steps value made
-Makes work.Put text steps value made = PutsAt false text steps value made
-Makes work.PutAbsent text steps value made = PutsAt true text steps value made
+Makes work.Put text steps value made = IsPut text steps value made
+Makes work.PutAbsent text steps value made = IsPutIfAbsent text steps value made
 Makes work.Rename text steps value made = IsRekeyed text steps value made
 Makes work.Move text steps value made = IsMoved text steps made
 Makes work.Copy text steps value made = IsCopied text steps made
