@@ -11,8 +11,9 @@ use Rattle.json5_read.specs.TreeMeanings.{datum_of}
 use Rattle.json5_lexemes.specs.Lexemes.{HaveSameLexemes}
 use Rattle.json5_edit.specs.Changes.{ChangesBy, InsertsBefore, IsInserted, IsPushed, IsPutIn, IsRekeyed, IsRemoved, IsRemovedAlone}
 use Rattle.json5_edit.specs.Commented.{IsCommented}
-use Rattle.json5_edit.specs.Refusals.{EndsInNoKey, RefusesBefore, RefusesInsert, RefusesPath, RefusesPush, RefusesPutIn, RefusesRename, RefusesSet}
+use Rattle.json5_edit.specs.Refusals.{EndsInNoKey, RefusesBefore, RefusesInsert, RefusesPath, RefusesPush, RefusesPutIn, RefusesRename, RefusesSet, RefusesSort}
 use Rattle.json5_edit.specs.Sets.{IsSet}
+use Rattle.json5_edit.specs.Sorted.{IsOrdered}
 use Rattle.json5_edit.specs.declared.faults.EditError.{EditError}
 use Rattle.json5_edit.specs.declared.faults.EditError.TheVariants as error
 use Rattle.json5_edit.specs.declared.paths.Before.{Before}
@@ -108,6 +109,7 @@ Makes work.ShowComment text steps value made = ⊤
 Makes work.Comment text steps value made = IsCommented text steps made
 Makes work.RemoveAlone text steps value made = IsRemovedAlone text steps made
 Makes work.Remove text steps value made = IsRemoved text steps made
+Makes work.Sort text steps value made = IsOrdered text steps made
 Makes work.Apply text steps value made = IsPatched text made
 Makes work.Merge text steps value made = IsMerged text value made
 
@@ -126,6 +128,7 @@ RefusesEdit work.PutAbsent text steps value e = RefusesPut text steps value e
 RefusesEdit work.Rename text steps value e = RefusesRename text steps value e
 RefusesEdit work.Remove text steps value e = RefusesRemoving text steps e
 RefusesEdit work.Comment text steps value e = RefusesCommenting text steps e
+RefusesEdit work.Sort text steps value e = RefusesSort text steps e
 RefusesEdit work.RemoveAlone text steps value e = RefusesRemoving text steps e
 RefusesEdit w text steps value e = ⊤
 

@@ -223,16 +223,16 @@ pub(crate) fn value_advice<E: Write>(alloc: Global, value: &str, e: &mut E) {
 }
 
 /// The commands.
-const COMMANDS: [&str; 16] = [
+const COMMANDS: [&str; 17] = [
     "get", "has", "keys", "length", "type", "set", "insert", "push", "put", "rename", "move",
-    "copy", "remove", "comment", "apply", "merge",
+    "copy", "remove", "comment", "sort", "apply", "merge",
 ];
 
 /// What is wrong with the words, if that is certain.
 pub(crate) fn word_fault(alloc: Global, list: &[String]) -> Option<String> {
     let (word, rest) = list.split_first()?;
     let (path, given) = match word.as_str() {
-        "get" | "has" | "keys" | "length" | "type" | "remove" => ("PATH", ""),
+        "get" | "has" | "keys" | "length" | "type" | "remove" | "sort" => ("PATH", ""),
         "set" | "insert" | "push" | "put" => ("PATH", "VALUE"),
         "rename" => ("PATH", "KEY"),
         "comment" => ("PATH", "TEXT"),

@@ -12,7 +12,7 @@ use crate::requests::{Command, Task};
 use crate::trouble::TextTrouble;
 use json5_edit::{
     Before, EditError, Names, Result, Step, comment, comment_of, insert_before, insert_element,
-    insert_in, push, remove, remove_alone, rename, set,
+    insert_in, push, remove, remove_alone, rename, set, sort,
 };
 use json5_edit_values::{put_if_absent, put_in};
 use std::alloc::Global;
@@ -46,6 +46,7 @@ pub(crate) fn made(
         Command::RemoveAlone => edited(removed_alone(alloc, text, steps)),
         Command::ShowComment => edited(comment_line(alloc, text, steps)),
         Command::Comment => edited(commented(alloc, text, steps, value)),
+        Command::Sort => edited(sort(alloc, text, steps)),
         Command::Apply => applied(alloc, text, value, names),
         Command::Merge => merged(alloc, text, value, names),
     }

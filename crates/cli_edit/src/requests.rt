@@ -39,6 +39,8 @@ pub enum Command<'w> {
     ShowComment,
     /// Puts a comment before an entry.
     Comment,
+    /// Puts the members of an object in the order of their keys.
+    Sort,
     /// Makes the operations of a JSON Patch.
     Apply,
     /// Merges a merge patch.
@@ -222,6 +224,7 @@ fn work_and_given<'w>(word: &str, rest: &'w [String]) -> Option<(Command<'w>, Gi
         "length" => alone(Command::Show(View::Count), rest),
         "type" => alone(Command::Show(View::Kind), rest),
         "remove" => taken_out(rest),
+        "sort" => alone(Command::Sort, rest),
         "apply" => alone(Command::Apply, rest),
         "merge" => alone(Command::Merge, rest),
         "rename" => keyed(Command::Rename, rest),
