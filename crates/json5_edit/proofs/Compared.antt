@@ -30,7 +30,7 @@ use Rattle.json5_edit.proofs.EntriesPassed.{closes, is_document}
 pub alone : (x : List ℕ) (t : Tree) → Val x t → Doc (depth t) x t
 alone x t v = record { before = []; text = x; after = []; whole = sym (append_nil x); blank = Blanks.empty; value = v; last = LastBlanks.blanks Blanks.empty; shallow = omega arith }
 
-same_value : (x y : List ℕ) (t u : Tree) → x ≡ y → Val (chars x) t → Val (chars y) u → t ≡ u
+pub same_value : (x y : List ℕ) (t u : Tree) → x ≡ y → Val (chars x) t → Val (chars y) u → t ≡ u
 same_value x y t u e v w = one_tree (depth t) (depth u) (chars y) t u (subst (λ z. Doc (depth t) z t) (ap chars e) (alone (chars x) t v)) (alone (chars y) u w)
 
 -- ---- entries
@@ -39,10 +39,10 @@ append_none : (es : List (List ℕ × Tree)) → es ++ [] ≡ es
 append_none [] = refl
 append_none (e ∷ es) = ap (λ z. e ∷ z) (append_none es)
 
-no_more_with : (t : Tree) → With t [] t
+pub no_more_with : (t : Tree) → With t [] t
 no_more_with t = record { more = sym (append_none (entries t)); same_kind = refl }
 
-with_more : {t u w : Tree} (es fs : List (List ℕ × Tree)) → With t es u → With u fs w → With t (es ++ fs) w
+pub with_more : {t u w : Tree} (es fs : List (List ℕ × Tree)) → With t es u → With u fs w → With t (es ++ fs) w
 with_more {t = t} es fs p q = record { more = q.more ∙ ap (λ z. z ++ fs) p.more ∙ append_assoc (entries t) es fs; same_kind = q.same_kind ∙ p.same_kind }
 
 -- the entry that was passed
@@ -159,7 +159,7 @@ empty_kind kind.Array = refl
 empty_kind kind.Object = refl
 
 -- the entries of a collection that began empty
-from_empty : {t : Tree} (k : Kind) (es : List (List ℕ × Tree)) → With (empty_of k) es t → entries t ≡ es
+pub from_empty : {t : Tree} (k : Kind) (es : List (List ℕ × Tree)) → With (empty_of k) es t → entries t ≡ es
 from_empty k es p = p.more ∙ ap (λ z. z ++ es) (no_entries k)
 
 goes_to : (s : Step) (found : ℕ) (before after : List (List ℕ × Tree)) → length before ≡ step_place s found → Lacks s after → GoesTo s before after

@@ -1,4 +1,4 @@
--- Why an edit isn't made. `NoMemory` says nothing, and `Failed` is never answered.
+-- Why an edit isn't made. `NoMemory` says nothing, and `Failed` is never answered but where its call says so.
 -- A promise rests on this.
 use Rattle.std.specs.Prelude.{◌≡◌, ◌≢◌, ◌⊎◌, ℕ, ◌+◌, ◌-◌, List, [], ◌∷◌, ◌++◌, length, Some, ⊤}
 use Rattle.std.specs.Str.{chars}
@@ -89,6 +89,12 @@ RefusesRemove text path e = RefusesPath text path e
 abbrev pub RefusesComment : List ℕ → List Step → EditError → Type 0
 RefusesComment text path error.Failed = ⊤
 RefusesComment text path e = RefusesRemove text path e
+
+-- `sort`: so too
+abbrev pub RefusesSort : List ℕ → List Step → EditError → Type 0
+RefusesSort text path error.NotObject = Reaches (IsNo kind.Object) text path
+RefusesSort text path error.Failed = ⊤
+RefusesSort text path e = RefusesPath text path e
 
 -- `push`
 abbrev pub RefusesPush : List ℕ → List Step → List ℕ → EditError → Type 0

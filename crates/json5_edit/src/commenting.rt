@@ -1,9 +1,8 @@
 //! Puts a comment before an entry.
 
-ghost use Rattle.std.specs.Prelude.{◌≤◌, IfOk, IfErr, OnOk, string_bytes};
+ghost use Rattle.std.specs.Prelude.{IfOk, IfErr, OnOk, string_bytes};
 ghost use Rattle.std.specs.Str.{chars};
 ghost use Rattle.json5_edit_style.specs.Comments.{IsLead};
-ghost use Rattle.json5_grammar.specs.Language.Documents.{max_depth};
 ghost use Rattle.json5_edit.specs.Commented.{Comments, IsCommented};
 ghost use Rattle.json5_edit.specs.Pieces.{Recomments};
 ghost use Rattle.json5_edit.specs.Refusals.{IsOwn, RefusesComment};
@@ -16,14 +15,16 @@ use crate::paths::Step;
 use crate::pieces::split;
 use crate::plain::entry_start;
 use crate::setting::{join, place_of, splice};
+use crate::survey::limit_of;
 use json5_edit_style::comments::is_lead;
 use json5_edit_style::{Collection, cut_for, indentation, line_end};
 use json5_read::brackets::BracketKind;
 use json5_read::check_document;
+use json5_types::nesting::Limit;
 use std::alloc::{AllocError, Global};
 
 /// The characters that end a line.
-const LINE_ENDS: [char; 4] = ['\n', '\r', '\u{2028}', '\u{2029}'];
+pub(crate) const LINE_ENDS: [char; 4] = ['\n', '\r', '\u{2028}', '\u{2029}'];
 
 /// Returns the text with this comment before the element or the member that the path leads to, in the place of the
 /// comments that belong to it there: one with an empty line below it stays, and so does one that is a switched-off entry,
@@ -47,10 +48,11 @@ pub fn comment(alloc: Global, text: &str, path: &[Step<'_>], comment: &str) -> R
         return Err(EditError::Nowhere);
     };
     let place = place_of(alloc, text, outer)?;
+    let room = limit_of(place.room);
     let old = part_text(text, place);
-    let start = entry_start(alloc, old, *step, place.room)?;
+    let start = entry_start(alloc, old, *step, room)?;
     let collection = collection(text, place);
-    let new = commented(alloc, &collection, old, *step, start, comment, place.room)?;
+    let new = commented(alloc, &collection, old, *step, start, comment, room)?;
     splice(alloc, text, place, new.as_str())
 }
 
@@ -71,8 +73,9 @@ pub fn comment_of(alloc: Global, text: &str, path: &[Step<'_>]) -> Result<String
         return Err(EditError::Nowhere);
     };
     let place = place_of(alloc, text, outer)?;
+    let room = limit_of(place.room);
     let old = part_text(text, place);
-    let start = entry_start(alloc, old, *step, place.room)?;
+    let start = entry_start(alloc, old, *step, room)?;
     let from = comments_start(alloc, old, *step, start)?;
     match said(alloc, old.get(from..start)) {
         Ok(said) => Ok(said),
@@ -88,10 +91,9 @@ fn commented(
     step: Step<'_>,
     start: usize,
     comment: &str,
-    room: usize,
+    room: Limit,
 ) -> Result<String>
-    requires small { room ≤ max_depth }
-    requires entry { HasEntry step room old.now start }
+    requires { HasEntry step room old.now start }
     ensures commented { IfOk result (λ new. Comments step.entry room old.now (string_bytes new)) }
     ensures own { IfErr result IsOwn }
 {

@@ -188,7 +188,7 @@ fn close_both(left: &mut Walk<'_>, right: &mut Walk<'_>) -> Result<()>
 }
 
 /// Passes over an entry.
-fn some_entry<'t>(walk: &mut Walk<'t>) -> Result<Entry<'t>>
+pub(crate) fn some_entry<'t>(walk: &mut Walk<'t>) -> Result<Entry<'t>>
     ensures { IfOk result (λ e. Moved (TakesEntry (cow_bytes e.key) e.value.now) walk.old walk.new) }
 {
     match next_entry(walk)? {
@@ -294,7 +294,7 @@ fn has_value(entry: &Entry<'_>, value: &str) -> bool
 }
 
 /// Whether both have the same key and value.
-fn is_same(one: &Entry<'_>, other: &Entry<'_>) -> bool
+pub(crate) fn is_same(one: &Entry<'_>, other: &Entry<'_>) -> bool
     ensures key { result ≡ true → cow_bytes one.now.key ≡ cow_bytes other.now.key }
     ensures value { result ≡ true → one.now.value.now ≡ other.now.value.now }
 {

@@ -10,22 +10,41 @@ use json5_types::error::{Error, Result};
 use json5_walk::entry::EntryKey;
 use json5_walk::walk::Walk;
 
-/// An element or a member: its key, which is empty in an array, and the text of its value.
+/// An element or a member: its key, which is empty in an array, and the text of its value; and in bytes of the text where
+/// what stands before it begins, after another value or the bracket, and where it begins and ends.
 #[derive(Drop)]
 pub(crate) struct Entry<'t> {
     pub(crate) key: CowStr<'t>,
     pub(crate) value: &'t str,
+    pub(crate) from: usize,
+    pub(crate) start: usize,
+    pub(crate) end: usize,
 }
 
 /// Passes over the next entry with the comma before it, or over the closing bracket, where it returns None.
 pub(crate) fn next_entry<'t>(walk: &mut Walk<'t>) -> Result<Option<Entry<'t>>>
     ensures { IfOk result (PassesEntry walk.old walk.new) }
 {
-    let Some(EntryKey { text: key, .. }) = walk.entry()? else {
+    let from = walk.offset();
+    let Some(
+        EntryKey {
+            text: key,
+            start,
+            ..
+        },
+    ) = walk.entry()?
+    else {
         return Ok(None);
     };
     let value = value_text(walk)?;
-    Ok(Some(Entry { key, value }))
+    let end = walk.offset();
+    Ok(Some(Entry {
+        key,
+        value,
+        from,
+        start,
+        end,
+    }))
 }
 
 /// Passes over a value, and returns its text.

@@ -35,8 +35,8 @@ pub enum EditError {
     NoKey,
     /// Memory ran out.
     NoMemory,
-    /// The text is a document, and what was made of it didn't read as it should. No call but `comment` and `comment_of`
-    /// may answer it: another text is made then.
+    /// The text is a document, and what was made of it didn't read as it should. No call but `comment`, `comment_of`
+    /// and `sort` may answer it: another text is made then.
     Failed,
 }
 
