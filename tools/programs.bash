@@ -1,6 +1,6 @@
 # What the launchers and ./install share: how a program is proved and built, and whether that is done. They set `root`.
 
-# Sets `crate` and `program` for json5_fmt, json5_tidy, json5_edit or json5_convert.
+# Sets `crate` and `program` for json5_fmt, json5_tidy, json5_edit, json5_convert or json5_check.
 name_program() {
     name=$1
     crate=$name
@@ -91,8 +91,8 @@ build() {
 build_crate() {
     cd "$root/crates/$1"
     case $1 in
-        # rt builds a program by running it: json5_edit needs words, and the others read standard input without any.
-        json5_edit_program) exec rt run -- --version ;;
+        # rt builds a program by running it: these need words, and the others read standard input without any.
+        json5_edit_program | json5_check_program) exec rt run -- --version ;;
         json5_fmt | json5_tidy_program) exec rt run <<< null ;;
         *) exec rt lib ;;
     esac

@@ -3,6 +3,7 @@
 use crate::converted::convert;
 use crate::formats::Format;
 use crate::options::Options;
+use crate::refusals::refused;
 use crate::reports::{HELP, no_memory, report_trouble, usage};
 use crate::trouble::Trouble;
 use crate::words::{Fault, Request, Words};
@@ -146,7 +147,10 @@ fn read_converted<R: Read>(
     };
     match convert(alloc, options, name, text.as_str()) {
         Ok(made) => Ok(made),
-        Err(error) => Err(Trouble::Failed(Failure::at(error))),
+        Err(error) => {
+            let source = options.source(name);
+            Err(refused(alloc, source, name, text.as_str(), error))
+        }
     }
 }
 

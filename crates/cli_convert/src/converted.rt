@@ -2,7 +2,7 @@
 
 use crate::formats::{Format, Layout};
 use crate::options::Options;
-use json5_convert::{RespellError, Spelling, Values, respell, to_lines};
+use json5_convert::{RespellError, Spelling, Values, from_toml, respell, to_lines, to_toml};
 use json5_read::read_document;
 use json5_styles::{to_json_in, to_string_in};
 use json5_types::ErrorCode;
@@ -10,8 +10,8 @@ use json5_types::error::{Error, Result};
 use json5_types::value::Value;
 use std::alloc::Global;
 
-/// Returns the text converted as the options and the name say: tokens spelled anew where one document becomes another,
-/// else the values written. An array and the lines of its elements are converted into each other.
+/// Returns the text converted as the options and the name say: tokens spelled anew where a document of JSON5 or JSON becomes
+/// another, else the value written. An array and the lines of its elements are converted into each other.
 ///
 /// ```text
 /// convert(alloc, &Options::usual(), "conf.json5", "{port: 0x50}")?    // {"port": 80}
@@ -21,20 +21,16 @@ use std::alloc::Global;
 ///
 /// - As `json5_convert::respell`; a number that JSON lacks is refused with a custom fault at its position.
 /// - As `Values::next` of json5_convert, where the text has a document a line.
+/// - As `json5_convert::from_toml` and `json5_convert::to_toml`.
 pub fn convert(alloc: Global, options: &Options, name: &str, text: &str) -> Result<String> {
     let target = options.target(name);
-    match (options.source(name), target) {
-        (Format::Lines, Format::Lines) => to_lines(alloc, documents(alloc, text)?.as_slice()),
-        (Format::Lines, _) => {
-            let whole = Value::Array(documents(alloc, text)?);
-            written(alloc, target, options.layout, &whole)
-        }
-        (_, Format::Lines) => match read_document(alloc, text)? {
-            Value::Array(items) => to_lines(alloc, items.as_slice()),
-            value => to_lines(alloc, &[value]),
-        },
-        _ => respelled(alloc, options, target, text),
-    }
+    let value = match (options.source(name), target) {
+        (Format::Lines, _) => Value::Array(documents(alloc, text)?),
+        (Format::Toml, _) => from_toml(alloc, text)?,
+        (_, Format::Lines | Format::Toml) => read_document(alloc, text)?,
+        _ => return respelled(alloc, options, target, text),
+    };
+    written(alloc, target, options.layout, value)
 }
 
 /// The documents of a text, one after another.
@@ -52,19 +48,29 @@ fn documents(alloc: Global, text: &str) -> Result<Vec<Value>> {
 }
 
 /// The value written.
-fn written(alloc: Global, target: Format, layout: Layout, value: &Value) -> Result<String> {
-    let style = match layout {
+fn written(alloc: Global, target: Format, layout: Layout, value: Value) -> Result<String> {
+    match (target, value) {
+        (Format::Lines, Value::Array(items)) => to_lines(alloc, items.as_slice()),
+        (Format::Lines, value) => to_lines(alloc, &[value]),
+        (Format::Toml, value) => to_toml(alloc, &value),
+        (Format::Json5, value) => ended(to_string_in(alloc, style_of(layout), &value)?),
+        (_, value) => ended(to_json_in(alloc, style_of(layout), &value)?),
+    }
+}
+
+fn style_of(layout: Layout) -> json5_styles::Layout {
+    match layout {
         Layout::Own => json5_styles::Layout::expanded(),
         Layout::Compact => json5_styles::Layout::compact(),
         Layout::Indented(0) => json5_styles::Layout::tabbed(),
         Layout::Indented(spaces) => json5_styles::Layout::indented(spaces),
-    };
-    let mut made = match target {
-        Format::Json5 => to_string_in(alloc, style, value)?,
-        _ => to_json_in(alloc, style, value)?,
-    };
-    made.push('\n')?;
-    Ok(made)
+    }
+}
+
+/// The text with a line end.
+fn ended(mut text: String) -> Result<String> {
+    text.push('\n')?;
+    Ok(text)
 }
 
 /// The document spelled anew, or its value written in the layout that is asked for.
@@ -73,7 +79,7 @@ fn respelled(alloc: Global, options: &Options, target: Format, text: &str) -> Re
         return spelled(alloc, options.spelling(target), text);
     }
     let value = read_document(alloc, text)?;
-    written(alloc, target, options.layout, &value)
+    written(alloc, target, options.layout, value)
 }
 
 /// The document spelled anew.

@@ -10,6 +10,7 @@ pub enum Format {
     Json5,
     /// Documents, one a line.
     Lines,
+    Toml,
 }
 
 /// How the answer is laid out.
@@ -35,6 +36,7 @@ impl Format {
             "jsonc" => Some(Format::Jsonc),
             "json5" => Some(Format::Json5),
             "lines" => Some(Format::Lines),
+            "toml" => Some(Format::Toml),
             _ => None,
         }
     }
@@ -45,6 +47,7 @@ impl Format {
             Some((_, "json")) => Format::Json,
             Some((_, "jsonc")) => Format::Jsonc,
             Some((_, "jsonl" | "ndjson")) => Format::Lines,
+            Some((_, "toml")) => Format::Toml,
             _ => Format::Json5,
         }
     }
@@ -52,7 +55,7 @@ impl Format {
     /// What it is converted to where no word says.
     pub(crate) fn other(self) -> Format {
         match self {
-            Format::Json | Format::Jsonc => Format::Json5,
+            Format::Json | Format::Jsonc | Format::Toml => Format::Json5,
             Format::Json5 | Format::Lines => Format::Json,
         }
     }
@@ -64,6 +67,7 @@ impl Format {
             Format::Jsonc => ".jsonc",
             Format::Json5 => ".json5",
             Format::Lines => ".jsonl",
+            Format::Toml => ".toml",
         }
     }
 }

@@ -6,6 +6,8 @@ use cli_files::Failure;
 #[derive(Drop)]
 pub(crate) enum Trouble {
     Failed(Failure),
+    /// The text can't be converted: what the report of it prints.
+    Refused(String),
     /// The file with this name can't be written.
     Unwritten(String),
     /// The file that would be written is the one that is read.

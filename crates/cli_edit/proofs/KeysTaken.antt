@@ -34,6 +34,7 @@ only_rename word work.Remove is e = absurd (differ (codes "rename") (work_word w
 only_rename word work.RemoveAlone is e = absurd (differ (codes "rename") (work_word work.RemoveAlone) refl refl (sym is ∙ e))
 only_rename word work.ShowComment is e = absurd (differ (codes "rename") (work_word work.ShowComment) refl refl (sym is ∙ e))
 only_rename word work.Comment is e = absurd (differ (codes "rename") (work_word work.Comment) refl refl (sym is ∙ e))
+only_rename word work.Sort is e = absurd (differ (codes "rename") (work_word work.Sort) refl refl (sym is ∙ e))
 only_rename word work.Apply is e = absurd (differ (codes "rename") (work_word work.Apply) refl refl (sym is ∙ e))
 only_rename word work.Merge is e = absurd (differ (codes "rename") (work_word work.Merge) refl refl (sym is ∙ e))
 
@@ -58,6 +59,7 @@ only_move word work.Remove is e = absurd (differ (codes "move") (work_word work.
 only_move word work.RemoveAlone is e = absurd (differ (codes "move") (work_word work.RemoveAlone) refl refl (sym is ∙ e))
 only_move word work.ShowComment is e = absurd (differ (codes "move") (work_word work.ShowComment) refl refl (sym is ∙ e))
 only_move word work.Comment is e = absurd (differ (codes "move") (work_word work.Comment) refl refl (sym is ∙ e))
+only_move word work.Sort is e = absurd (differ (codes "move") (work_word work.Sort) refl refl (sym is ∙ e))
 only_move word work.Apply is e = absurd (differ (codes "move") (work_word work.Apply) refl refl (sym is ∙ e))
 only_move word work.Merge is e = absurd (differ (codes "move") (work_word work.Merge) refl refl (sym is ∙ e))
 
@@ -82,6 +84,7 @@ only_copy word work.Remove is e = absurd (differ (codes "copy") (work_word work.
 only_copy word work.RemoveAlone is e = absurd (differ (codes "copy") (work_word work.RemoveAlone) refl refl (sym is ∙ e))
 only_copy word work.ShowComment is e = absurd (differ (codes "copy") (work_word work.ShowComment) refl refl (sym is ∙ e))
 only_copy word work.Comment is e = absurd (differ (codes "copy") (work_word work.Comment) refl refl (sym is ∙ e))
+only_copy word work.Sort is e = absurd (differ (codes "copy") (work_word work.Sort) refl refl (sym is ∙ e))
 only_copy word work.Apply is e = absurd (differ (codes "copy") (work_word work.Apply) refl refl (sym is ∙ e))
 only_copy word work.Merge is e = absurd (differ (codes "copy") (work_word work.Merge) refl refl (sym is ∙ e))
 
@@ -106,6 +109,7 @@ only_comment word work.Remove is e = absurd (differ (codes "comment") (work_word
 only_comment word work.RemoveAlone is e = absurd (differ (codes "comment") (work_word work.RemoveAlone) refl refl (sym is ∙ e))
 only_comment word work.ShowComment is e = absurd (differ (codes "comment") (work_word work.ShowComment) refl refl (sym is ∙ e))
 only_comment word work.Comment is e = cc
+only_comment word work.Sort is e = absurd (differ (codes "comment") (work_word work.Sort) refl refl (sym is ∙ e))
 only_comment word work.Apply is e = absurd (differ (codes "comment") (work_word work.Apply) refl refl (sym is ∙ e))
 only_comment word work.Merge is e = absurd (differ (codes "comment") (work_word work.Merge) refl refl (sym is ∙ e))
 

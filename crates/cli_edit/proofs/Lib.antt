@@ -3,7 +3,6 @@ pub mod WordsTaken
 pub mod KeysTaken
 pub mod PartsRead
 pub mod Reading
-pub mod PathsPut
 pub mod EditsMade
 pub mod ValuesMoved
 pub mod Statuses

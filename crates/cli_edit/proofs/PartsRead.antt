@@ -28,7 +28,6 @@ use Rattle.json5_edit.proofs.Placed.{part_there, scalars_left, scalars_right}
 use Rattle.cli_edit.specs.declared.trouble.TextTrouble.{TextTrouble}
 use Rattle.cli_edit.specs.declared.trouble.TextTrouble.TheVariants as trouble
 use Rattle.json5_edit.specs.declared.faults.EditError.TheVariants as error
-use Rattle.cli_edit.specs.Puts.{IsCountAt}
 use Rattle.cli_edit.specs.declared.requests.View.{View}
 use Rattle.cli_edit.specs.declared.requests.View.TheVariants as view
 use Rattle.cli_edit.specs.Parts.{IsNoJson, IsPartAt, IsShownAt, IsShownOf, KeyLines, RefusesShowing, RefusesShownOf, Shows, ShowsNone}
@@ -102,10 +101,6 @@ module _ (bytes spelled : List ℕ) (steps : List Step) (u : IsUtf8 bytes) (p : 
   pub shown_err : (w : View) (r : Result (String Global) TextTrouble) → IfErr r (RefusesShownOf w spelled) → IfErr r (RefusesShowing w bytes steps)
   shown_err w (Ok made) k = tt
   shown_err w (Err x) (t, d, k) = inr (spelled, p, subst (λ z. ShowsNone w (datum_of z) x) (same_part t d) k)
-
-  -- how many entries it has
-  pub count_there : (t : Tree) → Doc max_depth (chars spelled) t → (x : Datum) → x ≡ datum_of t → (n : Option ℕ) → n ≡ len_of x → IsCountAt bytes steps n
-  count_there t d x is n e = (spelled, p, sym (e ∙ ap len_of (is ∙ ap datum_of (same_part t d))))
 
 -- of a value that was read
 module _ (w : View) (spelled : List ℕ) (t : Tree) (d : Doc max_depth (chars spelled) t) (x : Datum) (is : x ≡ datum_of t) where

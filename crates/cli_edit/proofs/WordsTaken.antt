@@ -49,6 +49,7 @@ choice_for work.Remove = (choice.Plain, refl)
 choice_for work.RemoveAlone = (choice.Plain, refl)
 choice_for work.ShowComment = (choice.Plain, refl)
 choice_for work.Comment = (choice.Plain, refl)
+choice_for work.Sort = (choice.Plain, refl)
 choice_for work.Apply = (choice.Plain, refl)
 choice_for work.Merge = (choice.Plain, refl)
 
@@ -68,6 +69,7 @@ no_text work.Remove rest e = absurd (cc)
 no_text work.RemoveAlone rest e = absurd (cc)
 no_text work.ShowComment rest e = absurd (cc)
 no_text work.Comment rest e = absurd (cc)
+no_text work.Sort rest e = absurd (cc)
 no_text work.Apply rest e = absurd (cc)
 no_text work.Merge rest e = absurd (cc)
 
@@ -105,6 +107,7 @@ module _ (word : List ℕ) (words : List (List ℕ)) where
   asks_with work.Move g is (p, k) = absurd p
   asks_with work.Copy g is (p, k) = absurd p
   asks_with work.Comment g is (p, k) = absurd p
+  asks_with work.Sort g is (p, k) = absurd p
   asks_with work.Apply g is (p, k) = absurd p
   asks_with work.Merge g is (p, k) = absurd p
   asks_with work.Set g is k = (is, k)
@@ -114,7 +117,7 @@ module _ (word : List ℕ) (words : List (List ℕ)) where
   asks_with work.Put g is k = (is, k)
   asks_with work.PutAbsent g is k = (is, k)
 
-  module _ (get : word ≢ codes "get") (has : word ≢ codes "has") (keys : word ≢ codes "keys") (len : word ≢ codes "length") (kind : word ≢ codes "type") (remove : word ≢ codes "remove") (apply : word ≢ codes "apply") (merge : word ≢ codes "merge") (rename : word ≢ codes "rename") (move : word ≢ codes "move") (copy : word ≢ codes "copy") (comment : word ≢ codes "comment") where
+  module _ (get : word ≢ codes "get") (has : word ≢ codes "has") (keys : word ≢ codes "keys") (len : word ≢ codes "length") (kind : word ≢ codes "type") (remove : word ≢ codes "remove") (sort : word ≢ codes "sort") (apply : word ≢ codes "apply") (merge : word ≢ codes "merge") (rename : word ≢ codes "rename") (move : word ≢ codes "move") (copy : word ≢ codes "copy") (comment : word ≢ codes "comment") where
     no_view : (v : View) → word ≡ view_word v → ⊥
     no_view view.Spelled e = get e
     no_view view.Json e = get e
@@ -133,6 +136,7 @@ module _ (word : List ℕ) (words : List (List ℕ)) where
     asks_none n work.Move g (e, f) = move e
     asks_none n work.Copy g (e, f) = copy e
     asks_none n work.Comment g (e, f) = comment e
+    asks_none n work.Sort g (e, f) = sort e
     asks_none n work.Apply g (e, f) = apply e
     asks_none n work.Merge g (e, f) = merge e
     asks_none n work.Set g (e, f) = n work.Set g e f

@@ -3,7 +3,6 @@ pub mod Requests
 pub mod Choices
 pub mod Parts
 pub mod Values
-pub mod Puts
 pub mod Makes
 pub mod Troubles
 pub mod Works

@@ -11,8 +11,9 @@ use Rattle.json5_read.specs.TreeMeanings.{datum_of}
 use Rattle.json5_lexemes.specs.Lexemes.{HaveSameLexemes}
 use Rattle.json5_edit.specs.Changes.{ChangesBy, InsertsBefore, IsInserted, IsPushed, IsPutIn, IsRekeyed, IsRemoved, IsRemovedAlone}
 use Rattle.json5_edit.specs.Commented.{IsCommented}
-use Rattle.json5_edit.specs.Refusals.{EndsInNoKey, RefusesBefore, RefusesInsert, RefusesPath, RefusesPush, RefusesPutIn, RefusesRename, RefusesSet}
+use Rattle.json5_edit.specs.Refusals.{EndsInNoKey, RefusesBefore, RefusesInsert, RefusesPath, RefusesPush, RefusesPutIn, RefusesRename, RefusesSet, RefusesSort}
 use Rattle.json5_edit.specs.Sets.{IsSet}
+use Rattle.json5_edit.specs.Sorted.{IsOrdered}
 use Rattle.json5_edit.specs.declared.faults.EditError.{EditError}
 use Rattle.json5_edit.specs.declared.faults.EditError.TheVariants as error
 use Rattle.json5_edit.specs.declared.paths.Before.{Before}
@@ -21,6 +22,7 @@ use Rattle.json5_edit.specs.declared.paths.Step.TheVariants as step
 use Rattle.json5_edit_style.specs.declared.habits.Names.{Names}
 use Rattle.json5_edit_values.specs.Merges.{Merges}
 use Rattle.json5_edit_values.specs.Patches.{Copies, Moves, Patches}
+use Rattle.json5_edit_values.specs.Puts.{IsPut, IsPutIfAbsent, RefusesPut}
 use Rattle.json5_edit_values.specs.declared.patch.operations.Operation.{Operation}
 use Rattle.cli_edit.specs.declared.requests.Command.{Command}
 use Rattle.cli_edit.specs.declared.requests.Command.TheVariants as work
@@ -28,7 +30,6 @@ use Rattle.cli_edit.specs.declared.trouble.TextTrouble.{TextTrouble}
 use Rattle.cli_edit.specs.declared.trouble.TextTrouble.TheVariants as trouble
 use Rattle.cli_edit.specs.Requests.{PutsValue}
 use Rattle.cli_edit.specs.Parts.{IsShownAt, RefusesShowing}
-use Rattle.cli_edit.specs.Puts.{PutsAt, RefusesPut}
 
 -- with a member of this key more, or with an element more before that with this index
 abbrev pub InsertsBy : Step → List ℕ → List Step → List ℕ → List ℕ → Type 0
@@ -99,8 +100,8 @@ Makes work.Set text steps value made = IsSet text steps value made
 Makes work.Insert text steps value made = Inserts text steps value made
 Makes (work.InsertBefore b) text steps value made = InsertsAhead b text steps value made
 Makes work.Push text steps value made = IsPushed text steps value made
-Makes work.Put text steps value made = PutsAt false text steps value made
-Makes work.PutAbsent text steps value made = PutsAt true text steps value made
+Makes work.Put text steps value made = IsPut text steps value made
+Makes work.PutAbsent text steps value made = IsPutIfAbsent text steps value made
 Makes work.Rename text steps value made = IsRekeyed text steps value made
 Makes work.Move text steps value made = IsMoved text steps made
 Makes work.Copy text steps value made = IsCopied text steps made
@@ -108,6 +109,7 @@ Makes work.ShowComment text steps value made = ⊤
 Makes work.Comment text steps value made = IsCommented text steps made
 Makes work.RemoveAlone text steps value made = IsRemovedAlone text steps made
 Makes work.Remove text steps value made = IsRemoved text steps made
+Makes work.Sort text steps value made = IsOrdered text steps made
 Makes work.Apply text steps value made = IsPatched text made
 Makes work.Merge text steps value made = IsMerged text value made
 
@@ -126,6 +128,7 @@ RefusesEdit work.PutAbsent text steps value e = RefusesPut text steps value e
 RefusesEdit work.Rename text steps value e = RefusesRename text steps value e
 RefusesEdit work.Remove text steps value e = RefusesRemoving text steps e
 RefusesEdit work.Comment text steps value e = RefusesCommenting text steps e
+RefusesEdit work.Sort text steps value e = RefusesSort text steps e
 RefusesEdit work.RemoveAlone text steps value e = RefusesRemoving text steps e
 RefusesEdit w text steps value e = ⊤
 

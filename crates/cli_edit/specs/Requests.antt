@@ -39,6 +39,7 @@ work_word work.ShowComment = codes "get"
 work_word work.Comment = codes "comment"
 work_word work.Remove = codes "remove"
 work_word work.RemoveAlone = codes "remove"
+work_word work.Sort = codes "sort"
 work_word work.Apply = codes "apply"
 work_word work.Merge = codes "merge"
 
@@ -100,6 +101,7 @@ Follows (work.Show view.Content) g words = words ≡ codes "--raw" ∷ []
 Follows (work.Show _) g words = words ≡ []
 Follows work.Remove g words = words ≡ []
 Follows work.RemoveAlone g words = words ≡ codes "--keep-comments" ∷ []
+Follows work.Sort g words = words ≡ []
 Follows work.Apply g words = words ≡ []
 Follows work.Merge g words = words ≡ []
 Follows work.Rename g words = GivesKey g words

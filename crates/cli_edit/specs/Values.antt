@@ -31,13 +31,17 @@ IsContent _ given content = WithoutLineEnd given content
 abbrev pub IsTextOf : (content made : List ℕ) → Type 0
 IsTextOf content made = ReadsAs max_depth (chars made) (text (chars content))
 
+-- a key, where a value goes and what a comment says are the bytes themselves
+abbrev pub MeansGiven : Command → (given made : List ℕ) → Type 0
+MeansGiven work.Rename given made = made ≡ given
+MeansGiven work.Move given made = made ≡ given
+MeansGiven work.Copy given made = made ≡ given
+MeansGiven work.Comment given made = made ≡ given
+MeansGiven w given made = Strips given made
+
 abbrev pub MeansBy : (is_text : Bool) → Command → Source → (given made : List ℕ) → Type 0
 MeansBy true w s given made = (content : List ℕ) × IsContent s given content × IsTextOf content made
-MeansBy false work.Rename s given made = made ≡ given
-MeansBy false work.Move s given made = made ≡ given
-MeansBy false work.Copy s given made = made ≡ given
-MeansBy false work.Comment s given made = made ≡ given
-MeansBy false w s given made = Strips given made
+MeansBy false w s given made = MeansGiven w given made
 
 -- what is given means this: a value, the string of a content, a key, where a value goes, or what a comment says
 abbrev pub Means : Task → (given made : List ℕ) → Type 0

@@ -2,10 +2,11 @@
 //!
 //! Plain code, of which no promise is made but that it is safe and ends: change it by the runs of the program.
 
+ghost use Rattle.std.specs.Prelude.{◌≤◌, length};
+
 use crate::parts::{kind_name, part_at};
-use crate::putting::steps_that_lead;
 use crate::requests::Command;
-use json5_edit::{Before, EditError, Path, Step};
+use json5_edit::{Before, EditError, Path, Step, find};
 use json5_read::{check_document, read_document};
 use json5_types::value::Value;
 use std::alloc::{AllocError, Global};
@@ -35,6 +36,19 @@ pub(crate) fn work_advice(
         }
         _ => edit_advice(alloc, work, text, steps, error),
     }
+}
+
+/// How many steps lead somewhere.
+fn steps_that_lead(alloc: Global, text: &str, steps: &[Step<'_>]) -> usize
+    ensures { result ≤ length steps.now }
+{
+    for count in 1..=steps.len() {
+        match find(alloc, text, &steps[..count]) {
+            Ok(Some(_)) => {}
+            _ => return count - 1,
+        }
+    }
+    steps.len()
 }
 
 /// The steps and one more.
@@ -209,16 +223,16 @@ pub(crate) fn value_advice<E: Write>(alloc: Global, value: &str, e: &mut E) {
 }
 
 /// The commands.
-const COMMANDS: [&str; 16] = [
+const COMMANDS: [&str; 17] = [
     "get", "has", "keys", "length", "type", "set", "insert", "push", "put", "rename", "move",
-    "copy", "remove", "comment", "apply", "merge",
+    "copy", "remove", "comment", "sort", "apply", "merge",
 ];
 
 /// What is wrong with the words, if that is certain.
 pub(crate) fn word_fault(alloc: Global, list: &[String]) -> Option<String> {
     let (word, rest) = list.split_first()?;
     let (path, given) = match word.as_str() {
-        "get" | "has" | "keys" | "length" | "type" | "remove" => ("PATH", ""),
+        "get" | "has" | "keys" | "length" | "type" | "remove" | "sort" => ("PATH", ""),
         "set" | "insert" | "push" | "put" => ("PATH", "VALUE"),
         "rename" => ("PATH", "KEY"),
         "comment" => ("PATH", "TEXT"),

@@ -8,13 +8,13 @@ ghost use Rattle.json5_edit.specs.Commented.{IsCommented};
 use crate::parts::shown_at;
 use crate::patches::{applied, copied, merged, moved};
 use crate::placed::placed;
-use crate::putting::put;
 use crate::requests::{Command, Task};
 use crate::trouble::TextTrouble;
 use json5_edit::{
     Before, EditError, Names, Result, Step, comment, comment_of, insert_before, insert_element,
-    insert_in, push, remove, remove_alone, rename, set,
+    insert_in, push, remove, remove_alone, rename, set, sort,
 };
+use json5_edit_values::{put_if_absent, put_in};
 use std::alloc::Global;
 
 /// The text that is written: what was asked for of the value, or the changed text.
@@ -37,8 +37,8 @@ pub(crate) fn made(
             edited(inserted_before(alloc, text, steps, before, value, names))
         }
         Command::Push => edited(push(alloc, text, steps, value)),
-        Command::Put => edited(put(alloc, text, steps, value, names, false)),
-        Command::PutAbsent => edited(put(alloc, text, steps, value, names, true)),
+        Command::Put => edited(put_in(alloc, text, steps, value, names)),
+        Command::PutAbsent => edited(put_if_absent(alloc, text, steps, value, names)),
         Command::Rename => edited(rename(alloc, text, steps, value)),
         Command::Move => moved(alloc, text, steps, value, names),
         Command::Copy => copied(alloc, text, steps, value, names),
@@ -46,6 +46,7 @@ pub(crate) fn made(
         Command::RemoveAlone => edited(removed_alone(alloc, text, steps)),
         Command::ShowComment => edited(comment_line(alloc, text, steps)),
         Command::Comment => edited(commented(alloc, text, steps, value)),
+        Command::Sort => edited(sort(alloc, text, steps)),
         Command::Apply => applied(alloc, text, value, names),
         Command::Merge => merged(alloc, text, value, names),
     }

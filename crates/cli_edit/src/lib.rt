@@ -17,7 +17,6 @@ mod lines;
 mod parts;
 mod patches;
 mod placed;
-mod putting;
 mod requests;
 mod texts;
 mod trouble;

@@ -17,10 +17,10 @@ use std::io::Write;
 
 /// How the program is called.
 const USAGE: &str =
-    "usage: json5_edit get|has|keys|length|type|remove FILE PATH, json5_edit set|insert|push|put|rename|comment FILE PATH VALUE, json5_edit move|copy FILE FROM TO, or json5_edit apply|merge FILE PATCH; more by --help\n";
+    "usage: json5_edit get|has|keys|length|type|remove|sort FILE PATH, json5_edit set|insert|push|put|rename|comment FILE PATH VALUE, json5_edit move|copy FILE FROM TO, or json5_edit apply|merge FILE PATCH; more by --help\n";
 
 /// What `--help` writes.
-pub(crate) const HELP: &str = "usage: json5_edit get|has|keys|length|type|remove FILE PATH, or
+pub(crate) const HELP: &str = "usage: json5_edit get|has|keys|length|type|remove|sort FILE PATH, or
        json5_edit set|insert|push|put|rename|comment FILE PATH VALUE, or
        json5_edit move|copy FILE FROM TO, or
        json5_edit apply|merge FILE PATCH
@@ -49,6 +49,8 @@ Changes values of a JSON5 file, and keeps the rest as it is.
       --keep-comments      leaves those before it
   comment FILE PATH TEXT   puts a comment before an element or a member, in the place of those
                            that belong to it there; an empty TEXT takes them out
+  sort FILE PATH           puts the members of an object in the order of their keys, with the
+                           comments that belong to each
   apply FILE PATCH         makes the operations of the JSON Patch (RFC 6902) in the file PATCH,
                            all or none
   merge FILE PATCH         merges the merge patch (RFC 7396) in the file PATCH

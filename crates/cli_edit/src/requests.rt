@@ -6,10 +6,9 @@ ghost use Rattle.cli_edit.specs.declared.requests.Given.{Given};
 ghost use Rattle.cli_edit.specs.declared.requests.Source.{Source};
 ghost use Rattle.cli_edit.specs.declared.requests.Choice.{Choice};
 ghost use Rattle.cli_edit.specs.declared.requests.Choice.TheVariants as choices;
-ghost use Rattle.cli_edit.specs.declared.requests.Tail.{Tail};
 ghost use Rattle.cli_edit.specs.declared.requests.Command.{Command};
-ghost use Rattle.cli_edit.specs.Requests.{Asks, AsksNothing, AsksNoWork, AsksWork, Begins, FindsWork, GivesKey, IsNamed, IsSourceOf, SplitsDry, is_shown, tail_words};
-ghost use Rattle.cli_edit.specs.Choices.{FindsWorkOf, words_of};
+ghost use Rattle.cli_edit.specs.Requests.{Asks, AsksNothing, AsksNoWork, AsksWork, Begins, FindsWork, GivesKey, IsNamed, IsSourceOf, SplitsDry, is_shown};
+ghost use Rattle.cli_edit.specs.Choices.{FindsTail, FindsWorkOf, words_of};
 ghost use Rattle.cli_files.specs.NameLists.{names_of};
 
 use json5_edit::Before;
@@ -40,6 +39,8 @@ pub enum Command<'w> {
     ShowComment,
     /// Puts a comment before an entry.
     Comment,
+    /// Puts the members of an object in the order of their keys.
+    Sort,
     /// Makes the operations of a JSON Patch.
     Apply,
     /// Merges a merge patch.
@@ -223,6 +224,7 @@ fn work_and_given<'w>(word: &str, rest: &'w [String]) -> Option<(Command<'w>, Gi
         "length" => alone(Command::Show(View::Count), rest),
         "type" => alone(Command::Show(View::Kind), rest),
         "remove" => taken_out(rest),
+        "sort" => alone(Command::Sort, rest),
         "apply" => alone(Command::Apply, rest),
         "merge" => alone(Command::Merge, rest),
         "rename" => keyed(Command::Rename, rest),
@@ -371,7 +373,7 @@ struct Tail<'w> {
 }
 
 fn tail_of<'w>(rest: &'w [String]) -> Option<Tail<'w>>
-    ensures { MatchOption result ((t : Tail) → names_of rest.now ≢ tail_words t.is_text (words_of t.choice)) (λ t. names_of rest.now ≡ tail_words t.is_text (words_of t.choice)) }
+    ensures { FindsTail (names_of rest.now) result }
 {
     match rest.split_first() {
         Some((word, more)) if word.as_str() == "--text" => tail_with(true, more),

@@ -2,3 +2,4 @@
 pub mod Respelled
 pub mod Spellings
 pub mod Streams
+pub mod Toml

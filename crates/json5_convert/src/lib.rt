@@ -1,4 +1,5 @@
-//! Spells the tokens of a JSON5 document anew, as JSON or as JSON5, and keeps its comments where they are.
+//! Spells the tokens of a JSON5 document anew, as JSON or as JSON5, and keeps its comments where they are; reads values from
+//! TOML and from documents in a row, and writes them so.
 //!
 //! ```text
 //! respell(alloc, "{port: 0x50,} // web", Spelling::json())?    // {"port": 80} // web
@@ -13,8 +14,12 @@ mod respelled;
 mod spelling;
 mod strings;
 mod tokens;
+mod toml_texts;
+mod toml_values;
 
 pub use faults::{RespellError, Result};
 pub use lines::{Values, to_lines};
 pub use respelled::respell;
 pub use spelling::{Blanks, Comments, Keys, LastCommas, Numbers, Quotes, Spelling};
+pub use toml_texts::to_toml;
+pub use toml_values::from_toml;

@@ -29,7 +29,7 @@ use Rattle.json5_walk.specs.Walks.{IsDocument}
 use Rattle.json5_walk.proofs.Rests.{append_nil}
 use Rattle.json5_edit.specs.Entries.{kind_of as kind_of_tree}
 use Rattle.json5_edit.specs.Parts.{in_member, positions_of}
-use Rattle.json5_edit.specs.Places.{IsValue, IsPart, Leads, LeadsNowhere}
+use Rattle.json5_edit.specs.Places.{Fits, IsValue, IsPart, Leads, LeadsNowhere}
 use Rattle.json5_edit.specs.Refusals.{IsFaulty, Reaches, Misfits, IsNo, HasKey, RefusesText, RefusesPath, RefusesSet, RefusesRemove, RefusesSort, RefusesPush, RefusesPutIn, RefusesInsert, RefusesRename, IsFree, IsOwn, RefusesStep, RefusesKey, RefusesKind, RefusesFree, RefusesValue, BeginsNo}
 use Rattle.json5_edit.specs.declared.faults.EditError.{EditError}
 use Rattle.json5_edit.specs.declared.faults.EditError.TheVariants as error
@@ -301,8 +301,8 @@ module _ (bytes old : List ℕ) (path : List Step) (p : Place) (u : IsUtf8 bytes
   array_push value e k = at_array (RefusesPush bytes path value) old e (λ n. reaches_no kind.Array n) tt k
 
   -- the value in the place, which fits there
-  pub value_fits : IsValue p.room (chars old)
-  value_fits = (leads.placed.tree, value_there, fits_there leads)
+  pub value_fits : Fits p.room old
+  value_fits = let r = leads.placed.room in (omega (arith, r), (leads.placed.tree, value_there, fits_there leads))
 
   pub old_document : IsDocument old
   old_document =

@@ -126,7 +126,7 @@ some_depth k (number n) e = absurd (cc)
 some_depth k (text u b) e = absurd (cc)
 
 abbrev pub found_entry : {s : Step} {limit : ℕ} {bytes : List ℕ} {f : Found} → HasFound s limit bytes f → HasEntry s limit bytes f.start
-found_entry h = record { tree = h.tree; value = h.value; shallow = h.shallow; kind = h.kind; entry = h.entry.entry }
+found_entry h = record { small = h.small; tree = h.tree; value = h.value; shallow = h.shallow; kind = h.kind; entry = h.entry.entry }
 
 -- the entry is ahead
 pub is_ahead : {s : Step} {limit n : ℕ} {kd : Kind} {bytes : List ℕ} (rest : List ℕ) → kd ≡ step_kind s → IsUtf8 bytes → (h : HasEntry s limit bytes n) → rest ≡ drop n bytes → IsAhead kd limit (chars rest)

@@ -20,6 +20,10 @@ use Rattle.json5_edit.specs.declared.paths.Step.{Step}
 abbrev pub IsValue : ℕ → List ℕ → Type 0
 IsValue room x = (t : Tree) × Val x t × (depth t ≤ room)
 
+-- the same of a text in bytes, where a limit allows so many
+abbrev pub Fits : ℕ → List ℕ → Type 0
+Fits room text = (room ≤ max_depth) × IsValue room (chars text)
+
 -- the place is `old` between these characters of the text
 pub record IsPart (text : List ℕ) (p : Place) (before old after : List ℕ) : Type 0 where
   pub whole : chars text ≡ before ++ (old ++ after)

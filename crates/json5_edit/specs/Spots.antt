@@ -134,6 +134,7 @@ pub record Surveys (s : Step) (limit : ℕ) (bytes : List ℕ) (found : Survey) 
 
 -- the text is a collection of the step's kind that fits, and the entry that the step goes to begins at the offset n
 pub record HasEntry (s : Step) (limit : ℕ) (bytes : List ℕ) (n : ℕ) : Type 0 where
+  pub small : limit ≤ max_depth
   pub tree : Tree
   pub value : Val (chars bytes) tree
   pub shallow : depth tree ≤ limit
@@ -142,6 +143,7 @@ pub record HasEntry (s : Step) (limit : ℕ) (bytes : List ℕ) (n : ℕ) : Type
 
 -- the same, with the entry before it
 pub record HasFound (s : Step) (limit : ℕ) (bytes : List ℕ) (f : Found) : Type 0 where
+  pub small : limit ≤ max_depth
   pub tree : Tree
   pub value : Val (chars bytes) tree
   pub shallow : depth tree ≤ limit
@@ -154,6 +156,7 @@ HasBefore s limit bytes n m = (h : HasEntry s limit bytes n) × LastEnds limit b
 
 -- the text is a collection of this kind that fits, and one more entry may stand there at its end
 pub record HasEnd (k : Kind) (limit : ℕ) (bytes : List ℕ) (e : End) : Type 0 where
+  pub small : limit ≤ max_depth
   pub tree : Tree
   pub value : Val (chars bytes) tree
   pub shallow : depth tree ≤ limit

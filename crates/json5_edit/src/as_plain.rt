@@ -1,8 +1,7 @@
 //! Whether what an edit makes is as plain as what was there: JSON, or JSON but for comments.
 
-ghost use Rattle.std.specs.Prelude.{◌≡◌, ◌↔◌, ◌≤◌, IsTrue, IfOk, OnOk, string_bytes};
+ghost use Rattle.std.specs.Prelude.{◌≡◌, ◌↔◌, IsTrue, IfOk, OnOk, string_bytes};
 ghost use Rattle.std.specs.Str.{chars};
-ghost use Rattle.json5_grammar.specs.Language.Documents.{max_depth};
 ghost use Rattle.json5_lexemes.specs.Plain.{PlainText, StaysPlain};
 ghost use Rattle.json5_edit.specs.Changes.{StaysPlainQuoted};
 ghost use Rattle.json5_edit.specs.Places.{IsValue};
@@ -11,6 +10,7 @@ use crate::changing::fitting;
 use crate::faults::{EditError, Result};
 use json5_edit_style::Names;
 use json5_lexemes::{is_plain, is_plain_with};
+use json5_types::nesting::Limit;
 use std::alloc::Global;
 
 /// The new collection, if it is a value that fits, and as plain as the document where the added value is. Where a first key stands
@@ -21,9 +21,8 @@ pub(crate) fn fitting_as_plain(
     text: &str,
     value: &str,
     new: String,
-    room: usize,
+    room: Limit,
 ) -> Result<String>
-    requires { room ≤ max_depth }
     ensures same { IfOk result (λ made. string_bytes made ≡ string_bytes new) }
     ensures value { OnOk result (IsValue room (chars (string_bytes new))) }
     ensures plain { OnOk result (StaysPlainQuoted names text.now value.now (string_bytes new)) }

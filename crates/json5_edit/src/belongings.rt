@@ -1,11 +1,10 @@
 //! What goes with an entry: the comments that belong to it, and no others.
 
-ghost use Rattle.std.specs.Prelude.{◌≡◌, ◌≤◌, ◌++◌, IfOk, IfErr, IsTrue, OnOk};
+ghost use Rattle.std.specs.Prelude.{◌≡◌, ◌++◌, IfOk, IfErr, IsTrue, OnOk};
 ghost use Rattle.std.specs.Str.{chars};
 ghost use Rattle.json5_edit.specs.Pieces.{GoesWith, IsEntryText, MayGo};
 ghost use Rattle.json5_edit.specs.Refusals.{IsOwn};
 ghost use Rattle.json5_grammar.specs.Language.Blanks.{Gap, Solid};
-ghost use Rattle.json5_grammar.specs.Language.Documents.{max_depth};
 
 use crate::faults::{EditError, Result};
 use crate::pieces::{is_blank, split};
@@ -13,6 +12,7 @@ use crate::plain::entry_len;
 use json5_edit_style::comments::{is_lead, is_trail};
 use json5_read::brackets::BracketKind;
 use json5_tokens::scanner::Scanner;
+use json5_types::nesting::Limit;
 use std::alloc::Global;
 
 /// Whether the comments before an entry go with it.
@@ -30,9 +30,8 @@ pub(crate) fn check_gone(
     after: &str,
     kind: BracketKind,
     leads: Lead,
-    room: usize,
+    room: Limit,
 ) -> Result<()>
-    requires { room ≤ max_depth }
     ensures belongs { OnOk result (GoesWith leads before.now gone.now after.now) }
     ensures own { IfErr result IsOwn }
 {
@@ -75,8 +74,7 @@ pub(crate) fn split_blanks(alloc: Global, text: &str) -> Result<(&str, &str)>
 }
 
 /// The entry in front of the text, with the comma after it, if there is one, and what follows it.
-fn split_entry(alloc: Global, text: &str, kind: BracketKind, room: usize) -> Result<(&str, &str)>
-    requires { room ≤ max_depth }
+fn split_entry(alloc: Global, text: &str, kind: BracketKind, room: Limit) -> Result<(&str, &str)>
     ensures split { IfOk result (λ parts. text.now ≡ parts.0.now ++ parts.1.now) }
     ensures entry { IfOk result (λ parts. Solid (chars text.now) → IsEntryText (chars parts.0.now)) }
     ensures own { IfErr result IsOwn }

@@ -3,7 +3,7 @@
 ghost use Rattle.std.specs.Prelude.{◌≡◌, ◌≤◌, ◌-◌, ℕ, List, [], false, IfOk, IfErr, OnOk, string_bytes};
 ghost use Rattle.json5_edit.specs.Changes.{ChangesBy, Gains, GainsAt, IsRemoved, IsRemovedAlone, RemovesWith, IsPushed, IsPutIn, IsInserted, IsRekeyed, StaysPlainQuoted};
 ghost use Rattle.json5_edit.specs.Pieces.{Grows};
-ghost use Rattle.json5_edit.specs.Places.{HasPlace, IsPart, IsValue};
+ghost use Rattle.json5_edit.specs.Places.{Fits, HasPlace, IsPart, IsValue};
 ghost use Rattle.json5_edit.specs.Refusals.{RefusesRemove, RefusesPush, RefusesPutIn, RefusesInsert, RefusesRename, RefusesKind, RefusesKey, RefusesValue, IsFree, IsOwn, BeginsNo};
 ghost use Rattle.json5_edit.specs.Spots.{Adds, HasEnd, HasEntry, HasFound, Removes, due_at};
 ghost use Rattle.json5_edit.specs.declared.faults.EditError.TheVariants as edit_errors;
@@ -27,14 +27,15 @@ use crate::plain::{
     without_entry,
 };
 use crate::renaming::renamed;
-use crate::setting::{check_value, place_of, put_made, splice};
-use crate::survey::Found;
+use crate::setting::{check_value, place_of, splice};
+use crate::survey::{Found, limit_of};
 use json5_edit_style::{
     Added, Collection, Cut, Names, Which, cut_alone_for, cut_for, growth_before, growth_for,
 };
 use json5_lexemes::keeps_plain;
 use json5_read::brackets::BracketKind;
 use json5_tokens::scanner::Scanner;
+use json5_types::nesting::Limit;
 use json5_walk::place::Place;
 use std::alloc::Global;
 
@@ -86,9 +87,10 @@ fn removed_with(alloc: Global, text: &str, path: &[Step<'_>], leads: Lead) -> Re
         return Err(EditError::Nowhere);
     };
     let place = place_of(alloc, text, outer)?;
+    let room = limit_of(place.room);
     let old = part_text(text, place);
-    let found = entry_found(alloc, old, *step, place.room)?;
-    let new = removed(alloc, old, *step, found, leads, place.room)?;
+    let found = entry_found(alloc, old, *step, room)?;
+    let new = removed(alloc, old, *step, found, leads, room)?;
     splice(alloc, text, place, new.as_str())
 }
 
@@ -113,13 +115,14 @@ pub fn push(alloc: Global, text: &str, path: &[Step<'_>], value: &str) -> Result
     ensures refused { IfErr result (RefusesPush text.now path.now value.now) }
 {
     let place = place_of(alloc, text, path)?;
+    let room = limit_of(place.room);
     let old = part_text(text, place);
     if !begins(alloc, old, BracketKind::Array) {
         return Err(EditError::NotArray);
     }
     check_entry(alloc, value, place)?;
     let collection = collection(text, place);
-    let new = pushed(alloc, &collection, old, value, place.room)?;
+    let new = pushed(alloc, &collection, old, value, room)?;
     splice(alloc, text, place, new.as_str())
 }
 
@@ -150,14 +153,15 @@ pub fn insert_element(
     ensures refused { IfErr result (RefusesPutIn text.now path.now index value.now) }
 {
     let place = place_of(alloc, text, path)?;
+    let room = limit_of(place.room);
     let old = part_text(text, place);
     if !begins(alloc, old, BracketKind::Array) {
         return Err(EditError::NotArray);
     }
-    let start = entry_start(alloc, old, Step::Index(index), place.room)?;
+    let start = entry_start(alloc, old, Step::Index(index), room)?;
     check_entry(alloc, value, place)?;
     let collection = collection(text, place);
-    let new = put_in(alloc, &collection, old, index, start, value, place.room)?;
+    let new = put_in(alloc, &collection, old, index, start, value, room)?;
     splice(alloc, text, place, new.as_str())
 }
 
@@ -215,12 +219,13 @@ pub fn insert_in(
     ensures refused { IfErr result (RefusesInsert text.now path.now key.now value.now) }
 {
     let place = place_of(alloc, text, path)?;
+    let room = limit_of(place.room);
     let old = part_text(text, place);
-    let end = free_end(alloc, old, key, place.room)?;
+    let end = free_end(alloc, old, key, room)?;
     check_entry(alloc, value, place)?;
     let mut collection = collection(text, place);
     collection.names = names;
-    let new = inserted(alloc, &collection, old, end, key, value, place.room)?;
+    let new = inserted(alloc, &collection, old, end, key, value, room)?;
     splice(alloc, text, place, new.as_str())
 }
 
@@ -250,11 +255,12 @@ pub fn rename(alloc: Global, text: &str, path: &[Step<'_>], key: &str) -> Result
         return Err(EditError::NoKey);
     };
     let place = place_of(alloc, text, outer)?;
+    let room = limit_of(place.room);
     let old = part_text(text, place);
-    let start = entry_start(alloc, old, *step, place.room)?;
+    let start = entry_start(alloc, old, *step, room)?;
     check_key(alloc, old, key)?;
     let collection = collection(text, place);
-    let new = renamed(alloc, &collection, old, place.room, start, name, key)?;
+    let new = renamed(alloc, &collection, old, room, start, name, key)?;
     splice(alloc, text, place, new.as_str())
 }
 
@@ -309,10 +315,9 @@ fn removed(
     step: Step<'_>,
     found: Found,
     leads: Lead,
-    room: usize,
+    room: Limit,
 ) -> Result<String>
-    requires small { room ≤ max_depth }
-    requires entry { HasFound step room old.now found }
+    requires { HasFound step room old.now found }
     ensures removed { IfOk result (λ new. Removes step.entry leads room old.now (string_bytes new)) }
     ensures full { IfErr result (λ e. e ≡ edit_errors.NoMemory) }
 {
@@ -330,10 +335,9 @@ fn removed_by_lines(
     step: Step<'_>,
     found: Found,
     leads: Lead,
-    room: usize,
+    room: Limit,
 ) -> Result<String>
-    requires small { room ≤ max_depth }
-    requires entry { HasFound step room old.now found }
+    requires { HasFound step room old.now found }
     ensures { IfOk result (λ new. Removes step.entry leads room old.now (string_bytes new)) }
 {
     let gone = laid(cut_with(alloc, old, which(step), leads))?;
@@ -358,21 +362,19 @@ fn cut_with(
 }
 
 /// The text, if it is a value that fits.
-pub(crate) fn fitting(alloc: Global, new: String, room: usize) -> Result<String>
-    requires { room ≤ max_depth }
+pub(crate) fn fitting(alloc: Global, new: String, room: Limit) -> Result<String>
     ensures same { IfOk result (λ made. string_bytes made ≡ string_bytes new) }
     ensures value { OnOk result (IsValue room (chars (string_bytes new))) }
     ensures own { IfErr result IsOwn }
 {
-    match check_value(alloc, new.as_str(), room) {
+    match check_value(alloc, new.as_str(), usize::from(room.get())) {
         Ok(()) => Ok(new),
         Err(error) => Err(EditError::of_made(error)),
     }
 }
 
 /// The text, if it is a value that fits, and as plain as the old one.
-pub(crate) fn kept_plain(alloc: Global, old: &str, new: String, room: usize) -> Result<String>
-    requires { room ≤ max_depth }
+pub(crate) fn kept_plain(alloc: Global, old: &str, new: String, room: Limit) -> Result<String>
     ensures same { IfOk result (λ made. string_bytes made ≡ string_bytes new) }
     ensures value { OnOk result (IsValue room (chars (string_bytes new))) }
     ensures plain { OnOk result (KeepsPlain old.now (string_bytes new)) }
@@ -390,10 +392,9 @@ fn pushed(
     collection: &Collection<'_>,
     old: &str,
     value: &str,
-    room: usize,
+    room: Limit,
 ) -> Result<String>
-    requires small { room ≤ max_depth }
-    requires old { IsValue room (chars old.now) }
+    requires old { Fits room old.now }
     requires value { IsValue (room - 1) (chars value.now) }
     requires plain { KeepsPlain collection.now.document.now old.now }
     ensures pushed { IfOk result (λ new. Adds kind.Array value.now (Gains kind.Array [] value.now) room old.now (string_bytes new)) }
@@ -425,9 +426,8 @@ pub(crate) fn inserted(
     end: End,
     key: &str,
     value: &str,
-    room: usize,
+    room: Limit,
 ) -> Result<String>
-    requires small { room ≤ max_depth }
     requires end { HasEnd kind.Object room old.now end }
     requires value { IsValue (room - 1) (chars value.now) }
     requires plain { KeepsPlain collection.now.document.now old.now }
@@ -460,10 +460,9 @@ fn added_by_lines(
     kind: BracketKind,
     key: &str,
     value: &str,
-    room: usize,
+    room: Limit,
 ) -> Result<String>
-    requires small { room ≤ max_depth }
-    requires end { HasEnd kind room old.now end }
+    requires { HasEnd kind room old.now end }
     ensures added { IfOk result (λ new. Adds kind value.now (Gains kind key.now value.now) room old.now (string_bytes new)) }
     ensures plain { IfOk result (λ new. StaysPlainQuoted collection.now.names collection.now.document.now value.now (string_bytes new)) }
 {
@@ -499,9 +498,8 @@ fn put_in(
     index: usize,
     start: usize,
     value: &str,
-    room: usize,
+    room: Limit,
 ) -> Result<String>
-    requires small { room ≤ max_depth }
     requires entry { HasEntry (step.Index index) room old.now start }
     requires value { IsValue (room - 1) (chars value.now) }
     requires plain { KeepsPlain collection.now.document.now old.now }
@@ -523,9 +521,8 @@ fn put_in_by_lines(
     old: &str,
     index: usize,
     value: &str,
-    room: usize,
+    room: Limit,
 ) -> Result<String>
-    requires { room ≤ max_depth }
     ensures added { IfOk result (λ new. Adds kind.Array value.now (GainsAt index value.now) room old.now (string_bytes new)) }
     ensures plain { IfOk result (λ new. StaysPlain collection.now.document.now value.now (string_bytes new)) }
 {

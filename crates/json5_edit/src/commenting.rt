@@ -1,9 +1,8 @@
 //! Puts a comment before an entry.
 
-ghost use Rattle.std.specs.Prelude.{◌≤◌, IfOk, IfErr, OnOk, string_bytes};
+ghost use Rattle.std.specs.Prelude.{IfOk, IfErr, OnOk, string_bytes};
 ghost use Rattle.std.specs.Str.{chars};
 ghost use Rattle.json5_edit_style.specs.Comments.{IsLead};
-ghost use Rattle.json5_grammar.specs.Language.Documents.{max_depth};
 ghost use Rattle.json5_edit.specs.Commented.{Comments, IsCommented};
 ghost use Rattle.json5_edit.specs.Pieces.{Recomments};
 ghost use Rattle.json5_edit.specs.Refusals.{IsOwn, RefusesComment};
@@ -16,10 +15,10 @@ use crate::paths::Step;
 use crate::pieces::split;
 use crate::plain::entry_start;
 use crate::setting::{join, place_of, splice};
+use crate::survey::limit_of;
 use json5_edit_style::comments::is_lead;
 use json5_edit_style::{Collection, cut_for, indentation, line_end};
-use json5_read::brackets::BracketKind;
-use json5_read::check_document;
+use json5_types::nesting::Limit;
 use std::alloc::{AllocError, Global};
 
 /// The characters that end a line.
@@ -47,10 +46,11 @@ pub fn comment(alloc: Global, text: &str, path: &[Step<'_>], comment: &str) -> R
         return Err(EditError::Nowhere);
     };
     let place = place_of(alloc, text, outer)?;
+    let room = limit_of(place.room);
     let old = part_text(text, place);
-    let start = entry_start(alloc, old, *step, place.room)?;
+    let start = entry_start(alloc, old, *step, room)?;
     let collection = collection(text, place);
-    let new = commented(alloc, &collection, old, *step, start, comment, place.room)?;
+    let new = commented(alloc, &collection, old, *step, start, comment, room)?;
     splice(alloc, text, place, new.as_str())
 }
 
@@ -71,8 +71,9 @@ pub fn comment_of(alloc: Global, text: &str, path: &[Step<'_>]) -> Result<String
         return Err(EditError::Nowhere);
     };
     let place = place_of(alloc, text, outer)?;
+    let room = limit_of(place.room);
     let old = part_text(text, place);
-    let start = entry_start(alloc, old, *step, place.room)?;
+    let start = entry_start(alloc, old, *step, room)?;
     let from = comments_start(alloc, old, *step, start)?;
     match said(alloc, old.get(from..start)) {
         Ok(said) => Ok(said),
@@ -88,10 +89,9 @@ fn commented(
     step: Step<'_>,
     start: usize,
     comment: &str,
-    room: usize,
+    room: Limit,
 ) -> Result<String>
-    requires small { room ≤ max_depth }
-    requires entry { HasEntry step room old.now start }
+    requires { HasEntry step room old.now start }
     ensures commented { IfOk result (λ new. Comments step.entry room old.now (string_bytes new)) }
     ensures own { IfErr result IsOwn }
 {
@@ -146,50 +146,12 @@ fn comments_start(alloc: Global, old: &str, step: Step<'_>, start: usize) -> Res
     let Some(lead) = old.get(gone.start..start) else {
         return Ok(start);
     };
-    let passed = passed_over(alloc, lead, kind(step));
-    let from = gone.start.saturating_add(first_comment(lead, passed));
+    let from = gone
+        .start
+        .saturating_add(lead.find('/').unwrap_or(lead.len()));
     match (old.get(..from), old.get(from..start)) {
         (Some(front), Some(lead)) if is_lead(alloc, front, lead) => Ok(from),
         _ => Ok(start),
-    }
-}
-
-/// Where the first comment after so many bytes begins, or the text ends.
-fn first_comment(lead: &str, passed: usize) -> usize {
-    match lead.split_at_checked(passed) {
-        Some((_, rest)) => match rest.find('/') {
-            Some(at) => passed.saturating_add(at),
-            None => lead.len(),
-        },
-        None => lead.len(),
-    }
-}
-
-/// How long the comments are up to the last one that is a switched-off entry of such a collection.
-fn passed_over(alloc: Global, lead: &str, kind: BracketKind) -> usize {
-    let mut passed = 0;
-    let mut at = 0usize;
-    for line in lead.split_inclusive('\n') {
-        at = at.saturating_add(line.len());
-        if is_switched_off(alloc, line, kind) {
-            passed = at;
-        }
-    }
-    passed
-}
-
-/// Whether the line is a comment that would be an entry without its slashes.
-fn is_switched_off(alloc: Global, line: &str, kind: BracketKind) -> bool {
-    let Some(words) = line.trim().strip_prefix("//") else {
-        return false;
-    };
-    let (open, close) = match kind {
-        BracketKind::Array => ("[", "\n]"),
-        BracketKind::Object => ("{", "\n}"),
-    };
-    match [open, words, close].as_slice().concat(alloc) {
-        Ok(text) => !words.trim().is_empty() && check_document(alloc, text.as_str()).is_ok(),
-        Err(_) => false,
     }
 }
 

@@ -1,7 +1,6 @@
 //! Adds a member before others.
 
-ghost use Rattle.std.specs.Prelude.{◌≤◌, IfOk, IfErr, string_bytes};
-ghost use Rattle.json5_grammar.specs.Language.Documents.{max_depth};
+ghost use Rattle.std.specs.Prelude.{IfOk, IfErr, string_bytes};
 ghost use Rattle.json5_edit.specs.Changes.{InsertsBefore};
 ghost use Rattle.json5_edit.specs.Refusals.{RefusesBefore, RefusesStart};
 ghost use Rattle.json5_edit.specs.Spots.{AddsMember, IsObject, MayComeBefore, MayComeThere, PutsMember, PutsThere, StartsBefore};
@@ -21,6 +20,7 @@ use crate::survey::limit_of;
 use json5_edit_style::{Collection, Names, Which, member_growth_before};
 use json5_read::brackets::BracketKind;
 use json5_types::error;
+use json5_types::nesting::Limit;
 use json5_walk::walk::Walk;
 use std::alloc::Global;
 
@@ -51,10 +51,11 @@ pub fn insert_before(
     ensures refused { IfErr result (RefusesBefore before.entry text.now path.now key.now value.now) }
 {
     let place = place_of(alloc, text, path)?;
+    let room = limit_of(place.room);
     let old = part_text(text, place);
-    let end = free_end(alloc, old, key, place.room)?;
+    let end = free_end(alloc, old, key, room)?;
     check_entry(alloc, value, place)?;
-    let start = start_before(alloc, old, before, place.room)?;
+    let start = start_before(alloc, old, before, room)?;
     let mut collection = collection(text, place);
     collection.names = names;
     let new = put_there(
@@ -66,13 +67,13 @@ pub fn insert_before(
         end,
         key,
         value,
-        place.room,
+        room,
     )?;
     splice(alloc, text, place, new.as_str())
 }
 
 /// Where the member begins before which another goes; None in an object without members.
-fn start_before(alloc: Global, old: &str, before: Before<'_>, room: usize) -> Result<Option<usize>>
+fn start_before(alloc: Global, old: &str, before: Before<'_>, room: Limit) -> Result<Option<usize>>
     requires { IsObject room old.now }
     ensures found { IfOk result (StartsBefore before.entry room old.now) }
     ensures refused { IfErr result (RefusesStart before.entry old.now) }
@@ -90,12 +91,12 @@ fn start_before(alloc: Global, old: &str, before: Before<'_>, room: usize) -> Re
 }
 
 /// Where the first member begins, if there is one.
-fn first_start(alloc: Global, old: &str, room: usize) -> error::Result<Option<usize>>
+fn first_start(alloc: Global, old: &str, room: Limit) -> error::Result<Option<usize>>
     requires { IsObject room old.now }
     ensures found { IfOk result (StartsBefore before_place.First room old.now) }
     ensures refused { IfErr result LacksMemory }
 {
-    let mut walk = Walk::new(alloc, old, limit_of(room));
+    let mut walk = Walk::new(alloc, old, room);
     if !walk.open(BracketKind::Object) {
         return Err(failed());
     }
@@ -117,7 +118,7 @@ fn put_there(
     end: End,
     key: &str,
     value: &str,
-    room: usize,
+    room: Limit,
 ) -> Result<String>
     requires { MayComeThere before room collection.now old.now start end value.now }
     ensures { PutsThere before.entry key.now value.now room collection.now old.now result }
@@ -138,7 +139,7 @@ fn put_before(
     start: usize,
     key: &str,
     value: &str,
-    room: usize,
+    room: Limit,
 ) -> Result<String>
     requires { MayComeBefore before room collection.now.document.now old.now start value.now }
     ensures { PutsMember before.entry key.now value.now room collection.now.document.now old.now result }
@@ -158,9 +159,8 @@ fn put_by_lines(
     before: Before<'_>,
     key: &str,
     value: &str,
-    room: usize,
+    room: Limit,
 ) -> Result<String>
-    requires { room ≤ max_depth }
     ensures { IfOk result (λ new. AddsMember before.entry key.now value.now room collection.now.document.now old.now (string_bytes new)) }
 {
     let growth = laid(member_growth_before(alloc, collection, which(before), key))?;

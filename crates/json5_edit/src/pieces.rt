@@ -1,13 +1,12 @@
 //! A text with a part taken out of it or put into it.
 
-ghost use Rattle.std.specs.Prelude.{◌≡◌, ◌≤◌, ◌++◌, IfOk, IfErr, OnOk, IsTrue, true, [], length, string_bytes, take};
+ghost use Rattle.std.specs.Prelude.{◌≡◌, ◌++◌, IfOk, IfErr, OnOk, IsTrue, true, [], length, string_bytes, take};
 ghost use Rattle.std.specs.Str.{chars};
 ghost use Rattle.json5_edit.specs.Pieces.{CutsWith, Grows, Respells, IsEntryAlone, IsNameAlone, SplitsKey};
 ghost use Rattle.json5_edit.specs.Refusals.{IsOwn};
 ghost use Rattle.json5_edit.specs.Spots.{EndTokens, IsAroundComma, TakesComma};
 ghost use Rattle.json5_edit.specs.declared.faults.EditError.TheVariants as edit_errors;
 ghost use Rattle.json5_grammar.specs.Language.Blanks.{Blanks};
-ghost use Rattle.json5_grammar.specs.Language.Documents.{max_depth};
 ghost use Rattle.json5_lexemes.specs.Lexemes.{HaveSameLexemes};
 
 use crate::belongings::{Lead, check_gone, split_blanks};
@@ -18,6 +17,7 @@ use json5_edit_style::{Cut, Growth, Respelling};
 use json5_lexemes::same_lexemes;
 use json5_read::brackets::BracketKind;
 use json5_tokens::scanner::Scanner;
+use json5_types::nesting::Limit;
 use std::alloc::Global;
 
 /// The text without what goes, where that is an entry of such a collection with the comments that go with it, and
@@ -29,10 +29,9 @@ pub(crate) fn cut(
     before: Option<usize>,
     kind: BracketKind,
     leads: Lead,
-    room: usize,
+    room: Limit,
 ) -> Result<String>
-    requires small { room ≤ max_depth }
-    requires tokens { EndTokens text.now before }
+    requires { EndTokens text.now before }
     ensures cuts { IfOk result (λ new. CutsWith leads text.now (string_bytes new)) }
     ensures own { IfErr result IsOwn }
 {

@@ -3,14 +3,14 @@
 ghost use Rattle.std.specs.Prelude.{◌≡◌, ◌++◌, ◌≤◌, ◌-◌, false, IfOk, IfErr, OnOk, string_bytes};
 ghost use Rattle.std.specs.Str.{chars};
 ghost use Rattle.json5_grammar.specs.Language.Blanks.{Solid};
-ghost use Rattle.json5_grammar.specs.Language.Documents.{max_depth};
 ghost use Rattle.json5_grammar.specs.Language.Trees.{Tree, depth};
 ghost use Rattle.json5_lexemes.specs.Plain.{StaysPlain};
 ghost use Rattle.json5_types.specs.Errors.{LacksMemory};
 ghost use Rattle.json5_read.specs.declared.brackets.BracketKind.TheVariants as kind;
+ghost use Rattle.json5_read.specs.SkipSteps.{SkipsValue};
 ghost use Rattle.json5_edit.specs.Changes.{Gains, GainsAt};
 ghost use Rattle.json5_edit.specs.Pieces.{IsNameAlone};
-ghost use Rattle.json5_edit.specs.Places.{IsValue};
+ghost use Rattle.json5_edit.specs.Places.{Fits, IsValue};
 ghost use Rattle.json5_edit.specs.Refusals.{IsFree, RefusesFree, RefusesKind, RefusesStep};
 ghost use Rattle.json5_edit.specs.Spots.{Adds, AddsEntry, AddsPlainly, Goes, HasEnd, HasEntry, HasFound, HasBefore, IsAhead, BeginsWithComma, IsCommaSpan, TakesCommaAhead, IsColonBefore, IsNameBefore, MayComeBefore, Measures, Parts, PassedBefore, PutsMember, ReadsColon, ReadsThen, Removes, comma_for};
 ghost use Rattle.json5_edit.specs.declared.belongings.Lead.TheVariants as lead_place;
@@ -29,12 +29,12 @@ use json5_read::brackets::BracketKind;
 use json5_read::skip::skip_value;
 use json5_tokens::scanner::Scanner;
 use json5_types::error;
+use json5_types::nesting::Limit;
 use std::alloc::Global;
 
 /// Where the entry begins that the step goes to.
-pub(crate) fn entry_start(alloc: Global, old: &str, step: Step<'_>, room: usize) -> Result<usize>
-    requires small { room ≤ max_depth }
-    requires value { IsValue room (chars old.now) }
+pub(crate) fn entry_start(alloc: Global, old: &str, step: Step<'_>, room: Limit) -> Result<usize>
+    requires { Fits room old.now }
     ensures found { IfOk result (HasEntry step.entry room old.now) }
     ensures refused { IfErr result (RefusesStep old.now step.entry) }
 {
@@ -43,9 +43,8 @@ pub(crate) fn entry_start(alloc: Global, old: &str, step: Step<'_>, room: usize)
 }
 
 /// Where the entry stands that the step goes to.
-pub(crate) fn entry_found(alloc: Global, old: &str, step: Step<'_>, room: usize) -> Result<Found>
-    requires small { room ≤ max_depth }
-    requires value { IsValue room (chars old.now) }
+pub(crate) fn entry_found(alloc: Global, old: &str, step: Step<'_>, room: Limit) -> Result<Found>
+    requires { Fits room old.now }
     ensures found { IfOk result (HasFound step.entry room old.now) }
     ensures refused { IfErr result (RefusesStep old.now step.entry) }
 {
@@ -60,9 +59,8 @@ pub(crate) fn entry_found(alloc: Global, old: &str, step: Step<'_>, room: usize)
 }
 
 /// Where one more element may stand at the end of an array.
-pub(crate) fn array_end(alloc: Global, old: &str, room: usize) -> Result<End>
-    requires small { room ≤ max_depth }
-    requires value { IsValue room (chars old.now) }
+pub(crate) fn array_end(alloc: Global, old: &str, room: Limit) -> Result<End>
+    requires { Fits room old.now }
     ensures found { IfOk result (HasEnd kind.Array room old.now) }
     ensures refused { IfErr result (RefusesKind kind.Array old.now) }
 {
@@ -78,9 +76,8 @@ pub(crate) fn array_end(alloc: Global, old: &str, room: usize) -> Result<End>
 }
 
 /// Where one more member may stand at the end of an object that has none with the key.
-pub(crate) fn free_end(alloc: Global, old: &str, key: &str, room: usize) -> Result<End>
-    requires small { room ≤ max_depth }
-    requires value { IsValue room (chars old.now) }
+pub(crate) fn free_end(alloc: Global, old: &str, key: &str, room: Limit) -> Result<End>
+    requires { Fits room old.now }
     ensures found { IfOk result (HasEnd kind.Object room old.now) }
     ensures free { OnOk result (IsFree key.now old.now) }
     ensures refused { IfErr result (RefusesFree old.now key.now) }
@@ -104,10 +101,9 @@ pub(crate) fn without_entry(
     old: &str,
     step: Step<'_>,
     found: Found,
-    room: usize,
+    room: Limit,
 ) -> Result<String>
-    requires small { room ≤ max_depth }
-    requires entry { HasFound step room old.now found }
+    requires { HasFound step room old.now found }
     ensures removed { IfOk result (λ new. Removes step.entry lead_place.Stays room old.now (string_bytes new)) }
     ensures full { IfErr result (λ e. e ≡ edit_errors.NoMemory) }
 {
@@ -130,10 +126,9 @@ fn without_last(
     step: Step<'_>,
     found: Found,
     end: usize,
-    room: usize,
+    room: Limit,
 ) -> Result<String>
-    requires small { room ≤ max_depth }
-    requires entry { HasBefore step room old.now found.start end }
+    requires { HasBefore step room old.now found.start end }
     ensures removed { IfOk result (λ new. Removes step.entry lead_place.Stays room old.now (string_bytes new)) }
     ensures full { IfErr result (λ e. e ≡ edit_errors.NoMemory) }
 {
@@ -145,9 +140,8 @@ fn without_last(
 }
 
 /// How long the entry in front of the text is.
-fn len_ahead(alloc: Global, rest: &str, kind: BracketKind, room: usize) -> Result<EntryLen>
-    requires small { room ≤ max_depth }
-    requires ahead { IsAhead kind room (chars rest.now) }
+fn len_ahead(alloc: Global, rest: &str, kind: BracketKind, room: Limit) -> Result<EntryLen>
+    requires { IsAhead kind room (chars rest.now) }
     ensures measured { IfOk result (Measures kind room rest.now) }
     ensures full { IfErr result (λ e. e ≡ edit_errors.NoMemory) }
 {
@@ -206,9 +200,8 @@ pub(crate) fn with_element(
     index: usize,
     start: usize,
     value: &str,
-    room: usize,
+    room: Limit,
 ) -> Result<String>
-    requires small { room ≤ max_depth }
     requires entry { HasEntry (step.Index index) room old.now start }
     requires value { IsValue (room - 1) (chars value.now) }
     ensures added { IfOk result (λ new. Adds kind.Array value.now (GainsAt index value.now) room old.now (string_bytes new)) }
@@ -235,9 +228,8 @@ pub(crate) fn with_last(
     name: &str,
     value: &str,
     kind: BracketKind,
-    room: usize,
+    room: Limit,
 ) -> Result<String>
-    requires small { room ≤ max_depth }
     requires end { HasEnd kind room old.now end }
     requires name { IsNameAlone kind name.now }
     ensures added { IfOk result (λ new. AddsEntry kind name.now value.now room old.now (string_bytes new)) }
@@ -255,9 +247,8 @@ pub(crate) fn with_member(
     end: End,
     key: &str,
     value: &str,
-    room: usize,
+    room: Limit,
 ) -> Result<String>
-    requires small { room ≤ max_depth }
     requires end { HasEnd kind.Object room old.now end }
     requires value { IsValue (room - 1) (chars value.now) }
     ensures added { IfOk result (λ new. Adds kind.Object value.now (Gains kind.Object key.now value.now) room old.now (string_bytes new)) }
@@ -285,7 +276,7 @@ pub(crate) fn with_member_before(
     start: usize,
     key: &str,
     value: &str,
-    room: usize,
+    room: Limit,
 ) -> Result<String>
     requires { MayComeBefore before room old.now old.now start value.now }
     ensures { PutsMember before.entry key.now value.now room old.now old.now result }
@@ -333,16 +324,15 @@ pub(crate) fn entry_len(
     alloc: Global,
     rest: &str,
     kind: BracketKind,
-    room: usize,
+    room: Limit,
 ) -> error::Result<EntryLen>
-    requires { room ≤ max_depth }
     ensures measured { IfOk result (λ n. Solid (chars rest.now) → Measures kind room rest.now n) }
     ensures refused { IfErr result (λ e. (u t r : Tree) → Parts kind u t r → Goes false u (chars rest.now) → depth t ≤ room → LacksMemory e) }
 {
     let mut scanner = Scanner::new(alloc, rest);
     scanner.skip_blank()?;
     pass_name(&mut scanner, kind)?;
-    skip_value(&mut scanner, room)?;
+    skip_within(&mut scanner, room)?;
     let bare = scanner.offset();
     scanner.skip_blank()?;
     if scanner.eat(',') {
@@ -350,6 +340,13 @@ pub(crate) fn entry_len(
         return Ok(EntryLen { bare, whole });
     }
     Ok(EntryLen { bare, whole: bare })
+}
+
+/// Passes over a value, in which so many brackets may be open at once.
+fn skip_within(scanner: &mut Scanner<&str>, room: Limit) -> error::Result<()>
+    ensures { SkipsValue room scanner.old scanner.new result }
+{
+    skip_value(scanner, usize::from(room.get()))
 }
 
 /// Passes over the key of a member and the colon with the blanks around it, or over nothing in an array.

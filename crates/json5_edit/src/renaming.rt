@@ -1,7 +1,6 @@
 //! Another key for a member.
 
-ghost use Rattle.std.specs.Prelude.{◌≡◌, ◌≤◌, IfOk, IfErr, string_bytes};
-ghost use Rattle.json5_grammar.specs.Language.Documents.{max_depth};
+ghost use Rattle.std.specs.Prelude.{◌≡◌, IfOk, IfErr, string_bytes};
 ghost use Rattle.json5_types.specs.Errors.{LacksMemory};
 ghost use Rattle.json5_edit.specs.Keys.{BeginsWithMember, KeySpan, KeyStarts, Rekeys, TakesKeyAhead};
 ghost use Rattle.json5_edit.specs.declared.faults.EditError.TheVariants as edit_errors;
@@ -15,6 +14,7 @@ use crate::spelled::json_key;
 use json5_edit_style::{Collection, Which, respelling_for};
 use json5_tokens::scanner::Scanner;
 use json5_types::error;
+use json5_types::nesting::Limit;
 use std::alloc::Global;
 
 /// The object with another key for its last member that has this one: spelled like the old one if that reads so, else
@@ -23,13 +23,12 @@ pub(crate) fn renamed(
     alloc: Global,
     collection: &Collection<'_>,
     old: &str,
-    room: usize,
+    room: Limit,
     start: usize,
     name: &str,
     key: &str,
 ) -> Result<String>
-    requires small { room ≤ max_depth }
-    requires key { KeyStarts room name.now old.now start }
+    requires { KeyStarts room name.now old.now start }
     ensures renamed { IfOk result (λ new. Rekeys room name.now key.now old.now (string_bytes new)) }
     ensures full { IfErr result (λ e. e ≡ edit_errors.NoMemory) }
 {
@@ -45,11 +44,10 @@ fn renamed_alike(
     alloc: Global,
     collection: &Collection<'_>,
     old: &str,
-    room: usize,
+    room: Limit,
     name: &str,
     key: &str,
 ) -> Result<String>
-    requires { room ≤ max_depth }
     ensures { IfOk result (λ new. Rekeys room name.now key.now old.now (string_bytes new)) }
 {
     let respelling = laid(respelling_for(alloc, collection, Which::Key(name), key))?;
@@ -64,13 +62,12 @@ fn renamed_alike(
 fn with_key(
     alloc: Global,
     old: &str,
-    room: usize,
+    room: Limit,
     start: usize,
     name: &str,
     key: &str,
 ) -> Result<String>
-    requires small { room ≤ max_depth }
-    requires key { KeyStarts room name.now old.now start }
+    requires { KeyStarts room name.now old.now start }
     ensures renamed { IfOk result (λ new. Rekeys room name.now key.now old.now (string_bytes new)) }
     ensures full { IfErr result (λ e. e ≡ edit_errors.NoMemory) }
 {

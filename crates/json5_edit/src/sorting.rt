@@ -1,7 +1,6 @@
 //! Sorts the members of an object.
 
-ghost use Rattle.std.specs.Prelude.{◌≤◌, IfOk, IfErr, OnOk, string_bytes};
-ghost use Rattle.json5_grammar.specs.Language.Documents.{max_depth};
+ghost use Rattle.std.specs.Prelude.{IfOk, IfErr, OnOk, string_bytes};
 ghost use Rattle.json5_edit.specs.Changes.{ChangesBy};
 ghost use Rattle.json5_edit.specs.Refusals.{IsOwn, RefusesSort};
 ghost use Rattle.json5_edit.specs.Sorted.{AreInOrder, HasMembersSorted, IsOrdered, ListsMembers, PassesAll, Sorts};
@@ -14,6 +13,7 @@ use crate::faults::{EditError, Result};
 use crate::moving::{pieces_of, rearranged};
 use crate::paths::Step;
 use crate::setting::{place_of, splice};
+use crate::survey::limit_of;
 use json5_edit_style::line_end;
 use json5_read::brackets::BracketKind;
 use json5_types::error;
@@ -22,11 +22,9 @@ use json5_walk::walk::Walk;
 use std::alloc::Global;
 
 /// Returns the text with the members of the object that the path leads to in the order of their keys: by the code points
-/// of their characters, and equal keys as they stood. With a member go the comments that [`remove`] takes with it; any
-/// other, as a heading with an empty line below it, stays where it is, and so do empty lines and commas. A text that is
-/// JSON, or JSON but for comments, stays so.
-///
-/// [`remove`]: crate::changing::remove
+/// of their characters, and equal keys as they stood. With a member go the comments on its line and on the lines right
+/// before it, switched-off entries too; any other, as a heading with an empty line below it, stays where it is, and so do
+/// empty lines and commas. A text that is JSON, or JSON but for comments, stays so.
 ///
 /// ```text
 /// sort(alloc, "{ port: 80, /* name */ host: 'a' }", &[])?    // { /* name */ host: 'a', port: 80 }
@@ -43,17 +41,17 @@ pub fn sort(alloc: Global, text: &str, path: &[Step<'_>]) -> Result<String>
     ensures refused { IfErr result (RefusesSort text.now path.now) }
 {
     let place = place_of(alloc, text, path)?;
+    let room = limit_of(place.room);
     let old = part_text(text, place);
     if !begins(alloc, old, BracketKind::Object) {
         return Err(EditError::NotObject);
     }
-    let new = sorted(alloc, old, line_end(text), place.room)?;
+    let new = sorted(alloc, old, line_end(text), room)?;
     splice(alloc, text, place, new.as_str())
 }
 
 /// The object with its members in order.
-fn sorted(alloc: Global, old: &str, line_end: &str, room: usize) -> Result<String>
-    requires { room ≤ max_depth }
+fn sorted(alloc: Global, old: &str, line_end: &str, room: Limit) -> Result<String>
     ensures sorted { IfOk result (λ new. Sorts room old.now (string_bytes new)) }
     ensures own { IfErr result IsOwn }
 {

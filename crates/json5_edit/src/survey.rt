@@ -6,7 +6,7 @@ ghost use Rattle.json5_grammar.specs.Language.Documents.{max_depth};
 ghost use Rattle.json5_types.specs.Errors.{LacksMemory};
 ghost use Rattle.json5_edit.specs.Comparing.{step_kind};
 ghost use Rattle.json5_edit.specs.Entries.{empty_of};
-ghost use Rattle.json5_edit.specs.Places.{IsValue};
+ghost use Rattle.json5_edit.specs.Places.{Fits, IsValue};
 ghost use Rattle.json5_edit.specs.Refusals.{BeginsNo};
 ghost use Rattle.json5_edit.specs.Spots.{Inside, Surveys, latest};
 
@@ -41,14 +41,13 @@ pub(crate) fn find_entry(
     alloc: Global,
     old: &str,
     step: Step<'_>,
-    room: usize,
+    room: Limit,
 ) -> Result<Option<Survey>>
-    requires small { room ≤ max_depth }
-    requires value { IsValue room (chars old.now) }
+    requires { Fits room old.now }
     ensures surveyed { IfOk result (λ found. MatchOption found (BeginsNo (step_kind step.entry) (chars old.now)) (Surveys step.entry room old.now)) }
     ensures refused { IfErr result LacksMemory }
 {
-    let mut walk = Walk::new(alloc, old, limit_of(room));
+    let mut walk = Walk::new(alloc, old, room);
     if !walk.open(kind(step)) {
         return Ok(None);
     }

@@ -1,5 +1,7 @@
 //! The blanks and comments between two tokens, by their lines.
 
+use json5_lexemes::{Piece, Pieces};
+
 /// What is known of a gap. Offsets are in bytes of the text that it stands in.
 #[derive(Clone, Copy, Drop)]
 pub(crate) struct Gap {
@@ -21,41 +23,37 @@ pub(crate) struct Gap {
     pub(crate) mark: usize,
 }
 
-/// Where a gap is read: among blanks or within a comment.
-#[derive(Clone, Copy, Drop)]
-enum Within {
-    Blanks,
-    /// After the slash at this offset.
-    Slash(usize),
-    Line,
-    Block,
-    /// In a block comment, after a star.
-    Star,
-}
-
 /// Reads a gap.
 #[derive(Drop)]
 struct Reader {
     gap: Gap,
-    within: Within,
     /// Whether a comment stands on the line.
     is_marked: bool,
     /// Whether a comment was met, and whether one was since `lead`.
     has_comment: bool,
     has_own: bool,
     until: usize,
-    /// Whether the character before is a carriage return that ended a line.
-    is_return: bool,
 }
 
 impl Gap {
     /// Reads the gap between these offsets.
     pub(crate) fn of(text: &str, from: usize, until: usize) -> Gap {
         let mut reader = Reader::new(from, until);
-        for (offset, c) in between(text, from, until).char_indices() {
-            reader.read(from.saturating_add(offset), c);
+        let mut pieces = Pieces::new(between(text, from, until));
+        let mut start = from;
+        for _ in from..until {
+            let Some(piece) = pieces.next() else {
+                break;
+            };
+            let end = until.saturating_sub(pieces.as_str().len());
+            match piece {
+                Piece::Blank => {}
+                Piece::LineEnd => reader.end_line(start, end),
+                Piece::Line | Piece::Block => reader.pass_comment(start, end),
+            }
+            start = end;
         }
-        reader.ended(until)
+        reader.gap
     }
 }
 
@@ -72,34 +70,14 @@ impl Reader {
                 last_line: from,
                 mark: from,
             },
-            within: Within::Blanks,
             is_marked: false,
             has_comment: false,
             has_own: false,
             until,
-            is_return: false,
         }
     }
 
-    /// Reads the character at this offset.
-    fn read(&mut self, at: usize, c: char) {
-        let next = at.saturating_add(c.len_utf8());
-        let is_feed = self.is_return && c == '\n';
-        self.is_return = false;
-        match (self.within, c) {
-            (Within::Blanks, '/') => self.within = Within::Slash(at),
-            (Within::Blanks, '\n') if is_feed => self.begin_line(next),
-            (Within::Blanks | Within::Line, _) if is_line_end(c) => self.end_line(at, next, c),
-            (Within::Slash(start), '/') => self.begin_comment(start, Within::Line),
-            (Within::Slash(start), _) => self.begin_comment(start, Within::Block),
-            (Within::Block | Within::Star, '*') => self.within = Within::Star,
-            (Within::Star, '/') => self.end_comment(next),
-            (Within::Star, _) => self.within = Within::Block,
-            _ => {}
-        }
-    }
-
-    fn begin_comment(&mut self, start: usize, within: Within) {
+    fn pass_comment(&mut self, start: usize, end: usize) {
         if !self.has_comment {
             self.gap.first = start;
         }
@@ -109,57 +87,26 @@ impl Reader {
         self.has_comment = true;
         self.has_own = true;
         self.is_marked = true;
-        self.within = within;
-    }
-
-    fn end_comment(&mut self, end: usize) {
-        self.within = Within::Blanks;
         self.gap.mark = end;
         if self.gap.line_end.is_none() {
             self.gap.tail = end;
         }
     }
 
-    /// Ends the line, and a comment to its end.
-    fn end_line(&mut self, at: usize, next: usize, c: char) {
-        if let Within::Line = self.within {
-            self.end_comment(at);
-        }
-        self.is_return = c == '\r';
+    /// Ends the line, after which the next one begins.
+    fn end_line(&mut self, at: usize, next: usize) {
         let is_first = self.gap.line_end.is_none();
         if is_first {
             self.gap.line_end = Some(at);
+            self.gap.next_line = next;
         }
         if is_first || !self.is_marked {
             self.gap.lead = next;
             self.gap.own = self.until;
             self.has_own = false;
         }
-        if is_first {
-            self.gap.next_line = next;
-        }
         self.gap.last_line = next;
         self.is_marked = false;
-    }
-
-    /// Passes over the line feed after a carriage return.
-    fn begin_line(&mut self, next: usize) {
-        if self.gap.lead == self.gap.last_line {
-            self.gap.lead = next;
-        }
-        if self.gap.next_line == self.gap.last_line {
-            self.gap.next_line = next;
-        }
-        self.gap.last_line = next;
-    }
-
-    /// The gap, whose last comment may go on to the end.
-    fn ended(self, until: usize) -> Gap {
-        let mut reader = self;
-        if let Within::Line = reader.within {
-            reader.end_comment(until);
-        }
-        reader.gap
     }
 }
 
@@ -169,8 +116,4 @@ pub(crate) fn between(text: &str, from: usize, until: usize) -> &str {
         Some(part) => part,
         None => "",
     }
-}
-
-pub(crate) fn is_line_end(c: char) -> bool {
-    matches!(c, '\n' | '\r' | '\u{2028}' | '\u{2029}')
 }

@@ -1,11 +1,12 @@
 //! Lines and their indentation.
 
-use crate::gaps::{between, is_line_end};
+use crate::gaps::between;
+use json5_tokens::char::is_json5_line_terminator;
 
 /// Where the line begins on which this offset stands.
 pub(crate) fn line_start(text: &str, at: usize) -> usize {
     for (offset, c) in between(text, 0, at).char_indices().rev() {
-        if is_line_end(c) {
+        if is_json5_line_terminator(c) {
             return offset.saturating_add(c.len_utf8());
         }
     }
@@ -30,7 +31,7 @@ pub fn indentation(text: &str, at: usize) -> &str {
 /// Where the next line begins, if the one at this offset is empty; else this offset.
 pub(crate) fn after_empty_line(text: &str, at: usize) -> usize {
     for (offset, c) in between(text, at, text.len()).char_indices() {
-        if is_line_end(c) {
+        if is_json5_line_terminator(c) {
             let end = line_end_at(text, at.saturating_add(offset), c);
             return at.saturating_add(offset).saturating_add(end.len());
         }

@@ -1,8 +1,9 @@
 //! Entries that are switched off: comments that would be entries without their marks, as `// port: 80,`.
 
-use crate::gaps::{between, is_line_end};
+use crate::gaps::between;
 use crate::removing::joined;
 use crate::spots::{Which, find_around};
+use json5_lexemes::{Piece, Pieces};
 use json5_read::check_document;
 use json5_types::ErrorCode;
 use json5_types::error::Result;
@@ -49,22 +50,27 @@ struct Comment<'t> {
 
 /// The next comment between these offsets.
 fn next_comment(text: &str, from: usize, until: usize) -> Option<Comment<'_>> {
-    let gap = between(text, from, until);
-    let start = gap.find('/')?;
-    let is_line = !between(gap, start, gap.len()).starts_with("/*");
-    let rest = between(gap, start.saturating_add(2), gap.len());
-    let (len, marks) = if is_line {
-        (rest.find(is_line_end), 2)
-    } else {
-        (rest.find("*/"), 4)
-    };
-    let words = between(rest, 0, len.unwrap_or(rest.len()));
-    let end = from.saturating_add(start).saturating_add(words.len());
-    Some(Comment {
-        words,
-        end: end.saturating_add(marks),
-        is_line,
-    })
+    let mut pieces = Pieces::new(between(text, from, until));
+    let mut start = from;
+    for _ in from..until {
+        let piece = pieces.next()?;
+        let end = until.saturating_sub(pieces.as_str().len());
+        match piece {
+            Piece::Blank | Piece::LineEnd => start = end,
+            Piece::Line => return Some(comment_of(text, start, end, end)),
+            Piece::Block => return Some(comment_of(text, start, end.saturating_sub(2), end)),
+        }
+    }
+    None
+}
+
+/// The comment between these offsets, whose words end at the first of the two ends.
+fn comment_of(text: &str, start: usize, words_end: usize, end: usize) -> Comment<'_> {
+    Comment {
+        words: between(text, start.saturating_add(2), words_end),
+        end,
+        is_line: words_end == end,
+    }
 }
 
 /// The words that begin an entry, up to these: all, or these alone, or none.

@@ -21,3 +21,4 @@ pub mod PlainTakes
 pub mod PlainWords
 pub mod PlainWordsTaken
 pub mod PlainPassed
+pub mod PiecesPassed

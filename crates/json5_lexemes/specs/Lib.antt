@@ -10,3 +10,4 @@ pub mod Spans
 pub mod WithoutComments
 pub mod PlainSteps
 pub mod LastTokens
+pub mod Pieces

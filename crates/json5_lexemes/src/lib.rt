@@ -4,9 +4,11 @@
 mod byte_runs;
 mod json_words;
 pub mod laws;
+mod pieces;
 mod plain;
 mod rest;
 mod same;
 
+pub use pieces::{Piece, Pieces};
 pub use plain::{is_plain, is_plain_with, keeps_plain};
 pub use same::{alike_lexemes, same_lexemes};

@@ -368,7 +368,7 @@ fn is_hex_digit(c: char) -> bool
 
 /// After a comment's first slash: what follows the comment, which a line terminator is no part of; None if it is none.
 #[inline(never)]
-fn skip_comment(text: &str) -> Option<&str>
+pub(crate) fn skip_comment(text: &str) -> Option<&str>
     ensures { Leaves TakesComment text.now result }
 {
     let Some((c, after)) = front(text) else {

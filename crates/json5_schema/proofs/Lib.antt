@@ -3,3 +3,4 @@ mod Conforming
 mod Remainders
 mod OneVerdict
 mod Parts
+mod PatternsRead

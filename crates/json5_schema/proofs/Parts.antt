@@ -1,5 +1,5 @@
 -- Steps that answers cite: texts by their bytes, references, and results.
-use Rattle.std.proofs.Common.{if◌then◌else◌, ◌≡◌, ◌≢◌, ◌∙◌, ◌<◌, ◌≤◌, ◌-◌, take, drop, ℕ, suc, zero, Bool, true, false, ◌&&◌, ◌||◌, List, [], ◌∷◌, length, Option, Some, None, Result, Ok, Err, MatchResult, ap, sym, refl, arith, ne_eqb, String, string_bytes}
+use Rattle.std.proofs.Common.{if◌then◌else◌, ◌≡◌, ◌≢◌, ◌∙◌, ◌<◌, ◌≤◌, ◌-◌, take, drop, ℕ, suc, zero, Bool, true, false, ◌&&◌, ◌||◌, List, [], ◌∷◌, length, Option, Some, None, Result, Ok, Err, MatchResult, ap, ap₂, sym, refl, subst, arith, ne_eqb, String, string_bytes}
 use Rattle.std.specs.declared.alloc.Global.{Global}
 use Rattle.std.specs.Str.{chars, IsUtf8, encode_utf8_all}
 use Rattle.std.proofs.lemmas.Str.{encodes-chars}
@@ -9,12 +9,14 @@ use Rattle.json5_types.specs.declared.value.Value.{Value}
 use Rattle.json5_types.specs.declared.value.Value as value
 use Rattle.json5_types.specs.ValueMeanings.{Datum, null, boolean, number, text, array, object, no_item, Fields, value_of, items_view}
 use Rattle.json5_types.specs.ValueLookups.{boolean_of, fields_in}
+use Rattle.json5_types.specs.Errors.{LacksMemory}
 use Rattle.json5_types.specs.Pointers.{pointed}
 use Rattle.json5_types.proofs.ValuesCompared.{view-String}
 use Rattle.json5_schema.specs.declared.keyword.Keyword.{Keyword}
 use Rattle.json5_schema.specs.declared.kind.Kind.{Kind}
 use Rattle.json5_schema.specs.Keywords.{keyword_named, kind_named}
-use Rattle.json5_schema.specs.Conformance.{is_named, is_of_kind, is_of_named, behind_sign, target_of, same_datum, same_items, items_after, by_index, all_on, dependent_schemas, dependent_on, Asked, choice, asks, satisfied, part_holds, keyword_holds, keywords_hold, schema_holds, unfolded, Conforms}
+use Rattle.json5_schema.specs.Conformance.{is_named, is_patterned, is_of_kind, is_of_named, behind_sign, target_of, same_datum, same_items, items_after, by_index, all_on, dependent_schemas, dependent_on, Asked, choice, asks, satisfied, part_holds, keyword_holds, keywords_hold, schema_holds, unfolded, Conforms}
+use Rattle.json5_schema.specs.Patterns.{matches, fits}
 use Rattle.json5_schema.specs.Views.{IsRefusal}
 use Rattle.json5_schema.proofs.Conforming.{Test, unfolded_more}
 
@@ -24,6 +26,18 @@ pub named_text : (n : Value) (s : String Global) (bs : List ℕ) (k : Kind) (x :
 named_text n s bs k x e b u named =
     let back : encode_utf8_all (chars (string_bytes s)) ≡ bs = ap (λ (t : List ℕ). encode_utf8_all (chars t)) (sym b) ∙ encodes-chars bs u in
     rw (e, view-String s) (ap (λ (l : Kind). is_of_kind l x) (named ∙ ap kind_named (sym back)))
+
+pub fits_bytes : (p t : List ℕ) → IsUtf8 p → IsUtf8 t → matches p t ≡ fits (chars p) (chars t)
+fits_bytes p t u w = sym (ap₂ matches (encodes-chars p u) (encodes-chars t w))
+
+pub fits_result : (r : Result Bool Error) (p t : List ℕ) → IsUtf8 p → IsUtf8 t → MatchResult r (λ b. b ≡ matches p t) LacksMemory → MatchResult r (λ b. b ≡ fits (chars p) (chars t)) LacksMemory
+fits_result (Ok b) p t u w h = h ∙ fits_bytes p t u w
+fits_result (Err e) p t u w h = h
+
+-- ---- patterns
+
+pub patterned_by : (o : Option Datum) (x : Datum) (u : List ℕ) (r : Result Bool Error) → Some x ≡ o → MatchResult r (λ b. b ≡ is_patterned (Some x) u) LacksMemory → MatchResult r (λ b. b ≡ is_patterned o u) LacksMemory
+patterned_by o x u r e h = subst (λ z. MatchResult r (λ b. b ≡ is_patterned z u) LacksMemory) e h
 
 -- ---- references
 

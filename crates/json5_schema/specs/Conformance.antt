@@ -1,6 +1,6 @@
 -- When a value conforms to a schema: JSON Schema, draft 2020-12, and what draft 7 says in other words. Of equal keys the last counts.
 -- A promise rests on this.
-use Rattle.std.specs.Prelude.{◌≡◌, ℕ, zero, suc, ◌-◌, ◌%◌, ℤ, pos, Bool, true, false, ◌&&◌, ◌||◌, not, nat_eq, nat_le, int_le, if◌then◌else◌, List, [], ◌∷◌, length, Option, Some, None, is_some}
+use Rattle.std.specs.Prelude.{◌≡◌, ℕ, zero, suc, ◌-◌, ◌%◌, ℤ, pos, Bool, true, false, ◌&&◌, ◌||◌, not, nat_eq, nat_le, int_le, if◌then◌else◌, List, [], ◌∷◌, ◌++◌, length, Option, Some, None, is_some}
 use Rattle.std.specs.Bool.{beq}
 use Rattle.std.specs.Int.{int_min}
 use Rattle.std.specs.Cmp.Lexicographic.{pointwise}
@@ -26,6 +26,7 @@ use Rattle.json5_schema.specs.declared.keyword.Keyword.TheVariants as keyword
 use Rattle.json5_schema.specs.declared.kind.Kind.{Kind}
 use Rattle.json5_schema.specs.declared.kind.Kind.TheVariants as kind
 use Rattle.json5_schema.specs.Keywords.{keyword_named, kind_named}
+use Rattle.json5_schema.specs.Patterns.{fits}
 
 -- ---- type (validation, section 6.1.1)
 
@@ -199,6 +200,12 @@ abbrev pub count_at_least : Option ℕ → Datum → Bool
 count_at_least None limit = true
 count_at_least (Some n) limit = at_most limit (count n)
 
+-- ---- pattern (6.3.3)
+
+abbrev pub is_matching : Datum → Datum → Bool
+is_matching (text pattern) (text u) = fits pattern u
+is_matching _ _ = true
+
 -- ---- uniqueItems (6.4.3)
 
 abbrev pub are_distinct : Items → Bool
@@ -325,9 +332,38 @@ abbrev pub speaks_of : Option Datum → List ℕ → Bool
 speaks_of (Some (object ss)) u = is_named u ss
 speaks_of _ u = false
 
--- neither shadowed by a later member, nor one that `properties` speaks of
+-- some pattern of `patternProperties` matches the name
+abbrev pub is_matched : Fields → List ℕ → Bool
+is_matched no_field u = false
+is_matched (field pattern s ss) u = fits pattern u || is_matched ss u
+
+abbrev pub is_patterned : Option Datum → List ℕ → Bool
+is_patterned (Some (object ss)) u = is_matched ss u
+is_patterned _ u = false
+
+-- neither shadowed by a later member, nor one that `properties` or `patternProperties` speaks of
 abbrev pub is_additional : Fields → List ℕ → Fields → Bool
-is_additional keywords u fs = not (is_named u fs) && not (speaks_of (beside (codes "properties") keywords) u)
+is_additional keywords u fs = not (is_named u fs) && (not (speaks_of (beside (codes "properties") keywords) u) && not (is_patterned (beside (codes "patternProperties") keywords) u))
+
+abbrev pub is_applied : List ℕ → List ℕ → Fields → Bool
+is_applied pattern u fs = not (is_named u fs) && fits pattern u
+
+-- the schema of a pattern, on the members with a name that it matches
+abbrev pub each_matched : List ℕ → Datum → Fields → List (Datum × Datum)
+each_matched pattern s no_field = []
+each_matched pattern s (field u x fs) = if is_applied pattern u fs then (s, x) ∷ each_matched pattern s fs else each_matched pattern s fs
+
+abbrev pub of_pattern : List ℕ → Datum → Fields → Fields → List (Datum × Datum)
+of_pattern pattern s ss fs = if is_named pattern ss then [] else each_matched pattern s fs
+
+-- those of each pattern: none where a later pattern is the same
+abbrev pub by_pattern : Fields → Fields → List (Datum × Datum)
+by_pattern no_field fs = []
+by_pattern (field pattern s ss) fs = of_pattern pattern s ss fs ++ by_pattern ss fs
+
+abbrev pub patterns_on : Datum → Datum → Asked
+patterns_on (object ss) (object fs) = all_on (by_pattern ss fs)
+patterns_on _ _ = settled true
 
 abbrev pub each_additional : Datum → Fields → Fields → List (Datum × Datum)
 each_additional s keywords no_field = []
@@ -381,6 +417,7 @@ asserts assertion.Minimum a x = at_most a x
 asserts assertion.ExclusiveMinimum a x = is_below a x
 asserts assertion.MaxLength a x = count_at_most (characters_in x) a
 asserts assertion.MinLength a x = count_at_least (characters_in x) a
+asserts assertion.Pattern a x = is_matching a x
 asserts assertion.MaxItems a x = count_at_most (elements_in x) a
 asserts assertion.MinItems a x = count_at_least (elements_in x) a
 asserts assertion.UniqueItems a x = has_distinct a x
@@ -403,6 +440,7 @@ applies root all applicator.Items a x = items_on a all x
 applies root all applicator.AdditionalItems a x = additional_items_on a (beside (codes "items") all) x
 applies root all applicator.Contains a x = contains_on a all x
 applies root all applicator.Properties a x = properties_on a x
+applies root all applicator.PatternProperties a x = patterns_on a x
 applies root all applicator.AdditionalProperties a x = additional_on a all x
 applies root all applicator.PropertyNames a x = names_on a x
 applies root all applicator.Ref a x = refers_on (target_of root a) x

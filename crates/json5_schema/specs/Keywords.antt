@@ -23,6 +23,7 @@ keyword_named name =
     if pointwise nat_eq name (codes "exclusiveMinimum") then keyword.Assertion assertion.ExclusiveMinimum else
     if pointwise nat_eq name (codes "maxLength") then keyword.Assertion assertion.MaxLength else
     if pointwise nat_eq name (codes "minLength") then keyword.Assertion assertion.MinLength else
+    if pointwise nat_eq name (codes "pattern") then keyword.Assertion assertion.Pattern else
     if pointwise nat_eq name (codes "maxItems") then keyword.Assertion assertion.MaxItems else
     if pointwise nat_eq name (codes "minItems") then keyword.Assertion assertion.MinItems else
     if pointwise nat_eq name (codes "uniqueItems") then keyword.Assertion assertion.UniqueItems else
@@ -42,6 +43,7 @@ keyword_named name =
     if pointwise nat_eq name (codes "additionalItems") then keyword.Applicator applicator.AdditionalItems else
     if pointwise nat_eq name (codes "contains") then keyword.Applicator applicator.Contains else
     if pointwise nat_eq name (codes "properties") then keyword.Applicator applicator.Properties else
+    if pointwise nat_eq name (codes "patternProperties") then keyword.Applicator applicator.PatternProperties else
     if pointwise nat_eq name (codes "additionalProperties") then keyword.Applicator applicator.AdditionalProperties else
     if pointwise nat_eq name (codes "propertyNames") then keyword.Applicator applicator.PropertyNames else
     if pointwise nat_eq name (codes "$ref") then keyword.Applicator applicator.Ref else

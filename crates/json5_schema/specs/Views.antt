@@ -1,13 +1,15 @@
 -- What the code's pairs and questions mean, and why there is no answer.
 -- A promise rests on this.
-use Rattle.std.specs.Prelude.{◌⊎◌, List, map, Option, None, option_map}
+use Rattle.std.specs.Prelude.{◌≡◌, ◌⊎◌, ℕ, Bool, String, string_bytes, List, map, Option, None, option_map, Result, MatchResult, Vec}
+use Rattle.std.specs.declared.alloc.Global.{Global}
+use Rattle.std.specs.Str.{chars}
 use Rattle.std.specs.Borrow.{Bor}
 use Rattle.json5_grammar.specs.declared.error_code.ErrorCode.TheVariants.{OverflowParsingNumber, TooDeep}
 use Rattle.json5_types.specs.declared.error.Error.{Error}
 use Rattle.json5_types.specs.declared.value.Value.{Value}
 use Rattle.json5_types.specs.Errors.{code, LacksMemory, SaysAt}
 use Rattle.json5_types.specs.ValueMeanings.{Datum, value_of, fields_view}
-use Rattle.json5_schema.specs.Conformance.{Asked, settled, within, counted, choice, names}
+use Rattle.json5_schema.specs.Conformance.{Asked, settled, within, counted, choice, names, keyword_holds, unfolded}
 use Rattle.json5_schema.specs.declared.schemas.Schema.{Schema}
 use Rattle.json5_schema.specs.declared.asked.Pair.{Pair}
 use Rattle.json5_schema.specs.declared.asked.Asked as declared
@@ -32,6 +34,22 @@ asked_view (asked.Names s fs) = names (value_of s.now) (fields_view fs.now)
 -- memory was refused, more schemas were applied within one another than can be, or a divisor has too many digits
 abbrev pub IsRefusal : Error → Type 0
 IsRefusal e = LacksMemory e ⊎ (SaysAt (code TooDeep) None e ⊎ SaysAt (code OverflowParsingNumber) None e)
+
+-- it is asked for this, or the call was refused
+abbrev pub AsksFor : Asked → Result declared.Asked Error → Type 0
+AsksFor a result = MatchResult result (λ found. asked_view found ≡ a) IsRefusal
+
+-- these are the pairs, or memory ran out
+abbrev pub PairsFor : List (Datum × Datum) → Result (Vec Pair Global) Error → Type 0
+PairsFor pairs result = MatchResult result (λ found. pairs_view found.items ≡ pairs) LacksMemory
+
+-- this is the result, whatever is thought of the schemas beyond so many unfoldings
+abbrev pub Settles : {A : Type 0} → ℕ → Datum → ((Datum → Datum → Bool) → A) → Result A Error → Type 0
+Settles n root asked result = MatchResult result (λ found. (v : Datum → Datum → Bool) → asked (unfolded n v root) ≡ found) IsRefusal
+
+-- a keyword as a member has it, with all members beside it and those behind it
+abbrev pub member_holds : (Datum → Datum → Bool) → Datum → List (String Global × Value) → String Global × Value → List (String Global × Value) → Datum → Bool
+member_holds v root members member after x = keyword_holds v root (fields_view members) (chars (string_bytes member.0)) (value_of member.1) (fields_view after) x
 
 abbrev pub schema_of : Schema → Datum
 schema_of s = value_of s.root

@@ -1,12 +1,12 @@
 //! What a keyword asks of a value: which schemas have to hold, of which parts.
 
-ghost use Rattle.std.specs.Prelude.{◌≡◌, ◌∷◌, [], MatchResult, option_map, string_bytes};
+ghost use Rattle.std.specs.Prelude.{Some, ◌≡◌, ◌∷◌, [], MatchResult, option_map, string_bytes};
 ghost use lib.Chars.{codes};
 ghost use Rattle.std.specs.Str.{chars};
 ghost use Rattle.json5_types.specs.Errors.{LacksMemory};
 ghost use Rattle.json5_types.specs.ValueMeanings.{value_of, items_view, fields_view};
-ghost use Rattle.json5_schema.specs.Conformance.{each_schema, each_item, by_name, value_for, by_index, prefix_on, schemas_in_front, items_after, elements_after, items_on, additional_items_on, contains_on, all_of_on, any_of_on, one_of_on, if_on, speaks_of, beside, is_additional, each_additional, additional_on, names_on, properties_on, is_dependent, dependent_schemas, dependent_on, dependencies_on, all_on, some_on, target_of, refers_on, settled, asserts, applies, asks};
-ghost use Rattle.json5_schema.specs.Views.{IsRefusal, pairs_view, part_view, asked_view};
+ghost use Rattle.json5_schema.specs.Conformance.{each_schema, each_item, by_name, value_for, by_index, prefix_on, schemas_in_front, items_after, elements_after, items_on, additional_items_on, contains_on, all_of_on, any_of_on, one_of_on, if_on, speaks_of, beside, is_matched, is_patterned, is_additional, is_applied, each_matched, of_pattern, by_pattern, patterns_on, each_additional, additional_on, names_on, properties_on, is_dependent, dependent_schemas, dependent_on, dependencies_on, all_on, some_on, target_of, refers_on, settled, asserts, applies, asks};
+ghost use Rattle.json5_schema.specs.Views.{AsksFor, IsRefusal, PairsFor, pairs_view, part_view, asked_view};
 
 use crate::equal::{has_distinct, is_in_enum, same};
 use crate::keyword::{Applicator, Assertion, Keyword};
@@ -17,6 +17,7 @@ use crate::limits::{
 };
 use crate::members::{find, has_all_dependents, has_required, is_named};
 use crate::multiples::is_multiple_of;
+use crate::patterns::{Pattern, fits, is_matching};
 use json5_types::error::Result;
 use json5_types::value::Value;
 use std::alloc::Global;
@@ -156,16 +157,68 @@ fn speaks_of(keywords: &[(String, Value)], name: &str) -> bool
     }
 }
 
-/// Whether neither a later member has the name, nor `properties` speaks of it.
-pub fn is_additional(keywords: &[(String, Value)], name: &str, after: &[(String, Value)]) -> bool
-    ensures { result ≡ is_additional (fields_view keywords.now) (chars name.now) (fields_view after.now) }
+/// Whether some of the patterns matches the name.
+fn is_matched(
+    alloc: Global,
+    patterns: &[Pattern],
+    schemas: &[(String, Value)],
+    name: &str,
+) -> Result<bool>
+    ensures { MatchResult result (λ b. b ≡ is_matched (fields_view schemas.now) (chars name.now)) LacksMemory }
 {
-    !is_named(after, name) && !speaks_of(keywords, name)
+    for (pattern, _) in schemas {
+        if fits(alloc, patterns, pattern.as_str(), name)? {
+            return Ok(true);
+        }
+    }
+    Ok(false)
+}
+
+/// Whether `patternProperties` speaks of the name.
+fn is_patterned(
+    alloc: Global,
+    patterns: &[Pattern],
+    keywords: &[(String, Value)],
+    name: &str,
+) -> Result<bool>
+    ensures { MatchResult result (λ b. b ≡ is_patterned (beside (codes "patternProperties") (fields_view keywords.now)) (chars name.now)) LacksMemory }
+{
+    match find(keywords, "patternProperties") {
+        Some(schemas) => is_matched_in(alloc, patterns, schemas, name),
+        None => Ok(false),
+    }
+}
+
+/// Whether one of the patterns that this has schemas for matches the name.
+fn is_matched_in(alloc: Global, patterns: &[Pattern], schemas: &Value, name: &str) -> Result<bool>
+    ensures { MatchResult result (λ b. b ≡ is_patterned (Some (value_of schemas.now)) (chars name.now)) LacksMemory }
+{
+    match schemas {
+        Value::Object(schemas) => is_matched(alloc, patterns, schemas, name),
+        _ => Ok(false),
+    }
+}
+
+/// Whether neither a later member has the name, nor `properties` or `patternProperties` speaks of it.
+pub fn is_additional(
+    alloc: Global,
+    patterns: &[Pattern],
+    keywords: &[(String, Value)],
+    name: &str,
+    after: &[(String, Value)],
+) -> Result<bool>
+    ensures { MatchResult result (λ b. b ≡ is_additional (fields_view keywords.now) (chars name.now) (fields_view after.now)) LacksMemory }
+{
+    if is_named(after, name) || speaks_of(keywords, name) {
+        return Ok(false);
+    }
+    Ok(!is_patterned(alloc, patterns, keywords, name)?)
 }
 
 /// The schema, on each of the additional members.
 fn each_additional<'a>(
     alloc: Global,
+    patterns: &[Pattern],
     schema: &'a Value,
     keywords: &[(String, Value)],
     members: &'a [(String, Value)],
@@ -174,7 +227,8 @@ fn each_additional<'a>(
 {
     let mut pairs = Vec::new(alloc);
     for (index, member) in members.iter().enumerate() {
-        if is_additional(keywords, member.0.as_str(), &members[index + 1..]) {
+        let name = member.0.as_str();
+        if is_additional(alloc, patterns, keywords, name, &members[index + 1..])? {
             pairs.push(Pair {
                 schema,
                 value: &member.1,
@@ -187,6 +241,7 @@ fn each_additional<'a>(
 /// What `additionalProperties` asks.
 fn additional_on<'a>(
     alloc: Global,
+    patterns: &[Pattern],
     schema: &'a Value,
     keywords: &[(String, Value)],
     value: &'a Value,
@@ -194,7 +249,99 @@ fn additional_on<'a>(
     ensures { MatchResult result (λ a. asked_view a ≡ additional_on (value_of schema.now) (fields_view keywords.now) (value_of value.now)) IsRefusal }
 {
     match value {
-        Value::Object(members) => Ok(all_of(each_additional(alloc, schema, keywords, members)?)),
+        Value::Object(members) => Ok(all_of(each_additional(
+            alloc, patterns, schema, keywords, members,
+        )?)),
+        _ => Ok(Asked::Settled(true)),
+    }
+}
+
+/// Whether a pattern's schema is applied to a member: no later one has its name, and the pattern matches it.
+pub fn is_applied(
+    alloc: Global,
+    patterns: &[Pattern],
+    pattern: &str,
+    name: &str,
+    after: &[(String, Value)],
+) -> Result<bool>
+    ensures { MatchResult result (λ b. b ≡ is_applied (chars pattern.now) (chars name.now) (fields_view after.now)) LacksMemory }
+{
+    if is_named(after, name) {
+        return Ok(false);
+    }
+    fits(alloc, patterns, pattern, name)
+}
+
+/// The schema of a pattern, on the members with a name that it matches.
+fn each_matched<'a>(
+    alloc: Global,
+    patterns: &[Pattern],
+    pattern: &str,
+    schema: &'a Value,
+    members: &'a [(String, Value)],
+) -> Result<Vec<Pair<'a>>>
+    ensures { MatchResult result (λ ps. pairs_view ps.items ≡ each_matched (chars pattern.now) (value_of schema.now) (fields_view members.now)) LacksMemory }
+{
+    let mut pairs = Vec::new(alloc);
+    for (index, member) in members.iter().enumerate() {
+        let name = member.0.as_str();
+        if is_applied(alloc, patterns, pattern, name, &members[index + 1..])? {
+            pairs.push(Pair {
+                schema,
+                value: &member.1,
+            })?;
+        }
+    }
+    Ok(pairs)
+}
+
+/// The same, but none where a later pattern is the same.
+fn of_pattern<'a>(
+    alloc: Global,
+    patterns: &[Pattern],
+    pattern: &'a (String, Value),
+    after: &[(String, Value)],
+    members: &'a [(String, Value)],
+) -> Result<Vec<Pair<'a>>>
+    ensures { PairsFor (of_pattern (chars (string_bytes pattern.now.0)) (value_of pattern.now.1) (fields_view after.now) (fields_view members.now)) result }
+{
+    let source = pattern.0.as_str();
+    if is_named(after, source) {
+        return Ok(Vec::new(alloc));
+    }
+    each_matched(alloc, patterns, source, &pattern.1, members)
+}
+
+/// The schema of each pattern, on the members with a name that it matches.
+fn by_pattern<'a>(
+    alloc: Global,
+    patterns: &[Pattern],
+    schemas: &'a [(String, Value)],
+    members: &'a [(String, Value)],
+) -> Result<Vec<Pair<'a>>>
+    ensures { MatchResult result (λ ps. pairs_view ps.items ≡ by_pattern (fields_view schemas.now) (fields_view members.now)) LacksMemory }
+{
+    let mut pairs = Vec::new(alloc);
+    for (index, schema) in schemas.iter().enumerate() {
+        let found = of_pattern(alloc, patterns, schema, &schemas[index + 1..], members)?;
+        pairs.extend_from_slice(&found)?;
+    }
+    Ok(pairs)
+}
+
+/// What `patternProperties` asks.
+fn patterns_on<'a>(
+    alloc: Global,
+    patterns: &[Pattern],
+    schemas: &'a Value,
+    value: &'a Value,
+) -> Result<Asked<'a>>
+    ensures { MatchResult result (λ a. asked_view a ≡ patterns_on (value_of schemas.now) (value_of value.now)) IsRefusal }
+{
+    match (schemas, value) {
+        (Value::Object(schemas), Value::Object(members)) => Ok(all_of(by_pattern(
+            alloc, patterns, schemas, members,
+        )?)),
         _ => Ok(Asked::Settled(true)),
     }
 }
@@ -426,6 +573,7 @@ fn refers_on<'a>(alloc: Global, target: Option<&'a Value>, value: &'a Value) -> 
 /// What a keyword says by itself.
 fn asserts<'a>(
     alloc: Global,
+    patterns: &[Pattern],
     assertion: Assertion,
     argument: &Value,
     value: &Value,
@@ -451,6 +599,7 @@ fn asserts<'a>(
             characters_in(value),
             argument,
         )?)),
+        Assertion::Pattern => Ok(Asked::Settled(is_matching(alloc, patterns, argument, value)?)),
         Assertion::MaxItems => Ok(Asked::Settled(count_at_most(
             alloc,
             elements_in(value),
@@ -480,13 +629,14 @@ fn asserts<'a>(
 /// Which schemas a keyword applies.
 fn applies<'a>(
     alloc: Global,
+    patterns: &[Pattern],
     root: &'a Value,
     keywords: &'a [(String, Value)],
     applicator: Applicator,
     argument: &'a Value,
     value: &'a Value,
 ) -> Result<Asked<'a>>
-    ensures { MatchResult result (λ a. asked_view a ≡ applies (value_of root.now) (fields_view keywords.now) applicator (value_of argument.now) (value_of value.now)) IsRefusal }
+    ensures { AsksFor (applies (value_of root.now) (fields_view keywords.now) applicator (value_of argument.now) (value_of value.now)) result }
 {
     match applicator {
         Applicator::AllOf => all_of_on(alloc, argument, value),
@@ -503,7 +653,10 @@ fn applies<'a>(
         }
         Applicator::Contains => contains_on(alloc, argument, keywords, value),
         Applicator::Properties => properties_on(alloc, argument, value),
-        Applicator::AdditionalProperties => additional_on(alloc, argument, keywords, value),
+        Applicator::PatternProperties => patterns_on(alloc, patterns, argument, value),
+        Applicator::AdditionalProperties => additional_on(
+            alloc, patterns, argument, keywords, value,
+        ),
         Applicator::PropertyNames => Ok(names_on(argument, value)),
         Applicator::Ref => refers_on(alloc, target_of(root, argument), value),
     }
@@ -512,6 +665,7 @@ fn applies<'a>(
 /// What a keyword with this argument asks of the value.
 pub fn asks<'a>(
     alloc: Global,
+    patterns: &[Pattern],
     root: &'a Value,
     keywords: &'a [(String, Value)],
     keyword: Keyword,
@@ -521,9 +675,9 @@ pub fn asks<'a>(
     ensures { MatchResult result (λ a. asked_view a ≡ asks (value_of root.now) (fields_view keywords.now) keyword (value_of argument.now) (value_of value.now)) IsRefusal }
 {
     match keyword {
-        Keyword::Assertion(assertion) => asserts(alloc, assertion, argument, value),
+        Keyword::Assertion(assertion) => asserts(alloc, patterns, assertion, argument, value),
         Keyword::Applicator(applicator) => {
-            applies(alloc, root, keywords, applicator, argument, value)
+            applies(alloc, patterns, root, keywords, applicator, argument, value)
         }
         Keyword::Annotation => Ok(Asked::Settled(true)),
     }

@@ -1,15 +1,16 @@
 //! Whether a value conforms to a schema.
 
-ghost use Rattle.std.specs.Prelude.{◌≡◌, MatchResult, Bool, ◌&&◌, nat_eq, string_bytes};
+ghost use Rattle.std.specs.Prelude.{◌≡◌, MatchResult, ◌&&◌, nat_eq};
 ghost use Rattle.std.specs.Str.{chars};
-ghost use Rattle.json5_types.specs.ValueMeanings.{Datum, text, value_of, fields_view};
-ghost use Rattle.json5_schema.specs.Conformance.{unfolded, keywords_hold, keyword_holds, satisfied, part_holds, names_hold, count_conforming, is_within, less, Conforms};
-ghost use Rattle.json5_schema.specs.Views.{IsRefusal, pairs_view, part_view, asked_view};
+ghost use Rattle.json5_types.specs.ValueMeanings.{object, text, value_of, fields_view};
+ghost use Rattle.json5_schema.specs.Conformance.{schema_holds, satisfied, part_holds, names_hold, count_conforming, is_within, less, Conforms};
+ghost use Rattle.json5_schema.specs.Views.{IsRefusal, Settles, member_holds, pairs_view, part_view, asked_view};
 
 use crate::asked::{Asked, Pair, asks};
 use crate::keyword::keyword_named;
 use crate::limits::is_counted;
 use crate::members::is_named;
+use crate::patterns::Pattern;
 use json5_types::ErrorCode;
 use json5_types::error::{Error, Result};
 use json5_types::value::Value;
@@ -20,22 +21,23 @@ pub const MAX_DEPTH: usize = 2048;
 
 /// Whether the value conforms to the schema. It is `TooDeep` where more schemas are applied within one another than
 /// `MAX_DEPTH`, as where a schema refers to itself without going into the value.
-pub fn conforms(alloc: Global, schema: &Value, value: &Value) -> Result<bool>
+pub fn conforms(alloc: Global, patterns: &[Pattern], schema: &Value, value: &Value) -> Result<bool>
     ensures { MatchResult result (λ b. Conforms (value_of schema.now) (value_of value.now) b) IsRefusal }
 {
-    conforms_within(alloc, schema, schema, value, MAX_DEPTH)
+    conforms_within(alloc, patterns, schema, schema, value, MAX_DEPTH)
 }
 
 /// The same of a schema inside of `root`.
 #[cycle(conforms)]
 pub fn conforms_within(
     alloc: Global,
+    patterns: &[Pattern],
     root: &Value,
     schema: &Value,
     value: &Value,
     depth: usize,
 ) -> Result<bool>
-    ensures { MatchResult result (λ b. (v : Datum → Datum → Bool) → unfolded depth v (value_of root.now) (value_of schema.now) (value_of value.now) ≡ b) IsRefusal }
+    ensures { Settles depth (value_of root.now) (λ v. v (value_of schema.now) (value_of value.now)) result }
 {
     if depth == 0 {
         return Err(Error::new(ErrorCode::TooDeep));
@@ -44,7 +46,7 @@ pub fn conforms_within(
         return Ok(truth);
     }
     match schema.as_object() {
-        Some(members) => keywords_hold(alloc, root, members, value, depth - 1),
+        Some(members) => keywords_hold(alloc, patterns, root, members, value, depth - 1),
         None => Ok(true),
     }
 }
@@ -53,16 +55,18 @@ pub fn conforms_within(
 #[cycle(conforms)]
 fn keywords_hold(
     alloc: Global,
+    patterns: &[Pattern],
     root: &Value,
     members: &[(String, Value)],
     value: &Value,
     depth: usize,
 ) -> Result<bool>
-    ensures { MatchResult result (λ b. (v : Datum → Datum → Bool) → keywords_hold (unfolded depth v (value_of root.now)) (value_of root.now) (fields_view members.now) (fields_view members.now) (value_of value.now) ≡ b) IsRefusal }
+    ensures { Settles depth (value_of root.now) (λ v. schema_holds v (value_of root.now) (object (fields_view members.now)) (value_of value.now)) result }
 {
     for (index, member) in members.iter().enumerate() {
         if !keyword_holds(
             alloc,
+            patterns,
             root,
             members,
             member,
@@ -80,6 +84,7 @@ fn keywords_hold(
 #[cycle(conforms)]
 pub fn keyword_holds(
     alloc: Global,
+    patterns: &[Pattern],
     root: &Value,
     members: &[(String, Value)],
     member: &(String, Value),
@@ -87,36 +92,52 @@ pub fn keyword_holds(
     value: &Value,
     depth: usize,
 ) -> Result<bool>
-    ensures { MatchResult result (λ b. (v : Datum → Datum → Bool) → keyword_holds (unfolded depth v (value_of root.now)) (value_of root.now) (fields_view members.now) (chars (string_bytes member.now.0)) (value_of member.now.1) (fields_view after.now) (value_of value.now) ≡ b) IsRefusal }
+    ensures { Settles depth (value_of root.now) (λ v. member_holds v (value_of root.now) members.now member.now after.now (value_of value.now)) result }
 {
     let name = member.0.as_str();
     if is_named(after, name) {
         return Ok(true);
     }
-    let asked = asks(alloc, root, members, keyword_named(name), &member.1, value)?;
-    satisfied(alloc, root, &asked, depth)
+    let asked = asks(
+        alloc,
+        patterns,
+        root,
+        members,
+        keyword_named(name),
+        &member.1,
+        value,
+    )?;
+    satisfied(alloc, patterns, root, &asked, depth)
 }
 
 /// Whether it is as it is asked.
 #[cycle(conforms)]
-fn satisfied(alloc: Global, root: &Value, asked: &Asked<'_>, depth: usize) -> Result<bool>
-    ensures { MatchResult result (λ b. (v : Datum → Datum → Bool) → satisfied (unfolded depth v (value_of root.now)) (asked_view asked.now) ≡ b) IsRefusal }
+fn satisfied(
+    alloc: Global,
+    patterns: &[Pattern],
+    root: &Value,
+    asked: &Asked<'_>,
+    depth: usize,
+) -> Result<bool>
+    ensures { Settles depth (value_of root.now) (λ v. satisfied v (asked_view asked.now)) result }
 {
     match asked {
         Asked::Settled(holds) => Ok(*holds),
-        Asked::Within(least, most, pairs) => is_within(alloc, root, *least, *most, pairs, depth),
+        Asked::Within(least, most, pairs) => is_within(
+            alloc, patterns, root, *least, *most, pairs, depth,
+        ),
         Asked::Counted(least, most, pairs) => {
-            let count = count_conforming(alloc, root, pairs, depth)?;
+            let count = count_conforming(alloc, patterns, root, pairs, depth)?;
             Ok(is_counted(alloc, *least, *most, count)?)
         }
         Asked::Choice(condition, then, other, value) => {
-            if conforms_within(alloc, root, condition, value, depth)? {
-                part_holds(alloc, root, *then, value, depth)
+            if conforms_within(alloc, patterns, root, condition, value, depth)? {
+                part_holds(alloc, patterns, root, *then, value, depth)
             } else {
-                part_holds(alloc, root, *other, value, depth)
+                part_holds(alloc, patterns, root, *other, value, depth)
             }
         }
-        Asked::Names(schema, members) => names_hold(alloc, root, schema, members, depth),
+        Asked::Names(schema, members) => names_hold(alloc, patterns, root, schema, members, depth),
     }
 }
 
@@ -124,15 +145,16 @@ fn satisfied(alloc: Global, root: &Value, asked: &Asked<'_>, depth: usize) -> Re
 #[cycle(conforms)]
 fn part_holds(
     alloc: Global,
+    patterns: &[Pattern],
     root: &Value,
     part: Option<&Value>,
     value: &Value,
     depth: usize,
 ) -> Result<bool>
-    ensures { MatchResult result (λ b. (v : Datum → Datum → Bool) → part_holds (unfolded depth v (value_of root.now)) (part_view part.entry) (value_of value.now) ≡ b) IsRefusal }
+    ensures { Settles depth (value_of root.now) (λ v. part_holds v (part_view part.entry) (value_of value.now)) result }
 {
     match part {
-        Some(schema) => conforms_within(alloc, root, schema, value, depth),
+        Some(schema) => conforms_within(alloc, patterns, root, schema, value, depth),
         None => Ok(true),
     }
 }
@@ -141,15 +163,16 @@ fn part_holds(
 #[cycle(conforms)]
 fn names_hold(
     alloc: Global,
+    patterns: &[Pattern],
     root: &Value,
     schema: &Value,
     members: &[(String, Value)],
     depth: usize,
 ) -> Result<bool>
-    ensures { MatchResult result (λ b. (v : Datum → Datum → Bool) → names_hold (unfolded depth v (value_of root.now)) (value_of schema.now) (fields_view members.now) ≡ b) IsRefusal }
+    ensures { Settles depth (value_of root.now) (λ v. names_hold v (value_of schema.now) (fields_view members.now)) result }
 {
     for (name, _) in members {
-        if !name_holds(alloc, root, schema, name.as_str(), depth)? {
+        if !name_holds(alloc, patterns, root, schema, name.as_str(), depth)? {
             return Ok(false);
         }
     }
@@ -158,21 +181,34 @@ fn names_hold(
 
 /// Whether the schema holds of this name.
 #[cycle(conforms)]
-fn name_holds(alloc: Global, root: &Value, schema: &Value, name: &str, depth: usize) -> Result<bool>
-    ensures { MatchResult result (λ b. (v : Datum → Datum → Bool) → unfolded depth v (value_of root.now) (value_of schema.now) (text (chars name.now)) ≡ b) IsRefusal }
+fn name_holds(
+    alloc: Global,
+    patterns: &[Pattern],
+    root: &Value,
+    schema: &Value,
+    name: &str,
+    depth: usize,
+) -> Result<bool>
+    ensures { Settles depth (value_of root.now) (λ v. v (value_of schema.now) (text (chars name.now))) result }
 {
     let text = Value::text(alloc, name)?;
-    conforms_within(alloc, root, schema, &text, depth)
+    conforms_within(alloc, patterns, root, schema, &text, depth)
 }
 
 /// How many of the pairs conform.
 #[cycle(conforms)]
-fn count_conforming(alloc: Global, root: &Value, pairs: &[Pair<'_>], depth: usize) -> Result<usize>
-    ensures { MatchResult result (λ n. (v : Datum → Datum → Bool) → count_conforming (unfolded depth v (value_of root.now)) (pairs_view pairs.now) ≡ n) IsRefusal }
+fn count_conforming(
+    alloc: Global,
+    patterns: &[Pattern],
+    root: &Value,
+    pairs: &[Pair<'_>],
+    depth: usize,
+) -> Result<usize>
+    ensures { Settles depth (value_of root.now) (λ v. count_conforming v (pairs_view pairs.now)) result }
 {
     let mut count = 0;
     for pair in pairs {
-        if conforms_within(alloc, root, pair.schema, pair.value, depth)? {
+        if conforms_within(alloc, patterns, root, pair.schema, pair.value, depth)? {
             count += 1;
         }
     }
@@ -183,18 +219,19 @@ fn count_conforming(alloc: Global, root: &Value, pairs: &[Pair<'_>], depth: usiz
 #[cycle(conforms)]
 fn is_within(
     alloc: Global,
+    patterns: &[Pattern],
     root: &Value,
     least: usize,
     most: usize,
     pairs: &[Pair<'_>],
     depth: usize,
 ) -> Result<bool>
-    ensures { MatchResult result (λ b. (v : Datum → Datum → Bool) → is_within (unfolded depth v (value_of root.now)) least most (pairs_view pairs.now) ≡ b) IsRefusal }
+    ensures { Settles depth (value_of root.now) (λ v. is_within v least most (pairs_view pairs.now)) result }
 {
     let mut least = least;
     let mut most = most;
     for (index, pair) in pairs.iter().enumerate() {
-        let holds = conforms_within(alloc, root, pair.schema, pair.value, depth)?;
+        let holds = conforms_within(alloc, patterns, root, pair.schema, pair.value, depth)?;
         if is_full(holds, most) {
             return Ok(false);
         }

@@ -2,13 +2,14 @@
 //!
 //! Plain code, of which no promise is made but that it is safe and ends: change it by the rows of schemas, which judge it.
 
-use crate::asked::{is_additional, is_dependent, schemas_in_front, target_of};
+use crate::asked::{is_additional, is_applied, is_dependent, schemas_in_front, target_of};
 use crate::conforms::{conforms_within, keyword_holds};
 use crate::document_faults::{Fault, Place, Way};
 use crate::found::Found;
 use crate::keyword::{Applicator, Keyword, keyword_named};
 use crate::members::{find, is_named};
 use crate::own_faults::{add_assertion, add_dependents, add_own, choose_branch, unknown_key};
+use crate::patterns::Pattern;
 use crate::words::shown;
 use json5_types::error::Result;
 use json5_types::value::Value;
@@ -29,6 +30,7 @@ struct Applied<'a> {
 #[cycle(explain)]
 pub fn explain(
     alloc: Global,
+    patterns: &[Pattern],
     root: &Value,
     schema: &Value,
     value: &Value,
@@ -47,7 +49,16 @@ pub fn explain(
             likeliest: None,
         }),
         Value::Object(keywords) => {
-            explain_keywords(alloc, root, keywords, value, place, depth - 1, found)
+            explain_keywords(
+                alloc,
+                patterns,
+                root,
+                keywords,
+                value,
+                place,
+                depth - 1,
+                found,
+            )
         }
         _ => Ok(()),
     }
@@ -57,6 +68,7 @@ pub fn explain(
 #[cycle(explain)]
 fn explain_keywords(
     alloc: Global,
+    patterns: &[Pattern],
     root: &Value,
     keywords: &[(String, Value)],
     value: &Value,
@@ -66,8 +78,10 @@ fn explain_keywords(
 ) -> Result<()> {
     for (index, member) in keywords.iter().enumerate() {
         let after = &keywords[index + 1..];
-        if !keyword_holds(alloc, root, keywords, member, after, value, depth)? {
-            explain_keyword(alloc, root, keywords, member, value, place, depth, found)?;
+        if !keyword_holds(alloc, patterns, root, keywords, member, after, value, depth)? {
+            explain_keyword(
+                alloc, patterns, root, keywords, member, value, place, depth, found,
+            )?;
         }
     }
     Ok(())
@@ -77,6 +91,7 @@ fn explain_keywords(
 #[cycle(explain)]
 fn explain_keyword(
     alloc: Global,
+    patterns: &[Pattern],
     root: &Value,
     keywords: &[(String, Value)],
     member: &(String, Value),
@@ -92,16 +107,20 @@ fn explain_keyword(
             add_assertion(alloc, assertion, keywords, argument, value, &here, found)
         }
         (Keyword::Applicator(Applicator::If), _, _) => {
-            explain_choice(alloc, root, keywords, argument, value, place, depth, found)
+            explain_choice(
+                alloc, patterns, root, keywords, argument, value, place, depth, found,
+            )
         }
         (Keyword::Applicator(Applicator::AnyOf | Applicator::OneOf), Value::Array(schemas), _) => {
-            explain_branches(alloc, root, schemas, value, &here, depth, found)
+            explain_branches(alloc, patterns, root, schemas, value, &here, depth, found)
         }
         (Keyword::Applicator(Applicator::PropertyNames), _, Value::Object(members)) => {
-            explain_names(alloc, root, argument, members, &here, depth, found)
+            explain_names(
+                alloc, patterns, root, argument, members, &here, depth, found,
+            )
         }
         (Keyword::Applicator(applicator), _, _) => {
-            let parts = parts_of(alloc, root, keywords, applicator, argument, value)?;
+            let parts = parts_of(alloc, patterns, root, keywords, applicator, argument, value)?;
             if matches!(applicator, Applicator::Dependencies) {
                 add_dependents(alloc, argument, value, &here, found)?;
             }
@@ -109,7 +128,7 @@ fn explain_keyword(
                 add_own(alloc, applicator, value, &here, found)?;
             }
             explain_parts(
-                alloc, root, keywords, applicator, &parts, &here, depth, found,
+                alloc, patterns, root, keywords, applicator, &parts, &here, depth, found,
             )
         }
         _ => Ok(()),
@@ -120,6 +139,7 @@ fn explain_keyword(
 #[cycle(explain)]
 fn explain_parts(
     alloc: Global,
+    patterns: &[Pattern],
     root: &Value,
     keywords: &[(String, Value)],
     applicator: Applicator,
@@ -129,14 +149,23 @@ fn explain_parts(
     found: &mut Found,
 ) -> Result<()> {
     for part in parts {
-        if !conforms_within(alloc, root, part.schema, part.value, depth)? {
+        if !conforms_within(alloc, patterns, root, part.schema, part.value, depth)? {
             let ruled = place.copy(alloc)?.ruled(alloc, part.rule)?;
             let there = ruled.entered(alloc, part.at)?;
             match (applicator, part.schema, part.at) {
                 (Applicator::AdditionalProperties, Value::Bool(_), Way::Key(key, _)) => {
                     found.add(unknown_key(alloc, keywords, key, there.of_key())?)?;
                 }
-                _ => explain(alloc, root, part.schema, part.value, &there, depth, found)?,
+                _ => explain(
+                    alloc,
+                    patterns,
+                    root,
+                    part.schema,
+                    part.value,
+                    &there,
+                    depth,
+                    found,
+                )?,
             }
         }
     }
@@ -147,6 +176,7 @@ fn explain_parts(
 #[cycle(explain)]
 fn explain_choice(
     alloc: Global,
+    patterns: &[Pattern],
     root: &Value,
     keywords: &[(String, Value)],
     condition: &Value,
@@ -155,14 +185,14 @@ fn explain_choice(
     depth: usize,
     found: &mut Found,
 ) -> Result<()> {
-    let name = if conforms_within(alloc, root, condition, value, depth)? {
+    let name = if conforms_within(alloc, patterns, root, condition, value, depth)? {
         "then"
     } else {
         "else"
     };
     let here = place.copy(alloc)?.ruled(alloc, Way::Key(name, 0))?;
     match find(keywords, name) {
-        Some(schema) => explain(alloc, root, schema, value, &here, depth, found),
+        Some(schema) => explain(alloc, patterns, root, schema, value, &here, depth, found),
         None => Ok(()),
     }
 }
@@ -171,6 +201,7 @@ fn explain_choice(
 #[cycle(explain)]
 fn explain_branches(
     alloc: Global,
+    patterns: &[Pattern],
     root: &Value,
     schemas: &[Value],
     value: &Value,
@@ -182,7 +213,16 @@ fn explain_branches(
     for (index, schema) in schemas.iter().enumerate() {
         let here = place.copy(alloc)?.ruled(alloc, Way::Index(index))?;
         let mut branch = found.branch(alloc);
-        explain(alloc, root, schema, value, &here, depth, &mut branch)?;
+        explain(
+            alloc,
+            patterns,
+            root,
+            schema,
+            value,
+            &here,
+            depth,
+            &mut branch,
+        )?;
         found.spend(&branch);
         branches.push(branch)?;
     }
@@ -193,6 +233,7 @@ fn explain_branches(
 #[cycle(explain)]
 fn explain_names(
     alloc: Global,
+    patterns: &[Pattern],
     root: &Value,
     schema: &Value,
     members: &[(String, Value)],
@@ -202,10 +243,10 @@ fn explain_names(
 ) -> Result<()> {
     for (index, member) in members.iter().enumerate() {
         let name = Value::text(alloc, member.0.as_str())?;
-        if !conforms_within(alloc, root, schema, &name, depth)? {
+        if !conforms_within(alloc, patterns, root, schema, &name, depth)? {
             let way = Way::Key(member.0.as_str(), index);
             let there = place.copy(alloc)?.entered(alloc, way)?.of_key();
-            explain(alloc, root, schema, &name, &there, depth, found)?;
+            explain(alloc, patterns, root, schema, &name, &there, depth, found)?;
         }
     }
     Ok(())
@@ -214,6 +255,7 @@ fn explain_names(
 /// The schemas that a keyword applies, each with its part of the value, in the order of the document.
 fn parts_of<'a>(
     alloc: Global,
+    patterns: &[Pattern],
     root: &'a Value,
     keywords: &'a [(String, Value)],
     applicator: Applicator,
@@ -231,7 +273,10 @@ fn parts_of<'a>(
             Value::Object(members),
         ) => dependents(alloc, schemas, members, value),
         (Applicator::Properties | Applicator::AdditionalProperties, _, Value::Object(members)) =>
-            of_members(alloc, keywords, applicator, argument, members),
+            of_members(alloc, patterns, keywords, applicator, argument, members),
+        (Applicator::PatternProperties, Value::Object(schemas), Value::Object(members)) => {
+            of_patterns(alloc, patterns, schemas, members)
+        }
         (
             Applicator::Items | Applicator::PrefixItems | Applicator::AdditionalItems,
             _,
@@ -303,28 +348,52 @@ fn dependents<'a>(
 
 /// The schema that a keyword has for a member, and the way to it.
 fn member_schema<'a>(
+    alloc: Global,
+    patterns: &[Pattern],
     keywords: &'a [(String, Value)],
     applicator: Applicator,
     argument: &'a Value,
     key: &'a str,
     after: &'a [(String, Value)],
-) -> Option<(&'a Value, Way<'a>)> {
-    match applicator {
-        Applicator::Properties if !is_named(after, key) => Some((
-            find(argument.entries(), key)?,
-            Way::Key(key, 0),
-        )),
-        Applicator::AdditionalProperties if is_additional(keywords, key, after) => Some((
-            argument,
-            Way::Here,
-        )),
-        _ => None,
+) -> Result<Option<(&'a Value, Way<'a>)>> {
+    if matches!(applicator, Applicator::AdditionalProperties) {
+        let is_additional = is_additional(alloc, patterns, keywords, key, after)?;
+        return Ok(is_additional.then_some((argument, Way::Here)));
     }
+    match find(argument.entries(), key) {
+        Some(schema) if !is_named(after, key) => Ok(Some((schema, Way::Key(key, 0)))),
+        _ => Ok(None),
+    }
+}
+
+/// The members that a pattern has a schema for.
+fn of_patterns<'a>(
+    alloc: Global,
+    patterns: &[Pattern],
+    schemas: &'a [(String, Value)],
+    members: &'a [(String, Value)],
+) -> Result<Vec<Applied<'a>>> {
+    let mut parts = Vec::new(alloc);
+    for (index, member) in members.iter().enumerate() {
+        let (key, after) = (member.0.as_str(), &members[index + 1..]);
+        for (pattern, schema) in schemas {
+            if is_applied(alloc, patterns, pattern.as_str(), key, after)? {
+                parts.push(Applied {
+                    schema,
+                    value: &member.1,
+                    rule: Way::Key(pattern.as_str(), 0),
+                    at: Way::Key(key, index),
+                })?;
+            }
+        }
+    }
+    Ok(parts)
 }
 
 /// The members that a keyword has a schema for.
 fn of_members<'a>(
     alloc: Global,
+    patterns: &[Pattern],
     keywords: &'a [(String, Value)],
     applicator: Applicator,
     argument: &'a Value,
@@ -333,7 +402,8 @@ fn of_members<'a>(
     let mut parts = Vec::new(alloc);
     for (index, member) in members.iter().enumerate() {
         let (key, after) = (member.0.as_str(), &members[index + 1..]);
-        if let Some((schema, rule)) = member_schema(keywords, applicator, argument, key, after) {
+        let found = member_schema(alloc, patterns, keywords, applicator, argument, key, after)?;
+        if let Some((schema, rule)) = found {
             parts.push(Applied {
                 schema,
                 value: &member.1,

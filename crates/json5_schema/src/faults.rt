@@ -11,10 +11,12 @@ use std::fmt;
 /// What is wrong at a place of a schema.
 #[derive(Clone, Copy, Debug)]
 pub enum Problem {
-    /// A keyword that this version doesn't decide, such as `pattern`.
+    /// A keyword that this version doesn't decide, such as `unevaluatedItems`.
     Undecided,
     /// The argument isn't what the keyword wants.
     Expected(Shape),
+    /// A regular expression that Rust's regex crate doesn't read, or one that is too large.
+    Pattern,
     /// A draft before 6, whose words mean something else.
     OldDraft,
     /// Draft 7 passes over a keyword beside `$ref`, and later drafts don't: `$schema` has to name one of these.
@@ -32,6 +34,7 @@ impl fmt::Display for Problem {
         match self {
             Problem::Undecided => f.write_str("this keyword isn't decided yet"),
             Problem::Expected(shape) => write!(f, "expected {}", shape.as_str()),
+            Problem::Pattern => f.write_str("this regular expression can't be read"),
             Problem::OldDraft => f.write_str("drafts before 6 aren't read"),
             Problem::BesideReference => f.write_str(
                 "beside `$ref` this keyword counts only from draft 2019-09 on, and `$schema` names none of these",
@@ -48,8 +51,8 @@ impl fmt::Display for Problem {
 /// Why a value isn't taken as a schema. It prints what is wrong, and the JSON pointer to the place.
 ///
 /// ```text
-/// Schema::new(alloc, &json5::from_str(alloc, "{items: {pattern: '^a'}}")?)
-///     // Err: this keyword isn't decided yet at `/items/pattern`
+/// Schema::new(alloc, &json5::from_str(alloc, "{items: {$anchor: 'a'}}")?)
+///     // Err: this keyword isn't decided yet at `/items/$anchor`
 /// ```
 #[derive(Debug, Drop)]
 pub enum SchemaFault {

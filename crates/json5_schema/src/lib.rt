@@ -17,6 +17,7 @@ mod members;
 mod multiples;
 mod near;
 mod own_faults;
+mod patterns;
 mod references;
 mod schemas;
 pub mod shape;

@@ -2,6 +2,7 @@
 
 use crate::faults::{Problem, SchemaFault};
 use crate::members::find;
+use crate::patterns::Pattern;
 use crate::shape::{Shape, is_names, is_of_shape, shape_of};
 use json5_types::error;
 use json5_types::value::Value;
@@ -17,6 +18,8 @@ pub struct Seen {
     pub counts_siblings: bool,
     /// The references, each text once.
     pub references: Vec<Reference>,
+    /// The patterns, each text once.
+    pub patterns: Vec<Pattern>,
 }
 
 /// A reference, and the pointer to the place where it was met first.
@@ -115,12 +118,19 @@ fn look_at(
         (Shape::Schemas, Value::Array(schemas)) if !schemas.is_empty() => {
             look_at_each(alloc, schemas, pointer, seen)
         }
-        (Shape::NamedSchemas | Shape::NamedSchemasOrNames, Value::Object(schemas)) => {
-            look_at_named(alloc, shape, schemas, pointer, seen)
-        }
-        (Shape::Schemas | Shape::NamedSchemas | Shape::NamedSchemasOrNames, _) => {
-            Err(fault(alloc, pointer, Problem::Expected(shape)))
-        }
+        (Shape::Pattern, Value::String(text)) => compile(alloc, text.as_str(), pointer, seen),
+        (
+            Shape::NamedSchemas | Shape::NamedSchemasOrNames | Shape::PatternSchemas,
+            Value::Object(schemas),
+        ) => { look_at_named(alloc, shape, schemas, pointer, seen) }
+        (
+            Shape::Schemas
+            | Shape::NamedSchemas
+            | Shape::NamedSchemasOrNames
+            | Shape::PatternSchemas
+            | Shape::Pattern,
+            _,
+        ) => { Err(fault(alloc, pointer, Problem::Expected(shape))) }
         _ if is_of_shape(shape, argument) => Ok(()),
         _ => Err(fault(alloc, pointer, Problem::Expected(shape))),
     }
@@ -147,7 +157,10 @@ fn look_at_named(
 ) -> Looked<()> {
     for (name, schema) in schemas {
         let place = behind(alloc, pointer, name.as_str())?;
-        if matches!(shape, Shape::NamedSchemas) || !is_names(schema) {
+        if matches!(shape, Shape::PatternSchemas) {
+            compile(alloc, name.as_str(), place.as_str(), seen)?;
+        }
+        if !matches!(shape, Shape::NamedSchemasOrNames) || !is_names(schema) {
             look(alloc, schema, place.as_str(), seen)?;
         }
     }
@@ -169,5 +182,17 @@ fn note(alloc: Global, text: &str, pointer: &str, seen: &mut Seen) -> Looked<()>
     let text = String::from_str(alloc, text)?;
     let pointer = String::from_str(alloc, pointer)?;
     seen.references.push(Reference { text, pointer })?;
+    Ok(())
+}
+
+/// Compiles a pattern, unless it was compiled before.
+fn compile(alloc: Global, text: &str, pointer: &str, seen: &mut Seen) -> Looked<()> {
+    if seen.patterns.iter().any(|known| known.is(text)) {
+        return Ok(());
+    }
+    let Some(pattern) = Pattern::new(alloc, text)? else {
+        return Err(fault(alloc, pointer, Problem::Pattern));
+    };
+    seen.patterns.push(pattern)?;
     Ok(())
 }

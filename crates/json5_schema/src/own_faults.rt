@@ -93,10 +93,10 @@ fn add_missing(
     Ok(())
 }
 
-/// The members of `properties`.
-fn properties_of(keywords: &[(String, Value)]) -> &[(String, Value)] {
-    match find(keywords, "properties") {
-        Some(properties) => properties.entries(),
+/// The members of the keyword's argument.
+fn members_of<'a>(keywords: &'a [(String, Value)], name: &str) -> &'a [(String, Value)] {
+    match find(keywords, name) {
+        Some(argument) => argument.entries(),
         None => &[],
     }
 }
@@ -108,7 +108,7 @@ fn instead_of(
     name: &str,
     members: &[(String, Value)],
 ) -> Result<String> {
-    let known = properties_of(keywords);
+    let known = members_of(keywords, "properties");
     let mut others = Vec::new(alloc);
     for (key, _) in members {
         if !is_named(known, key.as_str()) {
@@ -189,9 +189,13 @@ pub fn unknown_key(
 ) -> Result<Fault> {
     let mut known = Vec::new(alloc);
     let mut words = Vec::new(alloc);
-    for (name, _) in properties_of(keywords) {
+    for (name, _) in members_of(keywords, "properties") {
         known.push(name.as_str())?;
         words.push(shown_key(alloc, name.as_str())?)?;
+    }
+    for (pattern, _) in members_of(keywords, "patternProperties") {
+        let pattern = shown_key(alloc, pattern.as_str())?;
+        words.push(format!(in alloc; "a key that matches {pattern}")?)?;
     }
     if words.is_empty() {
         words.push(String::from_str(alloc, "no such key")?)?;

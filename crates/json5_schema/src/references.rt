@@ -2,6 +2,7 @@
 
 use crate::faults::Problem;
 use crate::looking::{Looked, Reference, Seen, fault, look};
+use crate::patterns::Pattern;
 use json5_types::error;
 use json5_types::value::Value;
 use std::alloc::Global;
@@ -13,8 +14,8 @@ struct Link {
     nexts: Vec<String>,
 }
 
-/// Looks at what the references mean, and that they come to an end.
-pub fn follow(alloc: Global, root: &Value, seen: Seen) -> Looked<()> {
+/// Looks at what the references mean, and that they come to an end. Gives the patterns that were compiled.
+pub fn follow(alloc: Global, root: &Value, seen: Seen) -> Looked<Vec<Pattern>> {
     let mut seen = seen;
     for index in 0..usize::MAX {
         if !look_at_target(alloc, root, index, &mut seen)? {
@@ -24,12 +25,14 @@ pub fn follow(alloc: Global, root: &Value, seen: Seen) -> Looked<()> {
     let Seen {
         counts_siblings: _,
         references,
+        patterns,
     } = seen;
     let mut links = Vec::new(alloc);
     for reference in references {
         links.push(link_of(alloc, root, reference)?)?;
     }
-    check_ends(alloc, &links)
+    check_ends(alloc, &links)?;
+    Ok(patterns)
 }
 
 /// What a reference means.

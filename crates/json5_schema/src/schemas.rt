@@ -12,6 +12,7 @@ use crate::explain::explain;
 use crate::faults::{Problem, SchemaFault};
 use crate::found::Found;
 use crate::looking::{Seen, fault, look};
+use crate::patterns::Pattern;
 use crate::references::follow;
 use crate::words::shown;
 use json5_types::error::Error;
@@ -23,8 +24,7 @@ use std::alloc::Global;
 /// and each reference leads to a schema of the same document, and not back to itself.
 ///
 /// The words are those of draft 2020-12 and of draft 7. Where both have a word it means the same in both; a word that only one has
-/// is taken in either. Not decided yet, and refused: `pattern`, `patternProperties`, `unevaluatedItems`,
-/// `unevaluatedProperties`, anchors, dynamic references, and `$id` below the top. `format` asserts nothing.
+/// is taken in either. Not decided yet, and refused: `unevaluatedItems`, `unevaluatedProperties`, anchors, dynamic references, and `$id` below the top. `format` asserts nothing.
 ///
 /// ```text
 /// let schema = Schema::new(alloc, &json5::from_str(alloc, "{properties: {port: {type: 'integer', maximum: 65535}}}")?)?;
@@ -34,6 +34,7 @@ use std::alloc::Global;
 #[derive(Drop)]
 pub struct Schema {
     root: Value,
+    patterns: Vec<Pattern>,
 }
 
 impl Schema {
@@ -46,9 +47,10 @@ impl Schema {
     pub fn new(alloc: Global, value: &Value) -> Result<Schema, SchemaFault>
         ensures { IfOk result (λ schema. schema_of schema ≡ value_of value.now) }
     {
-        look_at_all(alloc, value)?;
+        let patterns = look_at_all(alloc, value)?;
         Ok(Schema {
             root: value.clone(alloc)?,
+            patterns,
         })
     }
 
@@ -63,7 +65,7 @@ impl Schema {
     pub fn accepts(&self, alloc: Global, value: &Value) -> error::Result<bool>
         ensures { MatchResult result (λ accepted. Conforms (schema_of self.now) (value_of value.now) accepted) IsRefusal }
     {
-        conforms(alloc, &self.root, value)
+        conforms(alloc, &self.patterns, &self.root, value)
     }
 
     /// Says where the value doesn't conform to the schema, and why: nowhere exactly where it conforms. At most `MAX_FAULTS`
@@ -78,15 +80,20 @@ impl Schema {
         if self.accepts(alloc, value)? {
             return Ok(Vec::new(alloc));
         }
-        Ok(reasons(alloc, &self.root, value)?)
+        Ok(reasons(alloc, &self.patterns, &self.root, value)?)
     }
 }
 
 /// Why the value doesn't conform to the schema: at least that it doesn't.
-fn reasons(alloc: Global, root: &Value, value: &Value) -> error::Result<Vec<Fault>>
+fn reasons(
+    alloc: Global,
+    patterns: &[Pattern],
+    root: &Value,
+    value: &Value,
+) -> error::Result<Vec<Fault>>
     ensures { MatchResult result (λ faults. (vec_len faults == 0) ≡ false) LacksMemory }
 {
-    let Ok(faults) = found_in(alloc, root, value) else {
+    let Ok(faults) = found_in(alloc, patterns, root, value) else {
         return Err(Error::new(ErrorCode::OutOfMemory));
     };
     if !faults.is_empty() {
@@ -101,10 +108,17 @@ fn reasons(alloc: Global, root: &Value, value: &Value) -> error::Result<Vec<Faul
 }
 
 /// The faults that are found where it is gone into each keyword, as far as it can be.
-fn found_in(alloc: Global, root: &Value, value: &Value) -> error::Result<Vec<Fault>> {
+fn found_in(
+    alloc: Global,
+    patterns: &[Pattern],
+    root: &Value,
+    value: &Value,
+) -> error::Result<Vec<Fault>> {
     let mut found = Found::new(alloc);
     let place = Place::top(alloc);
-    match explain(alloc, root, root, value, &place, MAX_DEPTH, &mut found) {
+    match explain(
+        alloc, patterns, root, root, value, &place, MAX_DEPTH, &mut found,
+    ) {
         Err(error) if error.code() == Some(ErrorCode::OutOfMemory) => Err(error),
         _ => Ok(found.faults),
     }
@@ -132,10 +146,11 @@ fn counts_siblings(alloc: Global, root: &Value) -> Result<bool, SchemaFault> {
 }
 
 /// Looks at a schema, and at all that its references mean.
-fn look_at_all(alloc: Global, root: &Value) -> Result<(), SchemaFault> {
+fn look_at_all(alloc: Global, root: &Value) -> Result<Vec<Pattern>, SchemaFault> {
     let mut seen = Seen {
         counts_siblings: counts_siblings(alloc, root)?,
         references: Vec::new(alloc),
+        patterns: Vec::new(alloc),
     };
     look(alloc, root, "", &mut seen)?;
     follow(alloc, root, seen)

@@ -31,6 +31,10 @@ pub enum Shape {
     Divisor,
     /// A string that begins with `#`.
     Reference,
+    /// A string that is a regular expression.
+    Pattern,
+    /// An object of schemas, whose keys are regular expressions.
+    PatternSchemas,
     /// The keyword isn't decided.
     Undecided,
     /// The keyword asks nothing of a value.
@@ -55,6 +59,8 @@ impl Shape {
             Shape::Count => "a whole number that isn't below zero",
             Shape::Divisor => "a number above zero, of at most 19 digits",
             Shape::Reference => "a reference",
+            Shape::Pattern => "a regular expression",
+            Shape::PatternSchemas => "an object of schemas, with regular expressions for keys",
             Shape::Undecided => "another keyword",
             Shape::Any => "anything",
         }
@@ -80,7 +86,8 @@ pub(crate) fn shape_of(name: &str) -> Shape {
         "maxProperties" | "minProperties" | "maxContains" | "minContains" => Shape::Count,
         "$ref" => Shape::Reference,
         "multipleOf" => Shape::Divisor,
-        "pattern" | "patternProperties" => Shape::Undecided,
+        "pattern" => Shape::Pattern,
+        "patternProperties" => Shape::PatternSchemas,
         "unevaluatedItems" | "unevaluatedProperties" => Shape::Undecided,
         "$anchor" | "$dynamicRef" | "$dynamicAnchor" => Shape::Undecided,
         "$recursiveRef" | "$recursiveAnchor" => Shape::Undecided,

@@ -112,6 +112,7 @@ fn limit_words(assertion: Assertion) -> (&'static str, &'static str) {
         Assertion::ExclusiveMinimum => ("more than ", ""),
         Assertion::MaxLength => ("at most ", " characters"),
         Assertion::MinLength => ("at least ", " characters"),
+        Assertion::Pattern => ("a text that matches ", ""),
         Assertion::MaxItems => ("at most ", " elements"),
         Assertion::MinItems => ("at least ", " elements"),
         Assertion::MaxProperties => ("at most ", " keys"),

@@ -3,7 +3,11 @@
 use crate::outcomes::{Outcome, said};
 use crate::plain_readers::reads_as_json;
 use crate::rows::{text_of, wanted_of};
-use json5_convert::{Keys, LastCommas, Numbers, Quotes, Spelling, Values, respell, to_lines};
+use json5::Layout;
+use json5_convert::{
+    Keys, LastCommas, Numbers, Quotes, Spelling, Values, from_toml, respell, to_lines, to_toml,
+};
+use json5_read::read_document;
 use json5_types::error::Result;
 use json5_types::value::Value;
 use std::alloc::Global;
@@ -11,8 +15,8 @@ use std::alloc::Global;
 /// What comes of the row's text.
 pub(crate) fn outcome_of(alloc: Global, row: &Value) -> Outcome {
     let (wanted, before, to) = (wanted_of(row), text_of(row, "before"), text_of(row, "to"));
-    if to == "lines" {
-        return match lines_of(alloc, before) {
+    if let Some(made) = written(alloc, text_of(row, "from"), to, before) {
+        return match made {
             Ok(made) => judged(made, wanted),
             Err(error) => said(wanted, format!(in alloc; "{error}").ok()),
         };
@@ -36,6 +40,32 @@ fn judged(made: String, wanted: &str) -> Outcome {
     } else {
         Outcome::Other(made)
     }
+}
+
+/// What is written of the text's value, where no token is spelled anew.
+fn written(alloc: Global, from: &str, to: &str, text: &str) -> Option<Result<String>> {
+    match (from, to) {
+        ("toml", "toml") => Some(toml_again(alloc, text)),
+        ("toml", _) => Some(compact_of_toml(alloc, text)),
+        (_, "toml") => Some(toml_of(alloc, text)),
+        (_, "lines") => Some(lines_of(alloc, text)),
+        _ => None,
+    }
+}
+
+/// The value of the TOML text, as JSON5 on one line.
+fn compact_of_toml(alloc: Global, text: &str) -> Result<String> {
+    json5::to_string_in(alloc, Layout::compact(), &from_toml(alloc, text)?)
+}
+
+/// The JSON5 text's value as TOML.
+fn toml_of(alloc: Global, text: &str) -> Result<String> {
+    to_toml(alloc, &read_document(alloc, text)?)
+}
+
+/// The TOML text's value as TOML.
+fn toml_again(alloc: Global, text: &str) -> Result<String> {
+    to_toml(alloc, &from_toml(alloc, text)?)
 }
 
 /// The documents of the text, each as JSON on a line of its own.

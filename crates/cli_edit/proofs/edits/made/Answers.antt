@@ -25,3 +25,15 @@ returns-in-Comment-clause-made c =
 pub returns-in-InsertBefore-clause-made : goal.returns-in-InsertBefore-clause-made
 returns-in-InsertBefore-clause-made c =
     made_by (work.InsertBefore c.in-InsertBefore.before) c.args.task.now.work c.args.text.now c.args.steps.now c.args.value.now c.inserted_before.result c.edited-in-InsertBefore.result c.in-InsertBefore.is c.edited-in-InsertBefore.ensures c.inserted_before.ensures.inserted
+
+pub returns-in-Sort-clause-made : goal.returns-in-Sort-clause-made
+returns-in-Sort-clause-made c =
+    made_by work.Sort c.args.task.now.work c.args.text.now c.args.steps.now c.args.value.now c.sort.result c.edited-in-Sort.result c.in-Sort.is c.edited-in-Sort.ensures c.sort.ensures.sorted
+
+pub returns-in-Put-clause-made : goal.returns-in-Put-clause-made
+returns-in-Put-clause-made c =
+    made_by work.Put c.args.task.now.work c.args.text.now c.args.steps.now c.args.value.now c.put_in.result c.edited-in-Put.result c.in-Put.is c.edited-in-Put.ensures c.put_in.ensures.put
+
+pub returns-in-PutAbsent-clause-made : goal.returns-in-PutAbsent-clause-made
+returns-in-PutAbsent-clause-made c =
+    made_by work.PutAbsent c.args.task.now.work c.args.text.now c.args.steps.now c.args.value.now c.put_if_absent.result c.edited-in-PutAbsent.result c.in-PutAbsent.is c.edited-in-PutAbsent.ensures c.put_if_absent.ensures.put

@@ -6,7 +6,7 @@ use Rattle.cli_edit.proofs.requests.work_and_given.Goals as goal
 pub returns-in_default : goal.returns-in_default
 returns-in_default c =
     let d = c.in_default in
-    asks c.args.word.now (names_of c.args.rest.now) d.not-get d.not-has d.not-keys d.not-length d.not-type d.not-remove d.not-apply d.not-merge d.not-rename d.not-move d.not-copy d.not-comment c.valued.result c.valued.ensures
+    asks c.args.word.now (names_of c.args.rest.now) d.not-get d.not-has d.not-keys d.not-length d.not-type d.not-remove d.not-sort d.not-apply d.not-merge d.not-rename d.not-move d.not-copy d.not-comment c.valued.result c.valued.ensures
 
 pub returns-in-rename : goal.returns-in-rename
 returns-in-rename c = asks_rename c.args.word.now (names_of c.args.rest.now) c.keyed.result c.in-rename.is c.keyed.ensures

@@ -12,6 +12,9 @@ use Rattle.json5_edit.proofs.PlainPlaces.{part_stays, plain_within}
 use Rattle.json5_edit.proofs.Refused.{lacking, path_put_in, reaches_no, step_put_in, new_put_in, value_fits}
 use Rattle.json5_edit.proofs.changing.insert_element.Goals as goal
 
+pub limit_of-room-requires : goal.limit_of-room-requires
+limit_of-room-requires c = is_small c.in_ok-place.ensures.found
+
 pub part_text-old-requires : goal.part_text-old-requires
 part_text-old-requires c = has_place c.in_ok-place.ensures.found
 
@@ -21,14 +24,11 @@ splice-requires c = has_place c.in_ok-place.ensures.found
 pub check_entry-requires : goal.check_entry-requires
 check_entry-requires c = is_small c.in_ok-place.ensures.found
 
-pub entry_start-requires-clause-small : goal.entry_start-requires-clause-small
-entry_start-requires-clause-small c = is_small c.in_ok-place.ensures.found
+pub entry_start-requires : goal.entry_start-requires
+entry_start-requires c = rw c.limit_of-room.ensures (value_fits c.args.text.now c.part_text-old.result.now c.args.path.now c.in_ok-place.place c.utf8.text c.in_ok-place.ensures.found c.part_text-old.ensures)
 
-pub entry_start-requires-clause-value : goal.entry_start-requires-clause-value
-entry_start-requires-clause-value c = value_fits c.args.text.now c.part_text-old.result.now c.args.path.now c.in_ok-place.place c.utf8.text c.in_ok-place.ensures.found c.part_text-old.ensures
-
-pub put_in-requires-clause-small : goal.put_in-requires-clause-small
-put_in-requires-clause-small c = is_small c.in_ok-place.ensures.found
+pub put_in-requires-clause-value : goal.put_in-requires-clause-value
+put_in-requires-clause-value c = rw c.limit_of-room.ensures c.in_ok-check_entry.ensures.value
 
 pub put_in-requires-clause-plain : goal.put_in-requires-clause-plain
 put_in-requires-clause-plain c = subst (λ z. KeepsPlain z c.part_text-old.result.now) (sym c.collection-collection.ensures.document) (part_stays c.args.text.now c.part_text-old.result.now c.args.path.now c.in_ok-place.place c.utf8.text c.in_ok-place.ensures.found c.part_text-old.ensures)
@@ -57,10 +57,10 @@ returns-in_err-new-clause-refused c =
     rw (is, from, c.in_err-new.ensures.full) tt
 
 pub returns-clause-put_in : goal.returns-clause-put_in
-returns-clause-put_in c = ok_then c.splice.result (λ made k. let q = changed_within (λ x y. Grows kind.Array c.args.value.now x y × HasIndex c.args.index x) (GainsAt c.args.index c.args.value.now) c.args.text.now c.part_text-old.result.now c.as_str.result.now (string_bytes c.in_ok-new.new) (string_bytes made) c.args.path.now c.in_ok-place.place c.utf8.text c.as_str.utf8 c.as_str.ensures.value c.in_ok-place.ensures.found c.part_text-old.ensures (let m = c.in_ok-new.ensures.put_in in (m.0, (m.1, has_index c.in_ok-start.ensures.found), m.2)) k in (q.0, q.1.0, q.1.1)) c.splice.ensures.spliced
+returns-clause-put_in c = ok_then c.splice.result (λ made k. let q = changed_within (λ x y. Grows kind.Array c.args.value.now x y × HasIndex c.args.index x) (GainsAt c.args.index c.args.value.now) c.args.text.now c.part_text-old.result.now c.as_str.result.now (string_bytes c.in_ok-new.new) (string_bytes made) c.args.path.now c.in_ok-place.place c.utf8.text c.as_str.utf8 c.as_str.ensures.value c.in_ok-place.ensures.found c.part_text-old.ensures (let m = rw c.limit_of-room.ensures at c.in_ok-new.ensures.put_in in (m.0, (m.1, has_index c.in_ok-start.ensures.found), m.2)) k in (q.0, q.1.0, q.1.1)) c.splice.ensures.spliced
 
 pub returns-clause-plain : goal.returns-clause-plain
-returns-clause-plain c = ok_then c.splice.result (λ made k. plain_within c.args.text.now c.args.value.now c.as_str.result.now (string_bytes c.in_ok-new.new) (string_bytes made) c.args.path.now c.in_ok-place.place c.utf8.text c.as_str.utf8 c.as_str.ensures.value c.in_ok-place.ensures.found c.in_ok-new.ensures.put_in.2 (subst (λ z. StaysPlain z c.args.value.now (string_bytes c.in_ok-new.new)) c.collection-collection.ensures.document (c.in_ok-new.ensures.plain)) k) c.splice.ensures.spliced
+returns-clause-plain c = ok_then c.splice.result (λ made k. plain_within c.args.text.now c.args.value.now c.as_str.result.now (string_bytes c.in_ok-new.new) (string_bytes made) c.args.path.now c.in_ok-place.place c.utf8.text c.as_str.utf8 c.as_str.ensures.value c.in_ok-place.ensures.found (rw c.limit_of-room.ensures at c.in_ok-new.ensures.put_in.2) (subst (λ z. StaysPlain z c.args.value.now (string_bytes c.in_ok-new.new)) c.collection-collection.ensures.document (c.in_ok-new.ensures.plain)) k) c.splice.ensures.spliced
 
 pub returns-clause-refused : goal.returns-clause-refused
 returns-clause-refused c = lacking (RefusesPutIn c.args.text.now c.args.path.now c.args.index c.args.value.now) c.splice.result tt c.splice.ensures.full

@@ -11,6 +11,9 @@ use Rattle.json5_edit.proofs.PlainPlaces.{part_stays, plain_within}
 use Rattle.json5_edit.proofs.Refused.{lacking, path_push, array_push, reaches_no, new_push, value_fits}
 use Rattle.json5_edit.proofs.changing.push.Goals as goal
 
+pub limit_of-room-requires : goal.limit_of-room-requires
+limit_of-room-requires c = is_small c.in_ok-place.ensures.found
+
 pub part_text-old-requires : goal.part_text-old-requires
 part_text-old-requires c = has_place c.in_ok-place.ensures.found
 
@@ -20,14 +23,14 @@ splice-requires c = has_place c.in_ok-place.ensures.found
 pub check_entry-requires : goal.check_entry-requires
 check_entry-requires c = is_small c.in_ok-place.ensures.found
 
-pub pushed-requires-clause-small : goal.pushed-requires-clause-small
-pushed-requires-clause-small c = is_small c.in_ok-place.ensures.found
+pub pushed-requires-clause-value : goal.pushed-requires-clause-value
+pushed-requires-clause-value c = rw c.limit_of-room.ensures c.in_ok-check_entry.ensures.value
 
 pub pushed-requires-clause-plain : goal.pushed-requires-clause-plain
 pushed-requires-clause-plain c = subst (λ z. KeepsPlain z c.part_text-old.result.now) (sym c.collection-collection.ensures.document) (part_stays c.args.text.now c.part_text-old.result.now c.args.path.now c.in_ok-place.place c.utf8.text c.in_ok-place.ensures.found c.part_text-old.ensures)
 
 pub pushed-requires-clause-old : goal.pushed-requires-clause-old
-pushed-requires-clause-old c = value_fits c.args.text.now c.part_text-old.result.now c.args.path.now c.in_ok-place.place c.utf8.text c.in_ok-place.ensures.found c.part_text-old.ensures
+pushed-requires-clause-old c = rw c.limit_of-room.ensures (value_fits c.args.text.now c.part_text-old.result.now c.args.path.now c.in_ok-place.place c.utf8.text c.in_ok-place.ensures.found c.part_text-old.ensures)
 
 pub returns-in_err-place-clause-refused : goal.returns-in_err-place-clause-refused
 returns-in_err-place-clause-refused c =
@@ -48,10 +51,10 @@ returns-in_err-new-clause-refused c =
     rw (is, from) (array_push c.args.text.now c.part_text-old.result.now c.args.path.now c.in_ok-place.place c.utf8.text c.in_ok-place.ensures.found c.part_text-old.ensures c.args.value.now c.in_err-new.field-0.0 c.in_err-new.ensures.refused)
 
 pub returns-clause-pushed : goal.returns-clause-pushed
-returns-clause-pushed c = ok_then c.splice.result (λ made k. changed_within (Grows kind.Array c.args.value.now) (Gains kind.Array [] c.args.value.now) c.args.text.now c.part_text-old.result.now c.as_str.result.now (string_bytes c.in_ok-new.new) (string_bytes made) c.args.path.now c.in_ok-place.place c.utf8.text c.as_str.utf8 c.as_str.ensures.value c.in_ok-place.ensures.found c.part_text-old.ensures c.in_ok-new.ensures.pushed k) c.splice.ensures.spliced
+returns-clause-pushed c = ok_then c.splice.result (λ made k. changed_within (Grows kind.Array c.args.value.now) (Gains kind.Array [] c.args.value.now) c.args.text.now c.part_text-old.result.now c.as_str.result.now (string_bytes c.in_ok-new.new) (string_bytes made) c.args.path.now c.in_ok-place.place c.utf8.text c.as_str.utf8 c.as_str.ensures.value c.in_ok-place.ensures.found c.part_text-old.ensures (rw c.limit_of-room.ensures at c.in_ok-new.ensures.pushed) k) c.splice.ensures.spliced
 
 pub returns-clause-plain : goal.returns-clause-plain
-returns-clause-plain c = ok_then c.splice.result (λ made k. plain_within c.args.text.now c.args.value.now c.as_str.result.now (string_bytes c.in_ok-new.new) (string_bytes made) c.args.path.now c.in_ok-place.place c.utf8.text c.as_str.utf8 c.as_str.ensures.value c.in_ok-place.ensures.found c.in_ok-new.ensures.pushed.2 (subst (λ z. StaysPlain z c.args.value.now (string_bytes c.in_ok-new.new)) c.collection-collection.ensures.document (c.in_ok-new.ensures.plain c.collection-collection.ensures.names)) k) c.splice.ensures.spliced
+returns-clause-plain c = ok_then c.splice.result (λ made k. plain_within c.args.text.now c.args.value.now c.as_str.result.now (string_bytes c.in_ok-new.new) (string_bytes made) c.args.path.now c.in_ok-place.place c.utf8.text c.as_str.utf8 c.as_str.ensures.value c.in_ok-place.ensures.found (rw c.limit_of-room.ensures at c.in_ok-new.ensures.pushed.2) (subst (λ z. StaysPlain z c.args.value.now (string_bytes c.in_ok-new.new)) c.collection-collection.ensures.document (c.in_ok-new.ensures.plain c.collection-collection.ensures.names)) k) c.splice.ensures.spliced
 
 pub returns-clause-refused : goal.returns-clause-refused
 returns-clause-refused c = lacking (RefusesPush c.args.text.now c.args.path.now c.args.value.now) c.splice.result tt c.splice.ensures.full

@@ -9,20 +9,17 @@ use Rattle.json5_edit.proofs.Recommented.{as_own, as_removal}
 use Rattle.json5_edit.proofs.Refused.{no_steps, lacking, path_remove, step_remove, value_fits}
 use Rattle.json5_edit.proofs.commenting.comment.Goals as goal
 
+pub limit_of-room-requires : goal.limit_of-room-requires
+limit_of-room-requires c = is_small c.in_ok-place.ensures.found
+
 pub part_text-old-requires : goal.part_text-old-requires
 part_text-old-requires c = has_place c.in_ok-place.ensures.found
 
 pub splice-requires : goal.splice-requires
 splice-requires c = has_place c.in_ok-place.ensures.found
 
-pub entry_start-requires-clause-small : goal.entry_start-requires-clause-small
-entry_start-requires-clause-small c = is_small c.in_ok-place.ensures.found
-
-pub entry_start-requires-clause-value : goal.entry_start-requires-clause-value
-entry_start-requires-clause-value c = value_fits c.args.text.now c.part_text-old.result.now c.in-Some.outer.now c.in_ok-place.place c.utf8.text c.in_ok-place.ensures.found c.part_text-old.ensures
-
-pub commented-requires-clause-small : goal.commented-requires-clause-small
-commented-requires-clause-small c = is_small c.in_ok-place.ensures.found
+pub entry_start-requires : goal.entry_start-requires
+entry_start-requires c = rw c.limit_of-room.ensures (value_fits c.args.text.now c.part_text-old.result.now c.in-Some.outer.now c.in_ok-place.place c.utf8.text c.in_ok-place.ensures.found c.part_text-old.ensures)
 
 pub returns-in_default-clause-refused : goal.returns-in_default-clause-refused
 returns-in_default-clause-refused c = inr (no_steps c.args.path.now (rw c.in_default.is at c.split_last.ensures.cases))
@@ -44,7 +41,7 @@ returns-in_err-new-clause-refused c =
 
 pub returns-clause-commented : goal.returns-clause-commented
 returns-clause-commented c = ok_then c.splice.result (λ made k.
-    let m = c.in_ok-new.ensures.commented in
+    let m = rw c.limit_of-room.ensures at c.in_ok-new.ensures.commented in
     let q = changed_within (RecommentsAt c.in-Some.step.now) HaveSameEntries c.args.text.now c.part_text-old.result.now c.as_str.result.now (string_bytes c.in_ok-new.new) (string_bytes made) c.in-Some.outer.now c.in_ok-place.place c.utf8.text c.as_str.utf8 c.as_str.ensures.value c.in_ok-place.ensures.found c.part_text-old.ensures m k in
     (c.in-Some.outer.now, c.in-Some.step.now, c.in-Some.ensures.cases.0, q.0, q.1)) c.splice.ensures.spliced
 

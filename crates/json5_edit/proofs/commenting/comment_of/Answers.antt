@@ -5,14 +5,14 @@ use Rattle.json5_edit.proofs.Recommented.{as_own, as_removal}
 use Rattle.json5_edit.proofs.Refused.{no_steps, path_remove, step_remove, value_fits}
 use Rattle.json5_edit.proofs.commenting.comment_of.Goals as goal
 
+pub limit_of-room-requires : goal.limit_of-room-requires
+limit_of-room-requires c = is_small c.in_ok-place.ensures.found
+
 pub part_text-old-requires : goal.part_text-old-requires
 part_text-old-requires c = has_place c.in_ok-place.ensures.found
 
-pub entry_start-requires-clause-small : goal.entry_start-requires-clause-small
-entry_start-requires-clause-small c = is_small c.in_ok-place.ensures.found
-
-pub entry_start-requires-clause-value : goal.entry_start-requires-clause-value
-entry_start-requires-clause-value c = value_fits c.args.text.now c.part_text-old.result.now c.in-Some.outer.now c.in_ok-place.place c.utf8.text c.in_ok-place.ensures.found c.part_text-old.ensures
+pub entry_start-requires : goal.entry_start-requires
+entry_start-requires c = rw c.limit_of-room.ensures (value_fits c.args.text.now c.part_text-old.result.now c.in-Some.outer.now c.in_ok-place.place c.utf8.text c.in_ok-place.ensures.found c.part_text-old.ensures)
 
 pub returns-in_default : goal.returns-in_default
 returns-in_default c = inr (no_steps c.args.path.now (rw c.in_default.is at c.split_last.ensures.cases))

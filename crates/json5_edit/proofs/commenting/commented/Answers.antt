@@ -5,5 +5,5 @@ use Rattle.json5_edit.proofs.Recommented.{comments}
 use Rattle.json5_edit.proofs.commenting.commented.Goals as goal
 
 pub returns-in-Ok-clause-commented : goal.returns-in-Ok-clause-commented
-returns-in-Ok-clause-commented c = comments c.args.step c.args.room c.args.start c.args.old.now (string_bytes c.in_ok-new.new) c.fitting.result c.fitting.ensures.same c.fitting.ensures.value c.requires.entry c.in_ok-new.ensures.recomments
+returns-in-Ok-clause-commented c = comments c.args.step c.args.room c.args.start c.args.old.now (string_bytes c.in_ok-new.new) c.fitting.result c.fitting.ensures.same c.fitting.ensures.value c.requires c.in_ok-new.ensures.recomments
     (subst (ChangesBy HaveSameEntries c.args.old.now) c.as_str.ensures.value c.in-Ok.ensures)

@@ -12,6 +12,9 @@ use Rattle.json5_edit.proofs.PlainPlaces.{part_stays, plain_within}
 use Rattle.json5_edit.proofs.Refused.{lacking, path_insert, free_insert, new_insert, value_fits}
 use Rattle.json5_edit.proofs.inserting.insert_before.Goals as goal
 
+pub limit_of-room-requires : goal.limit_of-room-requires
+limit_of-room-requires c = is_small c.in_ok-place.ensures.found
+
 pub part_text-old-requires : goal.part_text-old-requires
 part_text-old-requires c = has_place c.in_ok-place.ensures.found
 
@@ -21,17 +24,14 @@ splice-requires c = has_place c.in_ok-place.ensures.found
 pub check_entry-requires : goal.check_entry-requires
 check_entry-requires c = is_small c.in_ok-place.ensures.found
 
-pub free_end-requires-clause-small : goal.free_end-requires-clause-small
-free_end-requires-clause-small c = is_small c.in_ok-place.ensures.found
-
-pub free_end-requires-clause-value : goal.free_end-requires-clause-value
-free_end-requires-clause-value c = value_fits c.args.text.now c.part_text-old.result.now c.args.path.now c.in_ok-place.place c.utf8.text c.in_ok-place.ensures.found c.part_text-old.ensures
+pub free_end-requires : goal.free_end-requires
+free_end-requires c = rw c.limit_of-room.ensures (value_fits c.args.text.now c.part_text-old.result.now c.args.path.now c.in_ok-place.place c.utf8.text c.in_ok-place.ensures.found c.part_text-old.ensures)
 
 pub start_before-requires : goal.start_before-requires
-start_before-requires c = let h = c.in_ok-end.ensures.found in (is_small c.in_ok-place.ensures.found, h.tree, h.value, h.shallow, h.kind)
+start_before-requires c = let h = c.in_ok-end.ensures.found in (h.small, h.tree, h.value, h.shallow, h.kind)
 
 pub put_there-requires : goal.put_there-requires
-put_there-requires c = (is_small c.in_ok-place.ensures.found, c.in_ok-start.ensures.found, c.in_ok-end.ensures.found, c.in_ok-check_entry.ensures.value, subst (λ z. KeepsPlain z c.part_text-old.result.now) (sym c.collection-collection.ensures.document) (part_stays c.args.text.now c.part_text-old.result.now c.args.path.now c.in_ok-place.place c.utf8.text c.in_ok-place.ensures.found c.part_text-old.ensures))
+put_there-requires c = (c.in_ok-end.ensures.found.small, c.in_ok-start.ensures.found, c.in_ok-end.ensures.found, (rw c.limit_of-room.ensures c.in_ok-check_entry.ensures.value), subst (λ z. KeepsPlain z c.part_text-old.result.now) (sym c.collection-collection.ensures.document) (part_stays c.args.text.now c.part_text-old.result.now c.args.path.now c.in_ok-place.place c.utf8.text c.in_ok-place.ensures.found c.part_text-old.ensures))
 
 pub returns-in_err-place-clause-refused : goal.returns-in_err-place-clause-refused
 returns-in_err-place-clause-refused c =
@@ -60,7 +60,7 @@ returns-in_err-new-clause-refused c =
 
 pub returns-clause-inserted : goal.returns-clause-inserted
 returns-clause-inserted c = ok_then c.splice.result (λ made k.
-    let m = c.in_ok-new.ensures.0 in
+    let m = rw c.limit_of-room.ensures at c.in_ok-new.ensures.0 in
     let q = changed_within (λ x y. Grows kind.Object c.args.value.now x y × IsFree c.args.key.now x) (GainsMember c.args.before c.args.key.now c.args.value.now) c.args.text.now c.part_text-old.result.now c.as_str.result.now (string_bytes c.in_ok-new.new) (string_bytes made) c.args.path.now c.in_ok-place.place c.utf8.text c.as_str.utf8 c.as_str.ensures.value c.in_ok-place.ensures.found c.part_text-old.ensures (m.0.0, (m.0.1, c.in_ok-end.ensures.free), m.0.2) k in (
       (q.0, q.1.0, q.1.1),
       λ quoted. plain_within c.args.text.now c.args.value.now c.as_str.result.now (string_bytes c.in_ok-new.new) (string_bytes made) c.args.path.now c.in_ok-place.place c.utf8.text c.as_str.utf8 c.as_str.ensures.value c.in_ok-place.ensures.found m.0.2 (subst (λ z. StaysPlain z c.args.value.now (string_bytes c.in_ok-new.new)) c.collection-collection.ensures.document (m.1 quoted)) k,

@@ -13,8 +13,8 @@ use Rattle.json5_edit.proofs.sorting.sort.Goals as goal
 pub part_text-old-requires : goal.part_text-old-requires
 part_text-old-requires c = has_place c.in_ok-place.ensures.found
 
-pub sorted-requires : goal.sorted-requires
-sorted-requires c = is_small c.in_ok-place.ensures.found
+pub limit_of-room-requires : goal.limit_of-room-requires
+limit_of-room-requires c = is_small c.in_ok-place.ensures.found
 
 pub splice-requires : goal.splice-requires
 splice-requires c = has_place c.in_ok-place.ensures.found
@@ -34,13 +34,13 @@ returns-in_err-new-clause-refused c =
 
 pub returns-clause-sorted : goal.returns-clause-sorted
 returns-clause-sorted c = ok_then c.splice.result (λ made k.
-    let m = c.in_ok-new.ensures.sorted in
+    let m = rw c.limit_of-room.ensures at c.in_ok-new.ensures.sorted in
     let q = changed_within (λ x y. ⊤) HasMembersSorted c.args.text.now c.part_text-old.result.now c.as_str.result.now (string_bytes c.in_ok-new.new) (string_bytes made) c.args.path.now c.in_ok-place.place c.utf8.text c.as_str.utf8 c.as_str.ensures.value c.in_ok-place.ensures.found c.part_text-old.ensures (m.0, tt, m.1) k in
     q.0) c.splice.ensures.spliced
 
 pub returns-clause-plain : goal.returns-clause-plain
 returns-clause-plain c = ok_then c.splice.result (λ made k.
-    let m = c.in_ok-new.ensures.sorted in
+    let m = rw c.limit_of-room.ensures at c.in_ok-new.ensures.sorted in
     keeps_within c.args.text.now c.part_text-old.result.now c.as_str.result.now (string_bytes c.in_ok-new.new) (string_bytes made) c.args.path.now c.in_ok-place.place c.utf8.text c.as_str.utf8 c.as_str.ensures.value c.in_ok-place.ensures.found c.part_text-old.ensures m.1 m.2 k) c.splice.ensures.spliced
 
 pub returns-clause-refused : goal.returns-clause-refused

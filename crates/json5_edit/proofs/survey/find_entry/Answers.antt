@@ -3,13 +3,13 @@ use Rattle.json5_edit.proofs.Surveyed.{itself, value_itself, surveys_so, opened_
 use Rattle.json5_edit.proofs.survey.find_entry.Goals as goal
 
 pub returns-then-not-open-clause-surveyed : goal.returns-then-not-open-clause-surveyed
-returns-then-not-open-clause-surveyed c = not_opened_step c.args.step c.args.room c.kind.ensures c.limit_of.ensures c.new-walk.ensures c.requires.value (c.if-not-open.ensures.refused refl)
+returns-then-not-open-clause-surveyed c = not_opened_step c.args.step c.args.room c.kind.ensures refl c.new-walk.ensures c.requires.1 (c.if-not-open.ensures.refused refl)
 
 pub survey_entries-requires-clause-inside : goal.survey_entries-requires-clause-inside
-survey_entries-requires-clause-inside c = itself (opened_step c.args.step c.args.room c.kind.ensures c.limit_of.ensures c.utf8.old c.new-walk.ensures (c.if-not-open.ensures.taken refl))
+survey_entries-requires-clause-inside c = itself (opened_step c.args.step c.args.room c.kind.ensures refl c.utf8.old c.new-walk.ensures (c.if-not-open.ensures.taken refl))
 
 pub survey_entries-requires-clause-value : goal.survey_entries-requires-clause-value
-survey_entries-requires-clause-value c = value_itself (opened_step c.args.step c.args.room c.kind.ensures c.limit_of.ensures c.utf8.old c.new-walk.ensures (c.if-not-open.ensures.taken refl)) c.requires.value
+survey_entries-requires-clause-value c = value_itself (opened_step c.args.step c.args.room c.kind.ensures refl c.utf8.old c.new-walk.ensures (c.if-not-open.ensures.taken refl)) c.requires.1
 
 pub returns-clause-surveyed : goal.returns-clause-surveyed
-returns-clause-surveyed c = surveys_so (opened_step c.args.step c.args.room c.kind.ensures c.limit_of.ensures c.utf8.old c.new-walk.ensures (c.if-not-open.ensures.taken refl)) c.in_ok-found.ensures.surveyed
+returns-clause-surveyed c = surveys_so (opened_step c.args.step c.args.room c.kind.ensures refl c.utf8.old c.new-walk.ensures (c.if-not-open.ensures.taken refl)) c.in_ok-found.ensures.surveyed

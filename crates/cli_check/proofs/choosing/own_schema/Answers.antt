@@ -1,0 +1,8 @@
+use Rattle.std.proofs.Common.{sym}
+use Rattle.json5_types.specs.ValueMeanings.{value_of}
+use Rattle.cli_check.proofs.Judged.{own_meant}
+use Rattle.cli_check.proofs.choosing.own_schema.Goals as goal
+
+pub returns-in-Some : goal.returns-in-Some
+returns-in-Some g c =
+    own_meant (g.D.Disk.opens c.args.disk.now) c.args.options.now.maps.items c.args.name.now c.in-Some.schema.now (value_of c.args.value.now) c.schema_named.result (sym c.in-Some.ensures) c.schema_named.ensures

@@ -1,0 +1,102 @@
+-- The words after the program's name, and what they ask for.
+-- A promise rests on this.
+use Rattle.std.specs.declared.alloc.Global.{Global}
+use Rattle.std.specs.Prelude.{◌≡◌, ◌≢◌, ℕ, Bool, true, false, List, [], ◌∷◌, ◌++◌, Option, Some, None, option_map, nat_eq, if◌then◌else◌, String, string_bytes}
+use Rattle.std.specs.Cmp.Lexicographic.{pointwise}
+use Rattle.std.specs.List.{starts_with}
+use lib.Chars.{codes}
+use Rattle.cli_check.specs.declared.options.Options.{Options}
+use Rattle.cli_check.specs.declared.options.Asked.{Asked}
+use Rattle.cli_check.specs.declared.options.Asked.TheVariants as asked
+use Rattle.cli_check.specs.declared.kinds.Flag.{Flag}
+use Rattle.cli_check.specs.declared.kinds.Flag.TheVariants as flags
+use Rattle.cli_check.specs.declared.kinds.Setting.{Setting}
+use Rattle.cli_check.specs.declared.kinds.Setting.TheVariants as settings
+use Rattle.cli_check.specs.declared.kinds.Word.{Word}
+use Rattle.cli_check.specs.declared.kinds.Word.TheVariants as word
+use Rattle.cli_files.specs.NameLists.{names_of}
+
+-- it begins with a minus
+abbrev pub is_dashed : List ℕ → Bool
+is_dashed w = starts_with nat_eq w (codes "-")
+
+-- an option with its value in the same word
+abbrev pub joined_word : Setting → (value : List ℕ) → List ℕ
+joined_word settings.Schema value = codes "--schema=" ++ value
+joined_word settings.Map value = codes "--map=" ++ value
+
+-- what any other word is
+abbrev pub other_kind : List ℕ → Word
+other_kind w = if is_dashed w then word.Other else word.Name
+
+-- what a word is
+abbrev pub kind_of : List ℕ → Word
+kind_of w =
+    if pointwise nat_eq w (codes "-") then word.Name else
+    if pointwise nat_eq w (codes "--") then word.End else
+    if pointwise nat_eq w (codes "--help") then word.Flag flags.Help else
+    if pointwise nat_eq w (codes "-h") then word.Flag flags.Help else
+    if pointwise nat_eq w (codes "--version") then word.Flag flags.Version else
+    if pointwise nat_eq w (codes "--quiet") then word.Flag flags.Quiet else
+    if pointwise nat_eq w (codes "--json") then word.Flag flags.Json else
+    if pointwise nat_eq w (codes "--schema") then word.Setting settings.Schema else
+    if pointwise nat_eq w (codes "--map") then word.Setting settings.Map else
+    other_kind w
+
+-- what the words choose
+pub record Choices : Type 0 where
+  pub asked : Asked
+  pub schema : Option (List ℕ)
+  pub maps : List (List ℕ)
+  pub is_quiet : Bool
+  pub is_json : Bool
+  pub is_ended : Bool
+  pub names : List (List ℕ)
+
+abbrev pub nothing_chosen : Choices
+nothing_chosen = record { asked = asked.Files; schema = None; maps = []; is_quiet = false; is_json = false; is_ended = false; names = [] }
+
+abbrev pub choices_of : Options → Choices
+choices_of o = record { asked = o.asked; schema = option_map string_bytes o.schema; maps = names_of o.maps.items; is_quiet = o.is_quiet; is_json = o.is_json; is_ended = o.is_ended; names = names_of o.names.items }
+
+-- behind `--` each word is a name
+abbrev pub kind_in : Choices → List ℕ → Word
+kind_in c w = if c.is_ended then word.Name else kind_of w
+
+abbrev pub with_name : List ℕ → Choices → Choices
+with_name w c = record c { names = c.names ++ w ∷ [] }
+
+abbrev pub ended : Choices → Choices
+ended c = record c { is_ended = true }
+
+abbrev pub with_flag : Flag → Choices → Choices
+with_flag flags.Help c = record c { asked = asked.Help }
+with_flag flags.Version c = record c { asked = asked.Version }
+with_flag flags.Quiet c = record c { is_quiet = true }
+with_flag flags.Json c = record c { is_json = true }
+
+-- of schemas the last counts, and each map does
+abbrev pub with_setting : Setting → List ℕ → Choices → Choices
+with_setting settings.Schema value c = record c { schema = Some value }
+with_setting settings.Map value c = record c { maps = c.maps ++ value ∷ [] }
+
+-- what the words choose after what was chosen before; nothing, where one is an option that is none or lacks its value
+pub data Choose : Choices → (words : List (List ℕ)) → Option Choices → Type 0 where
+  all : (c : Choices) → Choose c [] (Some c)
+  name : (c : Choices) (w : List ℕ) (ws : List (List ℕ)) (r : Option Choices) → kind_in c w ≡ word.Name → Choose (with_name w c) ws r → Choose c (w ∷ ws) r
+  behind : (c : Choices) (w : List ℕ) (ws : List (List ℕ)) (r : Option Choices) → kind_in c w ≡ word.End → Choose (ended c) ws r → Choose c (w ∷ ws) r
+  flag : (c : Choices) (w : List ℕ) (ws : List (List ℕ)) (r : Option Choices) (f : Flag) → kind_in c w ≡ word.Flag f → Choose (with_flag f c) ws r → Choose c (w ∷ ws) r
+  setting : (c : Choices) (w value : List ℕ) (ws : List (List ℕ)) (r : Option Choices) (s : Setting) → kind_in c w ≡ word.Setting s → Choose (with_setting s value c) ws r
+      → Choose c (w ∷ value ∷ ws) r
+  joined : (c : Choices) (w value : List ℕ) (ws : List (List ℕ)) (r : Option Choices) (s : Setting) → kind_in c w ≡ word.Other → w ≡ joined_word s value → Choose (with_setting s value c) ws r
+      → Choose c (w ∷ ws) r
+  unknown : (c : Choices) (w : List ℕ) (ws : List (List ℕ)) → kind_in c w ≡ word.Other → ((s : Setting) (value : List ℕ) → w ≢ joined_word s value) → Choose c (w ∷ ws) None
+  no_value : (c : Choices) (w : List ℕ) (s : Setting) → kind_in c w ≡ word.Setting s → Choose c (w ∷ []) None
+
+-- the words ask for this
+abbrev pub Asks : (list : List (String Global)) → Options → Type 0
+Asks list o = Choose nothing_chosen (names_of list) (Some (choices_of o))
+
+-- they ask for nothing: one of them is no option, or lacks its value
+abbrev pub AsksNothing : (list : List (String Global)) → Type 0
+AsksNothing list = Choose nothing_chosen (names_of list) None

@@ -1,0 +1,7 @@
+-- Lists the definitions of what the program does.
+pub mod Answers
+pub mod Checks
+pub mod CommandWords
+pub mod Naming
+pub mod Troubles
+pub mod WordSteps

@@ -1,0 +1,212 @@
+//! One document: read, and held against its schema.
+
+ghost use Rattle.std.specs.Bool.{Decides};
+ghost use Rattle.std.specs.Prelude.{◌≡◌, None, Option, string_bytes};
+ghost use lib.Chars.{codes};
+ghost use Rattle.json5_schema.specs.Conformance.{Conforms};
+ghost use Rattle.json5_schema.specs.Views.{schema_of};
+ghost use Rattle.json5_types.specs.ValueMeanings.{Datum, value_of};
+ghost use Rattle.cli_check.specs.Checks.{JudgesFile, JudgesInput, JudgesText, JudgesValue, SchemaFor, given_schema};
+ghost use Rattle.cli_check.specs.Troubles.{Refuses, RefusesError};
+
+use crate::choosing::own_schema;
+use crate::faults::{show_bytes, show_faults, show_refusal};
+use crate::options::Options;
+use crate::trouble::{Trouble, Unshown};
+use crate::verdict::{Source, Verdict};
+use cli_files::{Disk, Failure, Reason, read_whole};
+use json5_read::read_document;
+use json5_schema::Schema;
+use json5_types::error::Error;
+use json5_types::value::Value;
+use std::alloc::Global;
+use std::io::{Read, Write};
+
+/// Holds the document in the file with this name, or that in `r` where it is `-`, against the schema that is given, or else its own.
+pub(crate) fn check_file<D: Disk, R: Read, W: Write>(
+    disk: &D,
+    alloc: Global,
+    options: &Options,
+    given: Option<&Schema>,
+    name: &str,
+    r: &mut R,
+    w: &mut W,
+) -> Result<Verdict, Trouble>
+    ensures { JudgesFile (D.opens disk.now) (given_schema given.entry) options.now.maps.items
+        (R.remaining r.old) name.now (R.remaining r.new) result }
+{
+    if is_stdin(name) {
+        return check_input(disk, alloc, options, given, name, r, w);
+    }
+    match disk.open(name) {
+        Ok(mut file) => check_input(disk, alloc, options, given, name, &mut file, w),
+        Err(e) => Err(Trouble::Unopened(Reason::of(&e))),
+    }
+}
+
+/// Whether the name is that of standard input.
+fn is_stdin(name: &str) -> bool
+    ensures { Decides result (name.now ≡ codes "-") }
+{
+    name == "-"
+}
+
+/// The same of the document in a reader.
+fn check_input<D: Disk, R: Read, W: Write>(
+    disk: &D,
+    alloc: Global,
+    options: &Options,
+    given: Option<&Schema>,
+    name: &str,
+    r: &mut R,
+    w: &mut W,
+) -> Result<Verdict, Trouble>
+    ensures { JudgesInput (SchemaFor (D.opens disk.now) (given_schema given.entry) options.now.maps.items name.now)
+        (given_schema given.entry) (R.remaining r.old) result }
+{
+    match read_whole(alloc, r) {
+        Ok(bytes) => check_bytes(disk, alloc, options, given, name, bytes, w),
+        Err(failure) => Err(Trouble::of_read(failure)),
+    }
+}
+
+/// The same of the document in bytes.
+fn check_bytes<D: Disk, W: Write>(
+    disk: &D,
+    alloc: Global,
+    options: &Options,
+    given: Option<&Schema>,
+    name: &str,
+    bytes: Vec<u8>,
+    w: &mut W,
+) -> Result<Verdict, Trouble>
+    ensures { JudgesText (SchemaFor (D.opens disk.now) (given_schema given.entry) options.now.maps.items name.now)
+        (given_schema given.entry) bytes.items result }
+{
+    match String::from_utf8(bytes) {
+        Ok(text) => check_text(disk, alloc, options, given, name, text, w),
+        Err(e) => told(show_bytes(alloc, options, name, e.as_bytes(), w)),
+    }
+}
+
+/// The same of the document in a text.
+fn check_text<D: Disk, W: Write>(
+    disk: &D,
+    alloc: Global,
+    options: &Options,
+    given: Option<&Schema>,
+    name: &str,
+    text: String,
+    w: &mut W,
+) -> Result<Verdict, Trouble>
+    ensures { JudgesText (SchemaFor (D.opens disk.now) (given_schema given.entry) options.now.maps.items name.now)
+        (given_schema given.entry) (string_bytes text) result }
+{
+    let source = Source {
+        name,
+        text: text.as_str(),
+    };
+    match read_document(alloc, text.as_str()) {
+        Ok(value) => check_value(disk, alloc, options, given, source, &value, w),
+        Err(error) => refuse(alloc, options, source, error, w),
+    }
+}
+
+/// Holds the value of a document against the schema that is given, or else its own.
+fn check_value<D: Disk, W: Write>(
+    disk: &D,
+    alloc: Global,
+    options: &Options,
+    given: Option<&Schema>,
+    source: Source<'_>,
+    value: &Value,
+    w: &mut W,
+) -> Result<Verdict, Trouble>
+    ensures { JudgesValue (SchemaFor (D.opens disk.now) (given_schema given.entry) options.now.maps.items source.entry.name.now)
+        (given_schema given.entry) (value_of value.now) result }
+{
+    match given {
+        Some(schema) => judge(alloc, options, schema, source, value, w),
+        None => check_by_own(disk, alloc, options, source, value, w),
+    }
+}
+
+/// Holds the value of a document against the schema that it names.
+fn check_by_own<D: Disk, W: Write>(
+    disk: &D,
+    alloc: Global,
+    options: &Options,
+    source: Source<'_>,
+    value: &Value,
+    w: &mut W,
+) -> Result<Verdict, Trouble>
+    ensures { JudgesValue (SchemaFor (D.opens disk.now) None options.now.maps.items source.entry.name.now) None
+        (value_of value.now) result }
+{
+    match own_schema(disk, alloc, options, source.name, value) {
+        Ok(schema) => judge(alloc, options, &schema, source, value, w),
+        Err(trouble) => Err(Trouble::Schema(trouble)),
+    }
+}
+
+/// Holds the value against the schema, and shows what is wrong with it.
+fn judge<W: Write>(
+    alloc: Global,
+    options: &Options,
+    schema: &Schema,
+    source: Source<'_>,
+    value: &Value,
+    w: &mut W,
+) -> Result<Verdict, Trouble>
+    ensures { (given : Option Datum) → JudgesValue (λ _ s. s ≡ schema_of schema.now) given (value_of value.now) result }
+{
+    match schema.accepts(alloc, value) {
+        Ok(accepted) => judge_so(alloc, options, schema, source, value, accepted, w),
+        Err(error) => Err(Trouble::Undecided(error)),
+    }
+}
+
+/// Says what the schema answers of the value, and shows what is wrong with it.
+fn judge_so<W: Write>(
+    alloc: Global,
+    options: &Options,
+    schema: &Schema,
+    source: Source<'_>,
+    value: &Value,
+    accepted: bool,
+    w: &mut W,
+) -> Result<Verdict, Trouble>
+    requires { Conforms (schema_of schema.now) (value_of value.now) accepted }
+    ensures { (given : Option Datum) → JudgesValue (λ _ s. s ≡ schema_of schema.now) given (value_of value.now) result }
+{
+    if accepted {
+        return Ok(Verdict::Conforms);
+    }
+    told(show_faults(alloc, options, schema, source, value, w))
+}
+
+/// What is said of a document of which this was shown.
+fn told(shown: Result<(), Unshown>) -> Result<Verdict, Trouble>
+    ensures { Refuses result }
+{
+    match shown {
+        Ok(()) => Ok(Verdict::Differs),
+        Err(unshown) => Err(Trouble::of_unshown(unshown)),
+    }
+}
+
+/// Shows why a text is no document, unless it is one and memory ran out.
+fn refuse<W: Write>(
+    alloc: Global,
+    options: &Options,
+    source: Source<'_>,
+    error: Error,
+    w: &mut W,
+) -> Result<Verdict, Trouble>
+    ensures { RefusesError error result }
+{
+    match Failure::at(error) {
+        Failure::Text(error) => told(show_refusal(alloc, options, source, &error, w)),
+        _ => Err(Trouble::NoMemory),
+    }
+}

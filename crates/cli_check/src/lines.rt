@@ -1,0 +1,96 @@
+//! What is written of the program itself, and of what keeps it from its work.
+
+ghost use Rattle.std.specs.Prelude.{◌≡◌};
+ghost use Rattle.json5_write.specs.Pieces.{AppendsFront};
+ghost use Rattle.cli_check.specs.Troubles.{memory_line, usage_line};
+
+use crate::trouble::{SchemaTrouble, Trouble};
+use cli_files::{Failure, report, say, say_of};
+use std::io::Write;
+
+/// What `--help` writes.
+pub(crate) const HELP: &str = "usage: json5_check [OPTION...] FILE...
+Holds each JSON5 file against a JSON Schema, and shows what is wrong with it.
+
+  json5_check --schema S FILE...  against the schema in the file S, which may be JSON5
+  json5_check FILE...             each against the schema that its key `$schema` names:
+                                  a file, from the folder of the document on
+
+A file named - is standard input.
+
+  --schema S       the file of the schema for all
+  --map NAME=FILE  FILE is the schema that documents call NAME, such as a URL
+  --quiet          writes no faults: the status tells
+  --json           writes each fault as a line of JSON
+  --               what follows is no option
+  --help           writes this
+  --version        writes the version
+
+The status is 0 if all conform; 1 if one doesn't, or is no JSON5; 2 if a file or a
+schema can't be read, the schema has a fault, memory runs out, or the words are wrong.
+";
+
+/// Writes how the program is called, as one line, and returns the status 2.
+pub(crate) fn usage<E: Write>(e: &mut E) -> u8
+    ensures status { result ≡ 2 }
+    ensures line { AppendsFront (E.contents e.old) (E.contents e.new) usage_line }
+{
+    say(
+        e,
+        &["usage: json5_check [--schema S] [--map NAME=FILE] [--quiet or --json] FILE...\n"],
+    );
+    2
+}
+
+/// Writes that memory ran out before any work began, and returns the status 2.
+pub(crate) fn no_memory<E: Write>(e: &mut E) -> u8
+    ensures status { result ≡ 2 }
+    ensures line { AppendsFront (E.contents e.old) (E.contents e.new) memory_line }
+{
+    say_of(e, "json5_check", &[": out of memory\n"]);
+    2
+}
+
+/// Writes why the document with this name isn't checked, and returns the status 2.
+pub(crate) fn report_trouble<E: Write>(name: &str, trouble: &Trouble, e: &mut E) -> u8
+    ensures { result ≡ 2 }
+{
+    let name = title(name);
+    match trouble {
+        Trouble::NoMemory => say_failure(name, &Failure::NoMemory, e),
+        Trouble::Read => say_of(
+            e,
+            name,
+            &[": cannot be read: if it is a folder, name its files\n"],
+        ),
+        Trouble::Write => say_failure(name, &Failure::Write, e),
+        Trouble::Unopened(why) => say_of(e, name, &[": cannot be read", why.words(), "\n"]),
+        Trouble::Undecided(error) => say_of(e, name, &[": ", error.message(), "\n"]),
+        Trouble::Schema(trouble) => return report_schema(name, trouble, e),
+    }
+    2
+}
+
+/// Writes why a schema isn't read, under this name where nothing is shown of it, and returns the status 2.
+pub(crate) fn report_schema<E: Write>(name: &str, trouble: &SchemaTrouble, e: &mut E) -> u8
+    ensures { result ≡ 2 }
+{
+    match trouble {
+        SchemaTrouble::NoMemory => say_failure(name, &Failure::NoMemory, e),
+        SchemaTrouble::Read => say_failure(name, &Failure::Read, e),
+        SchemaTrouble::Shown(shown) => say(e, &[shown.as_str(), "\n"]),
+    }
+    2
+}
+
+/// What a file with this name is called: standard input is `stdin`.
+pub(crate) fn title(name: &str) -> &str {
+    match name {
+        "-" => "stdin",
+        _ => name,
+    }
+}
+
+fn say_failure<E: Write>(name: &str, failure: &Failure, e: &mut E) {
+    let _ = report(name, failure, e);
+}

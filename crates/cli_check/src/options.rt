@@ -1,0 +1,198 @@
+//! What the words of the command line ask for.
+
+ghost use Rattle.std.specs.Prelude.{◌≡◌, ◌≤◌, IfOk, OnOk, length};
+ghost use Rattle.cli_check.specs.CommandWords.{choices_of, kind_in, nothing_chosen, with_flag, with_name, with_setting};
+ghost use Rattle.cli_check.specs.WordSteps.{ReadsWords, TakesJoined, TakesSetting, TakesWord};
+ghost use Rattle.cli_files.specs.NameLists.{names_of};
+
+use crate::kinds::{Flag, Setting, Word, joined, kind_of};
+use cli_files::push_name;
+use std::alloc::{AllocError, Global};
+
+/// What is asked for. The last question counts.
+#[derive(Clone, Copy, Drop)]
+pub enum Asked {
+    /// To check files.
+    Files,
+    Help,
+    Version,
+}
+
+/// What the words ask for.
+#[derive(Drop)]
+pub struct Options {
+    pub asked: Asked,
+    /// The file of the schema that each document is held against; else each names its own.
+    pub schema: Option<String>,
+    /// The files of schemas that documents name otherwise, each as `NAME=FILE`.
+    pub maps: Vec<String>,
+    /// Whether nothing is written of faults.
+    pub is_quiet: bool,
+    /// Whether faults are written as lines of JSON.
+    pub is_json: bool,
+    /// Whether `--` came, behind which each word is a name.
+    pub is_ended: bool,
+    /// Of files, as they were given.
+    pub names: Vec<String>,
+}
+
+/// What is wrong with the words.
+#[derive(Clone, Copy, Drop)]
+pub(crate) enum WordFault {
+    /// They ask for nothing.
+    Unknown,
+    NoMemory,
+}
+
+impl From<AllocError> for WordFault {
+    ghost use Rattle.cli_check.specs.declared.options.WordFault.{WordFault};
+
+    ghost from_gives = { λ _ fault. fault ≡ WordFault.NoMemory };
+
+    fn from(_e: AllocError) -> WordFault {
+        WordFault::NoMemory
+    }
+}
+
+impl Options {
+    /// What these words ask for.
+    pub(crate) fn of(alloc: Global, list: &[String]) -> Result<Options, WordFault>
+        ensures { ReadsWords (names_of list.now) result }
+    {
+        let mut options = Options::none(alloc);
+        let mut left = list;
+        while let Some((word, rest)) = left.split_first() {
+            left = options.take(alloc, word.as_str(), rest)?;
+        }
+        Ok(options)
+    }
+
+    /// Nothing was asked for yet.
+    fn none(alloc: Global) -> Options
+        ensures { choices_of result ≡ nothing_chosen }
+    {
+        Options {
+            asked: Asked::Files,
+            schema: None,
+            maps: Vec::new(alloc),
+            is_quiet: false,
+            is_json: false,
+            is_ended: false,
+            names: Vec::new(alloc),
+        }
+    }
+
+    /// Takes the word, and the first of the rest where that is its value. Returns the words that are left.
+    fn take<'w>(
+        &mut self,
+        alloc: Global,
+        word: &str,
+        rest: &'w [String],
+    ) -> Result<&'w [String], WordFault>
+        ensures taken { TakesWord (choices_of self.old) (choices_of self.new) word.now (names_of rest.now) result }
+        ensures shorter { IfOk result (λ left. length left.now ≤ length rest.now) }
+    {
+        match self.kind_of(word) {
+            Word::Name => {
+                self.add_name(alloc, word)?;
+                Ok(rest)
+            }
+            Word::End => {
+                self.is_ended = true;
+                Ok(rest)
+            }
+            Word::Flag(flag) => {
+                self.take_flag(flag);
+                Ok(rest)
+            }
+            Word::Setting(setting) => self.take_setting(alloc, setting, rest),
+            Word::Other => self.take_joined(alloc, word, rest),
+        }
+    }
+
+    /// What the word is, behind those that were taken.
+    fn kind_of(&self, word: &str) -> Word
+        ensures { result ≡ kind_in (choices_of self.now) word.now }
+    {
+        if self.is_ended {
+            Word::Name
+        } else {
+            kind_of(word)
+        }
+    }
+
+    fn add_name(&mut self, alloc: Global, name: &str) -> Result<(), AllocError>
+        ensures { OnOk result (choices_of self.new ≡ with_name name.now (choices_of self.old)) }
+    {
+        push_name(alloc, &mut self.names, name)?;
+        Ok(())
+    }
+
+    fn take_flag(&mut self, flag: Flag)
+        ensures { choices_of self.new ≡ with_flag flag (choices_of self.old) }
+    {
+        match flag {
+            Flag::Help => self.asked = Asked::Help,
+            Flag::Version => self.asked = Asked::Version,
+            Flag::Quiet => self.is_quiet = true,
+            Flag::Json => self.is_json = true,
+        }
+    }
+
+    /// Sets the option to the first of the words. Returns the others.
+    fn take_setting<'w>(
+        &mut self,
+        alloc: Global,
+        setting: Setting,
+        rest: &'w [String],
+    ) -> Result<&'w [String], WordFault>
+        ensures taken { TakesSetting setting (choices_of self.old) (choices_of self.new) (names_of rest.now) result }
+        ensures shorter { IfOk result (λ left. length left.now ≤ length rest.now) }
+    {
+        let Some((value, left)) = rest.split_first() else {
+            return Err(WordFault::Unknown);
+        };
+        self.set(alloc, setting, value.as_str())?;
+        Ok(left)
+    }
+
+    /// Sets the option in the word to the value in it. Returns the other words.
+    fn take_joined<'w>(
+        &mut self,
+        alloc: Global,
+        word: &str,
+        rest: &'w [String],
+    ) -> Result<&'w [String], WordFault>
+        ensures taken { TakesJoined (choices_of self.old) (choices_of self.new) word.now (names_of rest.now) result }
+        ensures shorter { IfOk result (λ left. length left.now ≤ length rest.now) }
+    {
+        let Some((setting, value)) = joined(word) else {
+            return Err(WordFault::Unknown);
+        };
+        self.set(alloc, setting, value)?;
+        Ok(rest)
+    }
+
+    fn set(&mut self, alloc: Global, setting: Setting, value: &str) -> Result<(), AllocError>
+        ensures { OnOk result (choices_of self.new ≡ with_setting setting value.now (choices_of self.old)) }
+    {
+        match setting {
+            Setting::Schema => self.set_schema(alloc, value),
+            Setting::Map => self.add_map(alloc, value),
+        }
+    }
+
+    fn set_schema(&mut self, alloc: Global, file: &str) -> Result<(), AllocError>
+        ensures { OnOk result (choices_of self.new ≡ with_setting Setting.Schema file.now (choices_of self.old)) }
+    {
+        self.schema = Some(String::from_str(alloc, file)?);
+        Ok(())
+    }
+
+    fn add_map(&mut self, alloc: Global, map: &str) -> Result<(), AllocError>
+        ensures { OnOk result (choices_of self.new ≡ with_setting Setting.Map map.now (choices_of self.old)) }
+    {
+        push_name(alloc, &mut self.maps, map)?;
+        Ok(())
+    }
+}

@@ -1,5 +1,0 @@
-use Rattle.std.proofs.Common.{◌-◌, length}
-use Rattle.cli_edit.proofs.putting.+add_along.Given as goal
-
-abbrev pub decreases-add_along : goal.decreases-add_along
-decreases-add_along l = length l.steps.now - l.count
