@@ -4,6 +4,7 @@
 
 use crate::commenting::LINE_ENDS;
 use crate::entries::Entry;
+use json5_edit_style::after_switched_off;
 use json5_edit_style::comments::{is_lead, is_trail};
 use json5_tokens::char::is_json5_line_terminator;
 use json5_tokens::scanner::Scanner;
@@ -93,9 +94,10 @@ fn ends_open(alloc: Global, trail: &str) -> Result<bool> {
 /// The member with its comments.
 fn piece_of(alloc: Global, text: &str, member: &Entry<'_>) -> Result<Piece> {
     let (_, before) = comma_and_tail(alloc, text, member.from)?;
+    let from = after_switched_off(alloc, text, before, member.start)?;
     let (comma, tail) = comma_and_tail(alloc, text, member.end)?;
     Ok(Piece {
-        own: own_start(alloc, text, before, member.start),
+        own: own_start(alloc, text, from, member.start),
         end: member.end,
         comma,
         tail,

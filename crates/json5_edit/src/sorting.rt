@@ -22,9 +22,10 @@ use json5_walk::walk::Walk;
 use std::alloc::Global;
 
 /// Returns the text with the members of the object that the path leads to in the order of their keys: by the code points
-/// of their characters, and equal keys as they stood. With a member go the comments on its line and on the lines right
-/// before it, switched-off entries too; any other, as a heading with an empty line below it, stays where it is, and so do
-/// empty lines and commas. A text that is JSON, or JSON but for comments, stays so.
+/// of their characters, and equal keys as they stood. With a member go the comments that [`remove`](crate::remove) takes
+/// along: those on its line and on the lines right before it. Any other, as a heading with an empty line below it or a
+/// switched-off entry, stays where it is, and so do empty lines and commas. A text that is JSON, or JSON but for
+/// comments, stays so.
 ///
 /// ```text
 /// sort(alloc, "{ port: 80, /* name */ host: 'a' }", &[])?    // { /* name */ host: 'a', port: 80 }

@@ -27,4 +27,5 @@ pub use keys::{Respelling, respelling_for};
 pub use lines::{indentation, line_end};
 pub use removing::{Cut, cut_alone_for, cut_for};
 pub use spots::Which;
+pub use switched_off::after_switched_off;
 pub use value_lines::relined;

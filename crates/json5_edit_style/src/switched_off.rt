@@ -9,9 +9,17 @@ use json5_types::ErrorCode;
 use json5_types::error::Result;
 use std::alloc::Global;
 
-/// Where the last switched-off entry between these offsets of a collection's text ends, or else the first offset. Nothing
-/// but blanks and comments stands between them. An entry may go on over several `//` comments.
-pub(crate) fn after_switched_off(
+/// Returns where the last switched-off entry between these offsets of a collection's text ends, or else the first offset.
+/// Nothing but blanks and comments stands between them. An entry may go on over several `//` comments. Offsets are in bytes.
+///
+/// ```text
+/// after_switched_off(alloc, "[/* 80, */ /* web */ 443]", 1, 21)?    // 10
+/// ```
+///
+/// # Errors
+///
+/// `OutOfMemory` where there is no memory for what the comments say.
+pub fn after_switched_off(
     alloc: Global,
     text: &str,
     from: usize,
