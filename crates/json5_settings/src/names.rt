@@ -9,7 +9,7 @@ use json5_types::error::{self, Error};
 use json5_types::value::Value;
 use std::alloc::Global;
 
-/// The keys of a path.
+/// The keys of a path, which has one.
 pub(crate) fn keys_of(alloc: Global, path: &Path) -> Result<Vec<String>> {
     let mut keys = Vec::new(alloc);
     for step in &steps_of(alloc, path, "{}")? {
@@ -17,6 +17,9 @@ pub(crate) fn keys_of(alloc: Global, path: &Path) -> Result<Vec<String>> {
             return Err(SettingError::NoMember);
         };
         keys.push(owned(alloc, key)?).map_err(Error::from)?;
+    }
+    if keys.is_empty() {
+        return Err(SettingError::NoMember);
     }
     Ok(keys)
 }
@@ -81,13 +84,22 @@ pub(crate) fn member_text(alloc: Global, keys: &[String], value: &str) -> error:
         text.push_str(": ")?;
     }
     match check_document(alloc, value) {
-        Ok(()) => text.push_str(value)?,
+        Ok(()) => push_value(&mut text, value)?,
         Err(_) => text.push_str(&to_json_string(alloc, value)?)?,
     }
     for _ in keys {
         text.push_str(" }")?;
     }
     Ok(text)
+}
+
+/// Appends a value, which may end in a `//` comment.
+fn push_value(text: &mut String, value: &str) -> error::Result<()> {
+    text.push_str(value)?;
+    if value.contains("//") {
+        text.push_str("\n")?;
+    }
+    Ok(())
 }
 
 pub(crate) fn owned(alloc: Global, text: &str) -> error::Result<String> {
