@@ -7,3 +7,4 @@ pub mod MergesMade
 pub mod PutsMade
 pub mod PutsRefused
 pub mod PathsPut
+pub mod PutsPlain

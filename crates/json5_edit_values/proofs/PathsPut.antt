@@ -1,12 +1,12 @@
 -- Entries that are put in for the steps of a path.
-use Rattle.std.proofs.Common.{◌≡◌, ◌≢◌, inl, inr, ℕ, ◌≤◌, ◌<◌, ◌+◌, zero, suc, List, [], ◌∷◌, ◌++◌, length, take, drop, refl, sym, ap, ◌∙◌, subst, arith}
+use Rattle.std.proofs.Common.{◌≡◌, ◌≢◌, inl, inr, ℕ, ◌<◌, ◌+◌, zero, suc, List, [], ◌∷◌, ◌++◌, length, take, drop, refl, sym, ap, ◌∙◌, subst, arith}
 use Rattle.std.specs.declared.alloc.Global.{Global}
-use Rattle.std.specs.Prelude.{Bool, true, false, Option, Some, None, is_some, IfErr, IfOk, Result, Ok, Err, String, string_bytes}
+use Rattle.std.specs.Prelude.{true, false, Option, Some, None, is_some, IfErr, IfOk, Result, Ok, Err, String, string_bytes}
 use Rattle.std.specs.Str.{chars}
 use Rattle.json5_edit.specs.Changes.{IsPushed}
 use Rattle.json5_edit.specs.Parts.{positions_of}
 use Rattle.json5_edit.specs.Places.{LeadsNowhere, LeadsTo}
-use Rattle.json5_edit.specs.Refusals.{Reaches, RefusesPath, RefusesPush, RefusesSet}
+use Rattle.json5_edit.specs.Refusals.{RefusesPath, RefusesPush, RefusesSet}
 use Rattle.json5_edit.specs.declared.faults.EditError.{EditError}
 use Rattle.json5_edit.specs.declared.faults.EditError.TheVariants as error
 use Rattle.json5_edit.specs.declared.paths.Step.{Step}

@@ -1,26 +1,24 @@
 -- What putting a value makes of a tree.
 use denote.Ref.{Bor}
-use Rattle.std.proofs.Common.{◌≡◌, ◌≢◌, ◌⊎◌, inl, inr, ℕ, zero, suc, List, [], ◌∷◌, ◌++◌, append-nil, length, refl, sym, ap, ◌∙◌, subst, Option, Some, None, Bool, true, false, nat_eq}
+use Rattle.std.proofs.Common.{◌≡◌, ◌≢◌, inl, inr, ℕ, List, [], ◌∷◌, ◌++◌, append-nil, length, refl, sym, ap, ◌∙◌, subst, Option, Some, None, nat_eq}
 use Rattle.std.specs.Cmp.Lexicographic.{pointwise}
 use Rattle.std.specs.Str.{chars, encode_utf8_all}
 use lib.Chars.{codes}
 use lib.Pointwise.{bytes_decides}
 use Rattle.json5_grammar.specs.Language.Blanks.{empty}
 use Rattle.json5_grammar.specs.Language.Documents.{Doc, max_depth}
-use Rattle.json5_grammar.specs.Language.Trees.{Tree, Trees, Members, null, boolean, number, text, array, object, no_more, more, no_member, member, depth}
+use Rattle.json5_grammar.specs.Language.Trees.{Tree, Trees, Members, null, boolean, number, text, array, object, no_more, more, no_member, member}
 use Rattle.json5_grammar.specs.Language.Values.{Val, is_empty_array, is_empty_object}
-use Rattle.json5_read.specs.declared.brackets.BracketKind.TheVariants as kind
-use Rattle.json5_edit.specs.Changes.{ChangesBy, IsChanged, IsInserted, IsPushed}
+use Rattle.json5_edit.specs.Changes.{ChangesBy}
 use Rattle.json5_edit.specs.Comparing.{IsWithLast, step_key, step_kind}
-use Rattle.json5_edit.specs.Entries.{elements, empty_of, entries, kind_of, members}
+use Rattle.json5_edit.specs.Entries.{elements, entries, members}
 use Rattle.json5_edit.specs.Parts.{element_of, in_element, in_member, later_or, member_of, part, positions_of, put, put_at, put_under, under}
 use Rattle.json5_edit.specs.Places.{LeadsNowhere}
-use Rattle.json5_edit.specs.Refusals.{Reaches}
 use Rattle.json5_edit.specs.Sets.{IsSet}
 use Rattle.json5_edit.specs.declared.paths.Step.{Step}
 use Rattle.json5_edit.specs.declared.paths.Step.TheVariants as step
-use Rattle.json5_edit_values.specs.Locations.{Becomes, ChangesAt, HasAt}
-use Rattle.json5_edit_values.specs.Puts.{Gets, GetsAlong, GetsText, GoesBehind, IsAdded, IsPut, Puts, PutsSpelled, begun, first_in}
+use Rattle.json5_edit_values.specs.Locations.{Becomes, ChangesAt}
+use Rattle.json5_edit_values.specs.Puts.{Gets, GetsAlong, GetsText, IsAdded, IsPut, Puts, begun, first_in}
 use Rattle.json5_edit_values.proofs.MergesMade.{change_whole}
 use Rattle.json5_edit_values.proofs.PatchesMade.{one_document, one_there, one_value}
 use Rattle.json5_edit_values.proofs.PathsJoined.{changes_twice, changes_within, leads_after, part_of_element, part_of_member}

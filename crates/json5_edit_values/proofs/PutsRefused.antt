@@ -1,22 +1,20 @@
 -- Why a value isn't put.
 use denote.Ref.{Bor}
-use Rattle.std.proofs.Common.{◌≡◌, ◌≢◌, ◌⊎◌, inl, inr, ℕ, ◌+◌, ◌-◌, ◌≤◌, ◌<◌, zero, suc, List, [], ◌∷◌, ◌++◌, length, length-append, refl, sym, ap, ◌∙◌, subst, arith, Option, Some, None}
+use Rattle.std.proofs.Common.{◌≡◌, ◌⊎◌, inl, inr, ℕ, ◌+◌, ◌≤◌, ◌<◌, suc, List, [], ◌∷◌, ◌++◌, length, length-append, refl, sym, ap, ◌∙◌, subst, arith, Some, None}
 use Rattle.std.specs.Prelude.{⊤, option_map}
 use Rattle.std.specs.Str.{chars}
-use lib.Chars.{codes}
 use Rattle.json5_grammar.specs.Language.Documents.{Doc, max_depth}
 use Rattle.json5_grammar.specs.Language.Trees.{Tree, depth}
 use Rattle.json5_grammar.specs.Language.Values.{Val}
-use Rattle.json5_edit.specs.Comparing.{step_key, step_kind}
-use Rattle.json5_edit.specs.Entries.{empty_of, entries}
+use Rattle.json5_edit.specs.Entries.{entries}
 use Rattle.json5_edit.specs.Parts.{part, positions_of}
 use Rattle.json5_edit.specs.Places.{LeadsNowhere}
-use Rattle.json5_edit.specs.Refusals.{HasKey, IsFaulty, IsNo, Misfits, Reaches, RefusesInsert, RefusesPush, RefusesSet}
+use Rattle.json5_edit.specs.Refusals.{HasKey, IsFaulty, Misfits, Reaches, RefusesInsert, RefusesPush}
 use Rattle.json5_edit.specs.declared.faults.EditError.{EditError}
 use Rattle.json5_edit.specs.declared.faults.EditError.TheVariants as error
 use Rattle.json5_edit.specs.declared.paths.Step.{Step}
 use Rattle.json5_edit.specs.declared.paths.Step.TheVariants as step
-use Rattle.json5_edit_values.specs.Puts.{Gets, GetsAlong, GetsText, IsNoValueWithin, RefusesAlong, RefusesEntry, RefusesPut, RefusesStep, RefusesSteps, begun, first_in}
+use Rattle.json5_edit_values.specs.Puts.{Gets, IsNoValueWithin, RefusesAlong, RefusesEntry, RefusesPut, RefusesStep, RefusesSteps, begun, first_in}
 use Rattle.json5_edit_values.proofs.PatchesMade.{one_document, one_there}
 use Rattle.json5_edit_values.proofs.PathsJoined.{leads_after, led_by_key, led_on, no_more_steps, part_on}
 use Rattle.json5_edit_values.proofs.PutsMade.{begun_spelled, begun_value, first_led, gained, last_at}

@@ -1,8 +1,8 @@
 -- What an edit with a text says of an edit with a value that the text spells.
-use Rattle.std.proofs.Common.{◌≤◌, ◌<◌, ◌⊎◌, inl, inr, ℕ, ◌+◌, List, [], length, sym, subst, arith}
+use Rattle.std.proofs.Common.{◌≤◌, ◌<◌, ◌⊎◌, inl, inr, ℕ, ◌+◌, List, length, sym, subst, arith}
 use Rattle.std.specs.Str.{chars}
 use Rattle.json5_grammar.specs.Language.Documents.{max_depth}
-use Rattle.json5_grammar.specs.Language.Trees.{Tree, depth}
+use Rattle.json5_grammar.specs.Language.Trees.{depth}
 use Rattle.json5_write.specs.EscapeFreeMarks.{marks}
 use Rattle.json5_write.specs.Out.{written_text}
 use Rattle.json5_write.specs.WrittenTrees.{Written}

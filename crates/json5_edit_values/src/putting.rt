@@ -1,9 +1,11 @@
 //! A value that is put where a path leads, whether one was there or not.
 
 ghost use Rattle.std.specs.Prelude.{◌≡◌, ◌≤◌, [], drop, length, take, IfErr, IfOk, string_bytes};
+ghost use Rattle.json5_edit.specs.Changes.{StaysPlainQuoted};
 ghost use Rattle.json5_edit.specs.Places.{LeadsNowhere};
 ghost use Rattle.json5_edit.specs.Refusals.{RefusesPath};
 ghost use Rattle.json5_edit.specs.declared.paths.Step.TheVariants as steps;
+ghost use Rattle.json5_lexemes.specs.Plain.{StaysPlain};
 ghost use Rattle.json5_edit_values.specs.Puts.{EndsAfter, GetsAlong, GetsText, IsAdded, IsPut, IsPutIfAbsent, RefusesAlong, RefusesEntry, RefusesPut, first_in};
 
 use crate::patch::adding::count_at;
@@ -28,12 +30,14 @@ use std::alloc::Global;
 /// - `NoMemory` where there is no memory for the text, or for a key with an escape.
 pub fn put(alloc: Global, text: &str, path: &[Step<'_>], value: &str) -> Result<String>
     ensures put { IfOk result (λ made. IsPut text.now path.now value.now (string_bytes made)) }
+    ensures plain { IfOk result (λ made. StaysPlain text.now value.now (string_bytes made)) }
     ensures refused { IfErr result (RefusesPut text.now path.now value.now) }
 {
     put_in(alloc, text, path, value, Names::Quoted)
 }
 
-/// As [`put`], where the caller says how a name stands as the first key of a document.
+/// As [`put`], where the caller says how a name stands as the first key of a document. With `Names::Bare` a document of
+/// JSON may come to have a key without quotes.
 ///
 /// ```text
 /// put_in(alloc, "{}", &[Step::Key("port")], "80", Names::Bare)?    // { port: 80 }
@@ -50,6 +54,7 @@ pub fn put_in(
     names: Names,
 ) -> Result<String>
     ensures put { IfOk result (λ made. IsPut text.now path.now value.now (string_bytes made)) }
+    ensures plain { IfOk result (λ made. StaysPlainQuoted names text.now value.now (string_bytes made)) }
     ensures refused { IfErr result (RefusesPut text.now path.now value.now) }
 {
     match find(alloc, text, path) {
@@ -76,6 +81,7 @@ pub fn put_if_absent(
     names: Names,
 ) -> Result<String>
     ensures put { IfOk result (λ made. IsPutIfAbsent text.now path.now value.now (string_bytes made)) }
+    ensures plain { IfOk result (λ made. StaysPlainQuoted names text.now value.now (string_bytes made)) }
     ensures refused { IfErr result (RefusesPut text.now path.now value.now) }
 {
     match find(alloc, text, path) {
@@ -95,6 +101,7 @@ fn add_missing(
 ) -> Result<String>
     requires { LeadsNowhere text.now path.now }
     ensures added { IfOk result (λ made. IsAdded text.now path.now value.now (string_bytes made)) }
+    ensures plain { IfOk result (λ made. StaysPlainQuoted names text.now value.now (string_bytes made)) }
     ensures refused { IfErr result (RefusesPut text.now path.now value.now) }
 {
     let count = steps_that_lead(alloc, text, path)?;
@@ -130,6 +137,7 @@ fn add_along(
 ) -> Result<String>
     requires { count ≤ length path.now }
     ensures added { IfOk result (λ made. GetsAlong text.now (take count path.now) (drop count path.now) value.now (string_bytes made)) }
+    ensures plain { IfOk result (λ made. StaysPlainQuoted names text.now value.now (string_bytes made)) }
     ensures refused { IfErr result (RefusesAlong text.now (take count path.now) (drop count path.now) value.now) }
 {
     let (outer, rest) = path.split_at(count);
@@ -164,6 +172,7 @@ fn entered(
     names: Names,
 ) -> Result<String>
     ensures added { IfOk result (λ made. GetsText step.entry text.now outer.now value.now (string_bytes made)) }
+    ensures plain { IfOk result (λ made. StaysPlainQuoted names text.now value.now (string_bytes made)) }
     ensures refused { IfErr result (RefusesEntry step.entry text.now outer.now value.now) }
 {
     match step {
@@ -181,6 +190,7 @@ fn appended(
     value: &str,
 ) -> Result<String>
     ensures added { IfOk result (λ made. GetsText (steps.Index count) text.now outer.now value.now (string_bytes made)) }
+    ensures plain { IfOk result (λ made. StaysPlain text.now value.now (string_bytes made)) }
     ensures refused { IfErr result (RefusesEntry (steps.Index count) text.now outer.now value.now) }
 {
     let Some(found) = count_at(alloc, text, outer)? else {

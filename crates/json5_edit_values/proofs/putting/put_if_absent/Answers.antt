@@ -1,4 +1,4 @@
-use Rattle.std.proofs.Common.{[], inl, inr, string_bytes}
+use Rattle.std.proofs.Common.{[], inl, inr}
 use Rattle.json5_edit.proofs.Placed.{ok_then}
 use Rattle.json5_edit_values.proofs.PathsPut.{leads_none, leads_there, path_refused}
 use Rattle.json5_edit_values.proofs.putting.put_if_absent.Goals as goal

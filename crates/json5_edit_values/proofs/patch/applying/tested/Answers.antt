@@ -1,4 +1,4 @@
-use Rattle.std.proofs.Common.{subst, sym, string_bytes}
+use Rattle.std.proofs.Common.{subst, sym}
 use Rattle.std.specs.Bool.{OnTrue}
 use Rattle.json5_edit.specs.Changes.{ChangesBy}
 use Rattle.json5_edit_values.specs.Patches.{Tests}

@@ -1,4 +1,4 @@
-use Rattle.std.proofs.Common.{subst, arith}
+use Rattle.std.proofs.Common.{subst}
 use Rattle.std.proofs.lemmas.List.{take_all}
 use Rattle.json5_edit_values.specs.Locations.{AreSteps, IsStep}
 use Rattle.json5_edit_values.proofs.PatchesMade.{steps_more}
