@@ -4,5 +4,6 @@ pub mod KeysTaken
 pub mod PartsRead
 pub mod Reading
 pub mod EditsMade
+pub mod EditsDone
 pub mod ValuesMoved
 pub mod Statuses

@@ -1,5 +1,5 @@
 -- The value that a path leads to.
-use Rattle.std.proofs.Common.{◌≡◌, ◌≤◌, ◌<◌, ◌+◌, ◌⊎◌, append-nil, append_assoc, get_or, length, take, inl, inr, ℕ, zero, suc, true, false, Bool, List, [], ◌∷◌, ◌++◌, Option, Some, refl, ap, sym, ◌∙◌, subst, arith}
+use Rattle.std.proofs.Common.{◌≡◌, ◌≤◌, ◌<◌, ◌+◌, ◌⊎◌, append-nil, append_assoc, get_or, length, take, inl, inr, ℕ, zero, suc, true, false, Bool, List, [], ◌∷◌, ◌++◌, Some, refl, ap, sym, ◌∙◌, subst, arith}
 use Rattle.std.proofs.Math.Nat.{le-max_left, le-max_right}
 use Rattle.std.specs.declared.alloc.Global.{Global}
 use Rattle.std.specs.Prelude.{IfErr, IfOk, Result, Ok, Err, String, string_bytes, slice_range}
@@ -13,7 +13,6 @@ use Rattle.json5_grammar.proofs.OneTree.{one_tree}
 use Rattle.json5_grammar.proofs.ScalarsWritten.{alone}
 use Rattle.json5_types.specs.declared.error.Error.{Error}
 use Rattle.json5_types.specs.Errors.{LacksMemory}
-use Rattle.json5_types.specs.ValueKinds.{len_of}
 use Rattle.json5_types.specs.ValueLookups.{fits}
 use Rattle.json5_types.specs.ValueMeanings.{Datum, fields_view}
 use Rattle.json5_types.specs.declared.value.Value.{Value}

@@ -6,4 +6,5 @@ pub mod Values
 pub mod Makes
 pub mod Troubles
 pub mod Works
+pub mod SeveralEdits
 pub mod Answers

@@ -6,6 +6,8 @@
 //! what would change. A text that is refused is shown on standard error by a report of json5_report, and anything else
 //! that is wrong by a line or two. The status is 1 where the path leads nowhere, 3 where the text is no JSON5, and 2 for
 //! anything else that is wrong.
+//!
+//! [`edit_file`] and [`edit_text`] make several of these edits at once, for programs.
 #![tactic(auto)]
 
 mod advice;
@@ -18,6 +20,7 @@ mod parts;
 mod patches;
 mod placed;
 mod requests;
+mod several_edits;
 mod texts;
 mod trouble;
 mod values;
@@ -26,4 +29,5 @@ mod works;
 pub use answers::answer;
 pub use host_program::{program, words};
 pub use requests::{Command, EditRequest, Given, Source, Task, View};
+pub use several_edits::{Edit, EditFileError, EditsError, edit_file, edit_text};
 pub use trouble::TextTrouble;

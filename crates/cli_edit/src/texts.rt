@@ -25,7 +25,7 @@ pub(crate) fn text_of<S: Store, R: Read>(
 }
 
 /// The text of the file with this name.
-fn text_in<S: Store>(store: &S, alloc: Global, name: &str) -> Result<String, Failure>
+pub(crate) fn text_in<S: Store>(store: &S, alloc: Global, name: &str) -> Result<String, Failure>
     ensures read { IfOk result (λ text. FileHolds (S.known store.now) name.now (string_bytes text)) }
     ensures stopped { IfErr result (FileHoldsNone (S.known store.now) name.now) }
 {
