@@ -7,7 +7,7 @@ use Rattle.json5_types.specs.declared.error.Error.{Error}
 use Rattle.json5_types.specs.ValueMeanings.{Datum}
 use Rattle.json5_read.specs.DocumentReads.{IsRefused, ReadsText}
 use Rattle.json5_styles.specs.JsonTexts.{is_json}
-use Rattle.json5_convert.specs.Respelled.{HasNumbers, IsAsPlain, IsLost, IsOfText, IsOwn, IsRespelled, KeepsNumbers, MeansValue, RefusesRespelling, loses_number}
+use Rattle.json5_convert.specs.Respelled.{IsAsPlain, IsLost, IsOfText, IsOwn, IsRespelled, KeepsNumbers, MeansValue, RefusesRespelling, loses_number}
 use Rattle.json5_convert.specs.Spellings.{has_json_numbers}
 use Rattle.json5_convert.specs.declared.faults.RespellError.{RespellError}
 use Rattle.json5_convert.specs.declared.faults.RespellError.TheVariants as error

@@ -1,5 +1,7 @@
 -- Lists the lemmas about documents that are spelled anew.
+pub mod CommentsPassed
 pub mod Kept
+pub mod OneComments
 pub mod StreamsRead
 pub mod TomlHeld
 pub mod TomlParts

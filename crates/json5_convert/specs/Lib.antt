@@ -1,4 +1,6 @@
 -- Lists the definitions for documents that are spelled anew.
+pub mod CommentSteps
+pub mod Comments
 pub mod Respelled
 pub mod Spellings
 pub mod Streams

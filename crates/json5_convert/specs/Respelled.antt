@@ -1,7 +1,6 @@
 -- What spelling a document anew keeps, and why it isn't done.
 -- A promise rests on this.
-use Rattle.std.specs.declared.alloc.Global.{Global}
-use Rattle.std.specs.Prelude.{◌≡◌, ◌&&◌, not, ℕ, Bool, true, false, List, Result, IfOk, IfErr, String, string_bytes, ⊤}
+use Rattle.std.specs.Prelude.{◌≡◌, ◌&&◌, not, ℕ, Bool, true, false, List, ⊤}
 use Rattle.std.specs.Str.{chars}
 use Rattle.json5_grammar.specs.Language.Documents.{Doc, max_depth}
 use Rattle.json5_grammar.specs.Language.Trees.{Tree}
@@ -12,6 +11,7 @@ use Rattle.json5_lexemes.specs.Plain.{PlainText}
 use Rattle.json5_read.specs.DocumentReads.{IsRefused}
 use Rattle.json5_read.specs.TreeMeanings.{datum_of}
 use Rattle.json5_styles.specs.JsonTexts.{is_json}
+use Rattle.json5_convert.specs.Comments.{HaveSameComments, HasNoComment}
 use Rattle.json5_convert.specs.Spellings.{asks_json, has_comments, has_json_numbers}
 use Rattle.json5_convert.specs.declared.faults.RespellError.{RespellError}
 use Rattle.json5_convert.specs.declared.faults.RespellError.TheVariants as error
@@ -29,6 +29,10 @@ pub record MeanTheSame (x y : List ℕ) : Type 0 where
 pub record IsRespelled (spelling : Spelling) (text made : List ℕ) : Type 0 where
   pub means : MeanTheSame (chars text) (chars made)
   pub plain : asks_json spelling ≡ true → PlainText (has_comments spelling) made
+
+-- the comments stay, to the letter and in their order; where they are to go there are none
+abbrev pub KeepsComments : Spelling → (text made : List ℕ) → Type 0
+KeepsComments spelling text made = (has_comments spelling ≡ true → HaveSameComments (chars text) (chars made)) × (has_comments spelling ≡ false → HasNoComment (chars made))
 
 -- the text is a document whose numbers are such
 abbrev pub HasNumbers : (are_json : Bool) → (text : List ℕ) → Type 0

@@ -6,8 +6,10 @@
 //! ```
 #![tactic(auto)]
 
+mod comments;
 mod faults;
 mod gaps;
+pub mod laws;
 mod lines;
 mod numbers;
 mod respelled;

@@ -2,33 +2,26 @@
 //!
 //! Plain code: what it makes is read again.
 
-use crate::faults::{RespellError, Result};
+use crate::faults::Result;
 use json5_lexemes::is_plain_with;
-use json5_types::Position;
 use json5_types::number::Number;
 use json5_types::whole::Whole;
 use std::fmt::Write;
 
 /// Appends a number that is spelled so, as JSON has it: with the same digits, but that a hexadecimal one is in decimal
-/// digits. The number stands at this position.
-pub(crate) fn push_number(
-    made: &mut String,
-    token: &str,
-    number: &Number,
-    position: Position,
-) -> Result<()> {
+/// digits. Says whether JSON has it: infinity and not-a-number aren't appended.
+pub(crate) fn push_number(made: &mut String, token: &str, number: &Number) -> Result<bool> {
     if is_plain_with(false, token) {
-        return Ok(made.push_str(token)?);
+        made.push_str(token)?;
+        return Ok(true);
     }
     let (sign, digits) = parted(token);
-    made.push_str(sign)?;
     match number {
-        Number::Whole(whole) => push_whole(made, digits, *whole),
-        Number::Decimal(decimal) if decimal.is_infinite() || decimal.is_nan() => {
-            Err(RespellError::Number(position))
-        }
-        Number::Decimal(_) => push_decimal(made, digits),
+        Number::Whole(whole) => push_whole(made, sign, digits, *whole)?,
+        Number::Decimal(decimal) if decimal.is_infinite() || decimal.is_nan() => return Ok(false),
+        Number::Decimal(_) => push_decimal(made, sign, digits)?,
     }
+    Ok(true)
 }
 
 /// The sign, if it is a minus, and the number without a sign.
@@ -42,8 +35,9 @@ fn parted(token: &str) -> (&'static str, &str) {
     }
 }
 
-/// Appends a whole number of these digits, which may be hexadecimal, without its sign.
-fn push_whole(made: &mut String, digits: &str, whole: Whole) -> Result<()> {
+/// Appends a whole number of this sign and these digits, which may be hexadecimal.
+fn push_whole(made: &mut String, sign: &str, digits: &str, whole: Whole) -> Result<()> {
+    made.push_str(sign)?;
     if !digits.starts_with("0x") && !digits.starts_with("0X") {
         return Ok(made.push_str(digits)?);
     }
@@ -54,8 +48,9 @@ fn push_whole(made: &mut String, digits: &str, whole: Whole) -> Result<()> {
     Ok(write!(made, "{size}")?)
 }
 
-/// Appends a decimal with digits on both sides of its point.
-fn push_decimal(made: &mut String, digits: &str) -> Result<()> {
+/// Appends a decimal of this sign, with digits on both sides of its point.
+fn push_decimal(made: &mut String, sign: &str, digits: &str) -> Result<()> {
+    made.push_str(sign)?;
     let Some((front, fraction)) = digits.split_once('.') else {
         return Ok(made.push_str(digits)?);
     };

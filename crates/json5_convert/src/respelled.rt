@@ -2,8 +2,9 @@
 
 ghost use Rattle.std.specs.Prelude.{◌≡◌, true, IsTrue, IfOk, IfErr, OnOk, string_bytes};
 ghost use Rattle.json5_types.specs.ValueMeanings.{value_of};
-ghost use Rattle.json5_convert.specs.Respelled.{IsAsPlain, IsLost, IsOwn, IsRespelled, IsUnread, KeepsNumbers, MeansValue, RefusesRespelling, loses_number};
+ghost use Rattle.json5_convert.specs.Respelled.{IsAsPlain, IsLost, IsOwn, IsRespelled, IsUnread, KeepsComments, KeepsNumbers, MeansValue, RefusesRespelling, loses_number};
 
+use crate::comments::keeps_comments;
 use crate::faults::{RespellError, Result};
 use crate::spelling::Spelling;
 use crate::tokens::spelled;
@@ -17,8 +18,9 @@ use std::alloc::Global;
 /// Spells the tokens of a document anew. Comments stay where they are, unless the spelling drops them; so do blanks and
 /// lines, and a token that is as the spelling asks.
 ///
-/// What is returned is a document that means the same: numbers by their value, strings and keys by their characters. If
-/// [`Spelling::json`] is asked for it is JSON but for comments, and JSON if there are none.
+/// What is returned is a document that means the same: numbers by their value, strings and keys by their characters. It
+/// has the same comments, to the letter and in their order, or none if the spelling drops them. If [`Spelling::json`] is
+/// asked for it is JSON but for comments, and JSON if there are none.
 ///
 /// ```text
 /// respell(alloc, "{port: 0x50,} // web", Spelling::json())?    // {"port": 80} // web
@@ -30,9 +32,10 @@ use std::alloc::Global;
 /// - `Text` where the text is no document, as `json5_read::read_document` refuses it.
 /// - `Number` where numbers are to be JSON's, and infinity or not-a-number stands at the position.
 /// - `NoMemory` where a request for memory was refused.
-/// - `Failed` where what was made didn't read as the same value. No test has met that.
+/// - `Failed` where what was made didn't read as the same value, or hadn't the same comments. No test has met that.
 pub fn respell(alloc: Global, text: &str, spelling: Spelling) -> Result<String>
     ensures respelled { IfOk result (λ made. IsRespelled spelling text.now (string_bytes made)) }
+    ensures comments { IfOk result (λ made. KeepsComments spelling text.now (string_bytes made)) }
     ensures numbers { OnOk result (KeepsNumbers spelling text.now) }
     ensures refused { IfErr result (RefusesRespelling spelling text.now) }
 {
@@ -41,7 +44,7 @@ pub fn respell(alloc: Global, text: &str, spelling: Spelling) -> Result<String>
         return Err(lost_number(alloc, spelling, text));
     }
     let made = spelled_anew(alloc, spelling, text)?;
-    if is_respelled(alloc, spelling, &value, made.as_str()) {
+    if is_respelled(alloc, spelling, &value, text, made.as_str()) {
         return Ok(made);
     }
     Err(RespellError::Failed)
@@ -87,16 +90,18 @@ fn lost_number(alloc: Global, spelling: Spelling, text: &str) -> RespellError
     }
 }
 
-/// Whether what was made is a document of this value, and JSON where that is asked for.
-fn is_respelled(alloc: Global, spelling: Spelling, value: &Value, made: &str) -> bool
+/// Whether what was made of the text is a document of this value, with the comments that are asked for, and JSON where
+/// that is asked for.
+fn is_respelled(alloc: Global, spelling: Spelling, value: &Value, text: &str, made: &str) -> bool
     ensures means { IsTrue result → MeansValue (value_of value.now) made.now }
+    ensures comments { IsTrue result → KeepsComments spelling text.now made.now }
     ensures plain { IsTrue result → IsAsPlain spelling made.now }
 {
     let Ok(other) = read_document(alloc, made) else {
         return false;
     };
     if other == *value {
-        return is_as_plain(spelling, made);
+        return keeps_comments(spelling, text, made) && is_as_plain(spelling, made);
     }
     false
 }

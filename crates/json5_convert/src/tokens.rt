@@ -133,7 +133,10 @@ impl<'t> Speller<'t> {
             return self.copy();
         }
         let token = self.taken();
-        push_number(&mut self.made, token, &number, self.walk.position_of(start))
+        if push_number(&mut self.made, token, &number)? {
+            return Ok(());
+        }
+        Err(RespellError::Number(self.walk.position_of(start)))
     }
 
     /// A key, or the closing brace.

@@ -1,7 +1,7 @@
 use Rattle.std.proofs.Common.{sym, ◌∙◌, subst, string_bytes}
 use Rattle.std.proofs.lemmas.Result.{err_from_is_err_and}
 use Rattle.json5_types.specs.ValueMeanings.{value_of}
-use Rattle.json5_convert.specs.Respelled.{IsAsPlain, MeansValue}
+use Rattle.json5_convert.specs.Respelled.{IsAsPlain, KeepsComments, MeansValue}
 use Rattle.json5_convert.specs.declared.faults.RespellError.TheVariants as error
 use Rattle.json5_convert.proofs.Kept.{keeps_numbers, lost, own, respelled}
 use Rattle.json5_convert.proofs.respelled.respell.Goals as goal
@@ -23,6 +23,9 @@ pub returns-then-is_respelled-clause-respelled : goal.returns-then-is_respelled-
 returns-then-is_respelled-clause-respelled c =
     let is = c.as_str.ensures.value in
     respelled c.args.spelling c.args.text.now (string_bytes c.in_ok-made.made) (value_of c.in_ok-value.value) c.in_ok-value.ensures.read (subst (MeansValue (value_of c.in_ok-value.value)) is (c.is_respelled.ensures.means c.if-is_respelled.true)) (subst (IsAsPlain c.args.spelling) is (c.is_respelled.ensures.plain c.if-is_respelled.true))
+
+pub returns-then-is_respelled-clause-comments : goal.returns-then-is_respelled-clause-comments
+returns-then-is_respelled-clause-comments c = subst (KeepsComments c.args.spelling c.args.text.now) c.as_str.ensures.value (c.is_respelled.ensures.comments c.if-is_respelled.true)
 
 pub returns-then-is_respelled-clause-numbers : goal.returns-then-is_respelled-clause-numbers
 returns-then-is_respelled-clause-numbers c = keeps_numbers c.args.spelling c.args.text.now (value_of c.in_ok-value.value) c.in_ok-value.ensures.read (sym c.loses_number.ensures ∙ c.if-loses_number.false)
