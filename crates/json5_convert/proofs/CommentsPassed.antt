@@ -19,7 +19,7 @@ use Rattle.json5_lexemes.specs.Lexemes as lexemes
 use Rattle.json5_lexemes.specs.Pieces.{IsPiece}
 use Rattle.json5_convert.specs.Comments.{Comments, HaveSameComments, begins_neither}
 use Rattle.json5_convert.specs.Comments as comments
-use Rattle.json5_convert.specs.CommentSteps.{FindsComment, IsComment, IsReached, PassesNone, TakesComment, TakesQuoted, TakesSame, is_inside}
+use Rattle.json5_convert.specs.CommentSteps.{IsComment, IsReached, PassesNone, TakesComment, TakesQuoted, TakesSame, is_inside}
 use Rattle.json5_lexemes.specs.declared.pieces.Piece.TheVariants as piece
 
 -- ---- runs
@@ -95,12 +95,6 @@ is_first false false h k = absurd (cc)
 -- what begins a string or a comment, and no comment
 pub begins_quote : (x y : List ℕ) (c : ℕ) → NotBegun begins_neither x → x ≡ c ∷ y → c ≢ 47 → is_quote c ≡ true
 begins_quote x y c n e other = is_first (is_quote c) (c == 47) (stops_at begins_neither x y c n e) (ne_eqb c 47 other)
-
-pub found_there : (x y z : List ℕ) (c : ℕ) → PassesNone x y → y ≡ c ∷ z → c ≡ 47 → FindsComment x y
-found_there x y z c p e f = record { passed = p; there = subst (NotBegun (λ d. not (d == 47))) (sym (e ∙ ap (λ d. d ∷ z) f)) refl }
-
-pub found_none : (x y : List ℕ) → PassesNone x y → y ≡ [] → FindsComment x y
-found_none x y p e = record { passed = p; there = subst (NotBegun (λ c. not (c == 47))) (sym e) tt }
 
 -- ---- a comment
 

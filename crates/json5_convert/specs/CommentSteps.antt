@@ -1,7 +1,7 @@
 -- Steps over the comments of a text.
 -- Private.
 use Rattle.std.specs.Prelude.{◌≡◌, ◌==◌, ◌||◌, ◌<◌, ◌≤◌, not, ℕ, Bool, List, ◌∷◌, ◌++◌, length}
-use Rattle.json5_grammar.specs.Language.Characters.{backslash, slash_sign, NotBegun}
+use Rattle.json5_grammar.specs.Language.Characters.{backslash}
 use Rattle.json5_convert.specs.Comments.{Comments, HaveSameComments}
 use Rattle.json5_lexemes.specs.Lexemes.{Quoted}
 
@@ -17,11 +17,6 @@ TakesQuoted q x r = (s : List ℕ) × Quoted q s × (x ≡ s ++ r)
 pub record PassesNone (x r : List ℕ) : Type 0 where
   pub none : (cs : List (List ℕ)) → Comments r cs → Comments x cs
   pub shorter : length r ≤ length x
-
--- no comment comes before r, which begins with a slash or is empty
-pub record FindsComment (x r : List ℕ) : Type 0 where
-  pub passed : PassesNone x r
-  pub there : NotBegun (λ c. not (c == slash_sign)) r
 
 -- the comment is in front, and r follows it
 pub record TakesComment (comment x r : List ℕ) : Type 0 where

@@ -6,7 +6,7 @@ ghost use Rattle.json5_grammar.specs.Language.Strings.{is_quote};
 ghost use Rattle.json5_tokens.specs.Scan.{IsFront, SkipsAll};
 ghost use Rattle.json5_convert.specs.Comments.{HaveSameComments, HasNoComment, begins_neither};
 ghost use Rattle.json5_convert.specs.Respelled.{KeepsComments};
-ghost use Rattle.json5_convert.specs.CommentSteps.{FindsComment, IsComment, TakesComment, TakesQuoted, TakesSame, is_inside};
+ghost use Rattle.json5_convert.specs.CommentSteps.{IsComment, PassesNone, TakesComment, TakesQuoted, TakesSame, is_inside};
 
 use crate::spelling::Spelling;
 use json5_lexemes::{Piece, Pieces};
@@ -96,7 +96,7 @@ fn skip_comment(text: &str) -> Option<&str>
 
 /// What follows the tokens and blanks in front: the first comment, or nothing. None where a string isn't closed.
 fn skip_to_comment(text: &str) -> Option<&str>
-    ensures { IfSome result (λ rest. FindsComment (chars text.now) (chars rest.now)) }
+    ensures { IfSome result (λ rest. PassesNone (chars text.now) (chars rest.now)) }
 {
     let mut rest = skip_neither(text);
     while let Some((c, after)) = front(rest) {
