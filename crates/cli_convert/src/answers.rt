@@ -6,11 +6,12 @@ use crate::options::Options;
 use crate::refusals::refused;
 use crate::reports::{HELP, no_memory, report_trouble, usage};
 use crate::trouble::Trouble;
+use crate::whole_files::put_whole;
 use crate::words::{Fault, Request, Words};
-use cli_files::{Disk, Failure, VERSION, answer_with, given_names, put_texts, read_text};
+use cli_files::{Disk, Failure, Lock, VERSION, answer_with, given_names, put_texts, read_text};
 use std::alloc::{AllocError, Global};
-use std::fs;
 use std::io::{ErrorKind, Read, Write};
+use std::os::fd::AsFd;
 use std::process::ExitCode;
 use std::rt::Files;
 
@@ -44,14 +45,17 @@ pub fn program(rt: &HostRuntime) -> ExitCode {
 /// ```text
 /// answer(&rt, alloc, list, &mut rt.stdin(), &mut rt.stdout(), &mut rt.stderr())    // 0, 1 or 2
 /// ```
-pub fn answer<F: Files, R: Read, W: Write, E: Write>(
+pub fn answer<F: Files + AllocGlobal + Clone + Drop, R: Read, W: Write, E: Write>(
     files: &F,
     alloc: Global,
     list: &[String],
     r: &mut R,
     w: &mut W,
     e: &mut E,
-) -> u8 {
+) -> u8
+where
+    F::File: AsFd + Lock,
+{
     match Request::of(alloc, list) {
         Ok(Request::Help) => answer_with(&[HELP], w, e),
         Ok(Request::Version) => answer_with(&["json5_convert ", VERSION, "\n"], w, e),
@@ -77,13 +81,16 @@ fn status_of<E: Write>(name: &str, outcome: Result<(), Trouble>, e: &mut E) -> u
 }
 
 /// Converts each file in turn.
-fn work_through<F: Files, W: Write, E: Write>(
+fn work_through<F: Files + AllocGlobal + Clone + Drop, W: Write, E: Write>(
     files: &F,
     alloc: Global,
     words: &Words,
     w: &mut W,
     e: &mut E,
-) -> u8 {
+) -> u8
+where
+    F::File: AsFd + Lock,
+{
     let mut status: u8 = 0;
     for name in &words.names {
         let outcome = work_on(files, alloc, words, name.as_str(), w);
@@ -93,13 +100,16 @@ fn work_through<F: Files, W: Write, E: Write>(
 }
 
 /// Converts a file, to the output or into the folder.
-fn work_on<F: Files, W: Write>(
+fn work_on<F: Files + AllocGlobal + Clone + Drop, W: Write>(
     files: &F,
     alloc: Global,
     words: &Words,
     name: &str,
     w: &mut W,
-) -> Result<(), Trouble> {
+) -> Result<(), Trouble>
+where
+    F::File: AsFd + Lock,
+{
     let Ok(mut file) = Disk::open(files, name) else {
         return Err(Trouble::Failed(Failure::Read));
     };
@@ -155,23 +165,26 @@ fn read_converted<R: Read>(
 }
 
 /// Writes a converted file into the folder, under its name with another ending.
-fn write_beside<F: Files>(
+fn write_beside<F: Files + AllocGlobal + Clone + Drop>(
     files: &F,
     alloc: Global,
     target: Format,
     folder: &str,
     name: &str,
     made: &str,
-) -> Result<(), Trouble> {
+) -> Result<(), Trouble>
+where
+    F::File: AsFd + Lock,
+{
     let Ok(path) = path_beside(alloc, target, folder, name) else {
         return Err(Trouble::Failed(Failure::NoMemory));
     };
     if from_here(path.as_str()) == from_here(name) {
         return Err(Trouble::SameFile);
     }
-    match fs::write(files, path.as_str(), made) {
+    match put_whole(files, alloc, path.as_str(), made) {
         Ok(()) => Ok(()),
-        Err(_) => Err(Trouble::Unwritten(path)),
+        Err(why) => Err(Trouble::Unwritten(path, why)),
     }
 }
 

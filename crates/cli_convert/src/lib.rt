@@ -12,6 +12,7 @@ mod options;
 mod refusals;
 mod reports;
 mod trouble;
+mod whole_files;
 mod words;
 
 pub use answers::{answer, program};

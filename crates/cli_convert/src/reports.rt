@@ -3,7 +3,7 @@
 ghost use Rattle.std.specs.Prelude.{◌≡◌};
 
 use crate::trouble::Trouble;
-use cli_files::{report, say, say_of};
+use cli_files::{report, report_unwritten, say, say_of};
 use std::io::Write;
 
 /// What `--help` writes.
@@ -59,7 +59,7 @@ pub(crate) fn report_trouble<E: Write>(name: &str, trouble: &Trouble, e: &mut E)
             say(e, &[shown.as_str(), "\n"]);
             return 1;
         }
-        Trouble::Unwritten(path) => say_of(e, path.as_str(), &[": cannot be written\n"]),
+        Trouble::Unwritten(path, why) => return report_unwritten(path.as_str(), why, e),
         Trouble::SameFile => say_of(e, name, &[": would be written over itself\n"]),
     }
     2
