@@ -1,5 +1,6 @@
 -- Lists the lemmas about the program.
 pub mod Judged
 pub mod NamesLed
+pub mod SchemasTaken
 pub mod Statuses
 pub mod WordsTaken

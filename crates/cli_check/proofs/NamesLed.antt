@@ -3,13 +3,14 @@ use Rattle.std.proofs.Common.{◌≡◌, ◌≢◌, ℕ, ◌+◌, ◌<◌, ◌�
 use Rattle.std.specs.declared.alloc.Global.{Global}
 use Rattle.std.specs.Borrow.{Bor}
 use Rattle.std.specs.Prelude.{IfOk, MatchOption, Ok, Err, Result, String, string_bytes}
-use Rattle.std.specs.Str.Pattern.{HasCharAt}
+use Rattle.std.specs.Str.Pattern.{FindsText, HasCharAt, HasMatch}
+use lib.Chars.{codes}
 use Rattle.std.specs.Char.{encode_utf8}
 use Rattle.std.specs.List.{Any}
 use Rattle.std.proofs.lemmas.Bool.{cases_eq}
 use Rattle.std.proofs.lemmas.List.{append_cancel_left, get_or_default}
 use Rattle.std.proofs.lemmas.Str.{encode_ascii}
-use Rattle.cli_check.specs.Naming.{HasNoSlash, IsBeside, IsFolderOf, MapsTo, equals, slash}
+use Rattle.cli_check.specs.Naming.{HasNoSlash, IsBeside, IsElsewhere, IsFolderOf, MapsTo, equals, slash}
 
 module _ (schema : List ℕ) (maps : List (String Global)) (i : ℕ) where
   pub any_here : (map : String Global) (text file : List ℕ) → i < length maps → map ≡ get_or maps i map → text ≡ string_bytes map → text ≡ schema ++ equals ∷ file → Any (MapsTo schema file) maps
@@ -46,3 +47,7 @@ pub file_found : (map schema rest : List ℕ) (r : Option (Bor (List ℕ))) → 
     → MatchOption r ((f : List ℕ) → map ≢ schema ++ equals ∷ f) (λ x. map ≡ schema ++ equals ∷ x.now)
 file_found map schema rest None is none = λ f e. none f (append_cancel_left schema rest (equals ∷ f) (sym is ∙ e))
 file_found map schema rest (Some x) is k = is ∙ ap (λ l. schema ++ l) k
+
+-- a URL that no map has
+pub elsewhere : (maps : List (String Global)) (schema : List ℕ) → ((file : List ℕ) → ¬ (Any (MapsTo schema file) maps)) → HasMatch (FindsText (codes "://")) schema → IsElsewhere maps schema
+elsewhere maps schema none (i, j, (before, at), low, long) = (none, (take i schema, drop j schema, sym (take-append-drop i schema) ∙ ap (λ l. take i schema ++ l) at.split))

@@ -1,5 +1,5 @@
 -- The statuses that the program ends with are at most 2; files that are named.
-use Rattle.std.proofs.Common.{◌≡◌, ◌≢◌, ◌==◌, true, false, true≢false, sym, ap, ◌∙◌, length, ℕ, ◌≤◌, max, List, [], Option, Result, Ok, Err, arith}
+use Rattle.std.proofs.Common.{◌≡◌, ◌≢◌, ◌==◌, false, true≢false, sym, ap, ◌∙◌, length, ℕ, ◌≤◌, max, List, [], Option, Result, Ok, Err, arith}
 use Rattle.std.proofs.lemmas.Int.{clamps}
 use Rattle.std.specs.declared.alloc.Global.{Global}
 use Rattle.std.specs.Prelude.{String}
@@ -30,7 +30,7 @@ files_low (next name r g k) = greater_low _ _ (files_low g) (met_low r)
 
 all_low : {opens : List ℕ → Opening} {o : Options} {input : Option (List ℕ)} {status : ℕ} → ChecksAll opens o input status → status ≤ 2
 all_low (checks given is k) = files_low k
-all_low (no_schema file is) = omega arith
+all_low (no_schema file t is flaw) = omega arith
 
 named_low : {opens : List ℕ → Opening} {o : Options} {input output errors written said : Option (List ℕ)} {status : ℕ} → AnswersFiles opens o input output errors written said status → status ≤ 2
 named_low (unnamed empty a) = omega arith

@@ -1,5 +1,5 @@
 -- The words of the command line, one after the other.
-use Rattle.std.proofs.Common.{◌≡◌, ℕ, List, [], ◌∷◌, Some, None, Result, Ok, Err, sym, ap, ◌∙◌, subst}
+use Rattle.std.proofs.Common.{◌≡◌, ◌≤◌, ◌<◌, arith, length, ℕ, List, [], ◌∷◌, Some, None, Result, Ok, Err, sym, ap, ◌∙◌, subst}
 use Rattle.std.specs.declared.alloc.Global.{Global}
 use Rattle.std.specs.Prelude.{String, string_bytes}
 use Rattle.std.specs.Borrow.{Bor}
@@ -28,22 +28,28 @@ goes_no_further c d words front left is before this = before None (subst (λ l. 
 pub at_end : (c d : Choices) (words left : List (List ℕ)) → left ≡ [] → GoesOn c words d left → Choose c words (Some d)
 at_end c d words left is before = before (Some d) (subst (λ l. Choose d l (Some d)) (sym is) (all d))
 
+behind_value : (value : List ℕ) (ws left : List (List ℕ)) → ws ≡ value ∷ left → length left ≤ length ws
+behind_value value ws left split = let e = ap length split in omega (arith, e)
+
+all_left : (ws left : List (List ℕ)) → ws ≡ left → length left ≤ length ws
+all_left ws left same = let e = ap length same in omega (arith, e)
+
 module _ (c d : Choices) (w : List ℕ) (ws : List (List ℕ)) where
-  pub name_taken : kind_in c w ≡ word.Name → d ≡ with_name w c → GoesOn c (w ∷ ws) d ws
-  name_taken kind is = λ r k. name c w ws r kind (subst (λ e. Choose e ws r) is k)
+  pub name_taken : kind_in c w ≡ word.Name → d ≡ with_name w c → GoesOn c (w ∷ ws) d ws × (length ws ≤ length ws)
+  name_taken kind is = (λ r k. name c w ws r kind (subst (λ e. Choose e ws r) is k), omega arith)
 
-  pub end_taken : kind_in c w ≡ word.End → d ≡ ended c → GoesOn c (w ∷ ws) d ws
-  end_taken kind is = λ r k. behind c w ws r kind (subst (λ e. Choose e ws r) is k)
+  pub end_taken : kind_in c w ≡ word.End → d ≡ ended c → GoesOn c (w ∷ ws) d ws × (length ws ≤ length ws)
+  end_taken kind is = (λ r k. behind c w ws r kind (subst (λ e. Choose e ws r) is k), omega arith)
 
-  pub flag_taken : (f : Flag) → kind_in c w ≡ word.Flag f → d ≡ with_flag f c → GoesOn c (w ∷ ws) d ws
-  flag_taken f kind is = λ r k. flag c w ws r f kind (subst (λ e. Choose e ws r) is k)
+  pub flag_taken : (f : Flag) → kind_in c w ≡ word.Flag f → d ≡ with_flag f c → GoesOn c (w ∷ ws) d ws × (length ws ≤ length ws)
+  flag_taken f kind is = (λ r k. flag c w ws r f kind (subst (λ e. Choose e ws r) is k), omega arith)
 
 setting_at : (c d : Choices) (w value : List ℕ) (ws left : List (List ℕ)) (s : Setting) → ws ≡ value ∷ left → kind_in c w ≡ word.Setting s → d ≡ with_setting s value c → GoesOn c (w ∷ ws) d left
 setting_at c d w value ws left s split kind is =
     λ r k. subst (λ l. Choose c (w ∷ l) r) (sym split) (setting c w value left r s kind (subst (λ e. Choose e left r) is k))
 
 pub setting_taken : (c d : Choices) (w : List ℕ) (ws : List (List ℕ)) (s : Setting) (r : Result (Bor (List (String Global))) WordFault) → kind_in c w ≡ word.Setting s → TakesSetting s c d ws r → TakesWord c d w ws r
-setting_taken c d w ws s (Ok left) kind (value, split, is) = setting_at c d w value ws (names_of left.now) s split kind is
+setting_taken c d w ws s (Ok left) kind (value, split, is) = (setting_at c d w value ws (names_of left.now) s split kind is, behind_value value ws (names_of left.now) split)
 setting_taken c d w ws s (Err fault) kind none = λ unknown. subst (λ l. Choose c (w ∷ l) None) (sym (none unknown)) (no_value c w s kind)
 
 joined_at : (c d : Choices) (w value : List ℕ) (ws left : List (List ℕ)) (s : Setting) → ws ≡ left → kind_in c w ≡ word.Other → w ≡ joined_word s value → d ≡ with_setting s value c → GoesOn c (w ∷ ws) d left
@@ -51,5 +57,9 @@ joined_at c d w value ws left s same kind is set =
     λ r k. subst (λ l. Choose c (w ∷ l) r) (sym same) (joined c w value left r s kind is (subst (λ e. Choose e left r) set k))
 
 pub joined_taken : (c d : Choices) (w : List ℕ) (ws : List (List ℕ)) (r : Result (Bor (List (String Global))) WordFault) → kind_in c w ≡ word.Other → TakesJoined c d w ws r → TakesWord c d w ws r
-joined_taken c d w ws (Ok left) kind (s, value, is, set, same) = joined_at c d w value ws (names_of left.now) s same kind is set
+joined_taken c d w ws (Ok left) kind (s, value, is, set, same) = (joined_at c d w value ws (names_of left.now) s same kind is set, all_left ws (names_of left.now) same)
 joined_taken c d w ws (Err fault) kind none = λ is. unknown c w ws kind (none is)
+
+-- each word that is taken leaves fewer
+pub fewer : (left rest : List (String Global)) (first : String Global) (after : List (String Global)) → left ≡ first ∷ rest → length (names_of after) ≤ length (names_of rest) → length (names_of after) < length (names_of left)
+fewer left rest first after is h = let e = ap (λ l. length (names_of l)) is in omega (arith, e, h)

@@ -10,7 +10,9 @@ use Rattle.cli_check.specs.declared.lines.TheConstants.{HELP}
 use Rattle.cli_check.specs.declared.options.Options.{Options}
 use Rattle.cli_check.specs.declared.options.Asked.{Asked}
 use Rattle.cli_check.specs.declared.options.Asked.TheVariants as asked
-use Rattle.cli_check.specs.Checks.{ChecksFiles, FileMeans}
+use Rattle.cli_check.specs.declared.trouble.SchemaTrouble.{SchemaTrouble}
+use Rattle.cli_check.specs.Checks.{ChecksFiles}
+use Rattle.cli_check.specs.Schemas.{FileMeans, IsFlawOf}
 use Rattle.cli_check.specs.CommandWords.{Asks, AsksNothing}
 use Rattle.cli_check.specs.Troubles.{memory_line, usage_line, version_text}
 
@@ -19,10 +21,10 @@ pub data IsGiven (opens : List ℕ → Opening) (schema : Option (String Global)
   own : schema ≡ None → IsGiven opens schema None
   read : (file : String Global) (s : Datum) → schema ≡ Some file → FileMeans opens (string_bytes file) s → IsGiven opens schema (Some s)
 
--- each file was checked; or no schema was read of the file that is given
+-- each file was checked; or no schema is taken of the file that is given
 pub data ChecksAll (opens : List ℕ → Opening) (o : Options) (input : Option (List ℕ)) : ℕ → Type 0 where
   checks : {left : Option (List ℕ)} {status : ℕ} (given : Option Datum) → IsGiven opens o.schema given → ChecksFiles opens given o.maps.items input o.names.items left status → ChecksAll opens o input status
-  no_schema : (file : String Global) → o.schema ≡ Some file → ChecksAll opens o input 2
+  no_schema : (file : String Global) (t : SchemaTrouble) → o.schema ≡ Some file → IsFlawOf opens (string_bytes file) t → ChecksAll opens o input 2
 
 -- a file at least is named, and each was checked; or it said how it is called
 pub data AnswersFiles (opens : List ℕ → Opening) (o : Options) (input output errors : Option (List ℕ)) : Option (List ℕ) → Option (List ℕ) → ℕ → Type 0 where

@@ -2,12 +2,8 @@
 -- A promise rests on this.
 use Rattle.std.specs.declared.alloc.Global.{Global}
 use Rattle.std.specs.Borrow.{Bor}
-use Rattle.std.specs.Prelude.{◌≡◌, ◌≢◌, ⊤, ℕ, true, false, List, [], ◌∷◌, ◌++◌, max, Option, None, Some, IfSome, option_map, Result, Ok, Err, String, string_bytes}
-use Rattle.std.specs.Str.{chars, IsUtf8}
+use Rattle.std.specs.Prelude.{◌≡◌, ◌≢◌, ⊤, ℕ, Bool, true, false, List, [], ◌∷◌, ◌++◌, max, Option, None, Some, IfSome, option_map, Result, Ok, Err, String, string_bytes}
 use lib.Chars.{codes}
-use Rattle.json5_grammar.specs.Language.Documents.{Doc, max_depth}
-use Rattle.json5_grammar.specs.Language.Trees.{Tree}
-use Rattle.json5_read.specs.TreeMeanings.{datum_of}
 use Rattle.json5_types.specs.ValueMeanings.{Datum}
 use Rattle.json5_schema.specs.Conformance.{Conforms}
 use Rattle.json5_schema.specs.Views.{IsRefusal, schema_of}
@@ -18,24 +14,8 @@ use Rattle.cli_check.specs.declared.verdict.Verdict.{Verdict}
 use Rattle.cli_check.specs.declared.verdict.Verdict.TheVariants as verdict
 use Rattle.cli_check.specs.declared.trouble.Trouble.{Trouble}
 use Rattle.cli_check.specs.declared.trouble.Trouble.TheVariants as trouble
-use Rattle.cli_check.specs.Naming.{Leads, schema_key}
-
--- the bytes are a document that means this
-abbrev pub Means : List ℕ → Datum → Type 0
-Means bytes x = IsUtf8 bytes × ((t : Tree) × Doc max_depth (chars bytes) t × (x ≡ datum_of t))
-
--- the file was opened, and what it held is a document that means this
-abbrev pub FileMeans : (List ℕ → Opening) → (file : List ℕ) → Datum → Type 0
-FileMeans opens file s = (held : Option (List ℕ)) × opens file (Some held) × IfSome held (λ bytes. Means bytes s)
-
--- the document with this name calls its schema so, and it is what the file means that this stands for
-abbrev pub IsNamed : (List ℕ → Opening) → (maps : List (String Global)) (name schema : List ℕ) → Datum → Type 0
-IsNamed opens maps name schema s = (file : List ℕ) × Leads maps name schema file × FileMeans opens file s
-
--- the schema that a document is held against: the one that is given, or else that in the file which the document names
-abbrev pub SchemaFor : (List ℕ → Opening) → (given : Option Datum) → (maps : List (String Global)) (name : List ℕ) → Datum → Datum → Type 0
-SchemaFor opens (Some g) maps name x s = s ≡ g
-SchemaFor opens None maps name x s = (schema : List ℕ) × (schema_key x ≡ Some (chars schema)) × IsNamed opens maps name schema s
+use Rattle.cli_check.specs.Schemas.{IsOwnFlaw, Means, SchemaFor}
+use Rattle.cli_check.specs.Troubles.{IsUnshownTrouble}
 
 module _ (For : Datum → Datum → Type 0) where
   -- the bytes are a document that conforms to its schema
@@ -52,45 +32,62 @@ module _ (For : Datum → Datum → Type 0) where
 
 -- ---- one file
 
--- why a document isn't checked: memory ran out, a read or a write failed, or it has more schemas within one another than can be applied; or
--- no schema was found for it, where none is given
-abbrev pub IsCause : (given : Option Datum) → Trouble → Type 0
-IsCause given trouble.NoMemory = ⊤
-IsCause given trouble.Read = ⊤
-IsCause given trouble.Write = ⊤
-IsCause given (trouble.Undecided e) = IsRefusal e
-IsCause given (trouble.Schema t) = given ≡ None
-IsCause given (trouble.Unopened why) = ⊥
-
 abbrev pub given_schema : Option (Bor Schema) → Option Datum
 given_schema given = option_map (λ s. schema_of s.now) given
 
--- the verdict on a text
-abbrev pub JudgesText : (Datum → Datum → Type 0) → (given : Option Datum) → (text : List ℕ) → Result Verdict Trouble → Type 0
-JudgesText For given text (Ok v) = Judges For v text
-JudgesText For given text (Err t) = IsCause given t
+abbrev pub conforms : Verdict → Bool
+conforms verdict.Conforms = true
+conforms verdict.Differs = false
 
--- the verdict on the value of a document
-abbrev pub JudgesValue : (Datum → Datum → Type 0) → (given : Option Datum) → Datum → Result Verdict Trouble → Type 0
-JudgesValue For given x (Ok verdict.Conforms) = (s : Datum) × For x s × Conforms s x true
-JudgesValue For given x (Ok verdict.Differs) = (s : Datum) × For x s × Conforms s x false
-JudgesValue For given x (Err t) = IsCause given t
+-- the verdict on a value by this schema; or more schemas are applied within one another than can be, or the faults can't be shown
+abbrev pub JudgesBy : (schema : Datum) → Datum → Result Verdict Trouble → Type 0
+JudgesBy s x (Ok v) = Conforms s x (conforms v)
+JudgesBy s x (Err (trouble.Undecided e)) = IsRefusal e
+JudgesBy s x (Err t) = IsUnshownTrouble t
 
--- the verdict on what a reader holds
-abbrev pub JudgesInput : (Datum → Datum → Type 0) → (given : Option Datum) → Option (List ℕ) → Result Verdict Trouble → Type 0
-JudgesInput For given input (Ok v) = IfSome input (Judges For v)
-JudgesInput For given input (Err t) = IsCause given t
+module _ (opens : List ℕ → Opening) (given : Option Datum) (maps : List (String Global)) (name : List ℕ) where
+  -- the value has a schema
+  abbrev pub HasSchema : Datum → Type 0
+  HasSchema x = (s : Datum) × SchemaFor opens given maps name x s
+
+  -- why there is no verdict on a value: memory ran out, or a write failed; its schema can't be applied; or none is taken, where none is given
+  abbrev pub IsHindrance : Datum → Trouble → Type 0
+  IsHindrance x (trouble.Undecided e) = HasSchema x × IsRefusal e
+  IsHindrance x (trouble.Schema t) = (given ≡ None) × IsOwnFlaw opens maps name x t
+  IsHindrance x t = IsUnshownTrouble t
+
+  -- the verdict on the value of a document
+  abbrev pub JudgesValue : Datum → Result Verdict Trouble → Type 0
+  JudgesValue x (Ok v) = (s : Datum) × SchemaFor opens given maps name x s × Conforms s x (conforms v)
+  JudgesValue x (Err t) = IsHindrance x t
+
+  -- why there is none on a text: memory ran out, or a write failed; or there is none on its value
+  abbrev pub IsTextHindrance : (text : List ℕ) → Trouble → Type 0
+  IsTextHindrance text trouble.NoMemory = ⊤
+  IsTextHindrance text trouble.Write = ⊤
+  IsTextHindrance text t = (x : Datum) × Means text x × IsHindrance x t
+
+  -- the verdict on a text
+  abbrev pub JudgesText : (text : List ℕ) → Result Verdict Trouble → Type 0
+  JudgesText text (Ok v) = Judges (SchemaFor opens given maps name) v text
+  JudgesText text (Err t) = IsTextHindrance text t
+
+  -- the verdict on what a reader holds; or a read failed
+  abbrev pub JudgesInput : Option (List ℕ) → Result Verdict Trouble → Type 0
+  JudgesInput input (Ok v) = IfSome input (Judges (SchemaFor opens given maps name) v)
+  JudgesInput input (Err trouble.Read) = ⊤
+  JudgesInput input (Err (trouble.Unopened why)) = ⊥
+  JudgesInput input (Err t) = IfSome input (λ text. IsTextHindrance text t)
 
 -- what was held against the schema: the file with this name, or what standard input had left, which has this left then
 pub data Holds (opens : List ℕ → Opening) (name : List ℕ) (input : Option (List ℕ)) : (left held : Option (List ℕ)) → Type 0 where
   file : {held : Option (List ℕ)} → name ≢ codes "-" → opens name (Some held) → Holds opens name input input held
   stream : {left : Option (List ℕ)} → name ≡ codes "-" → Holds opens name input left input
 
--- the file was read, and this is what is said of it; or it can't be opened; or there is another cause that it isn't checked
+-- this is what is said of what was held against the schema; or the file can't be opened
 pub data JudgesFile (opens : List ℕ → Opening) (given : Option Datum) (maps : List (String Global)) (input : Option (List ℕ)) (name : List ℕ) (left : Option (List ℕ)) : Result Verdict Trouble → Type 0 where
-  judged : {held : Option (List ℕ)} (v : Verdict) → Holds opens name input left held → IfSome held (Judges (SchemaFor opens given maps name) v) → JudgesFile opens given maps input name left (Ok v)
-  unopened : (why : Reason) → name ≢ codes "-" → opens name None → JudgesFile opens given maps input name left (Err (trouble.Unopened why))
-  failed : (t : Trouble) → IsCause given t → JudgesFile opens given maps input name left (Err t)
+  judged : {held : Option (List ℕ)} (r : Result Verdict Trouble) → Holds opens name input left held → JudgesInput opens given maps name held r → JudgesFile opens given maps input name left r
+  unopened : (why : Reason) → name ≢ codes "-" → opens name None → left ≡ input → JudgesFile opens given maps input name left (Err (trouble.Unopened why))
 
 abbrev pub status_of : Result Verdict Trouble → ℕ
 status_of (Ok verdict.Conforms) = 0

@@ -59,6 +59,9 @@ nothing_chosen = record { asked = asked.Files; schema = None; maps = []; is_quie
 abbrev pub choices_of : Options → Choices
 choices_of o = record { asked = o.asked; schema = option_map string_bytes o.schema; maps = names_of o.maps.items; is_quiet = o.is_quiet; is_json = o.is_json; is_ended = o.is_ended; names = names_of o.names.items }
 
+abbrev pub ChoosesNothing : Options → Type 0
+ChoosesNothing o = choices_of o ≡ nothing_chosen
+
 -- behind `--` each word is a name
 abbrev pub kind_in : Choices → List ℕ → Word
 kind_in c w = if c.is_ended then word.Name else kind_of w

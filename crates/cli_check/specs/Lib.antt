@@ -3,5 +3,7 @@ pub mod Answers
 pub mod Checks
 pub mod CommandWords
 pub mod Naming
+pub mod Schemas
+pub mod SchemaSteps
 pub mod Troubles
 pub mod WordSteps

@@ -47,3 +47,12 @@ pub data IsBeside (name path : List ℕ) : (file : List ℕ) → Type 0 where
 pub data Leads (maps : List (String Global)) (name schema : List ℕ) : (file : List ℕ) → Type 0 where
   mapped : {file : List ℕ} → Any (MapsTo schema file) maps → Leads maps name schema file
   beside : {file : List ℕ} → ((other : List ℕ) → ¬ (Any (MapsTo schema other) maps)) → IsBeside name schema file → Leads maps name schema file
+
+-- it stands for no file: it is a URL, and no map has it
+abbrev pub IsElsewhere : (maps : List (String Global)) → (schema : List ℕ) → Type 0
+IsElsewhere maps schema = ((file : List ℕ) → ¬ (Any (MapsTo schema file) maps)) × ((front rest : List ℕ) × (schema ≡ front ++ (codes "://" ++ rest)))
+
+-- the file, or that there is none
+abbrev pub LeadsTo : (maps : List (String Global)) → (name schema : List ℕ) → Option (String Global) → Type 0
+LeadsTo maps name schema None = IsElsewhere maps schema
+LeadsTo maps name schema (Some file) = Leads maps name schema (string_bytes file)

@@ -1,8 +1,9 @@
 -- What is said of the program itself, and of what keeps it from its work.
 -- A promise rests on this.
-use Rattle.std.specs.Prelude.{◌≡◌, ⊤, ℕ, List, ◌∷◌, ◌++◌, [], Result, Ok, Err}
+use Rattle.std.specs.Prelude.{◌≡◌, ⊤, ℕ, List, ◌∷◌, ◌++◌, [], Option, Result, Ok, Err}
 use lib.Chars.{codes}
 use Rattle.json5_grammar.specs.Language.Characters.{line_feed}
+use Rattle.json5_write.specs.Pieces.{AppendsFront}
 use Rattle.cli_files.specs.Reports.{named_report}
 use Rattle.cli_files.specs.declared.version.TheConstants.{VERSION}
 use Rattle.json5_types.specs.declared.error.Error.{Error}
@@ -12,22 +13,31 @@ use Rattle.cli_check.specs.declared.verdict.Verdict.TheVariants as verdict
 use Rattle.cli_check.specs.declared.trouble.Trouble.{Trouble}
 use Rattle.cli_check.specs.declared.trouble.Trouble.TheVariants as trouble
 
--- memory ran out, or a read or a write failed
-abbrev pub IsStreamTrouble : Trouble → Type 0
-IsStreamTrouble trouble.NoMemory = ⊤
-IsStreamTrouble trouble.Read = ⊤
-IsStreamTrouble trouble.Write = ⊤
-IsStreamTrouble _ = ⊥
+-- a read failed, or memory ran out
+abbrev pub IsReadTrouble : Trouble → Type 0
+IsReadTrouble trouble.NoMemory = ⊤
+IsReadTrouble trouble.Read = ⊤
+IsReadTrouble _ = ⊥
+
+-- a write failed, or memory ran out
+abbrev pub IsUnshownTrouble : Trouble → Type 0
+IsUnshownTrouble trouble.NoMemory = ⊤
+IsUnshownTrouble trouble.Write = ⊤
+IsUnshownTrouble _ = ⊥
 
 -- it is said that a document doesn't conform, unless that can't be shown
 abbrev pub Refuses : Result Verdict Trouble → Type 0
 Refuses (Ok v) = v ≡ verdict.Differs
-Refuses (Err t) = IsStreamTrouble t
+Refuses (Err t) = IsUnshownTrouble t
 
 -- the same of a text that is refused so, unless memory ran out
 abbrev pub RefusesError : Error → Result Verdict Trouble → Type 0
 RefusesError e (Ok v) = (v ≡ verdict.Differs) × ¬ (IsOutOfMemory e)
-RefusesError e (Err t) = IsStreamTrouble t
+RefusesError e (Err t) = IsUnshownTrouble t
+
+-- the line was said, and the status is 2
+abbrev pub GivesUp : (line : List ℕ) → (errors said : Option (List ℕ)) → ℕ → Type 0
+GivesUp line errors said status = (status ≡ 2) × AppendsFront errors said line
 
 -- how the program is called
 abbrev pub usage_line : List ℕ

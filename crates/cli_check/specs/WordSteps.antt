@@ -1,7 +1,7 @@
 -- How the words of the command line are taken, one after the other.
 -- Private.
 use Rattle.std.specs.declared.alloc.Global.{Global}
-use Rattle.std.specs.Prelude.{◌≡◌, ◌≢◌, ℕ, List, [], ◌∷◌, Option, Some, None, Result, Ok, Err, String}
+use Rattle.std.specs.Prelude.{◌≡◌, ◌≢◌, ◌≤◌, ℕ, List, [], ◌∷◌, length, Option, Some, None, Result, Ok, Err, String}
 use Rattle.std.specs.Borrow.{Bor}
 use Rattle.cli_check.specs.declared.options.Options.{Options}
 use Rattle.cli_check.specs.declared.options.WordFault.{WordFault}
@@ -24,9 +24,9 @@ abbrev pub TakesJoined : Choices → Choices → (word : List ℕ) (rest : List 
 TakesJoined c d word rest (Ok left) = (s : Setting) × (value : List ℕ) × (word ≡ joined_word s value) × (d ≡ with_setting s value c) × (rest ≡ names_of left.now)
 TakesJoined c d word rest (Err fault) = fault ≡ faults.Unknown → (s : Setting) (value : List ℕ) → word ≢ joined_word s value
 
--- the word was taken, and the first of the rest where that is its value; or nothing is chosen, unless memory ran out
+-- the word was taken, and the first of the rest where that is its value, and no more is left; or nothing is chosen, unless memory ran out
 abbrev pub TakesWord : Choices → Choices → (word : List ℕ) (rest : List (List ℕ)) → Result (Bor (List (String Global))) WordFault → Type 0
-TakesWord c d word rest (Ok left) = GoesOn c (word ∷ rest) d (names_of left.now)
+TakesWord c d word rest (Ok left) = GoesOn c (word ∷ rest) d (names_of left.now) × (length (names_of left.now) ≤ length rest)
 TakesWord c d word rest (Err fault) = fault ≡ faults.Unknown → Choose c (word ∷ rest) None
 
 -- the words ask for this; or for nothing, or memory ran out

@@ -86,6 +86,9 @@ fn check_all<D: Disk, R: Read, W: Write, E: Write>(
     };
     match read_schema(disk, alloc, file.as_str()) {
         Ok(schema) => check_each(disk, alloc, options, Some(&schema), r, w, e),
-        Err(trouble) => report_schema(file.as_str(), &trouble, e),
+        Err(trouble) => {
+            report_schema(file.as_str(), &trouble, e);
+            2
+        }
     }
 }

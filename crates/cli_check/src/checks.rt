@@ -41,6 +41,9 @@ fn status_of<E: Write>(name: &str, judged: &Result<Verdict, Trouble>, e: &mut E)
     match judged {
         Ok(Verdict::Conforms) => 0,
         Ok(Verdict::Differs) => 1,
-        Err(trouble) => report_trouble(name, trouble, e),
+        Err(trouble) => {
+            report_trouble(name, trouble, e);
+            2
+        }
     }
 }

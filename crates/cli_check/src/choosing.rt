@@ -1,21 +1,21 @@
 //! The schema that a document names by its key `$schema`.
 
-ghost use Rattle.std.specs.Prelude.{◌≡◌, IfOk, None, option_map};
+ghost use Rattle.std.specs.Prelude.{◌≡◌, option_map};
 ghost use Rattle.std.specs.Str.{chars};
-ghost use Rattle.json5_schema.specs.Views.{schema_of};
 ghost use Rattle.json5_types.specs.ValueMeanings.{value_of};
-ghost use Rattle.cli_check.specs.Checks.{IsNamed, SchemaFor};
 ghost use Rattle.cli_check.specs.Naming.{schema_key};
+ghost use Rattle.cli_check.specs.Schemas.{TakesNamed, TakesOwn};
 
 use crate::lines::title;
 use crate::naming::schema_file;
 use crate::options::Options;
 use crate::schemas::read_schema;
-use crate::trouble::SchemaTrouble;
+use crate::trouble::{SchemaCause, SchemaTrouble};
 use cli_files::{Disk, shown};
 use json5_schema::Schema;
+use json5_types::error::Result as Made;
 use json5_types::value::Value;
-use std::alloc::{AllocError, Global};
+use std::alloc::Global;
 
 /// The schema that the document with this name and this value names.
 pub(crate) fn own_schema<D: Disk>(
@@ -25,12 +25,11 @@ pub(crate) fn own_schema<D: Disk>(
     name: &str,
     value: &Value,
 ) -> Result<Schema, SchemaTrouble>
-    ensures { IfOk result (λ schema. SchemaFor (D.opens disk.now) None options.now.maps.items name.now
-        (value_of value.now) (schema_of schema)) }
+    ensures { TakesOwn (D.opens disk.now) options.now.maps.items name.now (value_of value.now) result }
 {
     match schema_key(value) {
         Some(schema) => schema_named(disk, alloc, options, name, schema),
-        None => Err(unnamed(alloc, name)?),
+        None => Err(SchemaTrouble::because(SchemaCause::Unnamed, unnamed(alloc, name))),
     }
 }
 
@@ -52,30 +51,31 @@ fn schema_named<D: Disk>(
     name: &str,
     schema: &str,
 ) -> Result<Schema, SchemaTrouble>
-    ensures { IfOk result (λ read. IsNamed (D.opens disk.now) options.now.maps.items name.now schema.now (schema_of read)) }
+    ensures { TakesNamed (D.opens disk.now) options.now.maps.items name.now schema.now result }
 {
-    let found = schema_file(alloc, options.maps.as_slice(), name, schema)?;
-    match found {
-        Some(file) => read_schema(disk, alloc, file.as_str()),
-        None => Err(elsewhere(alloc, name, schema)?),
+    match schema_file(alloc, options.maps.as_slice(), name, schema) {
+        Ok(Some(file)) => read_schema(disk, alloc, file.as_str()),
+        Ok(None) => Err(SchemaTrouble::because(
+            SchemaCause::Elsewhere,
+            elsewhere(alloc, name, schema),
+        )),
+        Err(_) => Err(SchemaTrouble::NoMemory),
     }
 }
 
 /// That the document names no schema.
-fn unnamed(alloc: Global, name: &str) -> Result<SchemaTrouble, AllocError> {
+fn unnamed(alloc: Global, name: &str) -> Made<String> {
     let name = shown(alloc, title(name))?;
-    let line = format!(in alloc;
+    Ok(format!(in alloc;
         "{name}: names no schema: give one by --schema, or by the key `$schema` in it"
-    )?;
-    Ok(SchemaTrouble::Shown(line))
+    )?)
 }
 
 /// That the document's schema is at a URL.
-fn elsewhere(alloc: Global, name: &str, schema: &str) -> Result<SchemaTrouble, AllocError> {
+fn elsewhere(alloc: Global, name: &str, schema: &str) -> Made<String> {
     let name = shown(alloc, title(name))?;
     let schema = shown(alloc, schema)?;
-    let line = format!(in alloc;
+    Ok(format!(in alloc;
         "{name}: its schema isn't fetched: give a file by --schema FILE, or by --map {schema}=FILE"
-    )?;
-    Ok(SchemaTrouble::Shown(line))
+    )?)
 }

@@ -1,12 +1,11 @@
 //! One document: read, and held against its schema.
 
 ghost use Rattle.std.specs.Bool.{Decides};
-ghost use Rattle.std.specs.Prelude.{◌≡◌, None, Option, string_bytes};
+ghost use Rattle.std.specs.Prelude.{◌≡◌, None, string_bytes};
 ghost use lib.Chars.{codes};
-ghost use Rattle.json5_schema.specs.Conformance.{Conforms};
 ghost use Rattle.json5_schema.specs.Views.{schema_of};
-ghost use Rattle.json5_types.specs.ValueMeanings.{Datum, value_of};
-ghost use Rattle.cli_check.specs.Checks.{JudgesFile, JudgesInput, JudgesText, JudgesValue, SchemaFor, given_schema};
+ghost use Rattle.json5_types.specs.ValueMeanings.{value_of};
+ghost use Rattle.cli_check.specs.Checks.{JudgesBy, JudgesFile, JudgesInput, JudgesText, JudgesValue, given_schema};
 ghost use Rattle.cli_check.specs.Troubles.{Refuses, RefusesError};
 
 use crate::choosing::own_schema;
@@ -61,8 +60,7 @@ fn check_input<D: Disk, R: Read, W: Write>(
     r: &mut R,
     w: &mut W,
 ) -> Result<Verdict, Trouble>
-    ensures { JudgesInput (SchemaFor (D.opens disk.now) (given_schema given.entry) options.now.maps.items name.now)
-        (given_schema given.entry) (R.remaining r.old) result }
+    ensures { JudgesInput (D.opens disk.now) (given_schema given.entry) options.now.maps.items name.now (R.remaining r.old) result }
 {
     match read_whole(alloc, r) {
         Ok(bytes) => check_bytes(disk, alloc, options, given, name, bytes, w),
@@ -80,8 +78,7 @@ fn check_bytes<D: Disk, W: Write>(
     bytes: Vec<u8>,
     w: &mut W,
 ) -> Result<Verdict, Trouble>
-    ensures { JudgesText (SchemaFor (D.opens disk.now) (given_schema given.entry) options.now.maps.items name.now)
-        (given_schema given.entry) bytes.items result }
+    ensures { JudgesText (D.opens disk.now) (given_schema given.entry) options.now.maps.items name.now bytes.items result }
 {
     match String::from_utf8(bytes) {
         Ok(text) => check_text(disk, alloc, options, given, name, text, w),
@@ -99,8 +96,7 @@ fn check_text<D: Disk, W: Write>(
     text: String,
     w: &mut W,
 ) -> Result<Verdict, Trouble>
-    ensures { JudgesText (SchemaFor (D.opens disk.now) (given_schema given.entry) options.now.maps.items name.now)
-        (given_schema given.entry) (string_bytes text) result }
+    ensures { JudgesText (D.opens disk.now) (given_schema given.entry) options.now.maps.items name.now (string_bytes text) result }
 {
     let source = Source {
         name,
@@ -122,8 +118,8 @@ fn check_value<D: Disk, W: Write>(
     value: &Value,
     w: &mut W,
 ) -> Result<Verdict, Trouble>
-    ensures { JudgesValue (SchemaFor (D.opens disk.now) (given_schema given.entry) options.now.maps.items source.entry.name.now)
-        (given_schema given.entry) (value_of value.now) result }
+    ensures { JudgesValue (D.opens disk.now) (given_schema given.entry) options.now.maps.items source.entry.name.now
+        (value_of value.now) result }
 {
     match given {
         Some(schema) => judge(alloc, options, schema, source, value, w),
@@ -140,8 +136,7 @@ fn check_by_own<D: Disk, W: Write>(
     value: &Value,
     w: &mut W,
 ) -> Result<Verdict, Trouble>
-    ensures { JudgesValue (SchemaFor (D.opens disk.now) None options.now.maps.items source.entry.name.now) None
-        (value_of value.now) result }
+    ensures { JudgesValue (D.opens disk.now) None options.now.maps.items source.entry.name.now (value_of value.now) result }
 {
     match own_schema(disk, alloc, options, source.name, value) {
         Ok(schema) => judge(alloc, options, &schema, source, value, w),
@@ -158,31 +153,13 @@ fn judge<W: Write>(
     value: &Value,
     w: &mut W,
 ) -> Result<Verdict, Trouble>
-    ensures { (given : Option Datum) → JudgesValue (λ _ s. s ≡ schema_of schema.now) given (value_of value.now) result }
+    ensures { JudgesBy (schema_of schema.now) (value_of value.now) result }
 {
     match schema.accepts(alloc, value) {
-        Ok(accepted) => judge_so(alloc, options, schema, source, value, accepted, w),
+        Ok(true) => Ok(Verdict::Conforms),
+        Ok(false) => told(show_faults(alloc, options, schema, source, value, w)),
         Err(error) => Err(Trouble::Undecided(error)),
     }
-}
-
-/// Says what the schema answers of the value, and shows what is wrong with it.
-fn judge_so<W: Write>(
-    alloc: Global,
-    options: &Options,
-    schema: &Schema,
-    source: Source<'_>,
-    value: &Value,
-    accepted: bool,
-    w: &mut W,
-) -> Result<Verdict, Trouble>
-    requires { Conforms (schema_of schema.now) (value_of value.now) accepted }
-    ensures { (given : Option Datum) → JudgesValue (λ _ s. s ≡ schema_of schema.now) given (value_of value.now) result }
-{
-    if accepted {
-        return Ok(Verdict::Conforms);
-    }
-    told(show_faults(alloc, options, schema, source, value, w))
 }
 
 /// What is said of a document of which this was shown.

@@ -1,8 +1,6 @@
 //! What is written of the program itself, and of what keeps it from its work.
 
-ghost use Rattle.std.specs.Prelude.{◌≡◌};
-ghost use Rattle.json5_write.specs.Pieces.{AppendsFront};
-ghost use Rattle.cli_check.specs.Troubles.{memory_line, usage_line};
+ghost use Rattle.cli_check.specs.Troubles.{GivesUp, memory_line, usage_line};
 
 use crate::trouble::{SchemaTrouble, Trouble};
 use cli_files::{Failure, report, say, say_of};
@@ -32,8 +30,7 @@ schema can't be read, the schema has a fault, memory runs out, or the words are 
 
 /// Writes how the program is called, as one line, and returns the status 2.
 pub(crate) fn usage<E: Write>(e: &mut E) -> u8
-    ensures status { result ≡ 2 }
-    ensures line { AppendsFront (E.contents e.old) (E.contents e.new) usage_line }
+    ensures { GivesUp usage_line (E.contents e.old) (E.contents e.new) result }
 {
     say(
         e,
@@ -44,17 +41,14 @@ pub(crate) fn usage<E: Write>(e: &mut E) -> u8
 
 /// Writes that memory ran out before any work began, and returns the status 2.
 pub(crate) fn no_memory<E: Write>(e: &mut E) -> u8
-    ensures status { result ≡ 2 }
-    ensures line { AppendsFront (E.contents e.old) (E.contents e.new) memory_line }
+    ensures { GivesUp memory_line (E.contents e.old) (E.contents e.new) result }
 {
     say_of(e, "json5_check", &[": out of memory\n"]);
     2
 }
 
-/// Writes why the document with this name isn't checked, and returns the status 2.
-pub(crate) fn report_trouble<E: Write>(name: &str, trouble: &Trouble, e: &mut E) -> u8
-    ensures { result ≡ 2 }
-{
+/// Writes why the document with this name isn't checked.
+pub(crate) fn report_trouble<E: Write>(name: &str, trouble: &Trouble, e: &mut E) {
     let name = title(name);
     match trouble {
         Trouble::NoMemory => say_failure(name, &Failure::NoMemory, e),
@@ -66,21 +60,17 @@ pub(crate) fn report_trouble<E: Write>(name: &str, trouble: &Trouble, e: &mut E)
         Trouble::Write => say_failure(name, &Failure::Write, e),
         Trouble::Unopened(why) => say_of(e, name, &[": cannot be read", why.words(), "\n"]),
         Trouble::Undecided(error) => say_of(e, name, &[": ", error.message(), "\n"]),
-        Trouble::Schema(trouble) => return report_schema(name, trouble, e),
+        Trouble::Schema(trouble) => report_schema(name, trouble, e),
     }
-    2
 }
 
-/// Writes why a schema isn't read, under this name where nothing is shown of it, and returns the status 2.
-pub(crate) fn report_schema<E: Write>(name: &str, trouble: &SchemaTrouble, e: &mut E) -> u8
-    ensures { result ≡ 2 }
-{
+/// Writes why a schema isn't read, under this name where nothing is shown of it.
+pub(crate) fn report_schema<E: Write>(name: &str, trouble: &SchemaTrouble, e: &mut E) {
     match trouble {
         SchemaTrouble::NoMemory => say_failure(name, &Failure::NoMemory, e),
         SchemaTrouble::Read => say_failure(name, &Failure::Read, e),
-        SchemaTrouble::Shown(shown) => say(e, &[shown.as_str(), "\n"]),
+        SchemaTrouble::Shown(_, shown) => say(e, &[shown.as_str(), "\n"]),
     }
-    2
 }
 
 /// What a file with this name is called: standard input is `stdin`.

@@ -2,8 +2,8 @@
 
 ghost use Rattle.std.specs.Bool.{Decides};
 ghost use Rattle.std.specs.List.{Any};
-ghost use Rattle.std.specs.Prelude.{◌≡◌, ◌≢◌, ◌∷◌, ◌++◌, IfOk, IfSome, List, MatchOption, ℕ, string_bytes};
-ghost use Rattle.cli_check.specs.Naming.{HasNoSlash, IsAbsolute, IsBeside, IsFolderOf, Leads, MapsTo, equals, slash};
+ghost use Rattle.std.specs.Prelude.{◌≡◌, ◌≢◌, ◌∷◌, ◌++◌, IfOk, List, MatchOption, ℕ, string_bytes};
+ghost use Rattle.cli_check.specs.Naming.{HasNoSlash, IsAbsolute, IsBeside, IsFolderOf, LeadsTo, MapsTo, equals, slash};
 
 use std::alloc::{AllocError, Global};
 
@@ -15,7 +15,7 @@ pub(crate) fn schema_file(
     name: &str,
     schema: &str,
 ) -> Result<Option<String>, AllocError>
-    ensures { IfOk result (λ found. IfSome found (λ file. Leads maps.now name.now schema.now (string_bytes file))) }
+    ensures { IfOk result (LeadsTo maps.now name.now schema.now) }
 {
     if let Some(file) = mapped(maps, schema) {
         return Ok(Some(copied(alloc, file)?));

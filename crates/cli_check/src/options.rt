@@ -1,7 +1,7 @@
 //! What the words of the command line ask for.
 
-ghost use Rattle.std.specs.Prelude.{◌≡◌, ◌≤◌, IfOk, OnOk, length};
-ghost use Rattle.cli_check.specs.CommandWords.{choices_of, kind_in, nothing_chosen, with_flag, with_name, with_setting};
+ghost use Rattle.std.specs.Prelude.{◌≡◌, OnOk};
+ghost use Rattle.cli_check.specs.CommandWords.{ChoosesNothing, choices_of, kind_in, with_flag, with_name, with_setting};
 ghost use Rattle.cli_check.specs.WordSteps.{ReadsWords, TakesJoined, TakesSetting, TakesWord};
 ghost use Rattle.cli_files.specs.NameLists.{names_of};
 
@@ -69,7 +69,7 @@ impl Options {
 
     /// Nothing was asked for yet.
     fn none(alloc: Global) -> Options
-        ensures { choices_of result ≡ nothing_chosen }
+        ensures { ChoosesNothing result }
     {
         Options {
             asked: Asked::Files,
@@ -89,8 +89,7 @@ impl Options {
         word: &str,
         rest: &'w [String],
     ) -> Result<&'w [String], WordFault>
-        ensures taken { TakesWord (choices_of self.old) (choices_of self.new) word.now (names_of rest.now) result }
-        ensures shorter { IfOk result (λ left. length left.now ≤ length rest.now) }
+        ensures { TakesWord (choices_of self.old) (choices_of self.new) word.now (names_of rest.now) result }
     {
         match self.kind_of(word) {
             Word::Name => {
@@ -146,8 +145,7 @@ impl Options {
         setting: Setting,
         rest: &'w [String],
     ) -> Result<&'w [String], WordFault>
-        ensures taken { TakesSetting setting (choices_of self.old) (choices_of self.new) (names_of rest.now) result }
-        ensures shorter { IfOk result (λ left. length left.now ≤ length rest.now) }
+        ensures { TakesSetting setting (choices_of self.old) (choices_of self.new) (names_of rest.now) result }
     {
         let Some((value, left)) = rest.split_first() else {
             return Err(WordFault::Unknown);
@@ -163,8 +161,7 @@ impl Options {
         word: &str,
         rest: &'w [String],
     ) -> Result<&'w [String], WordFault>
-        ensures taken { TakesJoined (choices_of self.old) (choices_of self.new) word.now (names_of rest.now) result }
-        ensures shorter { IfOk result (λ left. length left.now ≤ length rest.now) }
+        ensures { TakesJoined (choices_of self.old) (choices_of self.new) word.now (names_of rest.now) result }
     {
         let Some((setting, value)) = joined(word) else {
             return Err(WordFault::Unknown);

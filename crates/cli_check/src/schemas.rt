@@ -1,21 +1,21 @@
 //! Reading a schema.
 
-ghost use Rattle.std.specs.Prelude.{◌≡◌, IfOk, IfSome, string_bytes};
-ghost use Rattle.json5_schema.specs.Views.{schema_of};
+ghost use Rattle.std.specs.Prelude.{Some, string_bytes};
 ghost use Rattle.json5_types.specs.ValueMeanings.{value_of};
-ghost use Rattle.cli_check.specs.Checks.{FileMeans, Means};
+ghost use Rattle.cli_check.specs.Schemas.{TakesFile, TakesHeld};
+ghost use Rattle.cli_check.specs.SchemaSteps.{IsOfRefusal, TakesValue};
 
 use crate::faults::report_at;
 use crate::places::spot_at;
-use crate::trouble::SchemaTrouble;
+use crate::trouble::{SchemaCause, SchemaTrouble};
 use crate::verdict::Source;
-use cli_files::{Disk, Reason, read_whole, shown};
+use cli_files::{Disk, Failure, Reason, read_whole, shown};
 use json5_read::read_document;
 use json5_report::Report;
-use json5_schema::{Schema, SchemaFault};
+use json5_schema::{Problem, Schema, SchemaFault};
 use json5_types::error::{Error, Result as Made};
 use json5_types::value::Value;
-use std::alloc::{AllocError, Global};
+use std::alloc::Global;
 use std::io::Read;
 
 /// Reads the schema in the file with this name.
@@ -24,37 +24,44 @@ pub(crate) fn read_schema<D: Disk>(
     alloc: Global,
     file: &str,
 ) -> Result<Schema, SchemaTrouble>
-    ensures { IfOk result (λ schema. FileMeans (D.opens disk.now) file.now (schema_of schema)) }
+    ensures { TakesFile (D.opens disk.now) file.now result }
 {
     match disk.open(file) {
         Ok(mut opened) => schema_in(alloc, file, &mut opened),
-        Err(e) => Err(unopened(alloc, file, Reason::of(&e))?),
+        Err(e) => Err(SchemaTrouble::because(
+            SchemaCause::Unopened,
+            unopened(alloc, file, Reason::of(&e)),
+        )),
     }
 }
 
 /// The schema in a reader.
 fn schema_in<R: Read>(alloc: Global, file: &str, r: &mut R) -> Result<Schema, SchemaTrouble>
-    ensures { IfOk result (λ schema. IfSome (R.remaining r.old) (λ bytes. Means bytes (schema_of schema))) }
+    ensures { TakesHeld (R.remaining r.old) result }
 {
     match read_whole(alloc, r) {
         Ok(bytes) => schema_of_bytes(alloc, file, bytes),
-        Err(failure) => Err(SchemaTrouble::from(failure)),
+        Err(Failure::Read) => Err(SchemaTrouble::Read),
+        Err(_) => Err(SchemaTrouble::NoMemory),
     }
 }
 
 /// The schema in bytes.
 fn schema_of_bytes(alloc: Global, file: &str, bytes: Vec<u8>) -> Result<Schema, SchemaTrouble>
-    ensures { IfOk result (λ schema. Means bytes.items (schema_of schema)) }
+    ensures { TakesHeld (Some bytes.items) result }
 {
     match String::from_utf8(bytes) {
         Ok(text) => schema_of_text(alloc, file, text),
-        Err(e) => Err(wrong_bytes(alloc, file, e.as_bytes())?),
+        Err(e) => Err(SchemaTrouble::because(
+            SchemaCause::NoDocument,
+            wrong_bytes(alloc, file, e.as_bytes()),
+        )),
     }
 }
 
 /// The schema in a text.
 fn schema_of_text(alloc: Global, file: &str, text: String) -> Result<Schema, SchemaTrouble>
-    ensures { IfOk result (λ schema. Means (string_bytes text) (schema_of schema)) }
+    ensures { TakesHeld (Some (string_bytes text)) result }
 {
     let source = Source {
         name: file,
@@ -62,7 +69,20 @@ fn schema_of_text(alloc: Global, file: &str, text: String) -> Result<Schema, Sch
     };
     match read_document(alloc, text.as_str()) {
         Ok(value) => schema_of_value(alloc, source, &value),
-        Err(error) => Err(refused(alloc, source, &error)?),
+        Err(error) => Err(refuse(alloc, source, error)),
+    }
+}
+
+/// Why a text that is refused so isn't taken.
+fn refuse(alloc: Global, source: Source<'_>, error: Error) -> SchemaTrouble
+    ensures { IsOfRefusal error result }
+{
+    match Failure::at(error) {
+        Failure::Text(error) => SchemaTrouble::because(
+            SchemaCause::NoDocument,
+            refused(alloc, source, &error),
+        ),
+        _ => SchemaTrouble::NoMemory,
     }
 }
 
@@ -72,43 +92,43 @@ fn schema_of_value(
     source: Source<'_>,
     value: &Value,
 ) -> Result<Schema, SchemaTrouble>
-    ensures { IfOk result (λ schema. schema_of schema ≡ value_of value.now) }
+    ensures { TakesValue (value_of value.now) result }
 {
     match Schema::new(alloc, value) {
         Ok(schema) => Ok(schema),
-        Err(fault) => Err(faulty(alloc, source, &fault)?),
+        Err(SchemaFault::At(pointer, problem)) => Err(SchemaTrouble::because(
+            SchemaCause::Faulty,
+            faulty(alloc, source, pointer.as_str(), problem),
+        )),
+        Err(SchemaFault::Value(_)) => Err(SchemaTrouble::NoMemory),
     }
 }
 
 /// That the file can't be opened.
-fn unopened(alloc: Global, file: &str, why: Reason) -> Result<SchemaTrouble, AllocError> {
+fn unopened(alloc: Global, file: &str, why: Reason) -> Made<String> {
     let file = shown(alloc, file)?;
-    let line = format!(in alloc; "{file}: the schema cannot be read{}", why.words())?;
-    Ok(SchemaTrouble::Shown(line))
+    Ok(format!(in alloc; "{file}: the schema cannot be read{}", why.words())?)
 }
 
 /// That the bytes are no text.
-fn wrong_bytes(alloc: Global, file: &str, bytes: &[u8]) -> Made<SchemaTrouble> {
+fn wrong_bytes(alloc: Global, file: &str, bytes: &[u8]) -> Made<String> {
     let file = shown(alloc, file)?;
     match Report::of_bytes(alloc, file.as_str(), bytes)? {
-        Some(report) => Ok(SchemaTrouble::Shown(format!(in alloc; "{report}")?)),
-        None => Ok(SchemaTrouble::Read),
+        Some(report) => Ok(format!(in alloc; "{report}")?),
+        None => Ok(format!(in alloc; "{file}: not UTF-8")?),
     }
 }
 
 /// That the text is no document.
-fn refused(alloc: Global, source: Source<'_>, error: &Error) -> Made<SchemaTrouble> {
+fn refused(alloc: Global, source: Source<'_>, error: &Error) -> Made<String> {
     let name = shown(alloc, source.name)?;
     let report = Report::new(alloc, name.as_str(), source.text, error)?;
-    Ok(SchemaTrouble::Shown(format!(in alloc; "{report}")?))
+    Ok(format!(in alloc; "{report}")?)
 }
 
 /// That the document is no schema.
-fn faulty(alloc: Global, source: Source<'_>, fault: &SchemaFault) -> Made<SchemaTrouble> {
-    let SchemaFault::At(pointer, problem) = fault else {
-        return Ok(SchemaTrouble::NoMemory);
-    };
-    let spot = spot_at(alloc, source.text, pointer.as_str())?;
-    let report = report_at(alloc, source, spot.key, *problem)?;
-    Ok(SchemaTrouble::Shown(format!(in alloc; "{report}")?))
+fn faulty(alloc: Global, source: Source<'_>, pointer: &str, problem: Problem) -> Made<String> {
+    let spot = spot_at(alloc, source.text, pointer)?;
+    let report = report_at(alloc, source, spot.key, problem)?;
+    Ok(format!(in alloc; "{report}")?)
 }

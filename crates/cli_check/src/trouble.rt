@@ -1,10 +1,26 @@
 //! Why a document isn't checked.
 
-ghost use Rattle.cli_check.specs.Troubles.{IsStreamTrouble};
+ghost use Rattle.cli_check.specs.SchemaSteps.{IsOfCause};
+ghost use Rattle.cli_check.specs.Troubles.{IsReadTrouble, IsUnshownTrouble};
 
 use cli_files::{Failure, Reason};
-use json5_types::error::Error;
+use json5_types::error::{Error, Result as Made};
 use std::alloc::{AllocError, AllocFailed};
+
+/// What is wrong with a schema.
+#[derive(Clone, Copy, Debug, Drop)]
+pub(crate) enum SchemaCause {
+    /// Its file can't be opened.
+    Unopened,
+    /// Its file holds no document.
+    NoDocument,
+    /// The document in its file isn't taken as a schema.
+    Faulty,
+    /// None is named.
+    Unnamed,
+    /// It is at a URL.
+    Elsewhere,
+}
 
 /// Why a schema isn't read.
 #[derive(Debug, Drop)]
@@ -12,8 +28,8 @@ pub(crate) enum SchemaTrouble {
     NoMemory,
     /// A read of its file failed.
     Read,
-    /// What is shown of it.
-    Shown(String),
+    /// What is wrong with it, and what is shown of that.
+    Shown(SchemaCause, String),
 }
 
 /// Why a document isn't checked.
@@ -39,32 +55,22 @@ pub(crate) enum Unshown {
     Write,
 }
 
-impl From<AllocError> for SchemaTrouble {
-    fn from(_e: AllocError) -> SchemaTrouble {
-        SchemaTrouble::NoMemory
-    }
-}
-
-impl From<Failure> for SchemaTrouble {
-    fn from(failure: Failure) -> SchemaTrouble {
-        match failure {
-            Failure::Read => SchemaTrouble::Read,
-            _ => SchemaTrouble::NoMemory,
+impl SchemaTrouble {
+    /// The trouble of this cause, with the line that is shown of it, if there is memory for that.
+    pub(crate) fn because(cause: SchemaCause, line: Made<String>) -> SchemaTrouble
+        ensures { IsOfCause cause result }
+    {
+        match line {
+            Ok(line) => SchemaTrouble::Shown(cause, line),
+            Err(_) => SchemaTrouble::NoMemory,
         }
-    }
-}
-
-/// Of making a report.
-impl From<Error> for SchemaTrouble {
-    fn from(_e: Error) -> SchemaTrouble {
-        SchemaTrouble::NoMemory
     }
 }
 
 impl Trouble {
     /// The trouble of a read that fails so.
     pub(crate) fn of_read(failure: Failure) -> Trouble
-        ensures { IsStreamTrouble result }
+        ensures { IsReadTrouble result }
     {
         match failure {
             Failure::Read => Trouble::Read,
@@ -74,7 +80,7 @@ impl Trouble {
 
     /// The trouble where a fault isn't shown.
     pub(crate) fn of_unshown(unshown: Unshown) -> Trouble
-        ensures { IsStreamTrouble result }
+        ensures { IsUnshownTrouble result }
     {
         match unshown {
             Unshown::NoMemory => Trouble::NoMemory,

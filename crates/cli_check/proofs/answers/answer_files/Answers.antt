@@ -8,7 +8,7 @@ pub returns-then-is_empty : goal.returns-then-is_empty
 returns-then-is_empty g c =
     let names = c.args.options.now.names in
     let none = eqb-true _ _ (sym c.if-is_empty.ensures) in
-    rw c.usage.ensures.status (unnamed (nil_from_length names.items (omega (arith, names.ok.0, none))) c.usage.ensures.line)
+    rw c.usage.ensures.0 (unnamed (nil_from_length names.items (omega (arith, names.ok.0, none))) c.usage.ensures.1)
 
 pub returns : goal.returns
 returns g c =

@@ -11,4 +11,4 @@ returns-in-Ok g c =
     checks (Some (schema_of c.in-Ok.schema)) (read c.in-Some.file (schema_of c.in-Ok.schema) c.in-Some.is (rw c.as_str.ensures.value at c.in-Ok.ensures)) c.check_each-in-Ok.ensures
 
 pub returns-in-Err : goal.returns-in-Err
-returns-in-Err g c = rw c.report_schema.ensures (no_schema c.in-Some.file c.in-Some.is)
+returns-in-Err g c = no_schema c.in-Some.file c.in-Err.trouble c.in-Some.is (rw c.as_str.ensures.value at c.in-Err.ensures)

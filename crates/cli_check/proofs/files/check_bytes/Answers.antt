@@ -1,8 +1,9 @@
 use Rattle.std.proofs.Common.{sym, true≢false}
-use Rattle.cli_check.specs.Checks.{SchemaFor, given_schema}
+use Rattle.cli_check.specs.Checks.{given_schema}
 use Rattle.cli_check.proofs.Judged.{no_text}
 use Rattle.cli_check.proofs.files.check_bytes.Goals as goal
 
 pub returns-in-Err : goal.returns-in-Err
 returns-in-Err g c =
-    no_text (SchemaFor (g.D.Disk.opens c.args.disk.now) (given_schema c.args.given) c.args.options.now.maps.items c.args.name.now) (given_schema c.args.given) c.args.bytes.items c.told.result (λ utf8. true≢false (sym (c.in-Err.ensures.succeeds utf8))) c.told.ensures
+    no_text (g.D.Disk.opens c.args.disk.now) (given_schema c.args.given) c.args.options.now.maps.items c.args.name.now c.args.bytes.items c.told.result
+    (λ utf8. true≢false (sym (c.in-Err.ensures.succeeds utf8))) c.told.ensures

@@ -1,15 +1,12 @@
 use Rattle.std.proofs.Common.{refl, sym, true≢false}
-use Rattle.cli_check.specs.Checks.{file, stream, unopened, given_schema}
-use Rattle.cli_check.proofs.Judged.{file_judged}
+use Rattle.cli_check.specs.Checks.{file, stream, judged, unopened}
 use Rattle.cli_check.proofs.files.check_file.Goals as goal
 
 pub returns-then-is_stdin : goal.returns-then-is_stdin
-returns-then-is_stdin g c =
-    file_judged (g.D.Disk.opens c.args.disk.now) (given_schema c.args.given) c.args.options.now.maps.items (g.R.Read.remaining c.args.r.now) c.args.name.now _ _ c.check_input.result (stream (c.if-is_stdin.ensures.0 refl)) c.check_input.ensures
+returns-then-is_stdin g c = judged c.check_input.result (stream (c.if-is_stdin.ensures.0 refl)) c.check_input.ensures
 
 pub returns-in-Ok : goal.returns-in-Ok
-returns-in-Ok g c =
-    file_judged (g.D.Disk.opens c.args.disk.now) (given_schema c.args.given) c.args.options.now.maps.items (g.R.Read.remaining c.args.r.now) c.args.name.now _ _ c.check_input-in-Ok.result (file (λ is. true≢false (sym (c.if-is_stdin.ensures.1 is))) c.in-Ok.ensures) c.check_input-in-Ok.ensures
+returns-in-Ok g c = judged c.check_input-in-Ok.result (file (λ is. true≢false (sym (c.if-is_stdin.ensures.1 is))) c.in-Ok.ensures) c.check_input-in-Ok.ensures
 
 pub returns-in-Err : goal.returns-in-Err
-returns-in-Err g c = unopened _ (λ is. true≢false (sym (c.if-is_stdin.ensures.1 is))) c.in-Err.ensures
+returns-in-Err g c = unopened _ (λ is. true≢false (sym (c.if-is_stdin.ensures.1 is))) c.in-Err.ensures refl

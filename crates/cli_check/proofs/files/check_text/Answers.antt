@@ -1,19 +1,22 @@
 use Rattle.std.proofs.Common.{subst}
 use Rattle.json5_types.specs.ValueMeanings.{value_of}
-use Rattle.cli_check.specs.Checks.{JudgesText, SchemaFor, given_schema}
+use Rattle.cli_check.specs.Checks.{JudgesText, given_schema}
 use Rattle.cli_check.proofs.Judged.{text_judged, no_document}
 use Rattle.cli_check.proofs.files.check_text.Goals as goal
 
 pub returns-in-Ok : goal.returns-in-Ok
 returns-in-Ok g c =
-    let For = SchemaFor (g.D.Disk.opens c.args.disk.now) (given_schema c.args.given) c.args.options.now.maps.items c.args.name.now in
+    let opens = g.D.Disk.opens c.args.disk.now in
     let given = given_schema c.args.given in
+    let maps = c.args.options.now.maps.items in
     let read = c.in-Ok.ensures in
-    subst (λ b. JudgesText For given b c.check_value.result) c.as_str-2.ensures.value
-    (text_judged For given c.as_str-2.result.now (value_of c.in-Ok.value) read.sound.0 c.check_value.result c.as_str-2.utf8 read.sound.1 read.sound.2 read.complete c.check_value.ensures)
+    subst (λ b. JudgesText opens given maps c.args.name.now b c.check_value.result) c.as_str-2.ensures.value
+    (text_judged opens given maps c.args.name.now c.as_str-2.result.now (value_of c.in-Ok.value) read.sound.0 c.check_value.result c.as_str-2.utf8 read.sound.1 read.sound.2 read.complete c.check_value.ensures)
 
 pub returns : goal.returns
 returns g c =
-    let For = SchemaFor (g.D.Disk.opens c.args.disk.now) (given_schema c.args.given) c.args.options.now.maps.items c.args.name.now in
+    let opens = g.D.Disk.opens c.args.disk.now in
     let given = given_schema c.args.given in
-    subst (λ b. JudgesText For given b c.refuse.result) c.as_str-2.ensures.value (no_document For given c.as_str-2.result.now c.in-Err.error c.refuse.result c.in-Err.ensures.complete c.refuse.ensures)
+    let maps = c.args.options.now.maps.items in
+    subst (λ b. JudgesText opens given maps c.args.name.now b c.refuse.result) c.as_str-2.ensures.value
+    (no_document opens given maps c.args.name.now c.as_str-2.result.now c.in-Err.error c.refuse.result c.in-Err.ensures.complete c.refuse.ensures)

@@ -1,15 +1,14 @@
 use Rattle.std.proofs.Common.{Some, refl}
 use Rattle.json5_schema.specs.Views.{schema_of}
 use Rattle.json5_types.specs.ValueMeanings.{value_of}
-use Rattle.cli_check.specs.Checks.{SchemaFor}
-use Rattle.cli_check.proofs.Judged.{schema_used}
+use Rattle.cli_check.proofs.Judged.{value_judged}
 use Rattle.cli_check.proofs.files.check_value.Goals as goal
 
 pub returns-in-Some : goal.returns-in-Some
 returns-in-Some g c =
     let s = schema_of c.in-Some.schema.now in
     rw c.in-Some.is
-    (schema_used (SchemaFor (g.D.Disk.opens c.args.disk.now) (Some s) c.args.options.now.maps.items c.args.source.name.now) (Some s) s (value_of c.args.value.now) c.judge.result refl (c.judge.ensures (Some s)))
+    (value_judged (g.D.Disk.opens c.args.disk.now) (Some s) c.args.options.now.maps.items c.args.source.name.now s (value_of c.args.value.now) c.judge.result refl c.judge.ensures)
 
 pub returns-in-None : goal.returns-in-None
 returns-in-None g c = rw c.in-None.is c.check_by_own.ensures

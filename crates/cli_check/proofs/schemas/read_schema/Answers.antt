@@ -1,5 +1,8 @@
-use Rattle.cli_check.proofs.Judged.{file_meant}
+use Rattle.cli_check.proofs.SchemasTaken.{file_taken, unopened}
 use Rattle.cli_check.proofs.schemas.read_schema.Goals as goal
 
 pub returns-in-Ok : goal.returns-in-Ok
-returns-in-Ok g c = file_meant (g.D.Disk.opens c.args.disk.now) c.args.file.now _ c.schema_in.result c.in-Ok.ensures c.schema_in.ensures
+returns-in-Ok g c = file_taken (g.D.Disk.opens c.args.disk.now) c.args.file.now _ c.schema_in.result c.in-Ok.ensures c.schema_in.ensures
+
+pub returns-in-Err : goal.returns-in-Err
+returns-in-Err g c = unopened (g.D.Disk.opens c.args.disk.now) c.args.file.now c.because.result c.in-Err.ensures c.because.ensures

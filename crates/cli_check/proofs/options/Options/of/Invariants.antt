@@ -8,4 +8,4 @@ abbrev pub invariant-loop-word : goal.invariant-loop-word
 invariant-loop-word l = GoesOn nothing_chosen (names_of l.list) (choices_of l.options) (names_of l.left)
 
 abbrev pub decreases-loop-word : goal.decreases-loop-word
-decreases-loop-word l = length l.left
+decreases-loop-word l = length (names_of l.left)

@@ -4,18 +4,18 @@ use Rattle.cli_check.specs.CommandWords.{choices_of}
 use Rattle.cli_check.proofs.WordsTaken.{name_taken, end_taken, flag_taken, setting_taken, joined_taken}
 use Rattle.cli_check.proofs.options.Options.take.Goals as goal
 
-pub returns-in_ok-add_name-in-Name-clause-taken : goal.returns-in_ok-add_name-in-Name-clause-taken
-returns-in_ok-add_name-in-Name-clause-taken c = name_taken (choices_of c.args.self.now) _ c.args.word.now (names_of c.args.rest.now) (sym c.in-Name.ensures) c.in_ok-add_name-in-Name.ensures
+pub returns-in_ok-add_name-in-Name : goal.returns-in_ok-add_name-in-Name
+returns-in_ok-add_name-in-Name c = name_taken (choices_of c.args.self.now) _ c.args.word.now (names_of c.args.rest.now) (sym c.in-Name.ensures) c.in_ok-add_name-in-Name.ensures
 
-pub returns-in-End-clause-taken : goal.returns-in-End-clause-taken
-returns-in-End-clause-taken c = end_taken (choices_of c.args.self.now) _ c.args.word.now (names_of c.args.rest.now) (sym c.in-End.ensures) refl
+pub returns-in-End : goal.returns-in-End
+returns-in-End c = end_taken (choices_of c.args.self.now) _ c.args.word.now (names_of c.args.rest.now) (sym c.in-End.ensures) refl
 
-pub returns-in-Flag-clause-taken : goal.returns-in-Flag-clause-taken
-returns-in-Flag-clause-taken c = flag_taken (choices_of c.args.self.now) _ c.args.word.now (names_of c.args.rest.now) c.in-Flag.flag (sym c.in-Flag.ensures) c.take_flag.ensures
+pub returns-in-Flag : goal.returns-in-Flag
+returns-in-Flag c = flag_taken (choices_of c.args.self.now) _ c.args.word.now (names_of c.args.rest.now) c.in-Flag.flag (sym c.in-Flag.ensures) c.take_flag.ensures
 
-pub returns-in-Setting-clause-taken : goal.returns-in-Setting-clause-taken
-returns-in-Setting-clause-taken c =
-    setting_taken (choices_of c.args.self.now) _ c.args.word.now (names_of c.args.rest.now) c.in-Setting.setting c.take_setting.result (sym c.in-Setting.ensures) c.take_setting.ensures.taken
+pub returns-in-Setting : goal.returns-in-Setting
+returns-in-Setting c =
+    setting_taken (choices_of c.args.self.now) _ c.args.word.now (names_of c.args.rest.now) c.in-Setting.setting c.take_setting.result (sym c.in-Setting.ensures) c.take_setting.ensures
 
-pub returns-in-Other-clause-taken : goal.returns-in-Other-clause-taken
-returns-in-Other-clause-taken c = joined_taken (choices_of c.args.self.now) _ c.args.word.now (names_of c.args.rest.now) c.take_joined.result (sym c.in-Other.ensures) c.take_joined.ensures.taken
+pub returns-in-Other : goal.returns-in-Other
+returns-in-Other c = joined_taken (choices_of c.args.self.now) _ c.args.word.now (names_of c.args.rest.now) c.take_joined.result (sym c.in-Other.ensures) c.take_joined.ensures
