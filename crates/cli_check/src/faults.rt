@@ -2,7 +2,7 @@
 
 use crate::lines::title;
 use crate::options::Options;
-use crate::places::spot_at;
+use crate::places::{Sought, Spot, find_all};
 use crate::trouble::Unshown;
 use crate::verdict::Source;
 use cli_files::{put_texts, shown};
@@ -57,8 +57,9 @@ pub(crate) fn show_faults<W: Write>(
         return Ok(());
     }
     let faults = schema.faults(alloc, value)?;
-    for fault in &faults {
-        show_fault(alloc, options, source, fault, w)?;
+    let places = places_of(alloc, source.text, faults.as_slice())?;
+    for (fault, place) in faults.iter().zip(places.iter()) {
+        show_fault(alloc, options, source, fault, place.spot, w)?;
     }
     if faults.len() == MAX_FAULTS && !options.is_json {
         put_texts(w, &["there may be more faults, which aren't shown\n"])?;
@@ -66,17 +67,26 @@ pub(crate) fn show_faults<W: Write>(
     Ok(())
 }
 
-/// Shows a fault of a document.
+/// Where the faults of a text stand.
+fn places_of(alloc: Global, text: &str, faults: &[Fault]) -> Made<Vec<Sought>> {
+    let mut places = Vec::new(alloc);
+    for fault in faults {
+        places.push(Sought::new(alloc, fault.place.pointer(alloc)?.as_str())?)?;
+    }
+    find_all(alloc, text, places.as_mut_slice())?;
+    Ok(places)
+}
+
+/// Shows a fault of a document, which stands there.
 fn show_fault<W: Write>(
     alloc: Global,
     options: &Options,
     source: Source<'_>,
     fault: &Fault,
+    spot: Spot,
     w: &mut W,
 ) -> Result<(), Unshown> {
     let place = &fault.place;
-    let pointer = place.pointer(alloc)?;
-    let spot = spot_at(alloc, source.text, pointer.as_str())?;
     let offset = match place.part {
         Part::Key => spot.key,
         Part::Value => spot.value,

@@ -1,4 +1,4 @@
-//! Where the part of a document stands that a JSON pointer leads to: its key too, of which json5_edit's `find` doesn't tell.
+//! Where the parts of a document stand that JSON pointers lead to: their keys too, unlike `find` of json5_edit.
 
 use json5_read::brackets::BracketKind;
 use json5_types::error::Result;
@@ -14,27 +14,49 @@ pub(crate) struct Spot {
     pub(crate) value: usize,
 }
 
-/// Where the part begins that the pointer leads to, of equal keys the last; the whole value, if there is none.
-pub(crate) fn spot_at(alloc: Global, text: &str, pointer: &str) -> Result<Spot> {
-    let parts = parts_of(alloc, pointer)?;
-    let mut walk = Walk::new(alloc, text, Limit::full());
-    walk.gap()?;
-    let top = walk.offset();
-    let mut spot = Spot {
-        key: top,
-        value: top,
-    };
-    seek(&mut walk, parts.as_slice(), top, &mut spot)?;
-    Ok(spot)
+/// A part of a JSON pointer.
+#[derive(Drop)]
+struct Part {
+    key: String,
+    /// The index that it is in an array.
+    index: Option<usize>,
 }
 
-/// The parts of a JSON pointer.
-fn parts_of(alloc: Global, pointer: &str) -> std::result::Result<Vec<String>, AllocError> {
-    let mut parts = Vec::new(alloc);
-    for part in pointer.split('/').skip(1) {
-        parts.push(unescaped(alloc, part)?)?;
+/// A part of a document that is looked for.
+#[derive(Drop)]
+pub(crate) struct Sought {
+    parts: Vec<Part>,
+    /// How many of these lead to the value that the walk is in.
+    met: usize,
+    /// Where it begins; the whole value, as long as it isn't found.
+    pub(crate) spot: Spot,
+}
+
+impl Sought {
+    /// What this pointer leads to.
+    pub(crate) fn new(alloc: Global, pointer: &str) -> Result<Sought> {
+        let mut parts = Vec::new(alloc);
+        for part in pointer.split('/').skip(1) {
+            parts.push(Part {
+                key: unescaped(alloc, part)?,
+                index: part.parse::<usize>().ok(),
+            })?;
+        }
+        Ok(Sought {
+            parts,
+            met: 0,
+            spot: Spot { key: 0, value: 0 },
+        })
     }
-    Ok(parts)
+
+    /// Whether the pointer goes on to this entry of what it met so far.
+    fn leads_to(&self, kind: BracketKind, key: &str, index: usize) -> bool {
+        match (self.parts.get(self.met), kind) {
+            (Some(part), BracketKind::Object) => part.key.as_str() == key,
+            (Some(part), BracketKind::Array) => part.index == Some(index),
+            (None, _) => false,
+        }
+    }
 }
 
 /// The part as a key.
@@ -53,34 +75,53 @@ fn unescaped(alloc: Global, part: &str) -> std::result::Result<String, AllocErro
     Ok(text)
 }
 
-/// Passes over the value in front, whose key begins there, and puts the spot where the parts lead to.
-#[cycle(seek)]
-fn seek(walk: &mut Walk<'_>, parts: &[String], key: usize, spot: &mut Spot) -> Result<()> {
-    let Some((part, rest)) = parts.split_first() else {
-        *spot = Spot {
-            key,
-            value: walk.offset(),
+/// Puts to each where it begins, of equal keys the last, in one walk over the text.
+pub(crate) fn find_all(alloc: Global, text: &str, sought: &mut [Sought]) -> Result<()> {
+    let mut walk = Walk::new(alloc, text, Limit::full());
+    walk.gap()?;
+    let top = walk.offset();
+    for one in sought.iter_mut() {
+        one.spot = Spot {
+            key: top,
+            value: top,
         };
-        return walk.skip();
-    };
-    if walk.open(BracketKind::Object) {
-        return seek_member(walk, part.as_str(), rest, spot);
     }
-    if walk.open(BracketKind::Array) {
-        return seek_element(walk, part.as_str(), rest, spot);
+    seek(&mut walk, sought, usize::from(Limit::full().get()), top)
+}
+
+/// Passes over the value in front, whose key begins there, and puts the spots in it, so many levels deep.
+#[cycle(seek)]
+fn seek(walk: &mut Walk<'_>, sought: &mut [Sought], levels: usize, key: usize) -> Result<()> {
+    let value = walk.offset();
+    let goes_on = put_spots(sought, walk.depth(), Spot { key, value });
+    let below = match levels.checked_sub(1) {
+        Some(below) if goes_on => below,
+        _ => return walk.skip(),
+    };
+    for kind in [BracketKind::Object, BracketKind::Array] {
+        if walk.open(kind) {
+            return seek_entries(walk, sought, below, kind);
+        }
     }
     walk.skip()
 }
 
-/// Passes over the rest of an object.
+/// Passes over the rest of an object or array.
 #[cycle(seek)]
-fn seek_member(walk: &mut Walk<'_>, name: &str, parts: &[String], spot: &mut Spot) -> Result<()> {
-    for _ in 0..walk.text().len() {
+fn seek_entries(
+    walk: &mut Walk<'_>,
+    sought: &mut [Sought],
+    levels: usize,
+    kind: BracketKind,
+) -> Result<()> {
+    for index in 0..walk.text().len() {
         let Some(key) = walk.entry()? else {
             break;
         };
-        if key.text.as_str() == name {
-            seek(walk, parts, key.start, spot)?;
+        let depth = walk.depth();
+        if meet(sought, depth, kind, key.text.as_str(), index) {
+            seek(walk, sought, levels, key.start)?;
+            go_back(sought, depth);
         } else {
             walk.skip()?;
         }
@@ -88,18 +129,33 @@ fn seek_member(walk: &mut Walk<'_>, name: &str, parts: &[String], spot: &mut Spo
     Ok(())
 }
 
-/// Passes over the rest of an array.
-#[cycle(seek)]
-fn seek_element(walk: &mut Walk<'_>, index: &str, parts: &[String], spot: &mut Spot) -> Result<()> {
-    for count in 0..walk.text().len() {
-        let Some(key) = walk.entry()? else {
-            break;
-        };
-        if index.parse::<usize>().ok() == Some(count) {
-            seek(walk, parts, key.start, spot)?;
-        } else {
-            walk.skip()?;
+/// Puts the spot to those that lead to the value at this depth and no further, and says whether one leads further.
+fn put_spots(sought: &mut [Sought], depth: usize, spot: Spot) -> bool {
+    let mut goes_on = false;
+    for one in sought.iter_mut() {
+        if one.met == depth && one.parts.len() == depth {
+            one.spot = spot;
+        }
+        goes_on = goes_on || (one.met == depth && one.parts.len() > depth);
+    }
+    goes_on
+}
+
+/// Goes on to the entry with those that lead to it, which is so deep, and says whether there is one.
+fn meet(sought: &mut [Sought], depth: usize, kind: BracketKind, key: &str, index: usize) -> bool {
+    let mut is_met = false;
+    for one in sought.iter_mut() {
+        if one.met < depth && depth - one.met == 1 && one.leads_to(kind, key, index) {
+            one.met = depth;
+            is_met = true;
         }
     }
-    Ok(())
+    is_met
+}
+
+/// Goes back from an entry that is so deep.
+fn go_back(sought: &mut [Sought], depth: usize) {
+    for one in sought.iter_mut() {
+        one.met = one.met.min(depth.saturating_sub(1));
+    }
 }

@@ -6,7 +6,7 @@ ghost use Rattle.cli_check.specs.Schemas.{TakesFile, TakesHeld};
 ghost use Rattle.cli_check.specs.SchemaSteps.{IsOfRefusal, TakesValue};
 
 use crate::faults::report_at;
-use crate::places::spot_at;
+use crate::places::{Sought, find_all};
 use crate::trouble::{SchemaCause, SchemaTrouble};
 use crate::verdict::Source;
 use cli_files::{Disk, Failure, Reason, read_whole, shown};
@@ -128,7 +128,8 @@ fn refused(alloc: Global, source: Source<'_>, error: &Error) -> Made<String> {
 
 /// That the document is no schema.
 fn faulty(alloc: Global, source: Source<'_>, pointer: &str, problem: Problem) -> Made<String> {
-    let spot = spot_at(alloc, source.text, pointer)?;
-    let report = report_at(alloc, source, spot.key, problem)?;
+    let mut place = [Sought::new(alloc, pointer)?];
+    find_all(alloc, source.text, &mut place)?;
+    let report = report_at(alloc, source, place[0].spot.key, problem)?;
     Ok(format!(in alloc; "{report}")?)
 }

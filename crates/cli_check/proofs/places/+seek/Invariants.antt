@@ -1,11 +1,8 @@
-use Rattle.std.proofs.Common.{◌+◌, ◌*◌, length}
+use Rattle.std.proofs.Common.{◌+◌, ◌*◌}
 use Rattle.cli_check.proofs.places.+seek.Given as goal
 
 abbrev pub decreases-seek : goal.decreases-seek
-decreases-seek l = 2 * length l.parts.now
+decreases-seek l = 2 * l.levels
 
-abbrev pub decreases-seek_member : goal.decreases-seek_member
-decreases-seek_member l = 2 * length l.parts.now + 1
-
-abbrev pub decreases-seek_element : goal.decreases-seek_element
-decreases-seek_element l = 2 * length l.parts.now + 1
+abbrev pub decreases-seek_entries : goal.decreases-seek_entries
+decreases-seek_entries l = 2 * l.levels + 1
