@@ -1,5 +1,6 @@
 -- Lists the lemmas about schemas.
 mod Conforming
+mod Knowing
 mod Remainders
 mod OneVerdict
 mod Parts

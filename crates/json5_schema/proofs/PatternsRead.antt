@@ -1,5 +1,5 @@
 -- What a compiled pattern finds is what its text means.
-use Rattle.std.proofs.Common.{◌≡◌, ◌∙◌, ◌<◌, ◌≤◌, ℕ, true, List, Option, None, Some, false, is_some, IsSomeAnd, get_or, length, sym, string_bytes}
+use Rattle.std.proofs.Common.{◌≡◌, ◌<◌, ◌≤◌, ℕ, true, List, Option, None, Some, false, is_some, IsSomeAnd, get_or, length, sym}
 use Rattle.std.specs.Str.{chars}
 use Rattle.regex_hir.specs.Re.{Re}
 use Rattle.regex_syntax.specs.Brackets.{Nested}

@@ -1,5 +1,6 @@
 -- Lists the definitions of schemas.
 pub mod Keywords
 pub mod Patterns
+pub mod Subschemas
 pub mod Conformance
 pub mod Views

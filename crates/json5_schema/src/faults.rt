@@ -13,6 +13,8 @@ use std::fmt;
 pub enum Problem {
     /// A keyword that this version doesn't decide, such as `unevaluatedItems`.
     Undecided,
+    /// A keyword that is none, and the likeliest one: only `Schema::strict` refuses it.
+    NoKeyword(Option<&'static str>),
     /// The argument isn't what the keyword wants.
     Expected(Shape),
     /// A regular expression that Rust's regex crate doesn't read, or one that is too large.
@@ -33,6 +35,10 @@ impl fmt::Display for Problem {
     fn fmt<W: fmt::Write>(&self, f: &mut fmt::Formatter<W>) -> fmt::Result {
         match self {
             Problem::Undecided => f.write_str("this keyword isn't decided yet"),
+            Problem::NoKeyword(None) => f.write_str("this is no keyword"),
+            Problem::NoKeyword(Some(likeliest)) => {
+                write!(f, "this is no keyword (did you mean `{likeliest}`?)")
+            }
             Problem::Expected(shape) => write!(f, "expected {}", shape.as_str()),
             Problem::Pattern => f.write_str("this regular expression can't be read"),
             Problem::OldDraft => f.write_str("drafts before 6 aren't read"),

@@ -10,6 +10,7 @@ pub mod faults;
 mod found;
 mod keyword;
 mod kind;
+mod known;
 pub mod laws;
 mod limits;
 mod looking;

@@ -16,6 +16,8 @@ pub type Looked<T> = std::result::Result<T, SchemaFault>;
 pub struct Seen {
     /// What stands beside `$ref` counts, as a draft says that is named.
     pub counts_siblings: bool,
+    /// What a reference means is to have no keyword but known ones.
+    pub is_strict: bool,
     /// The references, each text once.
     pub references: Vec<Reference>,
     /// The patterns, each text once.
@@ -38,7 +40,7 @@ pub fn fault(alloc: Global, pointer: &str, problem: Problem) -> SchemaFault {
 }
 
 /// A key as it stands in a pointer, after the pointer to its object.
-fn behind(alloc: Global, pointer: &str, key: &str) -> error::Result<String> {
+pub fn behind(alloc: Global, pointer: &str, key: &str) -> error::Result<String> {
     let mut text = String::from_str(alloc, pointer)?;
     text.push('/')?;
     for character in key.chars() {

@@ -1,6 +1,7 @@
 //! The references of a schema: each has a target, and none leads back to itself without a step into the value.
 
 use crate::faults::Problem;
+use crate::known::check_schema;
 use crate::looking::{Looked, Reference, Seen, fault, look};
 use crate::patterns::Pattern;
 use json5_types::error;
@@ -24,6 +25,7 @@ pub fn follow(alloc: Global, root: &Value, seen: Seen) -> Looked<Vec<Pattern>> {
     }
     let Seen {
         counts_siblings: _,
+        is_strict: _,
         references,
         patterns,
     } = seen;
@@ -49,6 +51,9 @@ fn look_at_target(alloc: Global, root: &Value, index: usize, seen: &mut Seen) ->
         return Err(fault(alloc, reference.pointer.as_str(), Problem::NoTarget));
     };
     let pointer = String::from_str(alloc, reference.text.as_str())?;
+    if seen.is_strict {
+        check_schema(alloc, schema, pointer.as_str())?;
+    }
     look(alloc, schema, pointer.as_str(), seen)?;
     Ok(true)
 }

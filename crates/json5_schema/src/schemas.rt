@@ -4,6 +4,7 @@ ghost use Rattle.std.specs.Prelude.{◌≡◌, ◌==◌, false, vec_len, IfOk, M
 ghost use Rattle.json5_types.specs.Errors.{LacksMemory};
 ghost use Rattle.json5_types.specs.ValueMeanings.{value_of};
 ghost use Rattle.json5_schema.specs.Conformance.{Conforms};
+ghost use Rattle.json5_schema.specs.Subschemas.{HasOnlyKeywords};
 ghost use Rattle.json5_schema.specs.Views.{IsRefusal, schema_of};
 
 use crate::conforms::{MAX_DEPTH, conforms};
@@ -11,6 +12,7 @@ use crate::document_faults::{Fault, Place};
 use crate::explain::explain;
 use crate::faults::{Problem, SchemaFault};
 use crate::found::Found;
+use crate::known::check_schema;
 use crate::looking::{Seen, fault, look};
 use crate::patterns::Pattern;
 use crate::references::follow;
@@ -47,7 +49,33 @@ impl Schema {
     pub fn new(alloc: Global, value: &Value) -> Result<Schema, SchemaFault>
         ensures { IfOk result (λ schema. schema_of schema ≡ value_of value.now) }
     {
-        let patterns = look_at_all(alloc, value)?;
+        let seen = nothing_seen(alloc, value, false)?;
+        let patterns = look_at_all(alloc, value, seen)?;
+        Ok(Schema {
+            root: value.clone(alloc)?,
+            patterns,
+        })
+    }
+
+    /// As `new`, but refuses a keyword that is none, which asks nothing: a misspelled one, as `propertees`.
+    ///
+    /// Known are the keywords of drafts 6 to 2020-12, VS Code's words for its editor, as `markdownDescription`, and names that
+    /// begin with `x-`. Only where schemas stand: names of properties and values are one's own.
+    ///
+    /// ```text
+    /// Schema::strict(alloc, &json5::from_str(alloc, "{propertees: {port: true}}")?)
+    ///     // Err: this is no keyword (did you mean `properties`?) at `/propertees`
+    /// ```
+    ///
+    /// # Errors
+    ///
+    /// As `new`; also `At` with the place of a keyword that is none, and the likeliest one where one is near.
+    pub fn strict(alloc: Global, value: &Value) -> Result<Schema, SchemaFault>
+        ensures { IfOk result (λ schema. (schema_of schema ≡ value_of value.now) × HasOnlyKeywords (schema_of schema)) }
+    {
+        let seen = nothing_seen(alloc, value, true)?;
+        check_schema(alloc, value, "")?;
+        let patterns = look_at_all(alloc, value, seen)?;
         Ok(Schema {
             root: value.clone(alloc)?,
             patterns,
@@ -145,13 +173,19 @@ fn counts_siblings(alloc: Global, root: &Value) -> Result<bool, SchemaFault> {
     Ok(draft.contains("2019-09") || draft.contains("2020-12"))
 }
 
-/// Looks at a schema, and at all that its references mean.
-fn look_at_all(alloc: Global, root: &Value) -> Result<Vec<Pattern>, SchemaFault> {
-    let mut seen = Seen {
+/// What is known of a schema before it is looked at.
+fn nothing_seen(alloc: Global, root: &Value, is_strict: bool) -> Result<Seen, SchemaFault> {
+    Ok(Seen {
         counts_siblings: counts_siblings(alloc, root)?,
+        is_strict,
         references: Vec::new(alloc),
         patterns: Vec::new(alloc),
-    };
+    })
+}
+
+/// Looks at a schema, and at all that its references mean.
+fn look_at_all(alloc: Global, root: &Value, seen: Seen) -> Result<Vec<Pattern>, SchemaFault> {
+    let mut seen = seen;
     look(alloc, root, "", &mut seen)?;
     follow(alloc, root, seen)
 }

@@ -2,14 +2,14 @@
 
 use crate::outcomes::{Outcome, said};
 use crate::rows::text_of;
-use json5_schema::{Part, Schema};
+use json5_schema::{Part, Schema, SchemaFault};
 use json5_types::error::Error;
 use json5_types::value::Value;
 use std::alloc::Global;
 
 /// What comes of the row's schema, and of the documents that conform to it and that don't.
 pub(crate) fn outcome_of(alloc: Global, row: &Value) -> Outcome {
-    let schema = match Schema::new(alloc, row.get("schema").unwrap_or(&Value::Null)) {
+    let schema = match taken(alloc, row, row.get("schema").unwrap_or(&Value::Null)) {
         Ok(schema) => schema,
         Err(fault) => return said(text_of(row, "fault"), format!(in alloc; "{fault}").ok()),
     };
@@ -24,6 +24,14 @@ pub(crate) fn outcome_of(alloc: Global, row: &Value) -> Outcome {
         Ok(None) => said("", String::from_str(alloc, "the schema is taken").ok()),
         Ok(Some(document)) => shown(alloc, document),
         Err(error) => said("", format!(in alloc; "{error}").ok()),
+    }
+}
+
+/// The row's schema, without keywords that are none if the row is strict.
+fn taken(alloc: Global, row: &Value, schema: &Value) -> Result<Schema, SchemaFault> {
+    match row.get("strict") {
+        Some(_) => Schema::strict(alloc, schema),
+        None => Schema::new(alloc, schema),
     }
 }
 
