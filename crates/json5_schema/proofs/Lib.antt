@@ -1,4 +1,5 @@
 -- Lists the lemmas about schemas.
+mod Anchoring
 mod Conforming
 mod Knowing
 mod Remainders

@@ -10,12 +10,11 @@ use Rattle.json5_types.specs.declared.value.Value as value
 use Rattle.json5_types.specs.ValueMeanings.{Datum, null, boolean, number, text, array, object, no_item, Fields, value_of, items_view}
 use Rattle.json5_types.specs.ValueLookups.{boolean_of, fields_in}
 use Rattle.json5_types.specs.Errors.{LacksMemory}
-use Rattle.json5_types.specs.Pointers.{pointed}
 use Rattle.json5_types.proofs.ValuesCompared.{view-String}
 use Rattle.json5_schema.specs.declared.keyword.Keyword.{Keyword}
 use Rattle.json5_schema.specs.declared.kind.Kind.{Kind}
 use Rattle.json5_schema.specs.Keywords.{keyword_named, kind_named}
-use Rattle.json5_schema.specs.Conformance.{is_named, is_patterned, is_of_kind, is_of_named, behind_sign, target_of, same_datum, same_items, items_after, by_index, all_on, dependent_schemas, dependent_on, Asked, choice, asks, satisfied, part_holds, keyword_holds, keywords_hold, schema_holds, unfolded, Conforms}
+use Rattle.json5_schema.specs.Conformance.{is_named, is_patterned, is_of_kind, is_of_named, at_fragment, behind_sign, target_of, same_datum, same_items, items_after, by_index, all_on, dependent_schemas, dependent_on, Asked, choice, asks, satisfied, part_holds, keyword_holds, keywords_hold, schema_holds, unfolded, Conforms}
 use Rattle.json5_schema.specs.Patterns.{matches, fits}
 use Rattle.json5_schema.specs.Views.{IsRefusal}
 use Rattle.json5_schema.proofs.Conforming.{Test, unfolded_more}
@@ -45,7 +44,7 @@ no_sign : (bs : List ℕ) (root : Datum) → ((rest : List ℕ) → bs ≢ 35 �
 no_sign [] root h = refl
 no_sign (c ∷ s) root h = rw (ne_eqb c 35 (λ e. h s (ap (λ y. y ∷ s) e))) refl
 
-past_sign : (bs rest : List ℕ) (root : Datum) → bs ≡ 35 ∷ rest → behind_sign bs root ≡ pointed rest root
+past_sign : (bs rest : List ℕ) (root : Datum) → bs ≡ 35 ∷ rest → behind_sign bs root ≡ at_fragment rest root
 past_sign bs rest root e = rw e refl
 
 target_text : (n : Value) (s : String Global) (bs : List ℕ) (root : Datum) → n ≡ value.String s → bs ≡ string_bytes s → IsUtf8 bs → target_of root (value_of n) ≡ behind_sign bs root
@@ -56,7 +55,7 @@ target_text n s bs root e b u =
 pub no_target : (n : Value) (s : String Global) (bs : List ℕ) (root : Datum) → n ≡ value.String s → bs ≡ string_bytes s → IsUtf8 bs → ((rest : List ℕ) → bs ≢ 35 ∷ rest) → target_of root (value_of n) ≡ None
 no_target n s bs root e b u h = target_text n s bs root e b u ∙ no_sign bs root h
 
-pub target_at : (n : Value) (s : String Global) (bs rest : List ℕ) (root : Datum) → n ≡ value.String s → bs ≡ string_bytes s → IsUtf8 bs → bs ≡ 35 ∷ rest → target_of root (value_of n) ≡ pointed rest root
+pub target_at : (n : Value) (s : String Global) (bs rest : List ℕ) (root : Datum) → n ≡ value.String s → bs ≡ string_bytes s → IsUtf8 bs → bs ≡ 35 ∷ rest → target_of root (value_of n) ≡ at_fragment rest root
 target_at n s bs rest root e b u h = target_text n s bs root e b u ∙ past_sign bs rest root h
 
 -- ---- lists of other lengths

@@ -11,7 +11,7 @@ use Rattle.std.specs.declared.cmp.Ordering.TheVariants.{Less, Equal}
 use Rattle.json5_grammar.specs.Language.Numbers.{Number, whole, decimal, Decimal, infinite, nan, finite}
 use Rattle.json5_types.specs.ValueMeanings.{Datum, null, boolean, number, text, array, object, Items, no_item, item, Fields, no_field, field}
 use Rattle.json5_types.specs.ValueKinds.{items_len}
-use Rattle.json5_types.specs.ValueLookups.{items_in, last_named}
+use Rattle.json5_types.specs.ValueLookups.{items_in, last_named, or_else}
 use Rattle.json5_types.specs.ValueEquality.{number_eq}
 use Rattle.json5_types.specs.NumberDecimals.{decimal_eq}
 use Rattle.json5_types.specs.Pointers.{pointed}
@@ -27,6 +27,7 @@ use Rattle.json5_schema.specs.declared.kind.Kind.{Kind}
 use Rattle.json5_schema.specs.declared.kind.Kind.TheVariants as kind
 use Rattle.json5_schema.specs.Keywords.{keyword_named, kind_named}
 use Rattle.json5_schema.specs.Patterns.{fits}
+use Rattle.json5_schema.specs.Subschemas.{takes_schema, takes_schemas, takes_named}
 
 -- ---- type (validation, section 6.1.1)
 
@@ -392,10 +393,63 @@ dependent_on _ _ = settled true
 abbrev pub dependencies_on : Datum → Datum → Asked
 dependencies_on ss x = if has_all_dependents ss x then dependent_on ss x else settled false
 
--- a reference within the document: `#`, and a JSON pointer
+-- ---- names of schemas: `$anchor`, or draft 7's `$id` of `#` and a name; by their bytes
+
+abbrev pub is_anchor : List ℕ → Option Datum → Bool
+is_anchor name (Some (text u)) = pointwise nat_eq (encode_utf8_all u) name
+is_anchor name _ = false
+
+abbrev pub is_fragment : List ℕ → List ℕ → Bool
+is_fragment name [] = false
+is_fragment name (c ∷ path) = nat_eq c 0x23 && pointwise nat_eq path name
+
+abbrev pub is_id : List ℕ → Option Datum → Bool
+is_id name (Some (text u)) = is_fragment name (encode_utf8_all u)
+is_id name _ = false
+
+abbrev pub has_anchor : List ℕ → Fields → Bool
+has_anchor name keywords = is_anchor name (beside (codes "$anchor") keywords) || is_id name (beside (codes "$id") keywords)
+
+abbrev mutual
+  -- the schema with this name: the first one of those in this schema
+  pub anchored : List ℕ → Datum → Option Datum
+  anchored name (object fs) = if has_anchor name fs then Some (object fs) else anchored_in name fs
+  anchored name _ = None
+
+  -- in the arguments of these keywords: none in one whose name comes again
+  pub anchored_in : List ℕ → Fields → Option Datum
+  anchored_in name no_field = None
+  anchored_in name (field u a rest) = or_else (if is_named u rest then None else anchored_through name (encode_utf8_all u) a) (anchored_in name rest)
+
+  pub anchored_through : List ℕ → List ℕ → Datum → Option Datum
+  anchored_through name word (array xs) = if takes_schemas word then anchored_among name xs else None
+  anchored_through name word (object fs) =
+      if takes_schema word then (if has_anchor name fs then Some (object fs) else anchored_in name fs) else
+      if takes_named word then anchored_named name fs else
+      None
+  anchored_through name word _ = None
+
+  pub anchored_among : List ℕ → Items → Option Datum
+  anchored_among name no_item = None
+  anchored_among name (item s ss) = or_else (anchored name s) (anchored_among name ss)
+
+  pub anchored_named : List ℕ → Fields → Option Datum
+  anchored_named name no_field = None
+  anchored_named name (field u s rest) = or_else (if is_named u rest then None else anchored name s) (anchored_named name rest)
+
+-- a JSON pointer is empty or begins with a slash
+abbrev pub is_pointer : List ℕ → Bool
+is_pointer [] = true
+is_pointer (c ∷ path) = nat_eq c 0x2F
+
+-- a pointer, or a name
+abbrev pub at_fragment : List ℕ → Datum → Option Datum
+at_fragment path root = if is_pointer path then pointed path root else anchored path root
+
+-- a reference within the document: `#`, and a fragment
 abbrev pub behind_sign : List ℕ → Datum → Option Datum
 behind_sign [] root = None
-behind_sign (c ∷ path) root = if nat_eq c 0x23 then pointed path root else None
+behind_sign (c ∷ path) root = if nat_eq c 0x23 then at_fragment path root else None
 
 abbrev pub target_of : Datum → Datum → Option Datum
 target_of root (text u) = behind_sign (encode_utf8_all u) root

@@ -23,10 +23,12 @@ pub enum Problem {
     OldDraft,
     /// Draft 7 passes over a keyword beside `$ref`, and later drafts don't: `$schema` has to name one of these.
     BesideReference,
-    /// A reference to another document, by a name, or with an escape by `%`.
+    /// A reference to another document, or with an escape by `%`.
     Elsewhere,
-    /// A reference to a place that isn't there.
+    /// A reference to a place that isn't there, or to a name that no schema has.
     NoTarget,
+    /// A name that another schema has.
+    SameAnchor,
     /// A reference that leads back to itself without a step into the value.
     Endless,
 }
@@ -46,8 +48,9 @@ impl fmt::Display for Problem {
                 "beside `$ref` this keyword counts only from draft 2019-09 on, and `$schema` names none of these",
             ),
             Problem::Elsewhere => f.write_str(
-                "only references such as `#/$defs/port` are followed",
+                "only references such as `#/$defs/port` and `#port` are followed",
             ),
+            Problem::SameAnchor => f.write_str("another schema has this name"),
             Problem::NoTarget => f.write_str("there is nothing at this reference"),
             Problem::Endless => f.write_str("this reference leads back to itself"),
         }
@@ -57,8 +60,8 @@ impl fmt::Display for Problem {
 /// Why a value isn't taken as a schema. It prints what is wrong, and the JSON pointer to the place.
 ///
 /// ```text
-/// Schema::new(alloc, &json5::from_str(alloc, "{items: {$anchor: 'a'}}")?)
-///     // Err: this keyword isn't decided yet at `/items/$anchor`
+/// Schema::new(alloc, &json5::from_str(alloc, "{items: {unevaluatedItems: false}}")?)
+///     // Err: this keyword isn't decided yet at `/items/unevaluatedItems`
 /// ```
 #[derive(Debug, Drop)]
 pub enum SchemaFault {

@@ -139,7 +139,7 @@ fn is_known(name: &str) -> bool
 }
 
 /// Whether the argument of this keyword is a schema, or may be one.
-fn takes_schema(name: &str) -> bool
+pub fn takes_schema(name: &str) -> bool
     ensures { result ≡ takes_schema name.now }
 {
     let names: [&str; 12] = TAKING_SCHEMA;
@@ -147,7 +147,7 @@ fn takes_schema(name: &str) -> bool
 }
 
 /// Whether it is an array of schemas, or may be one.
-fn takes_schemas(name: &str) -> bool
+pub fn takes_schemas(name: &str) -> bool
     ensures { result ≡ takes_schemas name.now }
 {
     let names: [&str; 5] = TAKING_SCHEMAS;
@@ -155,7 +155,7 @@ fn takes_schemas(name: &str) -> bool
 }
 
 /// Whether it is an object of schemas.
-fn takes_named(name: &str) -> bool
+pub fn takes_named(name: &str) -> bool
     ensures { result ≡ takes_named name.now }
 {
     let names: [&str; 6] = TAKING_NAMED;

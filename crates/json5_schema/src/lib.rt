@@ -1,6 +1,7 @@
 //! Whether a document conforms to a JSON Schema.
 #![tactic(auto)]
 
+mod anchors;
 mod asked;
 mod conforms;
 pub mod document_faults;

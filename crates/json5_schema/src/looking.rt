@@ -22,12 +22,29 @@ pub struct Seen {
     pub references: Vec<Reference>,
     /// The patterns, each text once.
     pub patterns: Vec<Pattern>,
+    /// The names of schemas.
+    pub anchors: Vec<Anchor>,
 }
 
 /// A reference, and the pointer to the place where it was met first.
 #[derive(Drop)]
 pub struct Reference {
     pub text: String,
+    pub pointer: String,
+}
+
+impl Reference {
+    /// Whether it is by the name of a schema, which was looked at where it stands.
+    pub fn is_name(&self) -> bool {
+        let text = self.text.as_str();
+        text != "#" && !text.starts_with("#/")
+    }
+}
+
+/// A name of a schema, and the pointer to the schema.
+#[derive(Drop)]
+pub struct Anchor {
+    pub name: String,
     pub pointer: String,
 }
 
@@ -74,7 +91,7 @@ fn look_at_keywords(
     let refers = !seen.counts_siblings && find(keywords, "$ref").is_some();
     for (name, argument) in keywords {
         let place = behind(alloc, pointer, name.as_str())?;
-        let shape = shape_at(pointer, name.as_str());
+        let shape = shape_at(pointer, name.as_str(), argument);
         if refers && asks_beside(name.as_str(), shape) {
             return Err(fault(alloc, place.as_str(), Problem::BesideReference));
         }
@@ -83,11 +100,20 @@ fn look_at_keywords(
     Ok(())
 }
 
-/// What the argument of a keyword has to be, in the schema at this place: `$id` isn't decided below the top.
-fn shape_at(pointer: &str, name: &str) -> Shape {
+/// What the argument of a keyword has to be, in the schema at this place: `$id` isn't decided below the top, but as a name.
+fn shape_at(pointer: &str, name: &str, argument: &Value) -> Shape {
     match name {
+        "$id" if begins_with_sign(argument) => Shape::Anchor,
         "$id" if !pointer.is_empty() => Shape::Undecided,
         _ => shape_of(name),
+    }
+}
+
+/// Whether it is a string that begins with `#`.
+fn begins_with_sign(argument: &Value) -> bool {
+    match argument {
+        Value::String(text) => text.as_str().starts_with('#'),
+        _ => false,
     }
 }
 
@@ -112,6 +138,8 @@ fn look_at(
         (Shape::Undecided, _) => Err(fault(alloc, pointer, Problem::Undecided)),
         (Shape::Reference, Value::String(text)) => note(alloc, text.as_str(), pointer, seen),
         (Shape::Reference, _) => Err(fault(alloc, pointer, Problem::Expected(shape))),
+        (Shape::Anchor, Value::String(text)) => note_anchor(alloc, text.as_str(), pointer, seen),
+        (Shape::Anchor, _) => Err(fault(alloc, pointer, Problem::Expected(shape))),
         (Shape::Schema, _) => look(alloc, argument, pointer, seen),
         (Shape::SchemaOrSchemas, Value::Array(schemas)) => {
             look_at_each(alloc, schemas, pointer, seen)
@@ -184,6 +212,42 @@ fn note(alloc: Global, text: &str, pointer: &str, seen: &mut Seen) -> Looked<()>
     let text = String::from_str(alloc, text)?;
     let pointer = String::from_str(alloc, pointer)?;
     seen.references.push(Reference { text, pointer })?;
+    Ok(())
+}
+
+/// The name that stands at this place, and the pointer to its schema: `$id` has `#` before it.
+fn name_at<'a>(text: &'a str, pointer: &'a str) -> Option<(&'a str, &'a str)> {
+    let pointer = pointer.strip_prefix('#').unwrap_or(pointer);
+    match pointer.strip_suffix("/$id") {
+        Some(schema) => Some((text.strip_prefix('#')?, schema)),
+        None => Some((text, pointer.strip_suffix("/$anchor")?)),
+    }
+}
+
+/// Whether it is a name: a letter or `_`, and then letters, digits, `-`, `_`, `.` or `:`.
+fn is_anchor_name(name: &str) -> bool {
+    !name.starts_with(|c: char| !c.is_ascii_alphabetic() && c != '_')
+        && !name.is_empty()
+        && name.bytes().all(|b| b.is_ascii_alphanumeric() || matches!(b, b'-' | b'_' | b'.' | b':'))
+}
+
+/// Notes a name of a schema, which no other schema may have.
+fn note_anchor(alloc: Global, text: &str, pointer: &str, seen: &mut Seen) -> Looked<()> {
+    let Some((name, schema)) = name_at(text, pointer).filter(|found| is_anchor_name(found.0)) else {
+        return Err(fault(alloc, pointer, Problem::Expected(Shape::Anchor)));
+    };
+    for known in &seen.anchors {
+        if known.name.as_str() == name {
+            return if known.pointer.as_str() == schema {
+                Ok(())
+            } else {
+                Err(fault(alloc, pointer, Problem::SameAnchor))
+            };
+        }
+    }
+    let name = String::from_str(alloc, name)?;
+    let pointer = String::from_str(alloc, schema)?;
+    seen.anchors.push(Anchor { name, pointer })?;
     Ok(())
 }
 

@@ -1,8 +1,9 @@
 //! The references of a schema: each has a target, and none leads back to itself without a step into the value.
 
+use crate::anchors::at_fragment;
 use crate::faults::Problem;
 use crate::known::check_schema;
-use crate::looking::{Looked, Reference, Seen, fault, look};
+use crate::looking::{Anchor, Looked, Reference, Seen, fault, look};
 use crate::patterns::Pattern;
 use json5_types::error;
 use json5_types::value::Value;
@@ -15,8 +16,8 @@ struct Link {
     nexts: Vec<String>,
 }
 
-/// Looks at what the references mean, and that they come to an end. Gives the patterns that were compiled.
-pub fn follow(alloc: Global, root: &Value, seen: Seen) -> Looked<Vec<Pattern>> {
+/// Looks at what the references mean, and that they come to an end. Gives the patterns that were compiled, and the names.
+pub fn follow(alloc: Global, root: &Value, seen: Seen) -> Looked<(Vec<Pattern>, Vec<Anchor>)> {
     let mut seen = seen;
     for index in 0..usize::MAX {
         if !look_at_target(alloc, root, index, &mut seen)? {
@@ -28,18 +29,19 @@ pub fn follow(alloc: Global, root: &Value, seen: Seen) -> Looked<Vec<Pattern>> {
         is_strict: _,
         references,
         patterns,
+        anchors,
     } = seen;
     let mut links = Vec::new(alloc);
     for reference in references {
         links.push(link_of(alloc, root, reference)?)?;
     }
     check_ends(alloc, &links)?;
-    Ok(patterns)
+    Ok((patterns, anchors))
 }
 
 /// What a reference means.
 fn target<'a>(root: &'a Value, reference: &str) -> Option<&'a Value> {
-    root.pointer(reference.strip_prefix('#')?)
+    at_fragment(root, reference.strip_prefix('#')?)
 }
 
 /// Looks at what the reference with this index means, if there is one.
@@ -50,6 +52,9 @@ fn look_at_target(alloc: Global, root: &Value, index: usize, seen: &mut Seen) ->
     let Some(schema) = target(root, reference.text.as_str()) else {
         return Err(fault(alloc, reference.pointer.as_str(), Problem::NoTarget));
     };
+    if reference.is_name() {
+        return Ok(true);
+    }
     let pointer = String::from_str(alloc, reference.text.as_str())?;
     if seen.is_strict {
         check_schema(alloc, schema, pointer.as_str())?;

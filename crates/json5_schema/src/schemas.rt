@@ -13,7 +13,7 @@ use crate::explain::explain;
 use crate::faults::{Problem, SchemaFault};
 use crate::found::Found;
 use crate::known::check_schema;
-use crate::looking::{Seen, fault, look};
+use crate::looking::{Anchor, Seen, fault, look};
 use crate::patterns::Pattern;
 use crate::references::follow;
 use crate::words::shown;
@@ -26,7 +26,7 @@ use std::alloc::Global;
 /// and each reference leads to a schema of the same document, and not back to itself.
 ///
 /// The words are those of draft 2020-12 and of draft 7. Where both have a word it means the same in both; a word that only one has
-/// is taken in either. Not decided yet, and refused: `unevaluatedItems`, `unevaluatedProperties`, anchors, dynamic references, and `$id` below the top. `format` asserts nothing.
+/// is taken in either. Not decided yet, and refused: `unevaluatedItems`, `unevaluatedProperties`, dynamic references, and `$id` below the top that is no name, as `#port`. `format` asserts nothing.
 ///
 /// ```text
 /// let schema = Schema::new(alloc, &json5::from_str(alloc, "{properties: {port: {type: 'integer', maximum: 65535}}}")?)?;
@@ -37,6 +37,7 @@ use std::alloc::Global;
 pub struct Schema {
     root: Value,
     patterns: Vec<Pattern>,
+    anchors: Vec<Anchor>,
 }
 
 impl Schema {
@@ -50,10 +51,11 @@ impl Schema {
         ensures { IfOk result (λ schema. schema_of schema ≡ value_of value.now) }
     {
         let seen = nothing_seen(alloc, value, false)?;
-        let patterns = look_at_all(alloc, value, seen)?;
+        let (patterns, anchors) = look_at_all(alloc, value, seen)?;
         Ok(Schema {
             root: value.clone(alloc)?,
             patterns,
+            anchors,
         })
     }
 
@@ -75,10 +77,11 @@ impl Schema {
     {
         let seen = nothing_seen(alloc, value, true)?;
         check_schema(alloc, value, "")?;
-        let patterns = look_at_all(alloc, value, seen)?;
+        let (patterns, anchors) = look_at_all(alloc, value, seen)?;
         Ok(Schema {
             root: value.clone(alloc)?,
             patterns,
+            anchors,
         })
     }
 
@@ -108,7 +111,7 @@ impl Schema {
         if self.accepts(alloc, value)? {
             return Ok(Vec::new(alloc));
         }
-        Ok(reasons(alloc, &self.patterns, &self.root, value)?)
+        Ok(reasons(alloc, &self.patterns, &self.anchors, &self.root, value)?)
     }
 }
 
@@ -116,12 +119,13 @@ impl Schema {
 fn reasons(
     alloc: Global,
     patterns: &[Pattern],
+    anchors: &[Anchor],
     root: &Value,
     value: &Value,
 ) -> error::Result<Vec<Fault>>
     ensures { MatchResult result (λ faults. (vec_len faults == 0) ≡ false) LacksMemory }
 {
-    let Ok(faults) = found_in(alloc, patterns, root, value) else {
+    let Ok(faults) = found_in(alloc, patterns, anchors, root, value) else {
         return Err(Error::new(ErrorCode::OutOfMemory));
     };
     if !faults.is_empty() {
@@ -139,6 +143,7 @@ fn reasons(
 fn found_in(
     alloc: Global,
     patterns: &[Pattern],
+    anchors: &[Anchor],
     root: &Value,
     value: &Value,
 ) -> error::Result<Vec<Fault>> {
@@ -148,8 +153,37 @@ fn found_in(
         alloc, patterns, root, root, value, &place, MAX_DEPTH, &mut found,
     ) {
         Err(error) if error.code() == Some(ErrorCode::OutOfMemory) => Err(error),
-        _ => Ok(found.faults),
+        _ => with_pointers(alloc, found.faults, anchors),
     }
+}
+
+/// The same faults, with the pointer to a schema in place of its name.
+fn with_pointers(
+    alloc: Global,
+    faults: Vec<Fault>,
+    anchors: &[Anchor],
+) -> error::Result<Vec<Fault>> {
+    let mut pointed = Vec::new(alloc);
+    for mut fault in faults {
+        if let Some(rule) = pointed_rule(alloc, fault.place.rule.as_str(), anchors)? {
+            fault.place.rule = rule;
+        }
+        pointed.push(fault)?;
+    }
+    Ok(pointed)
+}
+
+/// The rule with a pointer in place of the name that it begins with, if it does.
+fn pointed_rule(alloc: Global, rule: &str, anchors: &[Anchor]) -> error::Result<Option<String>> {
+    for anchor in anchors {
+        if let Some(rest) = rule.strip_prefix(anchor.name.as_str()) {
+            if rest.is_empty() || rest.starts_with('/') {
+                let pointer = anchor.pointer.as_str();
+                return Ok(Some(format!(in alloc; "{pointer}{rest}")?));
+            }
+        }
+    }
+    Ok(None)
 }
 
 /// That the document as a whole doesn't conform.
@@ -180,11 +214,16 @@ fn nothing_seen(alloc: Global, root: &Value, is_strict: bool) -> Result<Seen, Sc
         is_strict,
         references: Vec::new(alloc),
         patterns: Vec::new(alloc),
+        anchors: Vec::new(alloc),
     })
 }
 
 /// Looks at a schema, and at all that its references mean.
-fn look_at_all(alloc: Global, root: &Value, seen: Seen) -> Result<Vec<Pattern>, SchemaFault> {
+fn look_at_all(
+    alloc: Global,
+    root: &Value,
+    seen: Seen,
+) -> Result<(Vec<Pattern>, Vec<Anchor>), SchemaFault> {
     let mut seen = seen;
     look(alloc, root, "", &mut seen)?;
     follow(alloc, root, seen)

@@ -31,6 +31,8 @@ pub enum Shape {
     Divisor,
     /// A string that begins with `#`.
     Reference,
+    /// A name for a schema; of `$id` behind `#`.
+    Anchor,
     /// A string that is a regular expression.
     Pattern,
     /// An object of schemas, whose keys are regular expressions.
@@ -59,6 +61,7 @@ impl Shape {
             Shape::Count => "a whole number that isn't below zero",
             Shape::Divisor => "a number above zero, of at most 19 digits",
             Shape::Reference => "a reference",
+            Shape::Anchor => "a name: a letter, and then letters, digits, `-`, `_`, `.` or `:`",
             Shape::Pattern => "a regular expression",
             Shape::PatternSchemas => "an object of schemas, with regular expressions for keys",
             Shape::Undecided => "another keyword",
@@ -72,6 +75,7 @@ pub(crate) fn shape_of(name: &str) -> Shape {
     match name {
         "not" | "if" | "then" | "else" => Shape::Schema,
         "additionalProperties" | "propertyNames" | "additionalItems" | "contains" => Shape::Schema,
+        "contentSchema" => Shape::Schema,
         "allOf" | "anyOf" | "oneOf" | "prefixItems" => Shape::Schemas,
         "items" => Shape::SchemaOrSchemas,
         "properties" | "dependentSchemas" | "$defs" | "definitions" => Shape::NamedSchemas,
@@ -85,11 +89,12 @@ pub(crate) fn shape_of(name: &str) -> Shape {
         "maxLength" | "minLength" | "maxItems" | "minItems" => Shape::Count,
         "maxProperties" | "minProperties" | "maxContains" | "minContains" => Shape::Count,
         "$ref" => Shape::Reference,
+        "$anchor" => Shape::Anchor,
         "multipleOf" => Shape::Divisor,
         "pattern" => Shape::Pattern,
         "patternProperties" => Shape::PatternSchemas,
         "unevaluatedItems" | "unevaluatedProperties" => Shape::Undecided,
-        "$anchor" | "$dynamicRef" | "$dynamicAnchor" => Shape::Undecided,
+        "$dynamicRef" | "$dynamicAnchor" => Shape::Undecided,
         "$recursiveRef" | "$recursiveAnchor" => Shape::Undecided,
         _ => Shape::Any,
     }

@@ -15,4 +15,4 @@ pub returns-in_ok-strip_prefix-in-String : goal.returns-in_ok-strip_prefix-in-St
 returns-in_ok-strip_prefix-in-String c =
     let text = c.as_str.result.now in
     let cut = rw c.in_ok-strip_prefix-in-String.was at (strip_prefix_char 35 text c.strip_prefix.result c.strip_prefix.ensures.cases (omega arith)) in
-    c.pointer.ensures ∙ sym (target_at c.args.reference.now c.in-String.text text c.in_ok-strip_prefix-in-String.field-0.now (value_of c.args.root.now) c.in-String.is c.as_str.ensures.value c.as_str.utf8 cut)
+    c.at_fragment.ensures ∙ sym (target_at c.args.reference.now c.in-String.text text c.in_ok-strip_prefix-in-String.field-0.now (value_of c.args.root.now) c.in-String.is c.as_str.ensures.value c.as_str.utf8 cut)
