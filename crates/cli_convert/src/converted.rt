@@ -2,6 +2,7 @@
 
 use crate::formats::{Format, Layout};
 use crate::options::Options;
+use crate::sorted_keys::sorted;
 use json5_convert::{RespellError, Spelling, Values, from_toml, respell, to_lines, to_toml};
 use json5_read::read_document;
 use json5_styles::{to_json_in, to_string_in};
@@ -30,7 +31,7 @@ pub fn convert(alloc: Global, options: &Options, name: &str, text: &str) -> Resu
         (_, Format::Lines | Format::Toml) => read_document(alloc, text)?,
         _ => return respelled(alloc, options, target, text),
     };
-    written(alloc, target, options.layout, value)
+    written(alloc, options, target, value)
 }
 
 /// The documents of a text, one after another.
@@ -47,8 +48,14 @@ fn documents(alloc: Global, text: &str) -> Result<Vec<Value>> {
     Err(Error::new(ErrorCode::Failed))
 }
 
-/// The value written.
-fn written(alloc: Global, target: Format, layout: Layout, value: Value) -> Result<String> {
+/// The value written, with its members in the order that is asked for.
+fn written(alloc: Global, options: &Options, target: Format, value: Value) -> Result<String> {
+    let layout = options.layout;
+    let value = if options.sorts_keys {
+        sorted(alloc, &value)?
+    } else {
+        value
+    };
     match (target, value) {
         (Format::Lines, Value::Array(items)) => to_lines(alloc, items.as_slice()),
         (Format::Lines, value) => to_lines(alloc, &[value]),
@@ -73,13 +80,12 @@ fn ended(mut text: String) -> Result<String> {
     Ok(text)
 }
 
-/// The document spelled anew, or its value written in the layout that is asked for.
+/// The document spelled anew, or its value written in the layout or the order that is asked for.
 fn respelled(alloc: Global, options: &Options, target: Format, text: &str) -> Result<String> {
-    if let Layout::Own = options.layout {
-        return spelled(alloc, options.spelling(target), text);
+    match options.layout {
+        Layout::Own if !options.sorts_keys => spelled(alloc, options.spelling(target), text),
+        _ => written(alloc, options, target, read_document(alloc, text)?),
     }
-    let value = read_document(alloc, text)?;
-    written(alloc, target, options.layout, value)
 }
 
 /// The document spelled anew.

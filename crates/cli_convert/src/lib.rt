@@ -11,6 +11,7 @@ mod formats;
 mod options;
 mod refusals;
 mod reports;
+mod sorted_keys;
 mod trouble;
 mod whole_files;
 mod words;

@@ -12,6 +12,8 @@ pub struct Options {
     pub to: Option<Format>,
     pub layout: Layout,
     pub drops_comments: bool,
+    /// Whether members are put in the order of their keys.
+    pub sorts_keys: bool,
 }
 
 impl Options {
@@ -26,6 +28,7 @@ impl Options {
             to: None,
             layout: Layout::Own,
             drops_comments: false,
+            sorts_keys: false,
         }
     }
 

@@ -21,6 +21,7 @@ and to TOML and back.
   --indent N     writes it anew without comments, with N spaces a level, 1 to 16; tab:
                  with a tab
   --compact      the same on one line
+  --sort-keys    writes it anew without comments, with members in the order of their keys
   --             what follows is no option
   --help         writes this
   --version      writes the version

@@ -56,6 +56,7 @@ impl Request {
                 "--version" => return Ok(Request::Version),
                 "--compact" => words.options.layout = Layout::Compact,
                 "--no-comments" => words.options.drops_comments = true,
+                "--sort-keys" => words.options.sorts_keys = true,
                 "--" => {
                     words.push_names(alloc, rest)?;
                     break;
