@@ -2,6 +2,7 @@
 mod Anchoring
 mod Conforming
 mod Knowing
+mod Named
 mod Remainders
 mod OneVerdict
 mod Parts

@@ -4,3 +4,4 @@ pub mod Patterns
 pub mod Subschemas
 pub mod Conformance
 pub mod Views
+pub mod Anchors
