@@ -39,6 +39,7 @@ kind_of w =
     if pointwise nat_eq w (codes "--version") then word.Flag flags.Version else
     if pointwise nat_eq w (codes "--quiet") then word.Flag flags.Quiet else
     if pointwise nat_eq w (codes "--json") then word.Flag flags.Json else
+    if pointwise nat_eq w (codes "--strict") then word.Flag flags.Strict else
     if pointwise nat_eq w (codes "--schema") then word.Setting settings.Schema else
     if pointwise nat_eq w (codes "--map") then word.Setting settings.Map else
     other_kind w
@@ -50,14 +51,15 @@ pub record Choices : Type 0 where
   pub maps : List (List ℕ)
   pub is_quiet : Bool
   pub is_json : Bool
+  pub is_strict : Bool
   pub is_ended : Bool
   pub names : List (List ℕ)
 
 abbrev pub nothing_chosen : Choices
-nothing_chosen = record { asked = asked.Files; schema = None; maps = []; is_quiet = false; is_json = false; is_ended = false; names = [] }
+nothing_chosen = record { asked = asked.Files; schema = None; maps = []; is_quiet = false; is_json = false; is_strict = false; is_ended = false; names = [] }
 
 abbrev pub choices_of : Options → Choices
-choices_of o = record { asked = o.asked; schema = option_map string_bytes o.schema; maps = names_of o.maps.items; is_quiet = o.is_quiet; is_json = o.is_json; is_ended = o.is_ended; names = names_of o.names.items }
+choices_of o = record { asked = o.asked; schema = option_map string_bytes o.schema; maps = names_of o.maps.items; is_quiet = o.is_quiet; is_json = o.is_json; is_strict = o.is_strict; is_ended = o.is_ended; names = names_of o.names.items }
 
 abbrev pub ChoosesNothing : Options → Type 0
 ChoosesNothing o = choices_of o ≡ nothing_chosen
@@ -77,6 +79,7 @@ with_flag flags.Help c = record c { asked = asked.Help }
 with_flag flags.Version c = record c { asked = asked.Version }
 with_flag flags.Quiet c = record c { is_quiet = true }
 with_flag flags.Json c = record c { is_json = true }
+with_flag flags.Strict c = record c { is_strict = true }
 
 -- of schemas the last counts, and each map does
 abbrev pub with_setting : Setting → List ℕ → Choices → Choices

@@ -84,7 +84,7 @@ fn check_all<D: Disk, R: Read, W: Write, E: Write>(
     let Some(file) = &options.schema else {
         return check_each(disk, alloc, options, None, r, w, e);
     };
-    match read_schema(disk, alloc, file.as_str()) {
+    match read_schema(disk, alloc, options, file.as_str()) {
         Ok(schema) => check_each(disk, alloc, options, Some(&schema), r, w, e),
         Err(trouble) => {
             report_schema(file.as_str(), &trouble, e);

@@ -54,7 +54,7 @@ fn schema_named<D: Disk>(
     ensures { TakesNamed (D.opens disk.now) options.now.maps.items name.now schema.now result }
 {
     match schema_file(alloc, options.maps.as_slice(), name, schema) {
-        Ok(Some(file)) => read_schema(disk, alloc, file.as_str()),
+        Ok(Some(file)) => read_schema(disk, alloc, options, file.as_str()),
         Ok(None) => Err(SchemaTrouble::because(
             SchemaCause::Elsewhere,
             elsewhere(alloc, name, schema),

@@ -10,6 +10,7 @@ pub(crate) enum Flag {
     Version,
     Quiet,
     Json,
+    Strict,
 }
 
 /// An option with a value: the next word, or what is behind `=` in the same.
@@ -44,6 +45,7 @@ pub(crate) fn kind_of(word: &str) -> Word
         "--version" => Word::Flag(Flag::Version),
         "--quiet" => Word::Flag(Flag::Quiet),
         "--json" => Word::Flag(Flag::Json),
+        "--strict" => Word::Flag(Flag::Strict),
         "--schema" => Word::Setting(Setting::Schema),
         "--map" => Word::Setting(Setting::Map),
         _ => other_kind(word),

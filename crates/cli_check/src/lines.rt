@@ -18,6 +18,7 @@ A file named - is standard input.
 
   --schema S       the file of the schema for all
   --map NAME=FILE  FILE is the schema that documents call NAME, such as a URL
+  --strict         also refuses a schema with a keyword that is none
   --quiet          writes no faults: the status tells
   --json           writes each fault as a line of JSON
   --               what follows is no option
@@ -34,7 +35,9 @@ pub(crate) fn usage<E: Write>(e: &mut E) -> u8
 {
     say(
         e,
-        &["usage: json5_check [--schema S] [--map NAME=FILE] [--quiet or --json] FILE...\n"],
+        &[
+            "usage: json5_check [--schema S] [--map NAME=FILE] [--strict] [--quiet or --json] FILE...\n",
+        ],
     );
     2
 }

@@ -30,6 +30,8 @@ pub struct Options {
     pub is_quiet: bool,
     /// Whether faults are written as lines of JSON.
     pub is_json: bool,
+    /// Whether a schema with a keyword that is none is refused.
+    pub is_strict: bool,
     /// Whether `--` came, behind which each word is a name.
     pub is_ended: bool,
     /// Of files, as they were given.
@@ -77,6 +79,7 @@ impl Options {
             maps: Vec::new(alloc),
             is_quiet: false,
             is_json: false,
+            is_strict: false,
             is_ended: false,
             names: Vec::new(alloc),
         }
@@ -135,6 +138,7 @@ impl Options {
             Flag::Version => self.asked = Asked::Version,
             Flag::Quiet => self.is_quiet = true,
             Flag::Json => self.is_json = true,
+            Flag::Strict => self.is_strict = true,
         }
     }
 

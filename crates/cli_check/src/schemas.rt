@@ -6,6 +6,7 @@ ghost use Rattle.cli_check.specs.Schemas.{TakesFile, TakesHeld};
 ghost use Rattle.cli_check.specs.SchemaSteps.{IsOfRefusal, TakesValue};
 
 use crate::faults::report_at;
+use crate::options::Options;
 use crate::places::{Sought, find_all};
 use crate::trouble::{SchemaCause, SchemaTrouble};
 use crate::verdict::Source;
@@ -22,12 +23,13 @@ use std::io::Read;
 pub(crate) fn read_schema<D: Disk>(
     disk: &D,
     alloc: Global,
+    options: &Options,
     file: &str,
 ) -> Result<Schema, SchemaTrouble>
     ensures { TakesFile (D.opens disk.now) file.now result }
 {
     match disk.open(file) {
-        Ok(mut opened) => schema_in(alloc, file, &mut opened),
+        Ok(mut opened) => schema_in(alloc, options, file, &mut opened),
         Err(e) => Err(SchemaTrouble::because(
             SchemaCause::Unopened,
             unopened(alloc, file, Reason::of(&e)),
@@ -36,22 +38,32 @@ pub(crate) fn read_schema<D: Disk>(
 }
 
 /// The schema in a reader.
-fn schema_in<R: Read>(alloc: Global, file: &str, r: &mut R) -> Result<Schema, SchemaTrouble>
+fn schema_in<R: Read>(
+    alloc: Global,
+    options: &Options,
+    file: &str,
+    r: &mut R,
+) -> Result<Schema, SchemaTrouble>
     ensures { TakesHeld (R.remaining r.old) result }
 {
     match read_whole(alloc, r) {
-        Ok(bytes) => schema_of_bytes(alloc, file, bytes),
+        Ok(bytes) => schema_of_bytes(alloc, options, file, bytes),
         Err(Failure::Read) => Err(SchemaTrouble::Read),
         Err(_) => Err(SchemaTrouble::NoMemory),
     }
 }
 
 /// The schema in bytes.
-fn schema_of_bytes(alloc: Global, file: &str, bytes: Vec<u8>) -> Result<Schema, SchemaTrouble>
+fn schema_of_bytes(
+    alloc: Global,
+    options: &Options,
+    file: &str,
+    bytes: Vec<u8>,
+) -> Result<Schema, SchemaTrouble>
     ensures { TakesHeld (Some bytes.items) result }
 {
     match String::from_utf8(bytes) {
-        Ok(text) => schema_of_text(alloc, file, text),
+        Ok(text) => schema_of_text(alloc, options, file, text),
         Err(e) => Err(SchemaTrouble::because(
             SchemaCause::NoDocument,
             wrong_bytes(alloc, file, e.as_bytes()),
@@ -60,7 +72,12 @@ fn schema_of_bytes(alloc: Global, file: &str, bytes: Vec<u8>) -> Result<Schema, 
 }
 
 /// The schema in a text.
-fn schema_of_text(alloc: Global, file: &str, text: String) -> Result<Schema, SchemaTrouble>
+fn schema_of_text(
+    alloc: Global,
+    options: &Options,
+    file: &str,
+    text: String,
+) -> Result<Schema, SchemaTrouble>
     ensures { TakesHeld (Some (string_bytes text)) result }
 {
     let source = Source {
@@ -68,7 +85,7 @@ fn schema_of_text(alloc: Global, file: &str, text: String) -> Result<Schema, Sch
         text: text.as_str(),
     };
     match read_document(alloc, text.as_str()) {
-        Ok(value) => schema_of_value(alloc, source, &value),
+        Ok(value) => schema_of_value(alloc, options, source, &value),
         Err(error) => Err(refuse(alloc, source, error)),
     }
 }
@@ -89,12 +106,18 @@ fn refuse(alloc: Global, source: Source<'_>, error: Error) -> SchemaTrouble
 /// The schema that the value of this document is.
 fn schema_of_value(
     alloc: Global,
+    options: &Options,
     source: Source<'_>,
     value: &Value,
 ) -> Result<Schema, SchemaTrouble>
     ensures { TakesValue (value_of value.now) result }
 {
-    match Schema::new(alloc, value) {
+    let taken = if options.is_strict {
+        Schema::strict(alloc, value)
+    } else {
+        Schema::new(alloc, value)
+    };
+    match taken {
         Ok(schema) => Ok(schema),
         Err(SchemaFault::At(pointer, problem)) => Err(SchemaTrouble::because(
             SchemaCause::Faulty,
