@@ -2,6 +2,8 @@
 pub mod CommentsPassed
 pub mod Kept
 pub mod OneComments
+pub mod SourcesKept
 pub mod StreamsRead
+pub mod StreamsTaken
 pub mod TomlHeld
 pub mod TomlParts

@@ -2,6 +2,7 @@
 pub mod CommentSteps
 pub mod Comments
 pub mod Respelled
+pub mod Sources
 pub mod Spellings
 pub mod Streams
 pub mod Toml

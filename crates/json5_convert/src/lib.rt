@@ -1,5 +1,5 @@
 //! Spells the tokens of a JSON5 document anew, as JSON or as JSON5, and keeps its comments where they are; reads values from
-//! TOML and from documents in a row, and writes them so.
+//! TOML and from documents in a row, of a text or a reader, and writes them so.
 //!
 //! ```text
 //! respell(alloc, "{port: 0x50,} // web", Spelling::json())?    // {"port": 80} // web
@@ -13,7 +13,9 @@ pub mod laws;
 mod lines;
 mod numbers;
 mod respelled;
+mod sources;
 mod spelling;
+mod streams;
 mod strings;
 mod tokens;
 mod toml_texts;
@@ -23,5 +25,6 @@ pub use faults::{RespellError, Result};
 pub use lines::{Values, to_lines};
 pub use respelled::respell;
 pub use spelling::{Blanks, Comments, Keys, LastCommas, Numbers, Quotes, Spelling};
+pub use streams::ValueStream;
 pub use toml_texts::to_toml;
 pub use toml_values::from_toml;

@@ -1,7 +1,8 @@
 //! Documents one after another in one text, as JSON Lines has them.
 
-ghost use Rattle.std.specs.Prelude.{◌≡◌, true, IfOk, OnErr};
-ghost use Rattle.json5_convert.specs.Streams.{IsAtStart, TakesNext, TakesValue};
+ghost use Rattle.std.specs.Prelude.{◌≡◌, ◌↔◌, true, IfOk, IfErr, OnErr};
+ghost use Rattle.json5_read.specs.ModelSteps.{IsUnprompted};
+ghost use Rattle.json5_convert.specs.Streams.{IsAtStart, SaysFailed, TakesNext, TakesValue};
 
 use json5_read::read::read_value;
 use json5_styles::to_json_compact;
@@ -64,6 +65,7 @@ impl<'t> Values<'t> {
     pub fn next(&mut self) -> Result<Option<Value>>
         ensures taken { IfOk result (TakesNext self.old self.new) }
         ensures refused { OnErr result (self.new.has_failed ≡ true) }
+        ensures failed { IfErr result (λ e. SaysFailed e ↔ (self.old.has_failed ≡ true)) }
     {
         if self.has_failed {
             return Err(Error::new(ErrorCode::Failed));
@@ -76,8 +78,9 @@ impl<'t> Values<'t> {
 }
 
 /// Reads the next document.
-fn next_value<I: Input>(scanner: &mut Scanner<I>) -> Result<Option<Value>>
-    ensures { IfOk result (TakesValue scanner.old scanner.new) }
+pub(crate) fn next_value<I: Input>(scanner: &mut Scanner<I>) -> Result<Option<Value>>
+    ensures taken { IfOk result (TakesValue scanner.old scanner.new) }
+    ensures unprompted { IfErr result IsUnprompted }
 {
     scanner.skip_blank()?;
     match scanner.peek() {

@@ -3,9 +3,10 @@
 use crate::outcomes::{Outcome, said};
 use crate::plain_readers::reads_as_json;
 use crate::rows::{text_of, wanted_of};
+use crate::streams;
 use json5::Layout;
 use json5_convert::{
-    Keys, LastCommas, Numbers, Quotes, Spelling, Values, from_toml, respell, to_lines, to_toml,
+    Keys, LastCommas, Numbers, Quotes, Spelling, from_toml, respell, to_toml,
 };
 use json5_read::read_document;
 use json5_types::error::Result;
@@ -15,6 +16,9 @@ use std::alloc::Global;
 /// What comes of the row's text.
 pub(crate) fn outcome_of(alloc: Global, row: &Value) -> Outcome {
     let (wanted, before, to) = (wanted_of(row), text_of(row, "before"), text_of(row, "to"));
+    if to == "lines" {
+        return streams::outcome_of(alloc, row);
+    }
     if let Some(made) = written(alloc, text_of(row, "from"), to, before) {
         return match made {
             Ok(made) => judged(made, wanted),
@@ -48,7 +52,6 @@ fn written(alloc: Global, from: &str, to: &str, text: &str) -> Option<Result<Str
         ("toml", "toml") => Some(toml_again(alloc, text)),
         ("toml", _) => Some(compact_of_toml(alloc, text)),
         (_, "toml") => Some(toml_of(alloc, text)),
-        (_, "lines") => Some(lines_of(alloc, text)),
         _ => None,
     }
 }
@@ -66,19 +69,6 @@ fn toml_of(alloc: Global, text: &str) -> Result<String> {
 /// The TOML text's value as TOML.
 fn toml_again(alloc: Global, text: &str) -> Result<String> {
     to_toml(alloc, &from_toml(alloc, text)?)
-}
-
-/// The documents of the text, each as JSON on a line of its own.
-fn lines_of(alloc: Global, text: &str) -> Result<String> {
-    let mut values = Values::new(alloc, text);
-    let mut list = Vec::new(alloc);
-    for _ in 0..=text.len() {
-        match values.next()? {
-            Some(value) => list.push(value)?,
-            None => break,
-        }
-    }
-    to_lines(alloc, list.as_slice())
 }
 
 /// The spelling of a row, where each choice may be made alone.

@@ -13,6 +13,7 @@ mod plain_readers;
 mod reports;
 mod rows;
 mod schemas;
+mod streams;
 mod tidies;
 
 use json5_read::read_document;
