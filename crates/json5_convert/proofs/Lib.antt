@@ -1,9 +1,11 @@
 -- Lists the lemmas about documents that are spelled anew.
 pub mod CommentsPassed
+pub mod FaultsLast
 pub mod Kept
 pub mod OneComments
 pub mod SourcesKept
 pub mod StreamsRead
+pub mod StreamsRefused
 pub mod StreamsTaken
 pub mod TomlHeld
 pub mod TomlParts

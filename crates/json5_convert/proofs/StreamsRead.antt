@@ -56,6 +56,10 @@ pub value_unprompted : (input : List ℕ) (m : Read Datum) (e : Error) → Blame
 value_unprompted input m e (inl memory) = memory_other e memory
 value_unprompted input m e (inr r) = r.unprompted
 
+-- what is told of a fault is told of the answer that hands it on
+pub told : {A : Type 0} (P : Error → Type 0) (e : Error) (r : Result A Error) → IsErrAnd r (λ y. y ≡ e) → P e → IfErr r P
+told P e (Ok v) h p = absurd h
+told P e (Err y) h p = subst P (sym h) p
+
 pub handed_on : {A : Type 0} (e : Error) (r : Result A Error) → IsErrAnd r (λ y. y ≡ e) → IsUnprompted e → IfErr r IsUnprompted
-handed_on e (Ok v) h u = absurd h
-handed_on e (Err y) h u = subst IsUnprompted (sym h) u
+handed_on e r h u = told IsUnprompted e r h u

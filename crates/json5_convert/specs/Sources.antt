@@ -1,8 +1,11 @@
 -- What was read of a reader and isn't given yet.
 -- A promise rests on this.
-use Rattle.std.specs.Prelude.{◌≡◌, ◌≤◌, ℕ, Bool, true, List, ◌++◌, length, take, drop, Option, option_map, IsUtf8}
+use Rattle.std.specs.Prelude.{◌≡◌, ◌≤◌, ℕ, Bool, true, List, ◌++◌, length, take, drop, Option, option_map, IsUtf8, codes}
 use Rattle.std.specs.Io.KnownBytes.{Keeps, IsAtEnd, prepend_known}
 use Rattle.std.specs.Str.{chars}
+use Rattle.json5_types.specs.declared.error.Error.{Error}
+use Rattle.json5_types.specs.Errors.{custom, kind_of}
+use Rattle.json5_tokens.specs.Cursor.{IsOutOfMemory}
 
 -- the text that was read, the bytes that come behind it, if they are known, and whether there are none
 pub record Held : Type 0 where
@@ -32,3 +35,9 @@ pub record IsCut (text : List ℕ) (given : ℕ) (behind : Option (List ℕ)) (h
 pub record IsTextFront (bytes : List ℕ) (count : ℕ) : Type 0 where
   pub within : count ≤ length bytes
   pub is_text : IsUtf8 (take count bytes)
+
+-- memory was refused, a read failed, or what was read is no text
+pub data StopsReading (e : Error) : Type 0 where
+  by_memory : IsOutOfMemory e → StopsReading e
+  by_reader : kind_of e ≡ custom (codes "failed read") → StopsReading e
+  by_bytes : kind_of e ≡ custom (codes "not UTF-8") → StopsReading e

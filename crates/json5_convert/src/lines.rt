@@ -1,8 +1,8 @@
 //! Documents one after another in one text, as JSON Lines has them.
 
-ghost use Rattle.std.specs.Prelude.{◌≡◌, ◌↔◌, true, IfOk, IfErr, OnErr};
+ghost use Rattle.std.specs.Prelude.{◌≡◌, ◌↔◌, true, false, IfOk, IfErr, OnErr};
 ghost use Rattle.json5_read.specs.ModelSteps.{IsUnprompted};
-ghost use Rattle.json5_convert.specs.Streams.{IsAtStart, SaysFailed, TakesNext, TakesValue};
+ghost use Rattle.json5_convert.specs.Streams.{IsAtStart, RefusesNext, SaysFailed, TakesNext, TakesValue};
 
 use json5_read::read::read_value;
 use json5_styles::to_json_compact;
@@ -66,6 +66,7 @@ impl<'t> Values<'t> {
         ensures taken { IfOk result (TakesNext self.old self.new) }
         ensures refused { OnErr result (self.new.has_failed ≡ true) }
         ensures failed { IfErr result (λ e. SaysFailed e ↔ (self.old.has_failed ≡ true)) }
+        ensures faulty { self.old.has_failed ≡ false → IfErr result (RefusesNext self.old.cursor) }
     {
         if self.has_failed {
             return Err(Error::new(ErrorCode::Failed));
@@ -81,6 +82,7 @@ impl<'t> Values<'t> {
 pub(crate) fn next_value<I: Input>(scanner: &mut Scanner<I>) -> Result<Option<Value>>
     ensures taken { IfOk result (TakesValue scanner.old scanner.new) }
     ensures unprompted { IfErr result IsUnprompted }
+    ensures faulty { IfErr result (RefusesNext scanner.old) }
 {
     scanner.skip_blank()?;
     match scanner.peek() {

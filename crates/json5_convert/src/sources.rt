@@ -3,8 +3,8 @@
 ghost use Rattle.std.specs.Prelude.{◌≡◌, [], true, false, drop, IfErr, OnOk, MatchResult};
 ghost use Rattle.std.specs.Io.KnownBytes.{IsAtEnd};
 ghost use Rattle.std.specs.Str.{IsCharBoundary};
-ghost use Rattle.json5_convert.specs.Sources.{Held, KeepsStream, IsTextFront};
-ghost use Rattle.json5_read.specs.ModelSteps.{IsUnprompted};
+ghost use Rattle.json5_convert.specs.Sources.{Held, KeepsStream, IsTextFront, StopsReading};
+ghost use Rattle.json5_types.specs.Errors.{kind_of};
 
 use json5_types::error::{Error, Result};
 use json5_types::{ErrorCode, Position};
@@ -99,8 +99,7 @@ impl<R: Read + Drop> Source<R> {
 
     /// The fault of the text, at its place in the stream.
     pub(crate) fn placed(&self, fault: Error) -> Error
-        requires { IsUnprompted fault }
-        ensures { IsUnprompted result }
+        ensures { kind_of result ≡ kind_of fault }
     {
         match fault.position() {
             Some(position) => fault.at(moved(self.start, position)),
@@ -115,7 +114,7 @@ impl<R: Read + Drop> Source<R> {
     /// As `ValueStream::next`, where a read fails, the bytes are no UTF-8 or memory is refused.
     pub(crate) fn read_on(&mut self) -> Result<()>
         ensures kept { OnOk result (KeepsStream self.old self.new) }
-        ensures unprompted { IfErr result IsUnprompted }
+        ensures stopped { IfErr result StopsReading }
     {
         self.check_open()?;
         self.text = self.text.split_off(self.given)?;
@@ -134,7 +133,7 @@ impl<R: Read + Drop> Source<R> {
 
     /// Refuses where the reader can't be read on.
     fn check_open(&self) -> Result<()>
-        ensures { IfErr result IsUnprompted }
+        ensures { IfErr result StopsReading }
     {
         if let Some(kind) = self.failure {
             return Err(failed_read(self.alloc, kind)?);
@@ -148,7 +147,7 @@ impl<R: Read + Drop> Source<R> {
     /// Reads once.
     fn read_piece(&mut self) -> Result<()>
         ensures kept { OnOk result (KeepsStream self.old self.new) }
-        ensures unprompted { IfErr result IsUnprompted }
+        ensures stopped { IfErr result StopsReading }
     {
         let mut piece = [0; PIECE];
         self.has_ended = false;
@@ -174,7 +173,7 @@ impl<R: Read + Drop> Source<R> {
     /// Moves what is text in front of the rest behind the text.
     fn move_text(&mut self) -> Result<()>
         ensures kept { OnOk result (KeepsStream self.old self.new) }
-        ensures unprompted { IfErr result IsUnprompted }
+        ensures stopped { IfErr result StopsReading }
     {
         let (count, is_broken) = text_front(&self.rest);
         let front = unsafe { str::from_utf8_unchecked(&self.rest[..count]) };
@@ -186,7 +185,7 @@ impl<R: Read + Drop> Source<R> {
 
     /// The fault of bytes behind the text that are no text.
     fn not_utf8(&self) -> Result<Error>
-        ensures { MatchResult result IsUnprompted IsUnprompted }
+        ensures { MatchResult result StopsReading StopsReading }
     {
         let words = String::from_str(self.alloc, "not UTF-8")?;
         let position = moved(self.start, Position::after(self.text()));
@@ -220,7 +219,7 @@ fn moved(start: Position, position: Position) -> Position {
 
 /// The fault of a reader that failed.
 fn failed_read(alloc: Global, kind: ErrorKind) -> Result<Error>
-    ensures { MatchResult result IsUnprompted IsUnprompted }
+    ensures { MatchResult result StopsReading StopsReading }
 {
     if kind == ErrorKind::OutOfMemory {
         return Ok(Error::new(ErrorCode::OutOfMemory));

@@ -1,17 +1,18 @@
 //! Documents one after another from a reader.
 
-ghost use Rattle.std.specs.Prelude.{◌≡◌, ◌↔◌, true, ℕ, List, slice_get, IsTrue, IfOk, IfErr, IfSome, OnErr};
+ghost use Rattle.std.specs.Prelude.{◌≡◌, ◌↔◌, ◌⊎◌, true, false, ℕ, List, slice_get, IsTrue, IfOk, IfErr, IfSome, OnErr};
+ghost use Rattle.std.specs.Str.{chars};
+ghost use Rattle.json5_tokens.specs.Cursor.{IsOutOfMemory};
 ghost use Rattle.json5_read.specs.ModelSteps.{IsUnprompted};
 ghost use Rattle.json5_convert.specs.Sources.{Held, unread_of};
-ghost use Rattle.json5_convert.specs.Streams.{BeginsStream, Decides, IsSettled, TakesKnown, TakesNextOf, SaysFailed};
+ghost use Rattle.json5_convert.specs.Streams.{BeginsStream, Decides, IsLasting, IsSettled, RefusesKnown, StaysFaulty, TakesKnown, TakesNextOf, SaysFailed, is_of_end};
 
 use crate::lines::next_value;
 use crate::sources::Source;
-use json5_tokens::InText;
 use json5_tokens::scanner::Scanner;
-use json5_types::ErrorCode;
 use json5_types::error::{Error, Result};
 use json5_types::value::Value;
+use json5_types::{ErrorCode, Position};
 use std::alloc::Global;
 use std::io::Read;
 use std::marker::Model;
@@ -57,7 +58,8 @@ impl<R: Read + Drop> ValueStream<R> {
     }
 
     /// Reads the next document, nested at most 128 deep; None after the last. A number is returned only once a character
-    /// follows it or the reader ends. After a refusal every call is refused with `Failed`.
+    /// follows it or the reader ends, and a fault of the text is told only once its line or the reader ends. After a refusal
+    /// every call is refused with `Failed`.
     ///
     /// ```text
     /// values.next()?    // Some(1), then Some(2), then None of `1 2`
@@ -73,6 +75,7 @@ impl<R: Read + Drop> ValueStream<R> {
         ensures taken { IfOk result (TakesNextOf self.old self.new) }
         ensures refused { OnErr result (self.new.has_failed ≡ true) }
         ensures failed { IfErr result (λ e. SaysFailed e ↔ (self.old.has_failed ≡ true)) }
+        ensures faulty { self.old.has_failed ≡ false → IfErr result (RefusesKnown self.old.unread) }
     {
         if self.has_failed {
             return Err(Error::new(ErrorCode::Failed));
@@ -88,6 +91,7 @@ impl<R: Read + Drop> ValueStream<R> {
 fn next_of<R: Read + Drop>(source: &mut Source<R>) -> Result<Option<Value>>
     ensures taken { IfOk result (TakesKnown (unread_of source.old) (unread_of source.new)) }
     ensures unprompted { IfErr result IsUnprompted }
+    ensures faulty { IfErr result (RefusesKnown (unread_of source.old)) }
 {
     for _ in 0..u64::MAX {
         match decided(source.allocator(), source.text(), source.has_ended()) {
@@ -107,6 +111,7 @@ fn next_of<R: Read + Drop>(source: &mut Source<R>) -> Result<Option<Value>>
 fn decided(alloc: Global, text: &str, is_whole: bool) -> Result<Option<(Option<Value>, usize)>>
     ensures taken { IfOk result (λ d. IfSome d (Decides text.now is_whole)) }
     ensures unprompted { IfErr result IsUnprompted }
+    ensures faulty { IfErr result (StaysFaulty text.now is_whole) }
 {
     let mut scanner = Scanner::new(alloc, text);
     match next_value(&mut scanner) {
@@ -129,31 +134,25 @@ fn is_settled(value: &Option<Value>, next: Option<char>) -> bool
     }
 }
 
-/// Whether the fault stays, whatever follows the text.
-fn is_lasting(fault: &Error, text: &str) -> bool {
+/// Whether the fault stays, whatever follows the text, as its line has ended.
+fn is_lasting(fault: &Error, text: &str) -> bool
+    ensures { IsTrue result → IsOutOfMemory fault.now ⊎ IsLasting (chars text.now) fault.now }
+{
     if fault.code() == Some(ErrorCode::OutOfMemory) {
         return true;
     }
-    !is_of_end(fault) && has_token_end(fault, text)
+    match fault.position() {
+        Some(position) => !is_of_end(fault.code()) && position.line < Position::after(text).line,
+        None => false,
+    }
 }
 
-/// Whether the token with the fault ends in the text.
-fn has_token_end(fault: &Error, text: &str) -> bool {
-    let Some(offset) = fault
-        .position()
-        .and_then(|position| position.offset_in(text))
-    else {
-        return false;
-    };
-    text.bytes()
-        .skip(offset)
-        .any(|byte| matches!(byte, b' ' | b'\t' | b'\n' | b'\r'))
-}
-
-/// Whether the text ends too early.
-fn is_of_end(fault: &Error) -> bool {
+/// Whether the code says that the text ends too early.
+fn is_of_end(code: Option<ErrorCode>) -> bool
+    ensures { result ≡ is_of_end code }
+{
     matches!(
-        fault.code(),
+        code,
         Some(
             ErrorCode::EofParsingArray
                 | ErrorCode::EofParsingBool
