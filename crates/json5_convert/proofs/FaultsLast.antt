@@ -1,17 +1,13 @@
 -- A fault above the last line of what was read stays, whatever follows.
-use Rattle.std.proofs.Common.{◌≡◌, ◌⊎◌, inl, inr, ◌||◌, ◌&&◌, ◌==◌, not, if◌then◌else◌, ℕ, ◌+◌, ◌<◌, Bool, true, false, List, [], ◌∷◌, ◌++◌, refl, sym, ap, ◌∙◌, subst, append_assoc, append-nil, Option, Some, None, arith}
+use Rattle.std.proofs.Common.{◌≡◌, ◌&&◌, ◌==◌, not, if◌then◌else◌, ℕ, ◌+◌, ◌<◌, Bool, true, false, List, [], ◌∷◌, ◌++◌, refl, sym, ap, ◌∙◌, append-nil, Option, Some, arith}
 use Rattle.std.proofs.lemmas.Bool.Decides.{nat_tests}
 use Rattle.json5_grammar.specs.declared.error_code.ErrorCode.{ErrorCode}
-use Rattle.json5_grammar.specs.Faults.{FaultAt, in_comment, no_value, value_missing, nested_too_deep, no_comma, comma_missing, no_key, key_missing, no_colon, colon_missing, trailing, in_word, in_number, in_a_string, in_a_name, FaultWhere, ValueFault, InValue, lifted, fault}
-use Rattle.json5_grammar.specs.Faults.Blames.{StandsIn}
+use Rattle.json5_grammar.specs.Faults.{FaultAt, in_comment, value_missing, comma_missing, key_missing, colon_missing, in_word, in_number, in_a_string, in_a_name, FaultWhere, lifted, fault}
 use Rattle.json5_grammar.specs.Faults.Codes.{Shown, by_char, by_end}
 use Rattle.json5_grammar.specs.Faults.Fronts.{Bracket, Expects, of_array, of_object}
 use Rattle.json5_grammar.specs.Faults.Positions.{begins_line_feed, line_of}
-use Rattle.json5_grammar.specs.Faults.Refusals.{BlamesValue}
-use Rattle.json5_grammar.specs.Faults.Tokens.{CommentFault, slash_ends, block_ends, NumberFault, number_word_ends, sign_ends, hexadecimal_ends, negative_too_large, not_a_literal, literal_overflows, DecimalRun, run, zero_run, run_at_end, Word, null_word, true_word, false_word, WordFault, word_ends, EscapeFault, escape_ends, StringFault, string_ends, in_string_escape, NameFault, in_name_escape, name_ends, backslash_ends}
-use Rattle.json5_grammar.specs.Language.Blanks.{LastBlanks}
+use Rattle.json5_grammar.specs.Faults.Tokens.{CommentFault, slash_ends, block_ends, NumberFault, number_word_ends, sign_ends, hexadecimal_ends, negative_too_large, not_a_literal, literal_overflows, DecimalRun, run, zero_run, run_at_end, null_word, true_word, false_word, WordFault, word_ends, EscapeFault, escape_ends, StringFault, string_ends, in_string_escape, NameFault, in_name_escape, name_ends, backslash_ends}
 use Rattle.json5_grammar.specs.Language.Characters.{is_terminator, is_hex_digit, Each, no_char, char}
-use Rattle.json5_grammar.specs.Language.Documents.{max_depth}
 use Rattle.json5_grammar.specs.Language.Numbers.{Sign, no_sign, plus, minus, in_run, hex_start}
 use Rattle.json5_grammar.proofs.CharacterTests.{begins_run_in_run, dot_or_e_in_run, Each-append, each_weaken}
 use Rattle.json5_convert.specs.Streams.{is_of_end}

@@ -1,5 +1,5 @@
 -- What is to be given stays as more is read.
-use Rattle.std.proofs.Common.{◌≡◌, ℕ, ◌+◌, ◌≤◌, ◌-◌, Bool, true, false, List, [], ◌∷◌, ◌++◌, length, length-append, take, drop, zero, suc, refl, sym, ap, ◌∙◌, subst, append_assoc, append-nil, Option, Some, None, arith}
+use Rattle.std.proofs.Common.{◌≡◌, ℕ, ◌+◌, Bool, List, [], ◌∷◌, ◌++◌, length-append, take, drop, zero, suc, refl, sym, ap, ◌∙◌, subst, append_assoc, Option, Some, None, arith}
 use Rattle.std.specs.Prelude.{IsUtf8}
 use Rattle.std.specs.Io.KnownBytes.{Keeps, IsAtEnd, prepend_known}
 use Rattle.std.specs.Str.{IsCharBoundary}

@@ -17,7 +17,7 @@ use Rattle.json5_read.proofs.BuildScalars.{datum_got}
 use Rattle.json5_read.proofs.DocumentReads.{SkippedGap}
 use Rattle.json5_read.proofs.ModelSteps.{none_next}
 use Rattle.json5_read.proofs.NoFailedCode.{in_blanks_other, memory_other, other_says}
-use Rattle.json5_convert.specs.Streams.{TakesFront, TakesValue}
+use Rattle.json5_convert.specs.Streams.{TakesValue}
 
 gap_ends : {w r : List ℕ} → r ≡ [] → Gap w r → LastBlanks w
 gap_ends e (Gap.blanks b) = LastBlanks.blanks b

@@ -8,7 +8,7 @@ use Rattle.std.proofs.lemmas.Str.{chars-append, chars-nil}
 use Rattle.json5_grammar.specs.declared.error_code.ErrorCode.{ErrorCode}
 use Rattle.json5_grammar.specs.declared.error_code.ErrorCode.TheVariants.{EofParsingValue}
 use Rattle.json5_grammar.specs.Faults.{FaultWhere, InValue}
-use Rattle.json5_grammar.specs.Faults.Blames.{Blame, ValueBlame, HasValue, IsBlamed}
+use Rattle.json5_grammar.specs.Faults.Blames.{ValueBlame, HasValue, IsBlamed}
 use Rattle.json5_grammar.specs.Faults.Codes.{by_char}
 use Rattle.json5_grammar.specs.Faults.Positions.{line_of, position_after}
 use Rattle.json5_grammar.specs.Faults.Refusals.{BlamesValue}
@@ -28,10 +28,9 @@ use Rattle.json5_grammar.proofs.OneTree.{phrase_reader, phrase_complete}
 use Rattle.json5_grammar.proofs.Refusals.{Refuses, one_refusal, not_both}
 use Rattle.json5_grammar.proofs.ValueHeads.{read_step}
 use Rattle.json5_types.specs.declared.error.Error.{Error}
-use Rattle.json5_types.specs.Errors.{kind_of, error_position, known_code}
-use Rattle.json5_tokens.specs.Cursor.{Cursor, Took, Says, IsPositioned, IsOutOfMemory, Refused}
+use Rattle.json5_types.specs.Errors.{kind_of, known_code}
+use Rattle.json5_tokens.specs.Cursor.{Cursor, Says, IsPositioned, IsOutOfMemory, Refused}
 use Rattle.json5_tokens.specs.TokenFaults.{FaultyBlanks}
-use Rattle.json5_types.specs.ValueMeanings.{Datum}
 use Rattle.json5_read.specs.DocumentReads.{unread_text}
 use Rattle.json5_read.specs.ModelSteps.{HasPositionAt}
 use Rattle.json5_read.specs.OwnedReads.{BlamesOrMemory, as_datum, datum_at}

@@ -4,10 +4,10 @@ use Rattle.std.specs.Prelude.{slice_get, is_some, option_map, IsUtf8}
 use Rattle.std.specs.Str.{chars, all_scalars}
 use Rattle.std.specs.Io.KnownBytes.{Keeps, IsAtEnd, prepend_known}
 use Rattle.std.proofs.lemmas.Str.{chars-append, chars-nil, IsUtf8-drop}
-use Rattle.json5_grammar.specs.Language.Blanks.{Blanks, Gap, LastBlanks}
-use Rattle.json5_grammar.specs.Language.Strings.{Str, quoted}
+use Rattle.json5_grammar.specs.Language.Blanks.{Blanks, Gap}
+use Rattle.json5_grammar.specs.Language.Strings.{quoted}
 use Rattle.json5_grammar.specs.Language.Trees.{Tree}
-use Rattle.json5_grammar.specs.Language.Values.{Stops, Val, is_null, is_true, is_false, is_number, is_text, is_empty_array, is_array, is_empty_object, is_object, null_text, true_text, false_text}
+use Rattle.json5_grammar.specs.Language.Values.{Stops, Val, is_null, is_true, is_false, is_number, is_text, is_empty_array, is_array, is_empty_object, is_object}
 use Rattle.json5_grammar.proofs.ArraysRead.{array_stops}
 use Rattle.json5_grammar.proofs.ObjectsRead.{object_stops}
 use Rattle.json5_grammar.proofs.ValuesSound.{text_stops}
@@ -17,7 +17,6 @@ use Rattle.json5_types.specs.ValueMeanings.{value_of}
 use Rattle.json5_tokens.specs.Cursor.{Cursor, offset_of}
 use Rattle.json5_read.specs.TreeMeanings.{datum_of}
 use Rattle.json5_walk.proofs.Calls.{offset_seam, rest_unread}
-use Rattle.json5_convert.specs.Sources.{Held, stream_of, unread_of}
 use Rattle.json5_convert.specs.Streams.{ReadsFront, TakesFront, TakesValue, TakesKnown, Decides, IsSettled, goes_on, ends_itself}
 
 -- ---- a value that is no number

@@ -1,6 +1,6 @@
 -- What was read of a reader and isn't given yet.
 -- A promise rests on this.
-use Rattle.std.specs.Prelude.{◌≡◌, ◌≤◌, ℕ, Bool, true, List, ◌++◌, length, take, drop, Option, option_map, IsUtf8, codes}
+use Rattle.std.specs.Prelude.{◌≡◌, ◌≤◌, ℕ, Bool, true, List, length, take, drop, Option, option_map, IsUtf8, codes}
 use Rattle.std.specs.Io.KnownBytes.{Keeps, IsAtEnd, prepend_known}
 use Rattle.std.specs.Str.{chars}
 use Rattle.json5_types.specs.declared.error.Error.{Error}

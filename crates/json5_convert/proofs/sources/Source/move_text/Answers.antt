@@ -1,4 +1,4 @@
-use Rattle.std.proofs.Common.{◌++◌, take, drop, sym, ap, subst, ◌∙◌, vec_items}
+use Rattle.std.proofs.Common.{take, drop, ap, subst, ◌∙◌, vec_items}
 use Rattle.std.specs.Prelude.{string_bytes}
 use Rattle.std.specs.Io.KnownBytes.{Keeps, prepend_known}
 use Rattle.json5_convert.specs.Sources.{Held, IsTextFront, stream_of}
