@@ -51,14 +51,26 @@ fn other(alloc: Global, row: &Value) -> Result<Option<String>> {
             return Ok(Some(found));
         }
     }
-    let bytes = if is_bytes { latin_1(alloc, text.as_str())? } else { text.into_bytes() };
+    let bytes = if is_bytes {
+        latin_1(alloc, text.as_str())?
+    } else {
+        text.into_bytes()
+    };
     other_read(alloc, &bytes, fails, wanted.as_str())
 }
 
 /// What comes of the bytes in one of the sizes, if it isn't what is wanted.
 fn other_read(alloc: Global, bytes: &[u8], fails: bool, wanted: &str) -> Result<Option<String>> {
     for size in SIZES {
-        let found = of_reader(alloc, Pieces { rest: bytes, size, fails }, bytes.len())?;
+        let found = of_reader(
+            alloc,
+            Pieces {
+                rest: bytes,
+                size,
+                fails,
+            },
+            bytes.len(),
+        )?;
         if found.as_str() != wanted {
             return Ok(Some(format!(in alloc; "{size} bytes at a time: {found}")?));
         }
@@ -105,7 +117,7 @@ fn of_text(alloc: Global, text: &str) -> Result<String> {
             Ok(None) => break,
             Err(fault) => {
                 let after = values.next();
-                return refused(alloc, list.as_slice(), &fault, after);
+                return refused(alloc, list.as_slice(), fault, after);
             }
         }
     }
@@ -121,7 +133,7 @@ fn of_reader(alloc: Global, reader: Pieces<'_>, most: usize) -> Result<String> {
             Ok(None) => break,
             Err(fault) => {
                 let after = values.next();
-                return refused(alloc, list.as_slice(), &fault, after);
+                return refused(alloc, list.as_slice(), fault, after);
             }
         }
     }
@@ -132,13 +144,21 @@ fn of_reader(alloc: Global, reader: Pieces<'_>, most: usize) -> Result<String> {
 fn refused(
     alloc: Global,
     list: &[Value],
-    fault: &Error,
+    fault: Error,
     after: Result<Option<Value>>,
 ) -> Result<String> {
-    let lines = to_lines(alloc, list)?;
-    match after {
-        Err(other) if other.code() == Some(ErrorCode::Failed) =>
-            Ok(format!(in alloc; "{lines}{fault}")?),
-        _ => Ok(format!(in alloc; "{lines}{fault}, and it goes on")?),
+    let mut shown = to_lines(alloc, list)?;
+    let words = format!(in alloc; "{fault}")?;
+    shown.push_str(words.as_str())?;
+    if !says_failed(&after) {
+        shown.push_str(", and it goes on")?;
+    }
+    Ok(shown)
+}
+
+fn says_failed(answer: &Result<Option<Value>>) -> bool {
+    match answer {
+        Err(fault) => fault.code() == Some(ErrorCode::Failed),
+        Ok(_) => false,
     }
 }
