@@ -19,12 +19,7 @@ use std::alloc::Global;
 /// # Errors
 ///
 /// `OutOfMemory` where there is no memory for what the comments say.
-pub fn after_switched_off(
-    alloc: Global,
-    text: &str,
-    from: usize,
-    until: usize,
-) -> Result<usize> {
+pub fn after_switched_off(alloc: Global, text: &str, from: usize, until: usize) -> Result<usize> {
     let mut after = from;
     let mut start = from;
     let mut begun = String::new(alloc);
