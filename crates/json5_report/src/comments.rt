@@ -9,6 +9,9 @@ use crate::parts::Part;
 
 /// What is said of what follows a comment that another one within it ended, up to where it was to end.
 pub(crate) fn nested_remark<'t>(fault: &Fault<'t>) -> Option<Remark<'t>> {
+    if !may_nest(fault.text) {
+        return None;
+    }
     let comment = nested_before(fault.text, fault.offset)?;
     let end = end_behind(fault.text, comment.end)?;
     if end.saturating_add(1) < fault.offset {
@@ -19,6 +22,14 @@ pub(crate) fn nested_remark<'t>(fault: &Fault<'t>) -> Option<Remark<'t>> {
         "comments are not nested: the first `*/` of line @ ended this one; remove that",
         Part::Number(line),
     )))
+}
+
+/// Whether two comments may begin in the text.
+fn may_nest(text: &str) -> bool {
+    match text.split_once("/*") {
+        Some((_, rest)) => rest.contains("/*"),
+        None => false,
+    }
 }
 
 /// The last comment before the offset that another one begins in.
