@@ -2,6 +2,7 @@
 pub mod CommentsPassed
 pub mod FaultsLast
 pub mod Kept
+pub mod LinesJoined
 pub mod OneComments
 pub mod SourcesKept
 pub mod StreamsRead

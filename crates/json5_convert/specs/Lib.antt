@@ -1,6 +1,7 @@
 -- Lists the definitions for documents that are spelled anew.
 pub mod CommentSteps
 pub mod Comments
+pub mod Lines
 pub mod Respelled
 pub mod Sources
 pub mod Spellings

@@ -1,7 +1,8 @@
 //! Documents one after another in one text, as JSON Lines has them.
 
-ghost use Rattle.std.specs.Prelude.{◌≡◌, ◌↔◌, true, false, IfOk, IfErr, OnErr};
+ghost use Rattle.std.specs.Prelude.{◌≡◌, ◌↔◌, true, false, IfOk, IfErr, OnErr, string_bytes};
 ghost use Rattle.json5_read.specs.ModelSteps.{IsUnprompted};
+ghost use Rattle.json5_convert.specs.Lines.{lines_of};
 ghost use Rattle.json5_convert.specs.Streams.{IsAtStart, RefusesNext, SaysFailed, TakesNext, TakesValue};
 
 use json5_read::read::read_value;
@@ -103,7 +104,9 @@ pub(crate) fn next_value<I: Input>(scanner: &mut Scanner<I>) -> Result<Option<Va
 /// # Errors
 ///
 /// As `json5_styles::to_json_compact`.
-pub fn to_lines(alloc: Global, values: &[Value]) -> Result<String> {
+pub fn to_lines(alloc: Global, values: &[Value]) -> Result<String>
+    ensures { IfOk result (λ made. string_bytes made ≡ lines_of values.now) }
+{
     let mut made = String::new(alloc);
     for value in values {
         let line = to_json_compact(alloc, value)?;

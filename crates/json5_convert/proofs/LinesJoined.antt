@@ -1,0 +1,20 @@
+-- Lines one after another.
+use Rattle.std.proofs.Common.{◌≡◌, ◌<◌, ◌+◌, ◌∙◌, ℕ, zero, suc, List, [], ◌∷◌, ◌++◌, ap, append_assoc, arith, get_or, length, sym, take}
+use Rattle.std.proofs.lemmas.List.{append-nil}
+use Rattle.json5_grammar.specs.Language.Characters.{line_feed}
+use Rattle.json5_convert.specs.Lines.{line_of, lines_of}
+use Rattle.json5_types.specs.declared.value.Value.{Value}
+
+more : (i : ℕ) (vs : List Value) (v : Value) → i < length vs → v ≡ get_or vs i v → lines_of (take (suc i) vs) ≡ lines_of (take i vs) ++ line_of v
+more zero [] v h is = absurd (omega (arith, h))
+more zero (x ∷ vs) v h is = append-nil (line_of x) ∙ ap line_of (sym is)
+more (suc i) [] v h is = absurd (omega (arith, h))
+more (suc i) (x ∷ vs) v h is = ap (λ z. line_of x ++ z) (more i vs v (omega (arith, h)) is) ∙ sym (append_assoc (line_of x) (lines_of (take i vs)) (line_of v))
+
+-- and the next one, behind which its line feed comes
+pub lines_more : (i : ℕ) (vs : List Value) (v : Value) (made text joined ended : List ℕ) → i < length vs → v ≡ get_or vs i v → made ≡ lines_of (take i vs) → text ++ line_feed ∷ [] ≡ line_of v
+    → joined ≡ made ++ text → ended ≡ joined ++ line_feed ∷ [] → ended ≡ lines_of (take (i + 1) vs)
+lines_more i vs v made text joined ended h is so_far line pushed closed =
+    let next : i + 1 ≡ suc i = omega arith in
+    let all = ap (λ z. z ++ line_feed ∷ []) (pushed ∙ ap (λ z. z ++ text) so_far) ∙ append_assoc (lines_of (take i vs)) text (line_feed ∷ []) ∙ ap (λ z. lines_of (take i vs) ++ z) line in
+    rw next (closed ∙ all ∙ sym (more i vs v h is))
