@@ -75,10 +75,10 @@ pub(crate) fn laid(
 }
 
 /// What an edit returned, as the work's own.
-fn edited(made: Result<String>) -> std::result::Result<String, TextTrouble>
-    ensures { result ≡ edited made }
+fn edited(outcome: Result<String>) -> std::result::Result<String, TextTrouble>
+    ensures { result ≡ edited outcome }
 {
-    match made {
+    match outcome {
         Ok(new) => Ok(new),
         Err(error) => Err(TextTrouble::Edit(error)),
     }

@@ -1,6 +1,6 @@
 -- What was read of a reader and isn't given yet.
 -- A promise rests on this.
-use Rattle.std.specs.Prelude.{◌≡◌, ◌≤◌, ℕ, Bool, true, List, length, take, drop, Option, option_map, IsUtf8, codes}
+use Rattle.std.specs.Prelude.{◌≡◌, ◌≤◌, ℕ, Bool, true, List, length, take, drop, Option, option_map, IsUtf8, codes, Result, Ok, Err}
 use Rattle.std.specs.Io.KnownBytes.{Keeps, IsAtEnd, prepend_known}
 use Rattle.std.specs.Str.{chars}
 use Rattle.json5_types.specs.declared.error.Error.{Error}
@@ -41,3 +41,8 @@ pub data StopsReading (e : Error) : Type 0 where
   by_memory : IsOutOfMemory e → StopsReading e
   by_reader : kind_of e ≡ custom (codes "failed read") → StopsReading e
   by_bytes : kind_of e ≡ custom (codes "not UTF-8") → StopsReading e
+
+-- more was read of the same stream, or reading was stopped
+abbrev pub ReadsOn : {A : Type 0} → (old new : Held) → Result A Error → Type 0
+ReadsOn old new (Ok done) = KeepsStream old new
+ReadsOn old new (Err e) = StopsReading e

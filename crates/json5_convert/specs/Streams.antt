@@ -1,6 +1,6 @@
 -- Documents one after another in one text, or from one reader.
 -- A promise rests on this.
-use Rattle.std.specs.Prelude.{◌≡◌, ◌⊎◌, ◌<◌, ◌≤◌, ℕ, Bool, true, false, List, [], ◌++◌, drop, slice_get, is_some, IfSome, ⊤, Option, None, Some, option_map}
+use Rattle.std.specs.Prelude.{◌≡◌, ◌↔◌, ◌⊎◌, ◌<◌, ◌≤◌, ℕ, Bool, true, false, List, [], ◌++◌, drop, slice_get, is_some, IfSome, ⊤, Option, None, Some, option_map}
 use Rattle.std.specs.Str.{IsCharBoundary, chars}
 use Rattle.json5_grammar.specs.declared.error_code.ErrorCode.{ErrorCode}
 use Rattle.json5_grammar.specs.declared.error_code.ErrorCode.TheVariants.{EofParsingArray, EofParsingBool, EofParsingComment, EofParsingEscapeSequence, EofParsingIdentifier, EofParsingNull, EofParsingNumber, EofParsingObject, EofParsingString, EofParsingValue, Failed}
@@ -45,6 +45,10 @@ FaultyFront x reason place = BlamesValue max_depth x reason place × (LastBlanks
 abbrev pub SaysFailed : Error → Type 0
 SaysFailed e = kind_of e ≡ code Failed
 
+-- what is told from the first refusal on: first a fault, and then that a call was refused
+abbrev pub FailsFrom : (old new : Bool) → (Error → Type 0) → Error → Type 0
+FailsFrom old new Fault e = (new ≡ true) × (SaysFailed e ↔ (old ≡ true)) × (old ≡ false → Fault e)
+
 -- ---- of a text
 
 -- what contracts see of it: how far it was read, and whether a call was refused
@@ -66,6 +70,10 @@ TakesNext old new result = (old.has_failed ≡ false) × (new.has_failed ≡ fal
 -- the next document has the fault that is told, or memory ran out
 abbrev pub RefusesNext : Cursor → Error → Type 0
 RefusesNext s e = IsOutOfMemory e ⊎ Refused FaultyFront s e
+
+-- the same, where no call was refused
+abbrev pub Fails : (old new : Stream) → Error → Type 0
+Fails old new = FailsFrom old.has_failed new.has_failed (RefusesNext old.cursor)
 
 -- ---- from a reader
 
@@ -95,6 +103,10 @@ IsFaultOf x e = (reason : Option ErrorCode) × (place : Option (List ℕ)) × Fa
 pub data RefusesKnown (known : Option (List ℕ)) (e : Error) : Type 0 where
   stopped : StopsReading e → RefusesKnown known e
   faulty : IfSome known (λ x. IsFaultOf x e) → RefusesKnown known e
+
+-- the same, where no call was refused
+abbrev pub FailsOf : (old new : KnownStream) → Error → Type 0
+FailsOf old new = FailsFrom old.has_failed new.has_failed (RefusesKnown old.unread)
 
 -- ---- of what was read of it
 

@@ -1,9 +1,9 @@
 //! Documents one after another in one text, as JSON Lines has them.
 
-ghost use Rattle.std.specs.Prelude.{◌≡◌, ◌↔◌, true, false, IfOk, IfErr, OnErr, string_bytes};
+ghost use Rattle.std.specs.Prelude.{◌≡◌, true, false, IfOk, IfErr, string_bytes};
 ghost use Rattle.json5_read.specs.ModelSteps.{IsUnprompted};
 ghost use Rattle.json5_convert.specs.Lines.{lines_of};
-ghost use Rattle.json5_convert.specs.Streams.{IsAtStart, RefusesNext, SaysFailed, TakesNext, TakesValue};
+ghost use Rattle.json5_convert.specs.Streams.{Fails, IsAtStart, RefusesNext, TakesNext, TakesValue};
 
 use json5_read::read::read_value;
 use json5_styles::to_json_compact;
@@ -65,9 +65,7 @@ impl<'t> Values<'t> {
     /// As `json5_read::read_value`, with positions in the whole text.
     pub fn next(&mut self) -> Result<Option<Value>>
         ensures taken { IfOk result (TakesNext self.old self.new) }
-        ensures refused { OnErr result (self.new.has_failed ≡ true) }
-        ensures failed { IfErr result (λ e. SaysFailed e ↔ (self.old.has_failed ≡ true)) }
-        ensures faulty { self.old.has_failed ≡ false → IfErr result (RefusesNext self.old.cursor) }
+        ensures refused { IfErr result (Fails self.old self.new) }
     {
         if self.has_failed {
             return Err(Error::new(ErrorCode::Failed));

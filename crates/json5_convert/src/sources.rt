@@ -1,9 +1,9 @@
 //! What was read of a stream and isn't given yet.
 
-ghost use Rattle.std.specs.Prelude.{◌≡◌, [], true, false, drop, IfErr, OnOk, MatchResult};
+ghost use Rattle.std.specs.Prelude.{◌≡◌, [], true, false, drop, IfErr, MatchResult};
 ghost use Rattle.std.specs.Io.KnownBytes.{IsAtEnd};
 ghost use Rattle.std.specs.Str.{IsCharBoundary};
-ghost use Rattle.json5_convert.specs.Sources.{Held, KeepsStream, IsTextFront, StopsReading};
+ghost use Rattle.json5_convert.specs.Sources.{Held, IsTextFront, ReadsOn, StopsReading};
 ghost use Rattle.json5_types.specs.Errors.{kind_of};
 
 use json5_types::error::{Error, Result};
@@ -113,8 +113,7 @@ impl<R: Read + Drop> Source<R> {
     ///
     /// As `ValueStream::next`, where a read fails, the bytes are no UTF-8 or memory is refused.
     pub(crate) fn read_on(&mut self) -> Result<()>
-        ensures kept { OnOk result (KeepsStream self.old self.new) }
-        ensures stopped { IfErr result StopsReading }
+        ensures { ReadsOn self.old self.new result }
     {
         self.check_open()?;
         self.text = self.text.split_off(self.given)?;
@@ -135,8 +134,10 @@ impl<R: Read + Drop> Source<R> {
     fn check_open(&self) -> Result<()>
         ensures { IfErr result StopsReading }
     {
-        if let Some(kind) = self.failure {
-            return Err(failed_read(self.alloc, kind)?);
+        match self.failure {
+            None => {}
+            Some(ErrorKind::OutOfMemory) => return Err(Error::new(ErrorCode::OutOfMemory)),
+            Some(_) => return Err(Error::from_text(String::from_str(self.alloc, "failed read")?)),
         }
         if self.is_broken {
             return Err(self.not_utf8()?);
@@ -146,8 +147,7 @@ impl<R: Read + Drop> Source<R> {
 
     /// Reads once.
     fn read_piece(&mut self) -> Result<()>
-        ensures kept { OnOk result (KeepsStream self.old self.new) }
-        ensures stopped { IfErr result StopsReading }
+        ensures { ReadsOn self.old self.new result }
     {
         let mut piece = [0; PIECE];
         self.has_ended = false;
@@ -172,8 +172,7 @@ impl<R: Read + Drop> Source<R> {
 
     /// Moves what is text in front of the rest behind the text.
     fn move_text(&mut self) -> Result<()>
-        ensures kept { OnOk result (KeepsStream self.old self.new) }
-        ensures stopped { IfErr result StopsReading }
+        ensures { ReadsOn self.old self.new result }
     {
         let (count, is_broken) = text_front(&self.rest);
         let front = unsafe { str::from_utf8_unchecked(&self.rest[..count]) };
@@ -215,15 +214,4 @@ fn moved(start: Position, position: Position) -> Position {
         line: start.line.saturating_add(position.line),
         column: position.column,
     }
-}
-
-/// The fault of a reader that failed.
-fn failed_read(alloc: Global, kind: ErrorKind) -> Result<Error>
-    ensures { MatchResult result StopsReading StopsReading }
-{
-    if kind == ErrorKind::OutOfMemory {
-        return Ok(Error::new(ErrorCode::OutOfMemory));
-    }
-    let words = String::from_str(alloc, "failed read")?;
-    Ok(Error::from_text(words))
 }

@@ -1,11 +1,11 @@
 //! Documents one after another from a reader.
 
-ghost use Rattle.std.specs.Prelude.{◌≡◌, ◌↔◌, ◌⊎◌, true, false, ℕ, List, slice_get, IsTrue, IfOk, IfErr, IfSome, OnErr};
+ghost use Rattle.std.specs.Prelude.{◌≡◌, ◌⊎◌, true, false, ℕ, List, slice_get, IsTrue, IfOk, IfErr, IfSome};
 ghost use Rattle.std.specs.Str.{chars};
 ghost use Rattle.json5_tokens.specs.Cursor.{IsOutOfMemory};
 ghost use Rattle.json5_read.specs.ModelSteps.{IsUnprompted};
 ghost use Rattle.json5_convert.specs.Sources.{Held, unread_of};
-ghost use Rattle.json5_convert.specs.Streams.{BeginsStream, Decides, IsLasting, IsSettled, RefusesKnown, StaysFaulty, TakesKnown, TakesNextOf, SaysFailed, is_of_end};
+ghost use Rattle.json5_convert.specs.Streams.{BeginsStream, Decides, FailsOf, IsLasting, IsSettled, RefusesKnown, StaysFaulty, TakesKnown, TakesNextOf, is_of_end};
 
 use crate::lines::next_value;
 use crate::sources::Source;
@@ -73,9 +73,7 @@ impl<R: Read + Drop> ValueStream<R> {
     /// - a custom fault without a position, `failed read`, where the reader failed.
     pub fn next(&mut self) -> Result<Option<Value>>
         ensures taken { IfOk result (TakesNextOf self.old self.new) }
-        ensures refused { OnErr result (self.new.has_failed ≡ true) }
-        ensures failed { IfErr result (λ e. SaysFailed e ↔ (self.old.has_failed ≡ true)) }
-        ensures faulty { self.old.has_failed ≡ false → IfErr result (RefusesKnown self.old.unread) }
+        ensures refused { IfErr result (FailsOf self.old self.new) }
     {
         if self.has_failed {
             return Err(Error::new(ErrorCode::Failed));

@@ -18,6 +18,7 @@ use json5_types::error::{Error, Result};
 use json5_types::value::Value;
 use json5_types::whole::Whole;
 use std::alloc::{AllocError, AllocFailed, Global};
+use std::fmt::{self, Display};
 
 /// Returns an object as a TOML document: an object in it is a table, and an array of objects an array of tables; a whole
 /// number is an integer, and a decimal the float nearest to it. Members come in the order of the keys' bytes.
@@ -74,32 +75,14 @@ impl Lack {
         Lack::At(String::new(alloc), what)
     }
 
-    /// The same, in the element of this index.
-    fn in_element(self, alloc: Global, index: usize) -> Lack
+    /// The same, a step further within.
+    fn within(self, alloc: Global, step: Step<'_>) -> Lack
         ensures { KeepsLack self result }
     {
-        match self {
-            Lack::NoMemory => Lack::NoMemory,
-            Lack::At(path, what) => Lack::along(format!(in alloc; "[{index}]{path}"), what),
-        }
-    }
-
-    /// The same, in the member of this key.
-    fn in_member(self, alloc: Global, key: &str) -> Lack
-        ensures { KeepsLack self result }
-    {
-        match self {
-            Lack::NoMemory => Lack::NoMemory,
-            Lack::At(path, what) if is_ascii_name(key) => {
-                Lack::along(format!(in alloc; ".{key}{path}"), what)
-            }
-            Lack::At(path, what) => Lack::along(format!(in alloc; ".'{key}'{path}"), what),
-        }
-    }
-
-    /// The same at this path, if there was memory for it.
-    fn along(path: std::result::Result<String, AllocError>, what: &'static str) -> Lack {
-        match path {
+        let Lack::At(path, what) = self else {
+            return Lack::NoMemory;
+        };
+        match format!(in alloc; "{step}{path}") {
             Ok(path) => Lack::At(path, what),
             Err(_) => Lack::NoMemory,
         }
@@ -136,6 +119,23 @@ impl<T: Drop> From<AllocFailed<T>> for Lack {
     }
 }
 
+/// A step into a value.
+#[derive(Clone, Copy, Drop)]
+enum Step<'k> {
+    Element(usize),
+    Member(&'k str),
+}
+
+impl Display for Step<'_> {
+    fn fmt<W: fmt::Write>(&self, f: &mut fmt::Formatter<W>) -> fmt::Result {
+        match *self {
+            Step::Element(index) => write!(f, "[{index}]"),
+            Step::Member(key) if is_ascii_name(key) => write!(f, ".{key}"),
+            Step::Member(key) => write!(f, ".'{key}'"),
+        }
+    }
+}
+
 /// The value as TOML has it.
 #[cycle(part)]
 fn part_in(alloc: Global, value: &Value) -> std::result::Result<toml::Value, Lack>
@@ -161,7 +161,7 @@ fn array_in(alloc: Global, items: &[Value]) -> std::result::Result<Vec<toml::Val
     for (index, item) in items.iter().enumerate() {
         match part_in(alloc, item) {
             Ok(part) => array.push(part)?,
-            Err(lack) => return Err(lack.in_element(alloc, index)),
+            Err(lack) => return Err(lack.within(alloc, Step::Element(index))),
         }
     }
     Ok(array)
@@ -177,11 +177,11 @@ fn table_in(alloc: Global, fields: &[(String, Value)]) -> std::result::Result<to
         let name = String::from_str(alloc, key.as_str())?;
         let part = match part_in(alloc, value) {
             Ok(part) => part,
-            Err(lack) => return Err(lack.in_member(alloc, key.as_str())),
+            Err(lack) => return Err(lack.within(alloc, Step::Member(key.as_str()))),
         };
         if table.insert(name, part)?.is_some() {
             let lack = Lack::of(alloc, "TOML has each key once");
-            return Err(lack.in_member(alloc, key.as_str()));
+            return Err(lack.within(alloc, Step::Member(key.as_str())));
         }
     }
     Ok(table)

@@ -31,7 +31,6 @@ fn remainder(digits: &str, divisor: u128) -> u128
 
 /// What a number with so many zeros behind it leaves.
 fn with_zeros(number: u128, zeros: u32, divisor: u128) -> u128
-    requires above { 0 < divisor }
     requires small { divisor < 2 ^ 64 }
     requires below { number < divisor }
     ensures { result ≡ number * 10 ^ zeros % divisor }

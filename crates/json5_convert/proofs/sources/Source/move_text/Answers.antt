@@ -19,8 +19,8 @@ invariant_of-self-2 g c =
     text_moved (string_bytes c.self.inside.text) (vec_items c.self.inside.rest) (string_bytes c.push_str.new.self) c.from_utf8_unchecked-front.result.now c.self.inside.given c.text_front-count.result.0
     (g.R.Read.remaining c.self.inside.reader) c.self.inside.has_ended f c.self.invariant is c.in_ok-push_str.ensures.bytes _ c.in_ok-self-inside.ensures.tail
 
-pub returns-clause-kept : goal.returns-clause-kept
-returns-clause-kept g c =
+pub returns : goal.returns
+returns g c =
     let f = subst (λ b. IsTextFront b c.text_front-count.result.0) c.deref.ensures.value c.text_front-count.ensures in
     let is = c.from_utf8_unchecked-front.ensures ∙ ap (take c.text_front-count.result.0) c.deref-2.ensures.value in
     let new = prepend_known (drop c.self.inside.given (string_bytes c.push_str.new.self)) (prepend_known (vec_items c.in_ok-self-inside.field-0) (g.R.Read.remaining c.self.inside.reader)) in
