@@ -3,7 +3,9 @@
 use crate::formats::{Format, Layout};
 use crate::options::Options;
 use crate::sorted_keys::sorted;
-use json5_convert::{RespellError, Spelling, Values, from_toml, respell, to_lines, to_toml};
+use json5_convert::{
+    RespellError, Spelling, Values, from_toml, respell, to_lines, to_toml, to_toml_with_dates,
+};
 use json5_read::read_document;
 use json5_styles::{to_json_in, to_string_in};
 use json5_types::ErrorCode;
@@ -59,6 +61,7 @@ fn written(alloc: Global, options: &Options, target: Format, value: Value) -> Re
     match (target, value) {
         (Format::Lines, Value::Array(items)) => to_lines(alloc, items.as_slice()),
         (Format::Lines, value) => to_lines(alloc, &[value]),
+        (Format::Toml, value) if options.has_dates => to_toml_with_dates(alloc, &value),
         (Format::Toml, value) => to_toml(alloc, &value),
         (Format::Json5, value) => ended(to_string_in(alloc, style_of(layout), &value)?),
         (_, value) => ended(to_json_in(alloc, style_of(layout), &value)?),

@@ -14,6 +14,8 @@ pub struct Options {
     pub drops_comments: bool,
     /// Whether members are put in the order of their keys.
     pub sorts_keys: bool,
+    /// Whether strings that are dates become dates of TOML.
+    pub has_dates: bool,
 }
 
 impl Options {
@@ -29,6 +31,7 @@ impl Options {
             layout: Layout::Own,
             drops_comments: false,
             sorts_keys: false,
+            has_dates: false,
         }
     }
 

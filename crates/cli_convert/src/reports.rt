@@ -22,6 +22,7 @@ and to TOML and back.
                  with a tab
   --compact      the same on one line
   --sort-keys    writes it anew without comments, with members in the order of their keys
+  --dates        to TOML: a string that is a date or a time to the letter becomes one
   --             what follows is no option
   --help         writes this
   --version      writes the version

@@ -57,6 +57,7 @@ impl Request {
                 "--compact" => words.options.layout = Layout::Compact,
                 "--no-comments" => words.options.drops_comments = true,
                 "--sort-keys" => words.options.sorts_keys = true,
+                "--dates" => words.options.has_dates = true,
                 "--" => {
                     words.push_names(alloc, rest)?;
                     break;

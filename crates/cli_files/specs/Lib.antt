@@ -1,5 +1,7 @@
 -- Lists the definitions of what the programs share.
 pub mod Failures
+pub mod FolderSteps
+pub mod Folders
 pub mod Ignores
 pub mod Inputs
 pub mod JoinedTexts

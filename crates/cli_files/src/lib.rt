@@ -3,7 +3,9 @@
 #![tactic(auto)]
 
 mod disk;
+mod endings;
 mod failure;
+mod folders;
 mod globs;
 mod host_words;
 mod ignore_rules;
@@ -26,7 +28,9 @@ mod version;
 mod writing;
 
 pub use disk::Disk;
+pub use endings::{ending_of, has_ending, unless_empty};
 pub use failure::Failure;
+pub use folders::files_of;
 pub use globs::matches_glob;
 pub use host_words::{given_names, given_words};
 pub use ignores::Ignores;

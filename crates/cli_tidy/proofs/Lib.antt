@@ -2,8 +2,6 @@
 pub mod RefusalsRead
 pub mod FilesWorked
 pub mod NamesWorked
-pub mod NamesEnded
-pub mod FoldersOpened
 pub mod WordKinds
 pub mod WordsRead
 pub mod Statuses

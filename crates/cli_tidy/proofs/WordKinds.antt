@@ -1,7 +1,6 @@
 -- What tells the words of the command line apart: no words begin with two parts.
-use Rattle.std.proofs.Common.{◌≡◌, ◌≢◌, inl, inr, ℕ, ◌<◌, Bool, true, false, ◌||◌, cond, List, [], ◌∷◌, ◌++◌, length, Option, Some, None, MatchOption, refl, sym, ap, ◌∙◌, subst, append-nil, arith, true≢false}
+use Rattle.std.proofs.Common.{◌≡◌, ◌≢◌, inl, inr, ℕ, ◌<◌, Bool, true, false, ◌||◌, cond, List, [], ◌∷◌, ◌++◌, length, refl, sym, ap, ◌∙◌, subst, append-nil, arith, true≢false}
 use Rattle.std.specs.Prelude.{◌==◌}
-use Rattle.std.specs.Borrow.{Bor}
 use Rattle.std.specs.Str.Parse.{IsNumeral, without_leading_plus}
 use lib.Chars.{codes}
 use Rattle.json5_tidy.specs.declared.style.LastCommas.{LastCommas}
@@ -10,8 +9,8 @@ use Rattle.cli_tidy.specs.declared.options.Flag.{Flag}
 use Rattle.cli_tidy.specs.declared.options.Flag.TheVariants as flags
 use Rattle.cli_tidy.specs.declared.options.Setting.{Setting}
 use Rattle.cli_tidy.specs.declared.options.Setting.TheVariants as settings
-use Rattle.cli_tidy.specs.Folders.{point}
-use Rattle.cli_tidy.specs.CommandWords.{minus, equals, end_word, IsDashed, IsFlag, setting_word, IsCount, IsIndent, commas_word, IsEnding, Part, name, flag, indent, width, last_commas, ending, Sets, Starts, plain, alone, joined, apart}
+use Rattle.cli_files.specs.Folders.{IsEnding}
+use Rattle.cli_tidy.specs.CommandWords.{minus, equals, end_word, IsDashed, IsFlag, setting_word, IsCount, IsIndent, commas_word, Part, name, flag, indent, width, last_commas, ending, Sets, Starts, plain, alone, joined, apart}
 
 -- ---- bytes of words
 
@@ -253,15 +252,3 @@ pair_only words rest l word p start dash unflagged split (plain w e bare is) = a
 pair_only words rest l word p start dash unflagged split (alone w g e k is) = absurd (unflagged g (subst (λ x. IsFlag x g) (heads w word words l rest e start) k))
 pair_only words rest l word p start dash unflagged split (joined s v e k) = absurd (split s v (heads word _ words rest l start e))
 pair_only words rest l word p start dash unflagged split (apart s v e k) = (s, v, heads word _ words rest (v ∷ l) start e, tails word _ words rest (v ∷ l) start e, k)
-
--- ---- endings
-
-unpointed_elsewhere : (value e : List ℕ) → value ≡ [] → ((rest : List ℕ) → value ≢ point ∷ rest) → IsEnding value e → ⊥
-unpointed_elsewhere value e empty unpointed (filled, inl a) = unpointed e a
-unpointed_elsewhere value e empty unpointed (filled, inr a) = filled (sym a.0 ∙ empty)
-
--- what doesn't begin with a point is its own ending
-pub whole_ending : (value : List ℕ) → ((rest : List ℕ) → value ≢ point ∷ rest) → (r : Option (Bor (List ℕ))) → MatchOption r (value ≡ []) (λ same. (same.now ≡ value) × (value ≢ []))
-    → MatchOption r ((e : List ℕ) → ¬ (IsEnding value e)) (λ e. IsEnding value e.now)
-whole_ending value unpointed None empty = λ e k. unpointed_elsewhere value e empty unpointed k
-whole_ending value unpointed (Some x) (same, filled) = ((λ n. filled (sym same ∙ n)), inr (sym same, unpointed))

@@ -22,7 +22,7 @@ use Rattle.cli_tidy.specs.declared.taking.Question.TheVariants as questions
 use Rattle.cli_tidy.specs.declared.work.FileWork.{FileWork}
 use Rattle.cli_tidy.specs.declared.work.FileWork.TheVariants as work
 use Rattle.cli_files.specs.NameLists.{names_of}
-use Rattle.cli_tidy.specs.Folders.{point}
+use Rattle.cli_files.specs.Folders.{IsEnding}
 
 abbrev pub minus : ℕ
 minus = 45
@@ -77,10 +77,6 @@ abbrev pub commas_word : LastCommas → List ℕ
 commas_word commas.Auto = codes "auto"
 commas_word commas.Always = codes "always"
 commas_word commas.Never = codes "never"
-
--- an ending, given with a point in front or without
-abbrev pub IsEnding : (value : List ℕ) → List ℕ → Type 0
-IsEnding value e = (e ≢ []) × ((value ≡ point ∷ e) ⊎ ((value ≡ e) × ((rest : List ℕ) → value ≢ point ∷ rest)))
 
 -- ---- parts
 

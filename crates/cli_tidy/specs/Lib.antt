@@ -8,5 +8,3 @@ pub mod WordSteps
 pub mod Troubles
 pub mod Files
 pub mod Names
-pub mod Folders
-pub mod FolderSteps

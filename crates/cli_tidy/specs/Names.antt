@@ -7,7 +7,7 @@ use Rattle.cli_files.specs.declared.failure.Failure.TheVariants as failure
 use Rattle.cli_tidy.specs.declared.requests.FileRequest.{FileRequest}
 use Rattle.cli_tidy.specs.declared.trouble.FileTrouble.TheVariants as trouble
 use Rattle.cli_tidy.specs.Files.{WorksThrough}
-use Rattle.cli_tidy.specs.Folders.{StandsFor}
+use Rattle.cli_files.specs.Folders.{StandsFor}
 use Rattle.cli_files.specs.NameLists.{names_of}
 use Rattle.cli_files.specs.Stores.{Known}
 use Rattle.cli_tidy.specs.Troubles.{trouble_line}

@@ -16,7 +16,7 @@ use Rattle.json5_tidy.specs.Tidied as tidied
 use Rattle.cli_tidy.specs.declared.tidied.Tidied.{Tidied}
 use Rattle.cli_tidy.specs.declared.trouble.FileTrouble.{FileTrouble}
 use Rattle.cli_tidy.specs.declared.trouble.FileTrouble.TheVariants as trouble
-use Rattle.cli_tidy.specs.Folders.{HasEnding}
+use Rattle.cli_files.specs.Folders.{HasEnding}
 use Rattle.cli_tidy.specs.Refusals.{IsTroubleOf}
 
 -- last commas come into a file with this name whatever it holds: they are asked for, or it ends in .json5 and nothing is asked

@@ -1,22 +1,22 @@
 //! One file after another.
 
-ghost use Rattle.std.specs.Prelude.{string_bytes};
+ghost use Rattle.std.specs.Prelude.{IfOk, string_bytes};
 ghost use Rattle.json5_write.specs.Pieces.{Pushes};
 ghost use Rattle.cli_files.specs.JoinedTexts.{joined_texts};
 ghost use Rattle.cli_tidy.specs.Files.{PutsDiff, PutsFile, PutsStyle, PutsTexts, WorksOnFile, WorksOnTidied, WorksThrough, name_line};
-ghost use Rattle.cli_tidy.specs.Names.{WorksBelow, WorksThroughNames};
+ghost use Rattle.cli_files.specs.NameLists.{names_of};
+ghost use Rattle.cli_tidy.specs.Names.{Stands, WorksBelow, WorksThroughNames};
 
 use crate::configs::Configs;
 use crate::diffs::diff;
-use crate::folders::files_of;
 use crate::reports::report_trouble;
 use crate::requests::FileRequest;
 use crate::styles::{TextStyle, style_line};
 use crate::tidied::{Tidied, read_tidied};
 use crate::trouble::FileTrouble;
 use crate::work::FileWork;
-use cli_files::{Failure, Reason, Store, put_texts, write_named};
-use std::alloc::Global;
+use cli_files::{Failure, Reason, Store, files_of, put_texts, write_named};
+use std::alloc::{AllocError, Global};
 use std::io::{self, Write};
 
 /// What came of the work on a file.
@@ -69,7 +69,7 @@ fn work_below<S: Store, W: Write, E: Write>(
     ensures { WorksBelow (S.known store.now) request.now name.now (W.contents w.old) (E.contents e.old)
         (W.contents w.new) (E.contents e.new) result.0 result.1 }
 {
-    let Ok(names) = files_of(store, alloc, &request.options, name) else {
+    let Ok(names) = files_below(store, alloc, request, name) else {
         return (
             report_trouble(name, &FileTrouble::Failed(Failure::NoMemory), e),
             true,
@@ -79,6 +79,19 @@ fn work_below<S: Store, W: Write, E: Write>(
         return (report_trouble(name, &FileTrouble::NoFile, e), true);
     }
     work_on_each(store, alloc, request, configs, names.as_slice(), w, e)
+}
+
+/// The files that one name stands for.
+fn files_below<S: Store>(
+    store: &S,
+    alloc: Global,
+    request: &FileRequest,
+    name: &str,
+) -> Result<Vec<String>, AllocError>
+    ensures { IfOk result (λ found. Stands (S.known store.now) request.now name.now (names_of found.items)) }
+{
+    let (endings, excluded) = (&request.options.endings, &request.options.excluded);
+    files_of(store, alloc, endings, excluded, name)
 }
 
 /// Does the work on each file in turn; and whether it goes on.

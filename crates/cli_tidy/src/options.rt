@@ -4,7 +4,7 @@ ghost use Rattle.std.specs.Bool.{Decides};
 ghost use Rattle.std.specs.Prelude.{◌≡◌, ◌≢◌, [], ℕ, List, MatchOption, None, false};
 ghost use Rattle.json5_tidy.specs.declared.style.LastCommas.{LastCommas};
 ghost use Rattle.cli_tidy.specs.ChosenStyles.{nothing_asked};
-ghost use Rattle.cli_tidy.specs.CommandWords.{IsCount, IsDashed, IsEnding, IsFlag, IsIndent, commas_word, end_word, input_name, setting_word};
+ghost use Rattle.cli_tidy.specs.CommandWords.{IsCount, IsDashed, IsFlag, IsIndent, commas_word, end_word, input_name, setting_word};
 ghost use Rattle.cli_tidy.specs.WordSteps.{IsJoined};
 
 use crate::styles::ChosenStyle;
@@ -195,24 +195,4 @@ fn count_of(value: &str, most: usize) -> Option<usize>
         return None;
     }
     Some(count)
-}
-
-/// The ending, without a point in front.
-pub(crate) fn ending_of(value: &str) -> Option<&str>
-    ensures { MatchOption result ((e : List ℕ) → ¬ (IsEnding value.now e)) (λ e. IsEnding value.now e.now) }
-{
-    match value.strip_prefix('.') {
-        Some(ending) => unless_empty(ending),
-        None => unless_empty(value),
-    }
-}
-
-/// The text, unless it is empty.
-pub(crate) fn unless_empty(text: &str) -> Option<&str>
-    ensures { MatchOption result (text.now ≡ []) (λ same. (same.now ≡ text.now) × (text.now ≢ [])) }
-{
-    if text.is_empty() {
-        return None;
-    }
-    Some(text)
 }

@@ -6,9 +6,8 @@ ghost use Rattle.cli_tidy.specs.Tidies.{GetsCommas};
 ghost use Rattle.json5_tidy.specs.declared.style.LastCommas.TheVariants as commas;
 
 use crate::configs::Configs;
-use crate::endings::last_commas_for;
 use crate::indents::own_indent;
-use cli_files::shown;
+use cli_files::{has_ending, shown};
 use json5_tidy::{LastCommas, LineEnds, Stars, Style};
 use std::alloc::{AllocError, Global};
 
@@ -112,6 +111,23 @@ pub(crate) fn style_for(alloc: Global, name: &str, chosen: ChosenStyle, text: &s
         width_by: width.by,
         chosen,
     }
+}
+
+/// Where last commas come in the file with this name, if this is asked for: where nothing else is, always if its readers
+/// take them, and never if they take it for JSON.
+fn last_commas_for(name: &str, asked: LastCommas) -> LastCommas
+    ensures { result ≡ commas.Always → GetsCommas name.now asked }
+{
+    if !matches!(asked, LastCommas::Auto) {
+        return asked;
+    }
+    if has_ending(name, "json5") {
+        return LastCommas::Always;
+    }
+    if has_ending(name, "json") || has_ending(name, "jsonc") {
+        return LastCommas::Never;
+    }
+    LastCommas::Auto
 }
 
 /// The line ends that are chosen, and else the text's own.

@@ -6,11 +6,10 @@ ghost use Rattle.cli_files.specs.NameLists.{names_of};
 ghost use Rattle.cli_tidy.specs.WordSteps.{BeginsPair, ChooseNothing, Gains, IsPair, IsStart, Refuses, TakesAll, choices_of};
 
 use crate::options::{
-    Fault, Flag, Options, Setting, ending_of, indent_of, is_dashed, is_end, last_commas_of,
-    unless_empty, width_of,
+    Fault, Flag, Options, Setting, indent_of, is_dashed, is_end, last_commas_of, width_of,
 };
 use crate::styles::{Chooser, ChosenSize};
-use cli_files::push_name;
+use cli_files::{ending_of, push_name, unless_empty};
 use json5_tidy::{LastCommas, Stars};
 use std::alloc::Global;
 

@@ -2,19 +2,27 @@
 use Rattle.std.proofs.Common.{◌≡◌, ℕ, Bool, true, false, List, refl, ap, sym, ◌∙◌, subst}
 use Rattle.std.specs.Prelude.{◌&&◌, not, Err}
 use Rattle.std.specs.Str.{chars}
-use Rattle.json5_grammar.specs.Language.Documents.{max_depth}
+use Rattle.json5_grammar.specs.Language.Documents.{Doc, max_depth}
+use Rattle.json5_grammar.specs.Language.Trees.{Tree}
 use Rattle.json5_types.specs.declared.error.Error.{Error}
 use Rattle.json5_types.specs.ValueMeanings.{Datum}
 use Rattle.json5_read.specs.DocumentReads.{IsRefused, ReadsText}
+use Rattle.json5_lexemes.specs.Plain.{PlainText}
+use Rattle.json5_lexemes.proofs.PlainDocuments.{bare_document, commented_document}
 use Rattle.json5_styles.specs.JsonTexts.{is_json}
-use Rattle.json5_convert.specs.Respelled.{IsAsPlain, IsLost, IsOfText, IsOwn, IsRespelled, KeepsNumbers, MeansValue, RefusesRespelling, loses_number}
-use Rattle.json5_convert.specs.Spellings.{has_json_numbers}
+use Rattle.json5_convert.specs.Respelled.{IsAsPlain, IsJson, IsLost, IsOfText, IsOwn, IsRespelled, KeepsNumbers, MeansValue, RefusesRespelling, loses_number}
+use Rattle.json5_convert.specs.Spellings.{has_comments, has_json_numbers}
 use Rattle.json5_convert.specs.declared.faults.RespellError.{RespellError}
 use Rattle.json5_convert.specs.declared.faults.RespellError.TheVariants as error
 use Rattle.json5_convert.specs.declared.spelling.Spelling.{Spelling}
 
+-- a plain document is JSON by its grammar
+is_json_text : (comments : Bool) (text : List ℕ) (t : Tree) → Doc max_depth (chars text) t → PlainText comments text → IsJson comments (chars text)
+is_json_text false text t d p = bare_document max_depth (chars text) t d p
+is_json_text true text t d p = commented_document max_depth (chars text) t d p
+
 pub respelled : (s : Spelling) (x y : List ℕ) (d : Datum) → MeansValue d x → MeansValue d y → IsAsPlain s y → IsRespelled s x y
-respelled s x y d (t, a, e) (u, b, f) p = record { means = record { tree = t; document = a; other = u; respelled = b; same = sym f ∙ e }; plain = p }
+respelled s x y d (t, a, e) (u, b, f) p = record { means = record { tree = t; document = a; other = u; respelled = b; same = sym f ∙ e }; json = λ asked. is_json_text (has_comments s) y u b (p asked) }
 
 is_then : (b : Bool) → not b ≡ false → b ≡ true
 is_then true e = refl

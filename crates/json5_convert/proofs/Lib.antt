@@ -8,5 +8,6 @@ pub mod SourcesKept
 pub mod StreamsRead
 pub mod StreamsRefused
 pub mod StreamsTaken
+pub mod TomlDates
 pub mod TomlHeld
 pub mod TomlParts

@@ -1,5 +1,5 @@
 -- What TOML has of an array and of an object, one part after another.
-use Rattle.std.proofs.Common.{◌≡◌, ◌<◌, ℕ, ◌+◌, List, [], ◌∷◌, length, drop, get_or, map, true, false, is_some, Result, Ok, Err, MatchResult, Ordering, Less, Equal, Greater, Option, Some, None, refl, sym, ap, ◌∙◌, String, string_bytes, option_map}
+use Rattle.std.proofs.Common.{◌≡◌, ◌<◌, ℕ, ◌+◌, List, [], ◌∷◌, length, drop, get_or, map, Bool, true, false, is_some, Result, Ok, Err, MatchResult, Ordering, Less, Equal, Greater, Option, Some, None, refl, sym, ap, ◌∙◌, String, string_bytes, option_map}
 use Rattle.std.proofs.lemmas.Bool.{false≢true}
 use Rattle.std.proofs.lemmas.List.{drop_more}
 use Rattle.std.proofs.lemmas.Option.{none-some}
@@ -24,12 +24,12 @@ front xs i x h at = drop_more xs i x h ∙ ap (λ y. y ∷ drop (i + 1) xs) (sym
 
 -- ---- elements
 
-abbrev pub ordered_part : Value → toml.Data
-ordered_part v = ordered (data_of (value_of v))
+abbrev pub ordered_part : Bool → Value → toml.Data
+ordered_part dates v = ordered (data_of dates (value_of v))
 
-pub ordered_items-map : (vs : List Value) → ordered_items (data_items (items_view vs)) ≡ view.items_of (map ordered_part vs)
-ordered_items-map [] = refl
-ordered_items-map (v ∷ vs) = ap (toml.item (ordered_part v)) (ordered_items-map vs)
+pub ordered_items-map : (dates : Bool) (vs : List Value) → ordered_items (data_items dates (items_view vs)) ≡ view.items_of (map (ordered_part dates) vs)
+ordered_items-map dates [] = refl
+ordered_items-map dates (v ∷ vs) = ap (toml.item (ordered_part dates v)) (ordered_items-map dates vs)
 
 pub next_item : (vs : List Value) (i : ℕ) (v : Value) → i < length vs → v ≡ get_or vs i v → items_view (drop i vs) ≡ item (value_of v) (items_view (drop (i + 1) vs))
 next_item vs i v h at = ap items_view (front vs i v h at)
@@ -57,14 +57,14 @@ pub next_member : (fs : List Member) (i : ℕ) (f : Member) → i < length fs �
 next_member fs i f h at = ap fields_view (front fs i f h at)
 
 -- the members with the next one put among them
-pub ordered_next : (done : toml.Members) (fs : List Member) (i : ℕ) (f : Member) → i < length fs → f ≡ get_or fs i f
-    → ordered_among done (data_members (fields_view (drop i fs))) ≡ ordered_among (put (string_bytes f.0) (ordered_part f.1) done) (data_members (fields_view (drop (i + 1) fs)))
-ordered_next done fs i f h at = rw (next_member fs i f h at, key_bytes f.0) refl
+pub ordered_next : (dates : Bool) (done : toml.Members) (fs : List Member) (i : ℕ) (f : Member) → i < length fs → f ≡ get_or fs i f
+    → ordered_among done (data_members dates (fields_view (drop i fs))) ≡ ordered_among (put (string_bytes f.0) (ordered_part dates f.1) done) (data_members dates (fields_view (drop (i + 1) fs)))
+ordered_next dates done fs i f h at = rw (next_member fs i f h at, key_bytes f.0) refl
 
 -- what TOML has of the next member and of those after it
-pub held_next : (done : toml.Members) (fs : List Member) (i : ℕ) (f : Member) → i < length fs → f ≡ get_or fs i f
-    → AreTomlAmong done (fields_view (drop i fs)) ≡ (IsToml (value_of f.1) × (toml.get_member (string_bytes f.0) done ≡ None) × AreTomlAmong (put (string_bytes f.0) (ordered_part f.1) done) (fields_view (drop (i + 1) fs)))
-held_next done fs i f h at = rw (next_member fs i f h at, key_bytes f.0) refl
+pub held_next : (dates : Bool) (done : toml.Members) (fs : List Member) (i : ℕ) (f : Member) → i < length fs → f ≡ get_or fs i f
+    → AreTomlAmong dates done (fields_view (drop i fs)) ≡ (IsToml dates (value_of f.1) × (toml.get_member (string_bytes f.0) done ≡ None) × AreTomlAmong dates (put (string_bytes f.0) (ordered_part dates f.1) done) (fields_view (drop (i + 1) fs)))
+held_next dates done fs i f h at = rw (next_member fs i f h at, key_bytes f.0) refl
 
 -- what the map finds at a key
 found : (k : String Global) (es : List Entry) (old : Option tomls.Value) → old ≡ lookup (is_at (string_cmp k)) es → toml.get_member (string_bytes k) (view.members_view es) ≡ option_map view.view old
@@ -81,14 +81,14 @@ present k es (Some d) u named is some none = none-some (view.view d) (sym (rw (�
 
 -- ---- the document
 
-pub document : (x : Datum) (fs : Fields) → x ≡ object fs → fits x ≡ true → AreTomlAmong toml.no_members fs → IsTomlDocument x
-document x fs e f h = rw e (rw e at f, h)
+pub document : (dates : Bool) (x : Datum) (fs : Fields) → x ≡ object fs → fits x ≡ true → AreTomlAmong dates toml.no_members fs → IsTomlDocument dates x
+document dates x fs e f h = rw e (rw e at f, h)
 
-pub document_members : (x : Datum) (fs : Fields) → x ≡ object fs → IsTomlDocument x → AreTomlAmong toml.no_members fs
-document_members x fs e d = (rw e at d).1
+pub document_members : (dates : Bool) (x : Datum) (fs : Fields) → x ≡ object fs → IsTomlDocument dates x → AreTomlAmong dates toml.no_members fs
+document_members dates x fs e d = (rw e at d).1
 
-pub document_data : (x : Datum) (fs : Fields) (ms : toml.Members) → x ≡ object fs → ms ≡ ordered_among toml.no_members (data_members fs) → ordered (data_of x) ≡ toml.table ms
-document_data x fs ms e h = rw e (ap toml.table (sym h))
+pub document_data : (dates : Bool) (x : Datum) (fs : Fields) (ms : toml.Members) → x ≡ object fs → ms ≡ ordered_among toml.no_members (data_members dates fs) → ordered (data_of dates x) ≡ toml.table ms
+document_data dates x fs ms e h = rw e (ap toml.table (sym h))
 
 pub either_way : {A E : Type 0} {P P' : A → Type 0} {Q Q' : E → Type 0} (r : Result A E) → ((a : A) → P a → P' a) → ((e : E) → Q e → Q' e) → MatchResult r P Q → MatchResult r P' Q'
 either_way (Ok a) f g h = f a h

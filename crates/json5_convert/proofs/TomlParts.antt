@@ -1,5 +1,5 @@
 -- A value beside the TOML data that it has.
-use Rattle.std.proofs.Common.{◌≡◌, ℕ, List, [], ◌∷◌, ◌++◌, map, refl, ap, ◌∙◌, sym, String, string_bytes}
+use Rattle.std.proofs.Common.{◌≡◌, ℕ, List, [], ◌∷◌, ◌++◌, map, refl, ap, ◌∙◌, sym, String, string_bytes, false}
 use Rattle.std.specs.declared.alloc.Global.{Global}
 use Rattle.std.specs.Str.{chars, encode_utf8_all}
 use Rattle.std.proofs.lemmas.Str.{encodes-chars, IsUtf8-string_bytes}
@@ -14,16 +14,16 @@ use Rattle.toml.proofs.Views.{with_last}
 use Rattle.json5_convert.specs.Toml.{data_of, data_items, data_members, undated, undated_items, undated_members}
 
 -- a string is its bytes
-pub data_of-String : (s : String Global) → data_of (value_of (value.String s)) ≡ toml.string (string_bytes s)
-data_of-String s = ap data_of (view-String s) ∙ ap toml.string (encodes-chars (string_bytes s) (IsUtf8-string_bytes s))
+pub data_of-String : (s : String Global) → data_of false (value_of (value.String s)) ≡ toml.string (string_bytes s)
+data_of-String s = ap (data_of false) (view-String s) ∙ ap toml.string (encodes-chars (string_bytes s) (IsUtf8-string_bytes s))
 
 abbrev pub data_of-value : Value → toml.Data
-data_of-value v = data_of (value_of v)
+data_of-value v = data_of false (value_of v)
 
 abbrev pub undated_view : tomls.Value → toml.Data
 undated_view d = undated (view.view d)
 
-data_items-map : (vs : List Value) → data_items (items_view vs) ≡ view.items_of (map data_of-value vs)
+data_items-map : (vs : List Value) → data_items false (items_view vs) ≡ view.items_of (map data_of-value vs)
 data_items-map [] = refl
 data_items-map (v ∷ vs) = ap (toml.item (data_of-value v)) (data_items-map vs)
 
@@ -32,12 +32,12 @@ undated_items-map [] = refl
 undated_items-map (d ∷ ds) = ap (toml.item (undated_view d)) (undated_items-map ds)
 
 -- elements that have the same data one by one
-pub same_items : (vs : List Value) (ds : List tomls.Value) → map data_of-value vs ≡ map undated_view ds → data_items (items_view vs) ≡ undated_items (view.items_view ds)
+pub same_items : (vs : List Value) (ds : List tomls.Value) → map data_of-value vs ≡ map undated_view ds → data_items false (items_view vs) ≡ undated_items (view.items_view ds)
 same_items vs ds e = data_items-map vs ∙ ap view.items_of e ∙ sym (undated_items-map ds)
 
 -- one member more
 pub data_members-last : (fs : List (String Global × Value)) (k : String Global) (v : Value)
-    → data_members (fields_view (fs ++ (k, v) ∷ [])) ≡ with_last (data_members (fields_view fs)) (string_bytes k) (data_of-value v)
+    → data_members false (fields_view (fs ++ (k, v) ∷ [])) ≡ with_last (data_members false (fields_view fs)) (string_bytes k) (data_of-value v)
 data_members-last [] k v = ap (λ u. toml.member u (data_of-value v) toml.no_members) (encodes-chars (string_bytes k) (IsUtf8-string_bytes k))
 data_members-last (f ∷ fs) k v = ap (toml.member (encode_utf8_all (chars (string_bytes f.0))) (data_of-value f.1)) (data_members-last fs k v)
 

@@ -8,8 +8,10 @@ use Rattle.json5_types.specs.declared.error.Error.{Error}
 use Rattle.json5_types.specs.ValueMeanings.{Datum}
 use Rattle.json5_tokens.specs.Cursor.{IsOutOfMemory}
 use Rattle.json5_lexemes.specs.Plain.{PlainText}
+use Rattle.json5_lexemes.specs.WithoutComments.{IsJsonButForComments}
 use Rattle.json5_read.specs.DocumentReads.{IsRefused}
 use Rattle.json5_read.specs.TreeMeanings.{datum_of}
+use Rattle.json5_styles.specs.Json.{JsonText}
 use Rattle.json5_styles.specs.JsonTexts.{is_json}
 use Rattle.json5_convert.specs.Comments.{HaveSameComments, HasNoComment}
 use Rattle.json5_convert.specs.Spellings.{asks_json, has_comments, has_json_numbers}
@@ -25,10 +27,15 @@ pub record MeanTheSame (x y : List ℕ) : Type 0 where
   pub respelled : Doc max_depth y other
   pub same : datum_of other ≡ datum_of tree
 
+-- a text of RFC 8259's grammar; or one that is so without its comments, where it may have some
+abbrev pub IsJson : (comments : Bool) → List ℕ → Type 0
+IsJson false x = JsonText x
+IsJson true x = IsJsonButForComments x
+
 -- what was made means the same, and is JSON where that was asked: comments may be in it only if they stay
 pub record IsRespelled (spelling : Spelling) (text made : List ℕ) : Type 0 where
   pub means : MeanTheSame (chars text) (chars made)
-  pub plain : asks_json spelling ≡ true → PlainText (has_comments spelling) made
+  pub json : asks_json spelling ≡ true → IsJson (has_comments spelling) (chars made)
 
 -- the comments stay, to the letter and in their order; where they are to go there are none
 abbrev pub KeepsComments : Spelling → (text made : List ℕ) → Type 0

@@ -1,6 +1,7 @@
 -- What a TOML document means as a value, and what TOML has of a value.
 -- A promise rests on this.
-use Rattle.std.specs.Prelude.{◌≡◌, ◌≤◌, ◌⊎◌, ℕ, ℤ, FitsSigned, Bool, true, false, Float, List, None, Some, ⊤}
+use Rattle.std.specs.Prelude.{◌≡◌, ◌≤◌, ◌⊎◌, ◌&&◌, if◌then◌else◌, nat_eq, ℕ, ℤ, FitsSigned, Bool, true, false, Float, List, Option, None, Some, is_some, ⊤}
+use Rattle.std.specs.Cmp.Lexicographic.{pointwise, slice_cmp}
 use Rattle.std.specs.Float.{binary64, float_is_infinite}
 use Rattle.std.specs.Int.{w64}
 use Rattle.std.specs.Str.{encode_utf8_all}
@@ -12,6 +13,8 @@ use Rattle.json5_types.specs.ValueLookups.{fits}
 use Rattle.json5_types.specs.ValueMeanings.{Datum, null, boolean, number, text, array, object, Items, no_item, item, Fields, no_field, field}
 use Rattle.json5_numbers.specs.Floats.{nearest_to}
 use Rattle.toml_datetime.specs.declared.datetime.Datetime.{Datetime}
+use Rattle.toml_datetime.specs.declared.datetime.Time.{Time}
+use Rattle.toml_datetime.specs.Parse.{parse_datetime}
 use Rattle.toml_datetime.specs.Text.{datetime_text}
 use Rattle.toml.specs.Data as toml
 use Rattle.toml.specs.Errors.{IsMemory}
@@ -21,7 +24,6 @@ use Rattle.json5_convert.specs.declared.toml_texts.Lack.TheVariants as lack
 use Rattle.toml.specs.Parse.{parse_document}
 use Rattle.toml_parser.specs.Strings.{recursion_limit}
 use Rattle.std.specs.Ordering.{nat_cmp, match_ordering}
-use Rattle.std.specs.Cmp.Lexicographic.{slice_cmp}
 
 -- a date-time without parts, which no TOML text has
 abbrev pub no_time : Datetime
@@ -32,23 +34,46 @@ abbrev pub number_data : Number → toml.Data
 number_data (whole z) = toml.integer z
 number_data (decimal d) = toml.float (nearest_to binary64 d)
 
+-- TOML 1.0.0 has no time without seconds
+abbrev pub has_seconds : Option Time → Bool
+has_seconds None = true
+has_seconds (Some t) = is_some t.second
+
+-- the date-time, where its text is this one
+abbrev pub spelled_so : List ℕ → Option Datetime → Option Datetime
+spelled_so u None = None
+spelled_so u (Some d) = if has_seconds d.time && pointwise nat_eq (datetime_text d) u then Some d else None
+
+-- the date-time, date or time that has this text, to the letter
+abbrev pub date_of : List ℕ → Option Datetime
+date_of u = spelled_so u (parse_datetime u)
+
+abbrev pub date_or_string : List ℕ → Option Datetime → toml.Data
+date_or_string u None = toml.string u
+date_or_string u (Some d) = toml.datetime d
+
+-- a string; where dates are asked for, one that is the text of a date is the date
+abbrev pub string_data : (dates : Bool) → List ℕ → toml.Data
+string_data false u = toml.string u
+string_data true u = date_or_string u (date_of u)
+
 -- a value as TOML's data, each part in its order. TOML has no null: that is the date-time without parts
 abbrev mutual
-  pub data_of : Datum → toml.Data
-  data_of null = toml.datetime no_time
-  data_of (boolean b) = toml.boolean b
-  data_of (number n) = number_data n
-  data_of (text u) = toml.string (encode_utf8_all u)
-  data_of (array xs) = toml.array (data_items xs)
-  data_of (object fs) = toml.table (data_members fs)
+  pub data_of : (dates : Bool) → Datum → toml.Data
+  data_of dates null = toml.datetime no_time
+  data_of dates (boolean b) = toml.boolean b
+  data_of dates (number n) = number_data n
+  data_of dates (text u) = string_data dates (encode_utf8_all u)
+  data_of dates (array xs) = toml.array (data_items dates xs)
+  data_of dates (object fs) = toml.table (data_members dates fs)
 
-  pub data_items : Items → toml.Items
-  data_items no_item = toml.no_items
-  data_items (item x xs) = toml.item (data_of x) (data_items xs)
+  pub data_items : (dates : Bool) → Items → toml.Items
+  data_items dates no_item = toml.no_items
+  data_items dates (item x xs) = toml.item (data_of dates x) (data_items dates xs)
 
-  pub data_members : Fields → toml.Members
-  data_members no_field = toml.no_members
-  data_members (field u x fs) = toml.member (encode_utf8_all u) (data_of x) (data_members fs)
+  pub data_members : (dates : Bool) → Fields → toml.Members
+  data_members dates no_field = toml.no_members
+  data_members dates (field u x fs) = toml.member (encode_utf8_all u) (data_of dates x) (data_members dates fs)
 
 -- each date-time is a string of its text
 abbrev mutual
@@ -68,7 +93,7 @@ abbrev mutual
 
 -- the text is a TOML document, and the value has its data, with dates as strings
 abbrev pub IsOfToml : (input : List ℕ) → Datum → Type 0
-IsOfToml input x = (ms : toml.Members) × (parse_document input ≡ Some ms) × (data_of x ≡ undated (toml.table ms))
+IsOfToml input x = (ms : toml.Members) × (parse_document input ≡ Some ms) × (data_of false x ≡ undated (toml.table ms))
 
 -- memory ran out, or the text is no TOML document
 abbrev pub RefusesToml : (input : List ℕ) → Error → Type 0
@@ -102,38 +127,40 @@ IsTomlNumber (decimal d) = float_is_infinite (nearest_to binary64 d) ≡ true �
 
 -- what TOML has: no null, whole numbers of 64 bits, no decimal that is too large for a float, each key of an object once
 abbrev mutual
-  pub IsToml : Datum → Type 0
-  IsToml null = ⊥
-  IsToml (boolean b) = ⊤
-  IsToml (number n) = IsTomlNumber n
-  IsToml (text u) = ⊤
-  IsToml (array xs) = AreToml xs
-  IsToml (object fs) = AreTomlAmong toml.no_members fs
+  pub IsToml : (dates : Bool) → Datum → Type 0
+  IsToml dates null = ⊥
+  IsToml dates (boolean b) = ⊤
+  IsToml dates (number n) = IsTomlNumber n
+  IsToml dates (text u) = ⊤
+  IsToml dates (array xs) = AreToml dates xs
+  IsToml dates (object fs) = AreTomlAmong dates toml.no_members fs
 
-  pub AreToml : Items → Type 0
-  AreToml no_item = ⊤
-  AreToml (item x xs) = IsToml x × AreToml xs
+  pub AreToml : (dates : Bool) → Items → Type 0
+  AreToml dates no_item = ⊤
+  AreToml dates (item x xs) = IsToml dates x × AreToml dates xs
 
   -- members after these
-  pub AreTomlAmong : (done : toml.Members) → Fields → Type 0
-  AreTomlAmong done no_field = ⊤
-  AreTomlAmong done (field u x fs) = IsToml x × (toml.get_member (encode_utf8_all u) done ≡ None) × AreTomlAmong (put (encode_utf8_all u) (ordered (data_of x)) done) fs
+  pub AreTomlAmong : (dates : Bool) → (done : toml.Members) → Fields → Type 0
+  AreTomlAmong dates done no_field = ⊤
+  AreTomlAmong dates done (field u x fs) = IsToml dates x × (toml.get_member (encode_utf8_all u) done ≡ None) × AreTomlAmong dates (put (encode_utf8_all u) (ordered (data_of dates x)) done) fs
 
 -- an object of what TOML has
-abbrev pub IsTomlDocument : Datum → Type 0
-IsTomlDocument (object fs) = (fits (object fs) ≡ true) × IsToml (object fs)
-IsTomlDocument _ = ⊥
+abbrev pub IsTomlDocument : (dates : Bool) → Datum → Type 0
+IsTomlDocument dates (object fs) = (fits (object fs) ≡ true) × IsToml dates (object fs)
+IsTomlDocument dates _ = ⊥
 
--- the text is a TOML document of the value's data, if it nests no deeper than a TOML text is read
-pub record IsTomlOf (x : Datum) (made : List ℕ) : Type 0 where
-  pub held : IsTomlDocument x
+-- the text is a TOML document of the value's data, if it nests no deeper than a TOML text is read; and with dates as
+-- strings these data are the value's own
+pub record IsTomlOf (dates : Bool) (x : Datum) (made : List ℕ) : Type 0 where
+  pub held : IsTomlDocument dates x
   pub members : toml.Members
-  pub means : ordered (data_of x) ≡ toml.table members
+  pub means : ordered (data_of dates x) ≡ toml.table members
+  pub own : undated (toml.table members) ≡ ordered (data_of false x)
   pub reads_back : toml.members_depth members ≤ recursion_limit → parse_document made ≡ Some members
 
 -- memory ran out, or TOML hasn't the value
-abbrev pub RefusesTomlOf : Datum → Error → Type 0
-RefusesTomlOf x e = LacksMemory e ⊎ (IsTomlDocument x → ⊥)
+abbrev pub RefusesTomlOf : (dates : Bool) → Datum → Error → Type 0
+RefusesTomlOf dates x e = LacksMemory e ⊎ (IsTomlDocument dates x → ⊥)
 
 -- ---- private clauses alone cite these
 
@@ -158,14 +185,18 @@ abbrev pub IsErrorOf : Lack → Error → Type 0
 IsErrorOf l e = LacksMemory e ⊎ (lacks l ≡ true)
 
 -- TOML has the value, as this
-abbrev pub HasPart : Datum → toml.Data → Type 0
-HasPart x d = IsToml x × (d ≡ ordered (data_of x))
+abbrev pub HasPart : Bool → Datum → toml.Data → Type 0
+HasPart dates x d = IsToml dates x × (d ≡ ordered (data_of dates x))
 
-abbrev pub HasItems : Items → toml.Items → Type 0
-HasItems xs ds = AreToml xs × (ds ≡ ordered_items (data_items xs))
+abbrev pub HasItems : Bool → Items → toml.Items → Type 0
+HasItems dates xs ds = AreToml dates xs × (ds ≡ ordered_items (data_items dates xs))
 
-abbrev pub HasMembers : Fields → toml.Members → Type 0
-HasMembers fs ms = AreTomlAmong toml.no_members fs × (ms ≡ ordered_among toml.no_members (data_members fs))
+abbrev pub HasMembers : Bool → Fields → toml.Members → Type 0
+HasMembers dates fs ms = AreTomlAmong dates toml.no_members fs × (ms ≡ ordered_among toml.no_members (data_members dates fs))
+
+-- memory ran out
+abbrev pub IsMemoryLack : Lack → Type 0
+IsMemoryLack l = lacks l ≡ false
 
 -- the number, or it isn't one of 64 bits
 abbrev pub HasInteger : ℤ → ℤ → Type 0

@@ -5,6 +5,20 @@
 use crate::spelling::{Blanks, Comments, Spelling};
 use std::alloc::AllocError;
 
+/// Whether a gap is as the spelling has it.
+#[inline(always)]
+pub(crate) fn stays(spelling: Spelling, gap: &str) -> bool {
+    if let (Blanks::Own, Comments::Kept) = (spelling.blanks, spelling.comments) {
+        return true;
+    }
+    for byte in gap.bytes() {
+        if !matches!(byte, b' ' | b'\n' | b'\r' | b'\t') {
+            return false;
+        }
+    }
+    true
+}
+
 /// Appends the blanks and comments of a gap, as the spelling has them. The document may end with it.
 pub(crate) fn push_gap(
     made: &mut String,

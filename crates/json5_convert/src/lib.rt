@@ -26,5 +26,5 @@ pub use lines::{Values, to_lines};
 pub use respelled::respell;
 pub use spelling::{Blanks, Comments, Keys, LastCommas, Numbers, Quotes, Spelling};
 pub use streams::ValueStream;
-pub use toml_texts::to_toml;
+pub use toml_texts::{to_toml, to_toml_with_dates};
 pub use toml_values::from_toml;

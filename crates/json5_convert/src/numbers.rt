@@ -3,18 +3,38 @@
 //! Plain code: what it makes is read again.
 
 use crate::faults::Result;
-use json5_lexemes::is_plain_with;
 use json5_types::number::Number;
 use json5_types::whole::Whole;
 use std::fmt::Write;
 
-/// Appends a number that is spelled so, as JSON has it: with the same digits, but that a hexadecimal one is in decimal
+/// Whether the number in front is spelled as JSON has it: with digits on both sides of a point, no plus in front, and no
+/// hexadecimal digits.
+#[inline(always)]
+pub(crate) fn is_json_number(text: &str) -> bool {
+    let mut last = b'-';
+    for byte in text.bytes() {
+        match byte {
+            b'0'..=b'9' => {}
+            b'-' | b'+' | b'e' | b'E' => {
+                if last == b'.' || last == b'-' && byte == b'+' {
+                    return false;
+                }
+            }
+            b'.' => {
+                if !last.is_ascii_digit() {
+                    return false;
+                }
+            }
+            _ => return last.is_ascii_digit() && !matches!(byte, b'x' | b'X'),
+        }
+        last = byte;
+    }
+    last.is_ascii_digit()
+}
+
+/// Appends a number that JSON spells otherwise, as JSON has it: with the same digits, but that a hexadecimal one is in decimal
 /// digits. Says whether JSON has it: infinity and not-a-number aren't appended.
 pub(crate) fn push_number(made: &mut String, token: &str, number: &Number) -> Result<bool> {
-    if is_plain_with(false, token) {
-        made.push_str(token)?;
-        return Ok(true);
-    }
     let (sign, digits) = parted(token);
     match number {
         Number::Whole(whole) => push_whole(made, sign, digits, *whole)?,

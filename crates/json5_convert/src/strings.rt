@@ -5,11 +5,39 @@
 use crate::faults::{RespellError, Result};
 use crate::spelling::Quotes;
 use json5_lexemes::is_plain_with;
+use json5_styles::json_runs::skip_unescaped_within;
 use json5_styles::to_json_string;
 use json5_types::nesting::Limit;
 use json5_write::Printer;
 use json5_write::string_writer::StringWriter;
 use std::alloc::Global;
+
+/// Whether a string of this text that is spelled so stays, where these quotes are asked for. It may also say no of one that stays.
+#[inline(always)]
+pub(crate) fn keeps_string(quotes: Quotes, token: &str, text: &str) -> bool {
+    match quotes {
+        Quotes::Own => true,
+        Quotes::Json => token.starts_with('"') && ends_unescaped(token),
+        // Without an escape no quotes make it shorter.
+        Quotes::Fewest => token.len() <= text.len().saturating_add(2),
+    }
+}
+
+/// Whether a string between double quotes has no escape, and no character that JSON escapes.
+#[inline(always)]
+fn ends_unescaped(token: &str) -> bool {
+    match token.split_at_checked(1) {
+        Some((_, inside)) => skip_unescaped_within(inside).len() == 1,
+        None => false,
+    }
+}
+
+/// Appends a name between double quotes. Names have no character that JSON escapes.
+pub(crate) fn push_name(made: &mut String, name: &str) -> Result<()> {
+    made.push('"')?;
+    made.push_str(name)?;
+    Ok(made.push('"')?)
+}
 
 /// Appends a string of this text that is spelled so, between these quotes.
 pub(crate) fn push_string(
@@ -32,7 +60,7 @@ pub(crate) fn push_string(
 }
 
 /// Appends a string of this text as JSON has it.
-pub(crate) fn push_json_string(alloc: Global, made: &mut String, text: &str) -> Result<()> {
+fn push_json_string(alloc: Global, made: &mut String, text: &str) -> Result<()> {
     let json = to_json_string(alloc, text)?;
     Ok(made.push_str(json.as_str())?)
 }

@@ -1,12 +1,12 @@
 //! Goes over a document token by token, and spells each as asked.
 //!
-//! Plain code: what it makes is read again.
+//! Plain code: what it makes is compared with the text.
 
 use crate::faults::{RespellError, Result};
-use crate::gaps::{begins_last_line, push_gap};
-use crate::numbers::push_number;
+use crate::gaps::{begins_last_line, push_gap, stays};
+use crate::numbers::{is_json_number, push_number};
 use crate::spelling::{Keys, LastCommas, Numbers, Spelling};
-use crate::strings::{is_ascii_name, push_json_string, push_string};
+use crate::strings::{is_ascii_name, keeps_string, push_name, push_string};
 use json5_read::brackets::BracketKind;
 use json5_read::kinds::{Literal, ValueKind, kind_at};
 use json5_types::nesting::Limit;
@@ -22,10 +22,12 @@ pub(crate) fn spelled(alloc: Global, spelling: Spelling, text: &str) -> Result<S
         walk: Walk::new(alloc, text, Limit::full()),
         made: String::with_capacity(alloc, text.len())?,
         done: 0,
+        end: 0,
     };
     // Each step but the last takes a token.
     for _ in 0..=text.len() {
         if speller.step()? {
+            speller.copy_to(text.len())?;
             return Ok(speller.made);
         }
     }
@@ -38,8 +40,10 @@ struct Speller<'t> {
     spelling: Spelling,
     walk: Walk<'t>,
     made: String,
-    /// What comes before this offset, in bytes, is in what was made.
+    /// What comes before this offset, in bytes, is in what was made. What follows it up to the walk's stays as it is.
     done: usize,
+    /// Where the last token ends, or the gap behind it if that was passed.
+    end: usize,
 }
 
 impl<'t> Speller<'t> {
@@ -56,26 +60,67 @@ impl<'t> Speller<'t> {
         Ok(false)
     }
 
-    /// What was taken since.
-    fn taken(&mut self) -> &'t str {
-        let from = self.done;
-        self.done = self.walk.offset();
-        match self.walk.text().get(from..self.done) {
+    /// The text between the offsets.
+    #[inline(always)]
+    fn part(&self, from: usize, to: usize) -> &'t str {
+        match self.walk.text().get(from..to) {
             Some(part) => part,
             None => "",
         }
     }
 
-    /// Appends what was taken since, as it is.
-    fn copy(&mut self) -> Result<()> {
-        let part = self.taken();
+    /// Appends what comes before the offset and isn't appended.
+    fn copy_to(&mut self, offset: usize) -> Result<()> {
+        let part = self.part(self.done, offset);
+        self.done = offset;
         Ok(self.made.push_str(part)?)
     }
 
-    /// Takes the gap in front, and appends it as the spelling has it.
+    /// Appends what comes before the token or the gap that was taken, but leaves that out.
+    fn leave_out(&mut self, start: usize) -> Result<()> {
+        self.copy_to(start)?;
+        self.done = self.end;
+        Ok(())
+    }
+
+    /// Goes past the token or the gap that was taken: where it begins, and its spelling.
+    #[inline(always)]
+    fn taken(&mut self) -> (usize, &'t str) {
+        let start = self.end;
+        self.end = self.walk.offset();
+        (start, self.part(start, self.end))
+    }
+
+    /// Takes blanks and comments, if any are in front.
+    #[inline(always)]
+    fn skip_gap(&mut self) -> Result<()> {
+        if let Some('!'..='.' | '0'..='~') = self.walk.peek() {
+            return Ok(());
+        }
+        Ok(self.walk.gap()?)
+    }
+
+    /// Takes the gap in front, and spells it.
+    #[inline(always)]
     fn gap(&mut self) -> Result<()> {
-        self.walk.gap()?;
-        let gap = self.taken();
+        self.skip_gap()?;
+        self.spell_gap()
+    }
+
+    /// Spells the gap that was taken.
+    #[inline(always)]
+    fn spell_gap(&mut self) -> Result<()> {
+        let (start, gap) = self.taken();
+        if stays(self.spelling, gap) {
+            return Ok(());
+        }
+        self.respell_gap(start, gap)
+    }
+
+    /// Appends the gap as the spelling has it.
+    #[inline(never)]
+    fn respell_gap(&mut self, start: usize, gap: &str) -> Result<()> {
+        self.leave_out(start)?;
         let is_end = self.walk.peek().is_none();
         Ok(push_gap(&mut self.made, self.spelling, gap, is_end)?)
     }
@@ -89,7 +134,8 @@ impl<'t> Speller<'t> {
     fn element(&mut self) -> Result<()> {
         self.gap()?;
         if self.walk.close().is_some() {
-            return self.copy();
+            self.end = self.walk.offset();
+            return Ok(());
         }
         self.value()
     }
@@ -111,60 +157,106 @@ impl<'t> Speller<'t> {
         if !self.walk.open(kind) {
             return Err(RespellError::Failed);
         }
-        self.copy()
+        self.end = self.walk.offset();
+        Ok(())
     }
 
     fn literal(&mut self, literal: Literal) -> Result<()> {
         self.walk.literal(literal)?;
-        self.copy()
+        self.end = self.walk.offset();
+        Ok(())
     }
 
     fn string(&mut self) -> Result<()> {
+        if let Some(text) = self.walk.short_string() {
+            return self.respell_string(text);
+        }
         let text = self.walk.string()?;
-        let token = self.taken();
+        self.respell_string(text.as_str())
+    }
+
+    /// Spells the string that was taken, which has this text.
+    #[inline(always)]
+    fn respell_string(&mut self, text: &str) -> Result<()> {
+        let (start, token) = self.taken();
+        if keeps_string(self.spelling.strings, token, text) {
+            return Ok(());
+        }
+        self.put_string(start, token, text)
+    }
+
+    /// Appends the string or the key of this text that is spelled so.
+    #[inline(never)]
+    fn put_string(&mut self, start: usize, token: &str, text: &str) -> Result<()> {
+        self.leave_out(start)?;
         let quotes = self.spelling.strings;
-        push_string(self.alloc, &mut self.made, quotes, token, text.as_str())
+        push_string(self.alloc, &mut self.made, quotes, token, text)
     }
 
     fn number(&mut self) -> Result<()> {
-        let start = self.walk.offset();
-        let number = self.walk.number()?;
-        if let Numbers::Own = self.spelling.numbers {
-            return self.copy();
+        if self.keeps_next_number() && self.walk.short_number() {
+            self.end = self.walk.offset();
+            return Ok(());
         }
-        let token = self.taken();
+        let number = self.walk.number()?;
+        let (start, token) = self.taken();
+        if self.keeps_number(token) {
+            return Ok(());
+        }
+        self.leave_out(start)?;
         if push_number(&mut self.made, token, &number)? {
             return Ok(());
         }
         Err(RespellError::Number(self.walk.position_of(start)))
     }
 
+    /// Whether the number in front surely stays as it is.
+    #[inline(always)]
+    fn keeps_next_number(&self) -> bool {
+        matches!(self.spelling.numbers, Numbers::Own)
+            || is_json_number(self.part(self.end, self.walk.text().len()))
+    }
+
+    fn keeps_number(&self, token: &str) -> bool {
+        matches!(self.spelling.numbers, Numbers::Own) || is_json_number(token)
+    }
+
     /// A key, or the closing brace.
     fn key(&mut self) -> Result<()> {
         self.gap()?;
+        if let Some(text) = self.walk.short_key() {
+            return self.respell_key(text);
+        }
         if self.walk.close().is_some() {
-            return self.copy();
+            self.end = self.walk.offset();
+            return Ok(());
         }
         let text = self.walk.key()?;
-        let token = self.taken();
-        self.push_key(token, text.as_str())
+        self.respell_key(text.as_str())
     }
 
-    /// Appends a key of this text that is spelled so.
-    fn push_key(&mut self, token: &str, text: &str) -> Result<()> {
+    /// Spells the key that was taken, which has this text.
+    fn respell_key(&mut self, text: &str) -> Result<()> {
+        let (start, token) = self.taken();
         let is_quoted = token.starts_with('"') || token.starts_with('\'');
         match self.spelling.keys {
-            Keys::Bare if is_ascii_name(text) => Ok(self.made.push_str(text)?),
-            Keys::Quoted if !is_quoted => push_json_string(self.alloc, &mut self.made, text),
-            _ if !is_quoted => Ok(self.made.push_str(token)?),
-            _ => push_string(
-                self.alloc,
-                &mut self.made,
-                self.spelling.strings,
-                token,
-                text,
+            Keys::Bare if is_quoted && is_ascii_name(text) => self.put(start, text),
+            Keys::Bare if !is_quoted && token.len() > text.len() && is_ascii_name(text) => self.put(
+                start, text,
             ),
+            Keys::Quoted if !is_quoted => {
+                self.leave_out(start)?;
+                push_name(&mut self.made, text)
+            }
+            _ if !is_quoted || keeps_string(self.spelling.strings, token, text) => Ok(()),
+            _ => self.put_string(start, token, text),
         }
+    }
+
+    /// Appends the text in place of the token that was taken.
+    fn put(&mut self, start: usize, text: &str) -> Result<()> {
+        self.leave_out(start)?;
+        Ok(self.made.push_str(text)?)
     }
 
     fn colon(&mut self) -> Result<()> {
@@ -172,18 +264,20 @@ impl<'t> Speller<'t> {
         if !self.walk.colon() {
             return Err(RespellError::Failed);
         }
-        self.copy()
+        self.end = self.walk.offset();
+        Ok(())
     }
 
     /// The comma after a value, or the closing bracket, or the end. Says whether it is the end.
     fn after_value(&mut self) -> Result<bool> {
+        self.skip_gap()?;
         if self.walk.depth() == 0 {
-            self.gap()?;
+            self.spell_gap()?;
             self.walk.finish()?;
             return Ok(true);
         }
-        self.walk.gap()?;
         if self.walk.peek() == Some(',') {
+            self.spell_gap()?;
             self.comma()?;
         } else {
             self.close()?;
@@ -193,29 +287,33 @@ impl<'t> Speller<'t> {
 
     /// The comma in front, which may be the last of its collection.
     fn comma(&mut self) -> Result<()> {
-        self.gap()?;
         if !self.walk.comma() {
             return Err(RespellError::Failed);
         }
-        let _comma = self.taken();
-        self.walk.gap()?;
-        let is_last = matches!(self.walk.peek(), Some(']' | '}'));
-        if is_last && matches!(self.spelling.last_commas, LastCommas::Never) {
-            return Ok(());
+        let (start, _) = self.taken();
+        if let LastCommas::Never = self.spelling.last_commas {
+            self.skip_gap()?;
+            if let Some(']' | '}') = self.walk.peek() {
+                return self.leave_out(start);
+            }
         }
-        Ok(self.made.push(',')?)
+        Ok(())
     }
 
     /// The closing bracket in front, and a comma before it where one is asked for.
     fn close(&mut self) -> Result<()> {
-        let gap = self.taken();
-        if matches!(self.spelling.last_commas, LastCommas::Lines) && begins_last_line(gap) {
-            self.made.push(',')?;
+        if let LastCommas::Lines = self.spelling.last_commas {
+            let gap = self.part(self.end, self.walk.offset());
+            if begins_last_line(gap) {
+                self.copy_to(self.end)?;
+                self.made.push(',')?;
+            }
         }
-        push_gap(&mut self.made, self.spelling, gap, false)?;
+        self.spell_gap()?;
         if self.walk.close().is_none() {
             return Err(RespellError::Failed);
         }
-        self.copy()
+        self.end = self.walk.offset();
+        Ok(())
     }
 }

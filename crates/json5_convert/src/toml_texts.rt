@@ -1,6 +1,6 @@
 //! TOML texts of values.
 
-ghost use Rattle.std.specs.Prelude.{◌≡◌, false, MatchResult, FitsSigned, string_bytes};
+ghost use Rattle.std.specs.Prelude.{◌≡◌, true, false, MatchResult, FitsSigned, string_bytes};
 ghost use Rattle.std.specs.Int.{w64};
 ghost use Rattle.json5_grammar.specs.Language.Numbers.{decimal};
 ghost use Rattle.json5_types.specs.Errors.{LacksMemory};
@@ -8,7 +8,7 @@ ghost use Rattle.json5_types.specs.NumberWholes.{Converts};
 ghost use Rattle.json5_types.specs.ValueMeanings.{value_of, items_view, fields_view};
 ghost use Rattle.toml.specs.View.{view, table_view, items_view as toml_items_view};
 ghost use Rattle.toml.specs.Data.{no_members};
-ghost use Rattle.json5_convert.specs.Toml.{AreToml, AreTomlAmong, HasFloat, HasInteger, HasItems, HasMembers, HasPart, IsErrorOf, IsLack, IsToml, IsTomlNumber, IsTomlOf, KeepsLack, ReadsAsTable, RefusesTomlOf, lacks};
+ghost use Rattle.json5_convert.specs.Toml.{AreToml, AreTomlAmong, HasFloat, HasInteger, HasItems, HasMembers, HasPart, IsErrorOf, IsLack, IsToml, IsTomlNumber, IsTomlOf, KeepsLack, ReadsAsTable, RefusesTomlOf, IsMemoryLack, date_of, has_seconds, lacks, string_data};
 
 use crate::strings::is_ascii_name;
 use json5_numbers::to_f64;
@@ -19,6 +19,7 @@ use json5_types::value::Value;
 use json5_types::whole::Whole;
 use std::alloc::{AllocError, AllocFailed, Global};
 use std::fmt::{self, Display};
+use toml_datetime::{Datetime, Time};
 
 /// Returns an object as a TOML document: an object in it is a table, and an array of objects an array of tables; a whole
 /// number is an integer, and a decimal the float nearest to it. Members come in the order of the keys' bytes.
@@ -36,7 +37,31 @@ use std::fmt::{self, Display};
 /// - `TooDeep` where more than 128 brackets are open at once in the value.
 /// - `OutOfMemory` where a request for memory was refused.
 pub fn to_toml(alloc: Global, value: &Value) -> Result<String>
-    ensures { MatchResult result (λ made. IsTomlOf (value_of value.now) (string_bytes made)) (RefusesTomlOf (value_of value.now)) }
+    ensures { MatchResult result (λ made. IsTomlOf false (value_of value.now) (string_bytes made)) (RefusesTomlOf false (value_of value.now)) }
+{
+    document_of(alloc, false, value)
+}
+
+/// The same, but that a string becomes a date or a time where TOML 1.0.0 has one that is written with exactly these
+/// characters. A `T` stands between date and time, and a fraction has at most nine digits and ends in no zero, but for `.0`.
+/// Read back by [`from_toml`](crate::from_toml) it is the same string.
+///
+/// ```text
+/// to_toml_with_dates(alloc, &json5!({since: "2024-05-01", at: "07:32"}))?    // since = 2024-05-01, at = "07:32"
+/// ```
+///
+/// # Errors
+///
+/// As [`to_toml`].
+pub fn to_toml_with_dates(alloc: Global, value: &Value) -> Result<String>
+    ensures { MatchResult result (λ made. IsTomlOf true (value_of value.now) (string_bytes made)) (RefusesTomlOf true (value_of value.now)) }
+{
+    document_of(alloc, true, value)
+}
+
+/// The object as a TOML document, with dates where they are asked for.
+fn document_of(alloc: Global, dates: bool, value: &Value) -> Result<String>
+    ensures { MatchResult result (λ made. IsTomlOf dates (value_of value.now) (string_bytes made)) (RefusesTomlOf dates (value_of value.now)) }
 {
     if !value.fits() {
         return Err(Error::new(ErrorCode::TooDeep));
@@ -44,7 +69,7 @@ pub fn to_toml(alloc: Global, value: &Value) -> Result<String>
     let Value::Object(fields) = value else {
         return Err(Error::custom(alloc, "TOML has only tables at its top")?);
     };
-    match table_in(alloc, fields) {
+    match table_in(alloc, dates, fields) {
         Ok(table) => text_of(alloc, &table),
         Err(lack) => Err(lack.into_error(alloc)),
     }
@@ -56,7 +81,7 @@ fn text_of(alloc: Global, table: &toml::Table) -> Result<String>
 {
     match toml::table_to_string(alloc, table) {
         Ok(text) => Ok(text),
-        // No date is among what a value holds.
+        // Each date was read of a text, so it is one that TOML has.
         Err(_) => Err(Error::new(ErrorCode::OutOfMemory)),
     }
 }
@@ -138,28 +163,32 @@ impl Display for Step<'_> {
 
 /// The value as TOML has it.
 #[cycle(part)]
-fn part_in(alloc: Global, value: &Value) -> std::result::Result<toml::Value, Lack>
-    ensures { MatchResult result (λ d. HasPart (value_of value.now) (view d)) (IsLack (IsToml (value_of value.now))) }
+fn part_in(alloc: Global, dates: bool, value: &Value) -> std::result::Result<toml::Value, Lack>
+    ensures { MatchResult result (λ d. HasPart dates (value_of value.now) (view d)) (IsLack (IsToml dates (value_of value.now))) }
 {
     match value {
         Value::Null => Err(Lack::of(alloc, "TOML has no null")),
         Value::Bool(truth) => Ok(toml::Value::Boolean(*truth)),
         Value::Whole(number) => Ok(toml::Value::Integer(integer_of(alloc, *number)?)),
         Value::Decimal(number) => Ok(toml::Value::Float(float_of(alloc, number)?)),
-        Value::String(text) => Ok(toml::Value::string(alloc, text.as_str())?),
-        Value::Array(items) => Ok(toml::Value::Array(array_in(alloc, items)?)),
-        Value::Object(fields) => Ok(toml::Value::Table(table_in(alloc, fields)?)),
+        Value::String(text) => Ok(string_in(alloc, dates, text.as_str())?),
+        Value::Array(items) => Ok(toml::Value::Array(array_in(alloc, dates, items)?)),
+        Value::Object(fields) => Ok(toml::Value::Table(table_in(alloc, dates, fields)?)),
     }
 }
 
 /// The elements as TOML has them.
 #[cycle(part)]
-fn array_in(alloc: Global, items: &[Value]) -> std::result::Result<Vec<toml::Value>, Lack>
-    ensures { MatchResult result (λ v. HasItems (items_view items.now) (toml_items_view v.items)) (IsLack (AreToml (items_view items.now))) }
+fn array_in(
+    alloc: Global,
+    dates: bool,
+    items: &[Value],
+) -> std::result::Result<Vec<toml::Value>, Lack>
+    ensures { MatchResult result (λ v. HasItems dates (items_view items.now) (toml_items_view v.items)) (IsLack (AreToml dates (items_view items.now))) }
 {
     let mut array = Vec::with_capacity(alloc, items.len())?;
     for (index, item) in items.iter().enumerate() {
-        match part_in(alloc, item) {
+        match part_in(alloc, dates, item) {
             Ok(part) => array.push(part)?,
             Err(lack) => return Err(lack.within(alloc, Step::Element(index))),
         }
@@ -169,13 +198,17 @@ fn array_in(alloc: Global, items: &[Value]) -> std::result::Result<Vec<toml::Val
 
 /// The members as TOML has them.
 #[cycle(part)]
-fn table_in(alloc: Global, fields: &[(String, Value)]) -> std::result::Result<toml::Table, Lack>
-    ensures { MatchResult result (λ t. HasMembers (fields_view fields.now) (table_view t)) (IsLack (AreTomlAmong no_members (fields_view fields.now))) }
+fn table_in(
+    alloc: Global,
+    dates: bool,
+    fields: &[(String, Value)],
+) -> std::result::Result<toml::Table, Lack>
+    ensures { MatchResult result (λ t. HasMembers dates (fields_view fields.now) (table_view t)) (IsLack (AreTomlAmong dates no_members (fields_view fields.now))) }
 {
     let mut table = toml::Table::new(alloc);
     for (key, value) in fields {
         let name = String::from_str(alloc, key.as_str())?;
-        let part = match part_in(alloc, value) {
+        let part = match part_in(alloc, dates, value) {
             Ok(part) => part,
             Err(lack) => return Err(lack.within(alloc, Step::Member(key.as_str()))),
         };
@@ -185,6 +218,46 @@ fn table_in(alloc: Global, fields: &[(String, Value)]) -> std::result::Result<to
         }
     }
     Ok(table)
+}
+
+/// The string, or the date that it is where dates are asked for.
+fn string_in(alloc: Global, dates: bool, text: &str) -> std::result::Result<toml::Value, Lack>
+    ensures { MatchResult result (λ d. view d ≡ string_data dates text.now) IsMemoryLack }
+{
+    if !dates {
+        return Ok(toml::Value::string(alloc, text)?);
+    }
+    match date_of(alloc, text)? {
+        Some(date) => Ok(toml::Value::Datetime(date)),
+        None => Ok(toml::Value::string(alloc, text)?),
+    }
+}
+
+/// The date or the time that is written so.
+fn date_of(alloc: Global, text: &str) -> std::result::Result<Option<Datetime>, Lack>
+    ensures { MatchResult result (λ d. d ≡ date_of text.now) IsMemoryLack }
+{
+    let Ok(date) = text.parse::<Datetime>() else {
+        return Ok(None);
+    };
+    if !has_seconds(date.time) {
+        return Ok(None);
+    }
+    let written = format!(in alloc; "{date}")?;
+    if written.as_str() != text {
+        return Ok(None);
+    }
+    Ok(Some(date))
+}
+
+/// Whether there are seconds, where there is a time.
+fn has_seconds(time: Option<Time>) -> bool
+    ensures { result ≡ has_seconds time }
+{
+    match time {
+        Some(time) => time.second.is_some(),
+        None => true,
+    }
 }
 
 /// The integer of a whole number.

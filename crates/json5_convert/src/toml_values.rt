@@ -1,6 +1,6 @@
 //! The values of TOML texts.
 
-ghost use Rattle.std.specs.Prelude.{◌≡◌, MatchResult};
+ghost use Rattle.std.specs.Prelude.{◌≡◌, false, MatchResult};
 ghost use Rattle.json5_types.specs.Errors.{LacksMemory};
 ghost use Rattle.json5_types.specs.ValueMeanings.{value_of, items_view, fields_view};
 ghost use Rattle.toml.specs.View.{view, table_view, items_view as toml_items_view};
@@ -37,7 +37,7 @@ pub fn from_toml(alloc: Global, text: &str) -> Result<Value>
 /// The value of a part.
 #[cycle(value)]
 fn value_in(alloc: Global, part: &toml::Value) -> Result<Value>
-    ensures { MatchResult result (λ v. data_of (value_of v) ≡ undated (view part.now)) LacksMemory }
+    ensures { MatchResult result (λ v. data_of false (value_of v) ≡ undated (view part.now)) LacksMemory }
 {
     match part {
         toml::Value::String(text) => Ok(Value::String(String::from_str(alloc, text.as_str())?)),
@@ -53,7 +53,7 @@ fn value_in(alloc: Global, part: &toml::Value) -> Result<Value>
 /// The values of the elements, in their order.
 #[cycle(value)]
 fn items_in(alloc: Global, items: &[toml::Value]) -> Result<Vec<Value>>
-    ensures { MatchResult result (λ v. data_items (items_view v.items) ≡ undated_items (toml_items_view items.now)) LacksMemory }
+    ensures { MatchResult result (λ v. data_items false (items_view v.items) ≡ undated_items (toml_items_view items.now)) LacksMemory }
 {
     let mut values = Vec::with_capacity(alloc, items.len())?;
     for item in items {
@@ -65,7 +65,7 @@ fn items_in(alloc: Global, items: &[toml::Value]) -> Result<Vec<Value>>
 /// The members of a table, in the order of their keys.
 #[cycle(value)]
 fn fields_in(alloc: Global, table: &toml::Table) -> Result<Vec<(String, Value)>>
-    ensures { MatchResult result (λ v. data_members (fields_view v.items) ≡ undated_members (table_view table.now)) LacksMemory }
+    ensures { MatchResult result (λ v. data_members false (fields_view v.items) ≡ undated_members (table_view table.now)) LacksMemory }
 {
     let mut fields = Vec::with_capacity(alloc, table.len())?;
     for (key, part) in table.iter() {

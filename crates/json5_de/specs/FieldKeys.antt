@@ -46,7 +46,6 @@ abbrev pub ReadsFieldKeyAtEntry : State → State → List ℕ → ℕ → Resul
 ReadsFieldKeyAtEntry old new field_key start result = (comma_due : Bool) (from : State) → AtEntry curly comma_due from old → ReadsFieldKey comma_due from new field_key start result
 
 -- an access reads its next key so
-pub record ReadsNextFieldKey {I : Type 0} (old new : MapAccess I) (field_key : List ℕ) (start : ℕ) (result : Result Bool Error) : Type 0 where
+pub record ReadsNextFieldKey {I : Type 0} (old new : MapAccess I) (field_key : List ℕ) (result : Result Bool Error) : Type 0 where
   pub key : ReadsNextKey field_key_text every_text (RefusedAsKey string_key) old new (filled_if_given field_key result)
   pub no_memory : ReadsKeyFree (map_state_of old) result
-  pub begins : BeginsIfGiven field_key start new.de.now.input new.de.now.unread result

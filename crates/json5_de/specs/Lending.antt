@@ -21,7 +21,7 @@ use Rattle.json5_de.specs.KeyKinds.{KeyKind, RefusedAsKey, bytes_key, cow_key, d
 use Rattle.json5_de.specs.Objects.{MapAccessState, KeepsPending, OpensMap, SetsPending, GivesMemberKey, GivesMemberValue, ReadsMemberKey, ReadsMemberValue, ReadsAKey, ReadsAMember, MembersLeft, LeavesAValue, LeavesOthers}
 use Rattle.json5_de.specs.ObjectFaults.{RefusesNextKey, RefusesNextValue}
 use Rattle.json5_de.specs.Progress.{HoldsReader, array_at, holding, object_at}
-use Rattle.json5_de.specs.KeyPlaces.{KeyBegins}
+use Rattle.json5_de.specs.KeyPlaces.{KeyBegins, ReadKeyBegins}
 use Rattle.json5_de.specs.Enums.{EnumAccessState}
 use Rattle.json5_de.specs.declared.enums.EnumAccess.{EnumAccess}
 use Rattle.json5_de.specs.declared.enums.Named.{Named}
@@ -185,7 +185,7 @@ pub record ReadsNext {I V C : Type 0} (content : V → C) (convert : Tree → Op
   pub read : IfOk result (ReadsMore content convert (state_of old) (state_of new))
   pub left : (ts : Trees) (r : List ℕ) → ElementsLeft ts r (state_of old) → LeavesFewer content convert ts r (state_of new) result
 
--- the next key is read, or None is returned if the brace is next
+-- the next key is read, and begins where the access then says, or None is returned if the brace is next
 pub record ReadsNextKey {I K C : Type 0} (content : K → C) (convert : KeyConversion C) (refuses : State → Error → State → Type 0) (old new : MapAccess I) (result : Result (Option K) Error) : Type 0 where
   pub access : KeepsMap old new
   pub pending : SetsPending is_some (map_state_of old) (map_state_of new) result
@@ -194,6 +194,7 @@ pub record ReadsNextKey {I K C : Type 0} (content : K → C) (convert : KeyConve
   pub closing : CompletesClose curly (map_state_of old).at result
   pub shorter : IfOk result (λ o. IfSome o (λ k. length (map_state_of new).at.reader.unread < length (map_state_of old).at.reader.unread))
   pub refused : RefusesNextKey refuses (map_state_of old) (map_state_of new).at.reader result
+  pub begins : ReadKeyBegins content convert new.key_start new.de.now.input new.de.now.unread result
   pub read : IfOk result (ReadsAKey content convert (map_state_of old) (map_state_of new))
   pub left : (ps : Members) (r : List ℕ) → MembersLeft ps r (map_state_of old) → LeavesAValue content convert ps r (map_state_of new) result
 

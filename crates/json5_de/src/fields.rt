@@ -202,8 +202,8 @@ impl<'a, I: Input> MapAccess<'a, I> {
         )
     }
 
-    /// Refuses the member whose key [`read_fields`](MapAccess::read_fields) read last, such as one that the struct doesn't have:
-    /// makes a custom fault at the key. The value stays unread, and each later call returns `Failed`.
+    /// Refuses the member whose key was read last, such as one that the struct doesn't have: makes a custom fault at the key. The
+    /// value stays unread, and each later call returns `Failed`.
     ///
     /// ```text
     /// match name {
@@ -309,20 +309,17 @@ impl<'a, I: Input> MapAccess<'a, I> {
         }
     }
 
-    /// Reads the next key as `next_field_key` does, and puts into `start` how many bytes come before it.
+    /// Reads the next key as `next_key::<String>` does, and keeps its text. Says whether there was one.
     #[inline(always)]
-    fn read_next_field_key(
-        &mut self,
-        field_key: &mut FieldKey<I>,
-        start: &mut usize,
-    ) -> Result<bool>
+    fn next_field_key(&mut self, field_key: &mut FieldKey<I>) -> Result<bool>
         requires no_key { NoKeyPending self.old }
-        ensures { ReadsNextFieldKey self.old self.new field_key.new start.new result }
+        ensures { ReadsNextFieldKey self.old self.new field_key.new result }
     {
         self.de.set_failed(self.progress.failed);
+        let comma_due = self.progress.stage.is_comma_due();
         match self
             .de
-            .read_field_key(self.progress.stage.is_comma_due(), field_key, start)
+            .read_field_key(comma_due, field_key, &mut self.key_start)
         {
             Ok(given) => {
                 self.de.set_failed(true);
@@ -330,22 +327,6 @@ impl<'a, I: Input> MapAccess<'a, I> {
                 Ok(given)
             }
             Err(e) => Err(self.de.refuse_access(&mut self.progress, e)),
-        }
-    }
-
-    /// Reads the next key as `next_key::<String>` does, keeps its text, and where it begins. Says whether there was one.
-    #[inline(always)]
-    fn next_field_key(&mut self, field_key: &mut FieldKey<I>) -> Result<bool>
-        requires no_key { NoKeyPending self.old }
-        ensures { ReadsNextFieldKey self.old self.new field_key.new self.new.key_start result }
-    {
-        let mut start = self.key_start;
-        match self.read_next_field_key(field_key, &mut start) {
-            Ok(given) => {
-                self.key_start = start;
-                Ok(given)
-            }
-            Err(e) => Err(e),
         }
     }
 

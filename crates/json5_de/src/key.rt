@@ -1,12 +1,14 @@
 //! Keys of objects: the law of a type that is read from one, what its reading is lent, and how a key is reached (JSON5 section 3).
 
-ghost use Rattle.std.specs.Prelude.{◌≡◌, IfOk, IfErr, true, false, IfSome};
+ghost use Rattle.std.specs.Prelude.{◌≡◌, IfOk, IfErr, true, false};
 ghost use Rattle.json5_de.specs.State.{State, SameText};
 ghost use Rattle.json5_de.specs.ConvertLists.{if_some};
 ghost use Rattle.json5_de.specs.DeserializeLaw.{Unprompted, answered};
 ghost use Rattle.json5_de.specs.OptionFaults.{RefusesLive};
 ghost use Rattle.json5_de.specs.Keys.{GivesKey, CompletesKey, ReadsKeyOf};
+ghost use Rattle.json5_de.specs.KeyPlaces.{ReadKeyBegins};
 ghost use Rattle.json5_de.specs.KeyKinds.{some_of};
+ghost use Rattle.json5_grammar.specs.Language.Blanks.{Solid};
 ghost use Rattle.json5_grammar.specs.Language.Characters.{NotBegun};
 ghost use Rattle.json5_types.specs.Errors.{kind_of};
 ghost use Rattle.json5_read.specs.Offsets.{StartsAfter};
@@ -194,34 +196,38 @@ impl<I: Input> Deserializer<I> {
         }
     }
 
-    /// The key of the member that begins here.
+    /// The key of the member that begins here. Puts into `start` how many bytes come before it.
     #[inline(always)]
-    pub(crate) fn read_entry_key<K: DeserializeKey<I>>(&mut self) -> Result<Option<K>>
+    fn read_entry_key<K: DeserializeKey<I>>(&mut self, start: &mut usize) -> Result<Option<K>>
         ensures reads { ReadsKeyAtEntry K.content K.convert K.refuses self.old self.new result }
-        ensures here { IfOk result (λ o. IfSome o (GivesKey K.content K.convert self.old self.new)) }
+        ensures begins { Solid self.old.unread → ReadKeyBegins K.content K.convert start.new self.new.input self.new.unread result }
     {
+        let offset = self.offset();
+        *start = offset;
         if !self.at_key() {
             return Err(self.fail_unexpected(
                 ErrorCode::EofParsingObject,
                 ErrorCode::ExpectedIdentifier,
             ));
         }
-        let start = self.offset();
         let read = self.read_key::<K>();
-        self.positioned_key(read, start)
+        self.positioned_key(read, offset)
     }
 
-    /// Reads the next key of an object, or gives None if the closing brace is next. The error of a refusal is left in `fault`.
+    /// Reads the next key of an object, or gives None if the closing brace is next. Puts into `start` how many bytes come before
+    /// the key. The error of a refusal is left in `fault`.
     #[inline(always)]
     pub(crate) fn take_member_key<K: DeserializeKey<I>>(
         &mut self,
         comma_due: bool,
+        start: &mut usize,
         fault: &mut Error,
     ) -> Option<Option<K>>
-        ensures { ReadsKeyOfMember K.content K.convert K.refuses comma_due self.old self.new (answered result fault.new) }
+        ensures reads { ReadsKeyOfMember K.content K.convert K.refuses comma_due self.old self.new (answered result fault.new) }
+        ensures begins { ReadKeyBegins K.content K.convert start.new self.new.input self.new.unread (answered result fault.new) }
     {
         match self.take_step(BracketKind::Object, comma_due, fault) {
-            Some(true) => match self.read_entry_key::<K>() {
+            Some(true) => match self.read_entry_key::<K>(start) {
                 Ok(key) => Some(key),
                 Err(error) => {
                     *fault = error;

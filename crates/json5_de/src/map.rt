@@ -40,7 +40,7 @@ use std::alloc::Global;
 /// - `Failed`, after a call of the access that was refused.
 pub struct MapAccess<'a, I: Input> {
     pub(crate) de: &'a mut Deserializer<I>,
-    /// The count of bytes before the key that `read_fields` read last.
+    /// The count of bytes before the key that was read last.
     pub(crate) key_start: usize,
     pub(crate) progress: Progress,
 }
@@ -149,10 +149,13 @@ impl<'a, I: Input> MapAccess<'a, I> {
     }
 
     /// Reads the key of the next member, and the comma before it. Returns None if the closing brace is next, which `end` takes.
-    /// The value of a key has to be read before the next key.
+    /// The value of a key has to be read before the next key. Where the key begins is kept: a struct's fields may be read by a
+    /// loop of one's own, and [`refuse_key`](MapAccess::refuse_key) makes its fault there.
     ///
     /// ```text
-    /// map.next_key::<&str>()?    // of `{http: 80}` Some of `http`; after its value None
+    /// while let Some(name) = map.next_key::<String>()? {    // of `{http: 80}` Some of `http`; after its value None
+    ///     fields.read(&mut map, name.as_str())?;
+    /// }
     /// ```
     ///
     /// # Errors
@@ -171,7 +174,10 @@ impl<'a, I: Input> MapAccess<'a, I> {
         let mut fault = Error::new(ErrorCode::Failed);
         self.de.set_failed(self.progress.failed);
         let comma_due = self.progress.stage.is_comma_due();
-        match self.de.take_member_key(comma_due, &mut fault) {
+        match self
+            .de
+            .take_member_key(comma_due, &mut self.key_start, &mut fault)
+        {
             Some(key) => {
                 self.de.set_failed(true);
                 self.progress.stage = self.progress.stage.with_key(key.is_some());

@@ -1,16 +1,17 @@
 -- Why reading by a description is refused after all members were read.
-use Rattle.std.proofs.Common.{◌≡◌, ◌⊎◌, ◌∙◌, ◌+◌, ◌≤◌, sym, ap, subst, ℕ, List, true, false, inl, inr, Some, None, Result, Ok, Err}
+use Rattle.std.proofs.Common.{◌≡◌, ◌⊎◌, ◌∙◌, ◌+◌, ◌≤◌, refl, sym, ap, subst, ℕ, Bool, List, true, false, Option, inl, inr, Some, None, Result, Ok, Err}
 use Rattle.std.proofs.lemmas.Bool.{and_parts}
 use Rattle.std.specs.Prelude.{IsErrAnd, IfErr, IsOk}
 use Rattle.json5_grammar.specs.Language.Documents.{max_depth}
-use Rattle.json5_grammar.specs.Language.Trees.{no_member, depth}
 use Rattle.json5_grammar.specs.Language.Values.{Reads}
 use Rattle.json5_grammar.proofs.MembersConverted.{object_only}
 use Rattle.json5_grammar.specs.Model.Collections.{object_of}
+use Rattle.json5_grammar.specs.Language.Trees.{Tree, no_member, depth}
 use Rattle.json5_types.specs.declared.error.Error.{Error}
 use Rattle.json5_tokens.specs.Cursor.{IsOutOfMemory}
-use Rattle.json5_de.specs.State.{State}
-use Rattle.json5_de.specs.DeserializeLaw.{Completes, CompletesFree}
+use Rattle.json5_de.specs.State.{State, SameText}
+use Rattle.json5_de.specs.DeserializeLaw.{Gives, Completes, CompletesFree, Unprompted}
+use Rattle.json5_de.specs.Refinement.{ReadsExactly}
 use Rattle.json5_de.specs.Fields.{IsOwnAtBracket}
 use Rattle.json5_de.specs.Plans.{Plan, run, object_free, ReadsFree, ReadsMembers}
 use Rattle.json5_de.specs.StructFaults.{ValueFaults, StructFault}
@@ -18,11 +19,28 @@ use Rattle.json5_de.specs.Objects.{MapAccessState, MembersLeft, OpensMap}
 use Rattle.json5_de.specs.Lending.{map_state_of, KeepsMap}
 use Rattle.json5_de.specs.declared.map.MapAccess.{MapAccess}
 use Rattle.json5_de.proofs.ElementLoops.{handed_on}
-use Rattle.json5_de.proofs.Refinement.{parts}
+use Rattle.json5_de.proofs.Refinement.{parts, reads_content}
 use Rattle.json5_de.proofs.Structs.{end_free, fields_free, missing_completes}
 use Rattle.json5_de.proofs.StructFaults.{missing_refused}
 use Rattle.json5_fields.specs.Spares.{Spares, struct_free}
 use Rattle.json5_fields.specs.Described.{DescribedFault, in_fields, no_default}
+
+-- what a call was refused with is handed on, and that is all that is said of a value that is refused
+pub refuses_exactly : {V C : Type 0} {content : V → C} {convert : Tree → Option C} {free : Tree → Bool} {refuses : State → Error → State → Type 0} {old new : State} (e : Error) (result : Result V Error) → IsErrAnd result (λ y. y ≡ e)
+    → Completes convert old result → CompletesFree free convert old result → IfErr result (λ y. refuses old y new) → Unprompted old result → SameText old new → ReadsExactly content convert free refuses old new result
+refuses_exactly e (Ok v) is complete no_memory refused unprompted same_text = absurd is
+refuses_exactly e (Err y) is complete no_memory refused unprompted same_text = record { sound = tt; complete = complete; no_memory = no_memory; refused = refused; unprompted = unprompted; same_text = same_text }
+
+-- what was read is a value's content, and then there is no other answer
+pub gives_exactly : {V C : Type 0} {content : V → C} {convert : Tree → Option C} {free : Tree → Bool} {refuses : State → Error → State → Type 0} {old new : State} (v : V) → Gives content convert old new v → SameText old new → ReadsExactly content convert free refuses old new (Ok v)
+gives_exactly {content = content} {convert = convert} {old = old} {new = new} v gives same_text = record {
+  sound = gives;
+  complete = reads_content content convert old new (Ok v) gives tt;
+  no_memory = λ t r d live reads shallow is spare. refl;
+  refused = tt;
+  unprompted = tt;
+  same_text = same_text;
+}
 
 -- it is refused as its fields are
 pub in_its_fields : {S D U : Type 0} (plan : Plan S D) (faults : ValueFaults) (old : State) (result : Result U Error) → IfErr result (λ e. old.failed ≡ false → StructFault plan faults old e) → IfErr result (λ e. old.failed ≡ false → DescribedFault plan faults old e)

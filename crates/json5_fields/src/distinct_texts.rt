@@ -1,10 +1,9 @@
 //! A list of strings that differ.
 
-ghost use Rattle.std.specs.Prelude.{◌≡◌, true, map, string_bytes, MatchOption, MatchResult, IfOk, IfErr};
+ghost use Rattle.std.specs.Prelude.{◌≡◌, true, map, string_bytes, MatchOption, MatchResult};
 ghost use Rattle.json5_types.specs.Errors.{LacksMemory};
-ghost use Rattle.json5_de.specs.State.{SameText};
-ghost use Rattle.json5_de.specs.DeserializeLaw.{Gives, Completes, Unprompted, IsUnprompted};
-ghost use Rattle.json5_fields.specs.Distinct.{is_one_of, texts, all_texts, may_follow, all_fit, distinct_texts, IsFirstUnfit, IsOwnAt, DistinctFault, ReadsDistinct};
+ghost use Rattle.json5_de.specs.DeserializeLaw.{IsUnprompted};
+ghost use Rattle.json5_fields.specs.Distinct.{is_one_of, texts, all_texts, may_follow, all_fit, IsFirstUnfit, IsOwnAt, ReadsDistinct};
 
 use json5_de::{Deserialize, Deserializer, Spanned};
 use json5_tokens::input::Input;
@@ -140,30 +139,6 @@ fn fault_at<I: Input, D: fmt::Display + Drop>(
     }
 }
 
-/// The same as `read_distinct`, by separate clauses.
-fn read_texts<I: Input>(de: &mut Deserializer<I>, rule: Distinct) -> Result<Vec<String>>
-    ensures sound { IfOk result (λ v. Gives all_texts (distinct_texts rule.least rule.most rule.longest) de.old de.new v) }
-    ensures complete { Completes (distinct_texts rule.least rule.most rule.longest) de.old result }
-    ensures refused { IfErr result (λ e. DistinctFault rule.least rule.most rule.longest de.old e de.new) }
-    ensures unprompted { Unprompted de.old result }
-    ensures same_text { SameText de.old de.new }
-{
-    let list = match Spanned::<Vec<Spanned<String>>>::deserialize(de) {
-        Ok(list) => list,
-        Err(e) => return Err(e),
-    };
-    let items = list.value.as_slice();
-    if let Some(unfit) = first_unfit(items, rule) {
-        let start = unfit.item.start;
-        return Err(fault_at(de, start, unfit));
-    }
-    let (count, least) = (items.len(), rule.least);
-    if count < least {
-        return Err(fault_at(de, list.start, WrongCount { count, rule }));
-    }
-    values_of(de.allocator(), list.value)
-}
-
 /// Reads a list of strings that differ. Which element is refused first is a promise; it is refused where it was read.
 ///
 /// ```text
@@ -180,5 +155,18 @@ fn read_texts<I: Input>(de: &mut Deserializer<I>, rule: Distinct) -> Result<Vec<
 pub fn read_distinct<I: Input>(de: &mut Deserializer<I>, rule: Distinct) -> Result<Vec<String>>
     ensures { ReadsDistinct rule.least rule.most rule.longest de.old de.new result }
 {
-    read_texts(de, rule)
+    let list = match Spanned::<Vec<Spanned<String>>>::deserialize(de) {
+        Ok(list) => list,
+        Err(e) => return Err(e),
+    };
+    let items = list.value.as_slice();
+    if let Some(unfit) = first_unfit(items, rule) {
+        let start = unfit.item.start;
+        return Err(fault_at(de, start, unfit));
+    }
+    let (count, least) = (items.len(), rule.least);
+    if count < least {
+        return Err(fault_at(de, list.start, WrongCount { count, rule }));
+    }
+    values_of(de.allocator(), list.value)
 }

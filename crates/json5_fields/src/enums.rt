@@ -1,33 +1,13 @@
 //! An enum is read by its names and by what its variants hold.
 
-ghost use Rattle.std.specs.Prelude.{◌≡◌, length, IfOk, IfErr};
+ghost use Rattle.std.specs.Prelude.{◌≡◌, length};
 ghost use Rattle.json5_de.specs.Convert.{names_bytes};
-ghost use Rattle.json5_de.specs.Enums.{enum_of};
-ghost use Rattle.json5_de.specs.State.{SameText};
-ghost use Rattle.json5_de.specs.DeserializeLaw.{Gives, Completes, Unprompted};
-ghost use Rattle.json5_fields.specs.VariantContents.{RefusesEnum, ReadsEnum};
+ghost use Rattle.json5_fields.specs.VariantContents.{ReadsEnum};
 
 use crate::variants::EnumVariants;
 use json5_de::Deserializer;
 use json5_tokens::input::Input;
 use json5_types::error::Result;
-
-/// The same as `read_enum`, by separate clauses.
-#[inline(always)]
-fn read_variant<I: Input, V: EnumVariants<I>>(
-    de: &mut Deserializer<I>,
-    names: &'static [&'static str],
-) -> Result<V>
-    ensures sound { IfOk result (λ v. Gives V.content (enum_of (names_bytes names.now) V.convert) de.old de.new v) }
-    ensures complete { Completes (enum_of (names_bytes names.now) V.convert) de.old result }
-    ensures refused { IfErr result (λ e. RefusesEnum (names_bytes names.now) V.faults de.old e de.new) }
-    ensures unprompted { Unprompted de.old result }
-    ensures same_text { SameText de.old de.new }
-{
-    let name = de.named(names)?;
-    let index = name.variant;
-    V::read_content(index, de, name)
-}
 
 /// Reads a variant of an enum, whose variants have these names, in their order.
 ///
@@ -51,5 +31,7 @@ pub fn read_enum<I: Input, V: EnumVariants<I>>(
     requires { length names.now ≡ V.count }
     ensures { ReadsEnum V.content (names_bytes names.now) V.convert V.faults de.old de.new result }
 {
-    read_variant(de, names)
+    let name = de.named(names)?;
+    let index = name.variant;
+    V::read_content(index, de, name)
 }

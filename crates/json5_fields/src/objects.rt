@@ -1,12 +1,8 @@
 //! A struct is read by the description of its fields.
 
-ghost use Rattle.std.specs.Prelude.{◌≡◌, true, IfOk, IfErr};
-ghost use Rattle.json5_grammar.specs.Model.Collections.{object_of};
-ghost use Rattle.json5_de.specs.State.{SameText};
-ghost use Rattle.json5_de.specs.DeserializeLaw.{Gives, Completes, CompletesFree, Unprompted};
+ghost use Rattle.std.specs.Prelude.{◌≡◌, true};
 ghost use Rattle.json5_fields.specs.Layouts.{all_differ};
-ghost use Rattle.json5_fields.specs.Spares.{struct_free};
-ghost use Rattle.json5_fields.specs.Described.{RefusesDescribed, ReadsDescribed};
+ghost use Rattle.json5_fields.specs.Described.{ReadsDescribed};
 
 use crate::fields::StructFields;
 use json5_de::{Deserializer, Fields, MapAccess};
@@ -45,33 +41,6 @@ impl<I: Input, V: Drop, F: StructFields<I, V>> Fields<I> for Members<F, F::Readi
     }
 }
 
-/// The same as `read_struct`, by separate clauses.
-#[inline(always)]
-fn read_object<I: Input, V: Drop, F: StructFields<I, V>>(
-    de: &mut Deserializer<I>,
-    fields: F,
-) -> Result<V>
-    requires { all_differ (F.layout (F.shape fields)).names ≡ true }
-    ensures sound { IfOk result (λ v. Gives F.content (object_of (F.layout (F.shape fields)).convert) de.old de.new v) }
-    ensures complete { Completes (object_of (F.layout (F.shape fields)).convert) de.old result }
-    ensures no_memory { CompletesFree (struct_free F.allocation_free) (object_of (F.layout (F.shape fields)).convert) de.old result }
-    ensures refused { IfErr result (λ e. RefusesDescribed (F.layout (F.shape fields)) F.faults de.old e de.new) }
-    ensures unprompted { Unprompted de.old result }
-    ensures same_text { SameText de.old de.new }
-{
-    let reading = fields.start();
-    let mut members = Members::<F, F::Reading, V> {
-        reading,
-        of: PhantomData,
-    };
-    let mut map = de.deserialize_map()?;
-    map.read_fields(&mut members)?;
-    let Members { reading, of: _ } = members;
-    let output = F::finish(reading, &mut map)?;
-    map.end()?;
-    Ok(output)
-}
-
 /// Reads an object into the values of these fields. An unknown field is passed over, a repeated one is refused.
 ///
 /// ```text
@@ -91,5 +60,15 @@ pub fn read_struct<I: Input, V: Drop, F: StructFields<I, V>>(
     requires { all_differ (F.layout (F.shape fields)).names ≡ true }
     ensures { ReadsDescribed F.content (F.layout (F.shape fields)) F.allocation_free F.faults de.old de.new result }
 {
-    read_object(de, fields)
+    let reading = fields.start();
+    let mut members = Members::<F, F::Reading, V> {
+        reading,
+        of: PhantomData,
+    };
+    let mut map = de.deserialize_map()?;
+    map.read_fields(&mut members)?;
+    let Members { reading, of: _ } = members;
+    let output = F::finish(reading, &mut map)?;
+    map.end()?;
+    Ok(output)
 }

@@ -1,13 +1,8 @@
 //! A struct that has no other fields than those of its description.
 
-ghost use Rattle.std.specs.Prelude.{◌≡◌, true, IfOk, IfErr};
-ghost use Rattle.json5_grammar.specs.Model.Collections.{object_of};
-ghost use Rattle.json5_de.specs.State.{SameText};
-ghost use Rattle.json5_de.specs.DeserializeLaw.{Gives, Completes, CompletesFree, Unprompted};
+ghost use Rattle.std.specs.Prelude.{◌≡◌, true};
 ghost use Rattle.json5_fields.specs.Layouts.{all_differ};
-ghost use Rattle.json5_fields.specs.Only.{only_these};
-ghost use Rattle.json5_fields.specs.Spares.{struct_free};
-ghost use Rattle.json5_fields.specs.Described.{RefusesOnly, ReadsOnly};
+ghost use Rattle.json5_fields.specs.Described.{ReadsOnly};
 
 use crate::field_names::UnknownField;
 use crate::fields::StructFields;
@@ -51,33 +46,6 @@ impl<I: Input, V: Drop, F: StructFields<I, V>> Fields<I> for OnlyMembers<F, F::R
     }
 }
 
-/// The same as `read_struct_only`, by separate clauses.
-#[inline(always)]
-fn read_only<I: Input, V: Drop, F: StructFields<I, V>>(
-    de: &mut Deserializer<I>,
-    fields: F,
-) -> Result<V>
-    requires { all_differ (F.layout (F.shape fields)).names ≡ true }
-    ensures sound { IfOk result (λ v. Gives F.content (object_of (only_these (F.layout (F.shape fields)))) de.old de.new v) }
-    ensures complete { Completes (object_of (only_these (F.layout (F.shape fields)))) de.old result }
-    ensures no_memory { CompletesFree (struct_free F.allocation_free) (object_of (only_these (F.layout (F.shape fields)))) de.old result }
-    ensures refused { IfErr result (λ e. RefusesOnly (F.layout (F.shape fields)) F.faults de.old e de.new) }
-    ensures unprompted { Unprompted de.old result }
-    ensures same_text { SameText de.old de.new }
-{
-    let reading = fields.start();
-    let mut members = OnlyMembers::<F, F::Reading, V> {
-        reading,
-        of: PhantomData,
-    };
-    let mut map = de.deserialize_map()?;
-    map.read_fields(&mut members)?;
-    let OnlyMembers { reading, of: _ } = members;
-    let output = F::finish(reading, &mut map)?;
-    map.end()?;
-    Ok(output)
-}
-
 /// Reads an object into the values of these fields, as [`read_struct`](crate::read_struct) does, and refuses any other field.
 ///
 /// ```text
@@ -97,5 +65,15 @@ pub fn read_struct_only<I: Input, V: Drop, F: StructFields<I, V>>(
     requires { all_differ (F.layout (F.shape fields)).names ≡ true }
     ensures { ReadsOnly F.content (F.layout (F.shape fields)) F.allocation_free F.faults de.old de.new result }
 {
-    read_only(de, fields)
+    let reading = fields.start();
+    let mut members = OnlyMembers::<F, F::Reading, V> {
+        reading,
+        of: PhantomData,
+    };
+    let mut map = de.deserialize_map()?;
+    map.read_fields(&mut members)?;
+    let OnlyMembers { reading, of: _ } = members;
+    let output = F::finish(reading, &mut map)?;
+    map.end()?;
+    Ok(output)
 }

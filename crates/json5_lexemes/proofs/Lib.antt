@@ -12,6 +12,7 @@ pub mod Stripped
 pub mod PlainDocuments
 pub mod SettledLists
 pub mod SameTrees
+pub mod SharedRuns
 pub mod RunsPassed
 pub mod PlainTokens
 pub mod PlainNumbers

@@ -7,6 +7,7 @@ pub mod laws;
 mod pieces;
 mod plain;
 mod rest;
+mod runs;
 mod same;
 
 pub use pieces::{Piece, Pieces};

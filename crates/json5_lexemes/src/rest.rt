@@ -3,9 +3,10 @@
 ghost use Rattle.std.specs.Prelude.{◌≡◌, ◌<◌, ◌≤◌, ◌↔◌, IsTrue, false, length, slice_get, slice_index};
 ghost use Rattle.json5_tokens.specs.Scan.{IsFront, StartsWith};
 ghost use Rattle.json5_lexemes.specs.PlainSteps.{BeginsWith, IsPast};
-ghost use Rattle.json5_lexemes.specs.Runs.{IsRun, IsSpaces, PassesRun, PassesSpaces, is_alphanumeric};
+ghost use Rattle.json5_lexemes.specs.Runs.{PassesRun, PassesSeparators};
 ghost use Rattle.json5_lexemes.specs.SameSteps.{Takes};
 
+use crate::runs::{Run, is_solid, separators_len};
 use std::marker::Model;
 
 /// What is left of a text.
@@ -55,6 +56,12 @@ impl<'x> Rest<'x> {
         ensures { result ≡ slice_get self.now.unread 0 }
     {
         self.text.chars().next()
+    }
+
+    /// Whether a lexeme is surely next.
+    #[inline(always)]
+    pub(crate) fn begins_lexeme(&self) -> bool {
+        is_solid(self.text.as_bytes(), 0)
     }
 
     /// Takes the character if it is next, and says whether it was.
@@ -115,35 +122,24 @@ pub(crate) fn past_byte(text: &str, byte: u8) -> Option<&str>
     Some(past_first(text))
 }
 
-/// Passes over spaces, if any.
+/// Passes over blanks and commas, but for some.
 #[inline(always)]
-pub(crate) fn pass_spaces(text: &mut Rest<'_>)
-    ensures { PassesSpaces text.old text.new }
+pub(crate) fn pass_separator_run(text: &mut Rest<'_>)
+    ensures { PassesSeparators text.old text.new }
 {
-    let Some((_, rest)) = text.text.split_at_checked(spaces_len(text.text.as_bytes())) else {
+    let len = separators_len(text.text.as_bytes());
+    let Some((_, rest)) = text.text.split_at_checked(len) else {
         return;
     };
     text.text = rest;
 }
 
-/// How many spaces are in front.
+/// Passes over a run, as long as it is the same in both texts.
 #[inline(always)]
-fn spaces_len(bytes: &[u8]) -> usize
-    ensures { IsSpaces bytes.now result }
+pub(crate) fn pass_run<'x>(left: &mut Rest<'x>, right: &mut Rest<'x>, run: Run)
+    ensures { PassesRun run left.old right.old left.new right.new }
 {
-    let mut len = 0;
-    while len < bytes.len() && bytes[len] == b' ' {
-        len += 1;
-    }
-    len
-}
-
-/// Passes over letters and digits of ASCII, as long as they are the same in both texts.
-#[inline(always)]
-pub(crate) fn pass_run<'x>(left: &mut Rest<'x>, right: &mut Rest<'x>)
-    ensures { PassesRun left.old right.old left.new right.new }
-{
-    let len = run_len(left.text.as_bytes(), right.text.as_bytes());
+    let len = run.shared_len(left.text.as_bytes(), right.text.as_bytes());
     let Some((_, left_rest)) = left.text.split_at_checked(len) else {
         return;
     };
@@ -152,27 +148,4 @@ pub(crate) fn pass_run<'x>(left: &mut Rest<'x>, right: &mut Rest<'x>)
     };
     left.text = left_rest;
     right.text = right_rest;
-}
-
-/// How many letters and digits in front are the same.
-#[inline(always)]
-fn run_len(left: &[u8], right: &[u8]) -> usize
-    ensures { IsRun left.now right.now result }
-{
-    let mut len = 0;
-    while len < left.len() && len < right.len() {
-        if left[len] != right[len] || !is_alphanumeric(left[len]) {
-            return len;
-        }
-        len += 1;
-    }
-    len
-}
-
-/// Whether the byte is a letter or a digit of ASCII.
-#[inline(always)]
-fn is_alphanumeric(byte: u8) -> bool
-    ensures { result ≡ is_alphanumeric byte }
-{
-    byte >= b'a' && byte <= b'z' || byte >= b'A' && byte <= b'Z' || byte >= b'0' && byte <= b'9'
 }

@@ -5,7 +5,7 @@ use crate::plain_readers::reads_as_json;
 use crate::rows::{text_of, wanted_of};
 use crate::streams;
 use json5::Layout;
-use json5_convert::{Keys, LastCommas, Numbers, Quotes, Spelling, from_toml, respell, to_toml};
+use json5_convert::{Keys, LastCommas, Numbers, Quotes, Spelling, from_toml, respell, to_toml, to_toml_with_dates};
 use json5_read::read_document;
 use json5_types::error::Result;
 use json5_types::value::Value;
@@ -17,7 +17,7 @@ pub(crate) fn outcome_of(alloc: Global, row: &Value) -> Outcome {
     if to == "lines" {
         return streams::outcome_of(alloc, row);
     }
-    if let Some(made) = written(alloc, text_of(row, "from"), to, before) {
+    if let Some(made) = written(alloc, row, to, before) {
         return match made {
             Ok(made) => judged(made, wanted),
             Err(error) => said(wanted, format!(in alloc; "{error}").ok()),
@@ -45,11 +45,11 @@ fn judged(made: String, wanted: &str) -> Outcome {
 }
 
 /// What is written of the text's value, where no token is spelled anew.
-fn written(alloc: Global, from: &str, to: &str, text: &str) -> Option<Result<String>> {
-    match (from, to) {
-        ("toml", "toml") => Some(toml_again(alloc, text)),
+fn written(alloc: Global, row: &Value, to: &str, text: &str) -> Option<Result<String>> {
+    match (text_of(row, "from"), to) {
+        ("toml", "toml") => Some(toml_again(alloc, row, text)),
         ("toml", _) => Some(compact_of_toml(alloc, text)),
-        (_, "toml") => Some(toml_of(alloc, text)),
+        (_, "toml") => Some(toml_of(alloc, row, text)),
         _ => None,
     }
 }
@@ -60,13 +60,21 @@ fn compact_of_toml(alloc: Global, text: &str) -> Result<String> {
 }
 
 /// The JSON5 text's value as TOML.
-fn toml_of(alloc: Global, text: &str) -> Result<String> {
-    to_toml(alloc, &read_document(alloc, text)?)
+fn toml_of(alloc: Global, row: &Value, text: &str) -> Result<String> {
+    made_toml(alloc, row, &read_document(alloc, text)?)
 }
 
 /// The TOML text's value as TOML.
-fn toml_again(alloc: Global, text: &str) -> Result<String> {
-    to_toml(alloc, &from_toml(alloc, text)?)
+fn toml_again(alloc: Global, row: &Value, text: &str) -> Result<String> {
+    made_toml(alloc, row, &from_toml(alloc, text)?)
+}
+
+/// The value as TOML, with dates where the row asks for them.
+fn made_toml(alloc: Global, row: &Value, value: &Value) -> Result<String> {
+    match row.get("dates") {
+        Some(_) => to_toml_with_dates(alloc, value),
+        None => to_toml(alloc, value),
+    }
 }
 
 /// The spelling of a row, where each choice may be made alone.

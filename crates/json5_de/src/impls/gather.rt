@@ -41,9 +41,10 @@ pub(crate) fn gather<I: Input, K: DeserializeKey<I>, V: Deserialize<I>, M: Gathe
 {
     let mut fault = Error::new(ErrorCode::Failed);
     let start = de.open(BracketKind::Object)?;
+    let mut key_start = start;
     let mut comma_due = false;
     loop {
-        let Some(next) = de.take_member_key::<K>(comma_due, &mut fault) else {
+        let Some(next) = de.take_member_key::<K>(comma_due, &mut key_start, &mut fault) else {
             de.set_failed(true);
             return Err(de.with_position_at(start, fault));
         };

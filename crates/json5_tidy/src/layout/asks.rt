@@ -1,15 +1,10 @@
 //! Comments that ask to leave something as it is.
 
-ghost use Rattle.json5_tidy.specs.Lexemes.{IsWithin};
-
-use crate::layout::lexemes::{Kind, Lexeme, lexeme_at};
+use crate::layout::lexemes::{Kind, lexeme_at};
 
 /// Whether the comment asks that what follows it be left as it is: its first word is `json5-tidy-ignore` or `prettier-ignore`.
-pub(crate) fn is_ignore(bytes: &[u8], comment: Lexeme) -> bool
-    requires { IsWithin bytes.now comment }
-{
-    let text = &bytes[comment.start..comment.end];
-    begins_with(text, b"json5-tidy-ignore") || begins_with(text, b"prettier-ignore")
+pub(crate) fn is_ignore(comment: &[u8]) -> bool {
+    begins_with(comment, b"json5-tidy-ignore") || begins_with(comment, b"prettier-ignore")
 }
 
 /// Whether a comment before the value asks that the whole text be left as it is.

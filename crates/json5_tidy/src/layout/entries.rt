@@ -1,7 +1,7 @@
 //! What lies ahead in a collection.
 
 ghost use Rattle.std.specs.Prelude.{◌≤◌, length};
-ghost use Rattle.json5_tidy.specs.Lexemes.{IsFurther, IsWithin};
+ghost use Rattle.json5_tidy.specs.Lexemes.{IsFurther};
 
 use crate::layout::lexemes::{Kind, Lexeme, after_blanks, kind_and_end, lexeme_at};
 
@@ -79,7 +79,7 @@ pub(crate) fn is_in_rows(bytes: &[u8], from: usize) -> bool
             Kind::Close => return words.are_in_rows(),
             Kind::Open | Kind::Colon => return false,
             Kind::Word if next.is_broken => return false,
-            Kind::Word => words.take(next.lines, is_number(bytes, next)),
+            Kind::Word => words.take(next.lines, is_number(&bytes[next.start..next.end])),
             _ => words.pass(next),
         }
         at = next.end;
@@ -120,12 +120,9 @@ impl Words {
 }
 
 /// Whether the word, which is no name, is a number or null.
-fn is_number(bytes: &[u8], word: Lexeme) -> bool
-    requires { IsWithin bytes.now word }
-{
-    let text = &bytes[word.start..word.end];
-    match text.first() {
-        Some(b'n') => text == b"null".as_slice(),
+fn is_number(word: &[u8]) -> bool {
+    match word.first() {
+        Some(b'n') => word == b"null".as_slice(),
         Some(first) => matches!(*first, b'0'..=b'9' | b'+' | b'-' | b'.' | b'I' | b'N'),
         None => false,
     }

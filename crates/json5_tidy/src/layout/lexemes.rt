@@ -126,18 +126,24 @@ pub(crate) fn kind_and_end(bytes: &[u8], at: usize) -> (Kind, usize, bool)
 }
 
 /// The same of a comment. A slash that begins no comment is a word.
+#[inline(always)]
 fn comment_and_end(bytes: &[u8], at: usize) -> (Kind, usize, bool)
     requires { at < length bytes.now }
     ensures { EndsWithin bytes.now at result.1 }
 {
-    if at + 1 >= bytes.len() {
-        return (Kind::Word, at + 1, false);
-    }
-    match bytes[at + 1] {
+    match byte_at(bytes, at + 1) {
         b'/' => (Kind::Line, line_comment_end(bytes, at), false),
-        b'*' => block_and_end(bytes, at),
+        b'*' => {
+            let end = block_end(bytes, at);
+            (Kind::Block, end, has_break(&bytes[at..end]))
+        }
         _ => (Kind::Word, word_end(bytes, at), false),
     }
+}
+
+/// Whether an LF or a CR is in the text.
+fn has_break(text: &[u8]) -> bool {
+    memchr2(b'\n', b'\r', text).is_some()
 }
 
 #[inline(always)]
@@ -203,16 +209,6 @@ pub(crate) fn line_end_after(bytes: &[u8], from: usize) -> usize
         at = past(bytes, at);
     }
     at
-}
-
-/// The same of a `/* */` comment.
-fn block_and_end(bytes: &[u8], from: usize) -> (Kind, usize, bool)
-    requires { from < length bytes.now }
-    ensures { EndsWithin bytes.now from result.1 }
-{
-    let end = block_end(bytes, from);
-    let is_broken = memchr2(b'\n', b'\r', &bytes[from..end]).is_some();
-    (Kind::Block, end, is_broken)
 }
 
 /// Where the `/* */` comment at this offset ends.

@@ -4,64 +4,38 @@ ghost use Rattle.std.specs.Prelude.{◌≤◌, IfOk, length};
 ghost use Rattle.json5_tidy.specs.Lexemes.{IsWithin};
 
 use crate::layout::asks::is_ignore;
-use crate::layout::columns::has_wide;
 use crate::layout::entries::has_entry;
 use crate::layout::lexemes::{Kind, Lexeme, lexeme_at};
 use crate::layout::made::Made;
 use crate::layout::measure::{Fit, Measure};
 use std::alloc::AllocError;
 
-/// Writes the collection whose opening bracket ends here, if it can be on one line, with so many columns after that
-/// bracket. It can't if a `//` comment or a line end in a lexeme is in it, or a comment that leaves an entry as it is,
-/// or a line ends between a bracket and its first token. Returns where it ends, and the same offset if it wasn't
-/// written.
+/// Writes the collection whose opening bracket ends here, if it can be on one line, with so many columns or bytes after
+/// that bracket. It can't if a `//` comment or a line end in a lexeme is in it, or a comment that leaves an entry as it
+/// is, or a line ends between a bracket and its first token. Returns where it ends, or how far it was looked at.
 pub(crate) fn put_in_line(
     made: &mut Made,
     bytes: &[u8],
     from: usize,
-    room: usize,
     is_object: bool,
-) -> Result<usize, AllocError>
-    requires { from ≤ length bytes.now }
-    ensures { IfOk result (λ end. (from ≤ end) × (end ≤ length bytes.now)) }
-{
-    let mark = made.mark();
-    // Bytes are counted first, since most texts are ASCII.
-    let (fit, end) = put_counted(made, bytes, from, Measure::new(is_object, room, false))?;
-    if matches!(fit, Fit::Fits) {
-        return Ok(end);
-    }
-    made.take_back(mark);
-    if matches!(fit, Fit::Breaks) || !has_wide(&bytes[from..end]) {
-        return Ok(from);
-    }
-    let (fit, end) = put_counted(made, bytes, from, Measure::new(is_object, room, true))?;
-    if matches!(fit, Fit::Fits) {
-        return Ok(end);
-    }
-    made.take_back(mark);
-    Ok(from)
-}
-
-/// Writes as much of the collection as the measure takes, and returns where that ends.
-fn put_counted(
-    made: &mut Made,
-    bytes: &[u8],
-    from: usize,
-    measure: Measure,
+    room: usize,
+    counts_columns: bool,
 ) -> Result<(Fit, usize), AllocError>
     requires { from ≤ length bytes.now }
     ensures { IfOk result (λ r. (from ≤ r.1) × (r.1 ≤ length bytes.now)) }
 {
-    let mut measure = measure;
+    let mark = made.mark();
+    let mut measure = Measure::new(is_object, room, counts_columns);
     let mut at = from;
     loop {
         let lexeme = lexeme_at(bytes, at);
         if measure.is_broken_by(lexeme) || is_ignore_in_line(bytes, lexeme) {
+            made.take_back(mark);
             return Ok((Fit::Breaks, at));
         }
         at = lexeme.end;
         if !put_measured(made, bytes, &mut measure, lexeme)? {
+            made.take_back(mark);
             return Ok((Fit::Wide, at));
         }
         if measure.is_over() {
@@ -107,5 +81,5 @@ fn put_measured(
 fn is_ignore_in_line(bytes: &[u8], lexeme: Lexeme) -> bool
     requires { IsWithin bytes.now lexeme }
 {
-    matches!(lexeme.kind, Kind::Block) && is_ignore(bytes, lexeme)
+    matches!(lexeme.kind, Kind::Block) && is_ignore(&bytes[lexeme.start..lexeme.end])
 }

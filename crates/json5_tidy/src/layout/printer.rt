@@ -1,17 +1,19 @@
 //! Writes the lexemes of a document in the layout.
 
 ghost use Rattle.std.specs.Prelude.{◌≤◌, ◌<◌, IfOk, length};
-ghost use Rattle.json5_tidy.specs.Lexemes.{IsPast, IsWithin};
+ghost use Rattle.json5_tidy.specs.Lexemes.{EndsWithin, IsPast, IsWithin};
 
 use crate::layout::asks::is_ignore;
-use crate::layout::columns::columns;
+use crate::layout::columns::{columns, has_wide};
 use crate::layout::entries::{ends_line, entry_end, has_entry, is_in_rows};
 use crate::layout::lexemes::{Kind, Lexeme, lexeme_at};
 use crate::layout::lines::has_crlf;
 use crate::layout::made::Made;
+use crate::layout::measure::Fit;
 use crate::layout::on_line::put_in_line;
 use crate::layout::spacing::Spacing;
 use crate::layout::stars::{is_star_comment, last_line, next_line};
+use memchr::memchr;
 use std::alloc::{AllocError, Global};
 
 /// Where a lexeme is.
@@ -54,6 +56,9 @@ struct Printer {
     style: Spacing,
     /// Whether a line ends with CR LF.
     is_crlf: bool,
+    is_ascii: bool,
+    /// Whether tabs are in the text, or indent its lines.
+    has_tabs: bool,
     frames: Vec<Frame>,
     frame: Frame,
     made: Made,
@@ -116,6 +121,8 @@ impl Printer {
         Ok(Printer {
             style,
             is_crlf: style.is_crlf.unwrap_or_else(|| has_crlf(bytes)),
+            is_ascii: !has_wide(bytes),
+            has_tabs: style.indent == 0 || memchr(b'\t', bytes).is_some(),
             frames: Vec::new(alloc),
             frame: document,
             made: Made::new(alloc, room, style.tab_width)?,
@@ -230,7 +237,7 @@ impl Printer {
     {
         let lines = self.lines_before(bytes, word.lines, self.comma_due)?;
         if self.is_ignored {
-            return self.put_as_it_is(bytes, word, lines);
+            return self.put_as_it_is(bytes, word.start, word.end, lines);
         }
         self.before_word(bytes, word, lines)?;
         self.end_word();
@@ -248,7 +255,7 @@ impl Printer {
     {
         let lines = self.lines_before(bytes, bracket.lines, self.comma_due)?;
         if self.is_ignored {
-            return self.put_as_it_is(bytes, bracket, lines);
+            return self.put_as_it_is(bytes, bracket.start, bracket.end, lines);
         }
         self.before_word(bytes, bracket, lines)?;
         self.part(bytes, bracket)?;
@@ -290,22 +297,29 @@ impl Printer {
         Ok(lines.saturating_add(before))
     }
 
-    /// Writes an entry as it is.
+    /// Writes the entry as it is whose first lexeme is from one offset to another. Returns where the entry ends.
     #[inline(never)]
     fn put_as_it_is(
         &mut self,
         bytes: &[u8],
-        lexeme: Lexeme,
+        start: usize,
+        first_end: usize,
         lines: usize,
     ) -> Result<usize, AllocError>
-        requires inside { IsWithin bytes.now lexeme }
-        requires some { lexeme.start < lexeme.end }
-        ensures { IfOk result (IsPast bytes.now lexeme) }
+        requires { EndsWithin bytes.now start first_end }
+        ensures { IfOk result (EndsWithin bytes.now start) }
     {
-        let end = entry_end(bytes, lexeme.start, self.frame.is_object).max(lexeme.end);
-        self.before_word(bytes, lexeme, lines)?;
-        self.made.part(bytes, lexeme.start, end)?;
-        self.made.note_lines(bytes, lexeme.start, end)?;
+        let end = entry_end(bytes, start, self.frame.is_object).max(first_end);
+        let first = Lexeme {
+            kind: Kind::Word,
+            start,
+            end: first_end,
+            lines,
+            is_broken: false,
+        };
+        self.before_word(bytes, first, lines)?;
+        self.made.part(bytes, start, end)?;
+        self.made.note_lines(bytes, start, end)?;
         self.end_value();
         self.last = Kind::Word;
         self.is_ignored = false;
@@ -356,20 +370,43 @@ impl Printer {
         requires { end ≤ length bytes.now }
         ensures { IfOk result (λ after. (end ≤ after) × (after ≤ length bytes.now)) }
     {
-        let used = self
-            .made
-            .column(bytes)
-            .saturating_add(usize::from(!self.frame.is_document));
-        if used > self.style.width {
+        let used = if self.has_tabs {
+            self.made.column(bytes)
+        } else {
+            self.made.line_len()
+        };
+        // Bytes are counted first: no character takes more columns than it has bytes, but for tabs.
+        let (fit, after) = self.put_behind(bytes, end, is_object, used, false)?;
+        if !matches!(fit, Fit::Wide) || self.is_ascii {
+            return Ok(if matches!(fit, Fit::Fits) { after } else { end });
+        }
+        let column = self.made.column(bytes);
+        if column == used && !has_wide(&bytes[end..after]) {
             return Ok(end);
         }
-        put_in_line(
-            &mut self.made,
-            bytes,
-            end,
-            self.style.width - used,
-            is_object,
-        )
+        let (fit, after) = self.put_behind(bytes, end, is_object, column, true)?;
+        Ok(if matches!(fit, Fit::Fits) { after } else { end })
+    }
+
+    /// Writes the collection whose bracket ends here, if there is room for it behind so many columns or bytes. Returns
+    /// where it ends, or how far it was looked at.
+    fn put_behind(
+        &mut self,
+        bytes: &[u8],
+        end: usize,
+        is_object: bool,
+        used: usize,
+        counts_columns: bool,
+    ) -> Result<(Fit, usize), AllocError>
+        requires { end ≤ length bytes.now }
+        ensures { IfOk result (λ r. (end ≤ r.1) × (r.1 ≤ length bytes.now)) }
+    {
+        let used = used.saturating_add(usize::from(!self.frame.is_document));
+        if used > self.style.width {
+            return Ok((Fit::Wide, end));
+        }
+        let room = self.style.width - used;
+        put_in_line(&mut self.made, bytes, end, is_object, room, counts_columns)
     }
 
     /// Begins a collection over several lines.
@@ -475,7 +512,7 @@ impl Printer {
         {
             return;
         }
-        if is_ignore(bytes, comment) {
+        if is_ignore(&bytes[comment.start..comment.end]) {
             self.is_ignored = matches!(self.place, Place::Entry);
         }
     }

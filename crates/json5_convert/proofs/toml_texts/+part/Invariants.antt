@@ -9,9 +9,9 @@ use Rattle.json5_convert.proofs.toml_texts.+part.Given as goal
 -- TOML has the elements so far, and has all if it has those that are left
 abbrev pub invariant-array_in-loop-index : goal.invariant-array_in-loop-index
 invariant-array_in-loop-index l =
-    (map view l.array.items ≡ map ordered_part (take l.index l.items))
-    × (AreToml (items_view (drop l.index l.items)) → AreToml (items_view l.items))
-    × (AreToml (items_view l.items) → AreToml (items_view (drop l.index l.items)))
+    (map view l.array.items ≡ map (ordered_part l.dates) (take l.index l.items))
+    × (AreToml l.dates (items_view (drop l.index l.items)) → AreToml l.dates (items_view l.items))
+    × (AreToml l.dates (items_view l.items) → AreToml l.dates (items_view (drop l.index l.items)))
 
 -- the same of the members
 abbrev pub invariant-table_in-loop-key : goal.invariant-table_in-loop-key
@@ -19,6 +19,6 @@ invariant-table_in-loop-key l =
     let rest = fields_view (drop l.key-index l.fields) in
     let all = fields_view l.fields in
     let done = members_view l.table.entries in
-    (ordered_among done (data_members rest) ≡ ordered_among toml.no_members (data_members all))
-    × (AreTomlAmong done rest → AreTomlAmong toml.no_members all)
-    × (AreTomlAmong toml.no_members all → AreTomlAmong done rest)
+    (ordered_among done (data_members l.dates rest) ≡ ordered_among toml.no_members (data_members l.dates all))
+    × (AreTomlAmong l.dates done rest → AreTomlAmong l.dates toml.no_members all)
+    × (AreTomlAmong l.dates toml.no_members all → AreTomlAmong l.dates done rest)

@@ -1,4 +1,4 @@
-use Rattle.std.proofs.Common.{◌≡◌, rules, arith, ap, sym, ◌∙◌, [], ◌∷◌, ◌++◌, map, take, take_all, append_assoc, string_bytes}
+use Rattle.std.proofs.Common.{◌≡◌, rules, arith, ap, sym, ◌∙◌, [], ◌∷◌, ◌++◌, map, take, take_all, append_assoc, string_bytes, false}
 use Rattle.std.proofs.lemmas.List.{take_more}
 use Rattle.json5_types.specs.ValueMeanings.{fields_view}
 use Rattle.toml.specs.Data as toml
@@ -28,7 +28,7 @@ fields_in-loop-key-preserved t c =
     let theirs = ap undated_members (views.members_view-last done e.0 e.1) ∙ undated_members-last (members_view done) (string_bytes e.0) (view e.1) in (
       done ++ e ∷ [],
       all ∙ sym (append_assoc done (e ∷ []) left),
-      ap (λ fs. data_members (fields_view fs)) c.in_ok-push.ensures.items ∙ ours ∙ rw (l.invariant.2, named, c.in_ok-value_in.ensures) (sym theirs),
+      ap (λ fs. data_members false (fields_view fs)) c.in_ok-push.ensures.items ∙ ours ∙ rw (l.invariant.2, named, c.in_ok-value_in.ensures) (sym theirs),
     )
 
 pub items_in-loop-item-preserved : goal.items_in-loop-item-preserved

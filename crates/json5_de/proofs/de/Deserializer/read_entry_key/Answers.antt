@@ -1,5 +1,5 @@
 use Rattle.std.proofs.Common.{refl}
-use Rattle.json5_de.proofs.KeyPlaces.{given_here}
+use Rattle.json5_de.proofs.KeyPlaces.{given_here, read_begins}
 use Rattle.json5_de.proofs.MemberRefusals.{no_key_at_entry, read_key_placed}
 use Rattle.json5_de.proofs.de.Deserializer.read_entry_key.Goals as goal
 
@@ -9,8 +9,12 @@ returns-then-not-at_key-clause-reads g c = λ comma_due from at.
 
 pub returns-clause-reads : goal.returns-clause-reads
 returns-clause-reads g c = λ comma_due from at.
-    read_key_placed g.K.DeserializeKey.content g.K.DeserializeKey.convert g.K.DeserializeKey.refuses comma_due from c.args.self.now c.read_key-read.new.self (record { entry = at; begins = c.if-not-at_key.ensures.found refl }) c.read_key-read.result c.positioned_key.result c.offset-start.result
-    c.read_key-read.ensures c.offset-start.ensures c.positioned_key.ensures
+    read_key_placed g.K.DeserializeKey.content g.K.DeserializeKey.convert g.K.DeserializeKey.refuses comma_due from c.args.self.now c.read_key-read.new.self (record { entry = at; begins = c.if-not-at_key.ensures.found refl }) c.read_key-read.result c.positioned_key.result c.offset-offset.result
+    c.read_key-read.ensures c.offset-offset.ensures c.positioned_key.ensures
 
-pub returns-clause-here : goal.returns-clause-here
-returns-clause-here g c = given_here g.K.DeserializeKey.content g.K.DeserializeKey.convert c.args.self.now c.read_key-read.new.self _ c.read_key-read.result c.positioned_key.result c.read_key-read.ensures.sound c.positioned_key.ensures
+pub returns-clause-begins : goal.returns-clause-begins
+returns-clause-begins g c = λ solid. read_begins g.K.DeserializeKey.content g.K.DeserializeKey.convert c.args.self.now c.read_key-read.new.self c.positioned_key.result c.offset-offset.ensures solid
+    (given_here g.K.DeserializeKey.content g.K.DeserializeKey.convert c.args.self.now c.read_key-read.new.self _ c.read_key-read.result c.positioned_key.result c.read_key-read.ensures.sound c.positioned_key.ensures)
+
+pub returns-then-not-at_key-clause-begins : goal.returns-then-not-at_key-clause-begins
+returns-then-not-at_key-clause-begins g c = λ solid. tt

@@ -17,12 +17,12 @@ loop-next-init g c = record {
 pub loop-next-smaller : goal.loop-next-smaller
 loop-next-smaller g c =
     member_shortens g.K.DeserializeKey.content g.V.Deserialize.content g.K.DeserializeKey.convert g.V.Deserialize.convert g.K.DeserializeKey.refuses g.V.Deserialize.refuses c.in-Some-next.key c.in-Some-take_member_value.value
-    (rw c.in-Some-next.is at c.in-Some.ensures) c.in-Some-take_member_value.ensures.reads
+    (rw c.in-Some-next.is at c.in-Some.ensures.reads) c.in-Some-take_member_value.ensures.reads
 
 pub loop-next-preserved : goal.loop-next-preserved
 loop-next-preserved g c =
     let m = c.loop-next.invariant in
-    let key = reads_key g.K.DeserializeKey.content g.V.Deserialize.content g.K.DeserializeKey.convert g.V.Deserialize.convert g.K.DeserializeKey.refuses c.in-Some-next.key m.reading (rw c.in-Some-next.is at c.in-Some.ensures) in
+    let key = reads_key g.K.DeserializeKey.content g.V.Deserialize.content g.K.DeserializeKey.convert g.V.Deserialize.convert g.K.DeserializeKey.refuses c.in-Some-next.key m.reading (rw c.in-Some-next.is at c.in-Some.ensures.reads) in
     record {
       pairs = m.pairs ++ (c.in-Some-next.key, c.in-Some-take_member_value.value) ∷ [];
       gathered = c.in-Ok.ensures.put m.pairs m.gathered;
@@ -35,50 +35,50 @@ returns-in_err-start-clause-complete g c = unopened_completes (pair_contents g.K
 pub returns-in_default-clause-complete : goal.returns-in_default-clause-complete
 returns-in_default-clause-complete g c =
     key_completes {U = Unit {0}} c.with_position_at.result (Err c.with_position_at.result) refl c.loop-next.invariant.reading
-    (key_refused g.K.DeserializeKey.content g.K.DeserializeKey.convert g.K.DeserializeKey.refuses c.in_default.ensures (rw c.set_failed.ensures at c.with_position_at.ensures))
+    (key_refused g.K.DeserializeKey.content g.K.DeserializeKey.convert g.K.DeserializeKey.refuses c.in_default.ensures.reads (rw c.set_failed.ensures at c.with_position_at.ensures))
 
 pub returns-in_default-clause-refused : goal.returns-in_default-clause-refused
 returns-in_default-clause-refused g c =
     key_faults {U = Unit {0}} (sides g.K.DeserializeKey.convert g.V.Deserialize.convert g.K.DeserializeKey.refuses g.V.Deserialize.refuses) c.with_position_at.result (Err c.with_position_at.result) _ refl c.loop-next.invariant.reading
-    (λ live. key_fault g.K.DeserializeKey.content g.K.DeserializeKey.convert g.K.DeserializeKey.refuses c.in_default.ensures (rw c.set_failed.ensures at c.with_position_at.ensures)) (search rules)
+    (λ live. key_fault g.K.DeserializeKey.content g.K.DeserializeKey.convert g.K.DeserializeKey.refuses c.in_default.ensures.reads (rw c.set_failed.ensures at c.with_position_at.ensures)) (search rules)
 
 pub returns-in_default-clause-unprompted : goal.returns-in_default-clause-unprompted
-returns-in_default-clause-unprompted g c = λ live. key_unprompted g.K.DeserializeKey.content g.K.DeserializeKey.convert g.K.DeserializeKey.refuses c.in_default.ensures (rw c.set_failed.ensures at c.with_position_at.ensures) c.loop-next.invariant.reading
+returns-in_default-clause-unprompted g c = λ live. key_unprompted g.K.DeserializeKey.content g.K.DeserializeKey.convert g.K.DeserializeKey.refuses c.in_default.ensures.reads (rw c.set_failed.ensures at c.with_position_at.ensures) c.loop-next.invariant.reading
 
 pub returns-in_default-clause-same_text : goal.returns-in_default-clause-same_text
-returns-in_default-clause-same_text g c = same_text_after_key g.K.DeserializeKey.content g.K.DeserializeKey.convert g.K.DeserializeKey.refuses c.in_default.ensures (rw c.set_failed.ensures at c.with_position_at.ensures) c.loop-next.invariant.reading c.set_failed.ensures
+returns-in_default-clause-same_text g c = same_text_after_key g.K.DeserializeKey.content g.K.DeserializeKey.convert g.K.DeserializeKey.refuses c.in_default.ensures.reads (rw c.set_failed.ensures at c.with_position_at.ensures) c.loop-next.invariant.reading c.set_failed.ensures
 
 pub returns-in_default-take_member_value-clause-complete : goal.returns-in_default-take_member_value-clause-complete
 returns-in_default-take_member_value-clause-complete g c =
-    let key = reads_key g.K.DeserializeKey.content g.V.Deserialize.content g.K.DeserializeKey.convert g.V.Deserialize.convert g.K.DeserializeKey.refuses c.in-Some-next.key c.loop-next.invariant.reading (rw c.in-Some-next.is at c.in-Some.ensures) in
+    let key = reads_key g.K.DeserializeKey.content g.V.Deserialize.content g.K.DeserializeKey.convert g.V.Deserialize.convert g.K.DeserializeKey.refuses c.in-Some-next.key c.loop-next.invariant.reading (rw c.in-Some-next.is at c.in-Some.ensures.reads) in
     value_completes {U = Unit {0}} c.with_position_at-in_default-take_member_value.result (Err c.with_position_at-in_default-take_member_value.result) c.in-Some-next.key refl key
     (value_refused g.V.Deserialize.content g.V.Deserialize.convert g.V.Deserialize.refuses c.in_default-take_member_value.ensures.reads (rw c.set_failed-in_default-take_member_value.ensures at c.with_position_at-in_default-take_member_value.ensures))
 
 pub returns-in_default-take_member_value-clause-refused : goal.returns-in_default-take_member_value-clause-refused
 returns-in_default-take_member_value-clause-refused g c =
-    let key = reads_key g.K.DeserializeKey.content g.V.Deserialize.content g.K.DeserializeKey.convert g.V.Deserialize.convert g.K.DeserializeKey.refuses c.in-Some-next.key c.loop-next.invariant.reading (rw c.in-Some-next.is at c.in-Some.ensures) in
+    let key = reads_key g.K.DeserializeKey.content g.V.Deserialize.content g.K.DeserializeKey.convert g.V.Deserialize.convert g.K.DeserializeKey.refuses c.in-Some-next.key c.loop-next.invariant.reading (rw c.in-Some-next.is at c.in-Some.ensures.reads) in
     value_faults {U = Unit {0}} (sides g.K.DeserializeKey.convert g.V.Deserialize.convert g.K.DeserializeKey.refuses g.V.Deserialize.refuses) c.with_position_at-in_default-take_member_value.result (Err c.with_position_at-in_default-take_member_value.result) _ c.in-Some-next.key refl key
     (λ live. value_fault g.V.Deserialize.content g.V.Deserialize.convert g.V.Deserialize.refuses c.in_default-take_member_value.ensures.reads (rw c.set_failed-in_default-take_member_value.ensures at c.with_position_at-in_default-take_member_value.ensures)) (search rules)
 
 pub returns-in_default-take_member_value-clause-unprompted : goal.returns-in_default-take_member_value-clause-unprompted
 returns-in_default-take_member_value-clause-unprompted g c = λ live.
-    let key = reads_key g.K.DeserializeKey.content g.V.Deserialize.content g.K.DeserializeKey.convert g.V.Deserialize.convert g.K.DeserializeKey.refuses c.in-Some-next.key c.loop-next.invariant.reading (rw c.in-Some-next.is at c.in-Some.ensures) in
+    let key = reads_key g.K.DeserializeKey.content g.V.Deserialize.content g.K.DeserializeKey.convert g.V.Deserialize.convert g.K.DeserializeKey.refuses c.in-Some-next.key c.loop-next.invariant.reading (rw c.in-Some-next.is at c.in-Some.ensures.reads) in
     value_unprompted g.V.Deserialize.content g.V.Deserialize.convert g.V.Deserialize.refuses c.in_default-take_member_value.ensures.reads (rw c.set_failed-in_default-take_member_value.ensures at c.with_position_at-in_default-take_member_value.ensures) c.in-Some-next.key key
 
 pub returns-in_default-take_member_value-clause-same_text : goal.returns-in_default-take_member_value-clause-same_text
 returns-in_default-take_member_value-clause-same_text g c =
-    let key = reads_key g.K.DeserializeKey.content g.V.Deserialize.content g.K.DeserializeKey.convert g.V.Deserialize.convert g.K.DeserializeKey.refuses c.in-Some-next.key c.loop-next.invariant.reading (rw c.in-Some-next.is at c.in-Some.ensures) in
+    let key = reads_key g.K.DeserializeKey.content g.V.Deserialize.content g.K.DeserializeKey.convert g.V.Deserialize.convert g.K.DeserializeKey.refuses c.in-Some-next.key c.loop-next.invariant.reading (rw c.in-Some-next.is at c.in-Some.ensures.reads) in
     same_text_after_value g.V.Deserialize.content g.V.Deserialize.convert g.V.Deserialize.refuses c.in_default-take_member_value.ensures.reads (rw c.set_failed-in_default-take_member_value.ensures at c.with_position_at-in_default-take_member_value.ensures) c.in-Some-next.key key c.set_failed-in_default-take_member_value.ensures
 
 pub returns-in_err-close_or_fail-clause-complete : goal.returns-in_err-close_or_fail-clause-complete
 returns-in_err-close_or_fail-clause-complete g c =
     end_completes _ _ c.from_residual-in_err-close_or_fail.ensures.1 c.loop-next.invariant.reading
-    (no_member_left g.K.DeserializeKey.content g.K.DeserializeKey.convert g.K.DeserializeKey.refuses c.in_ok-start.start (rw c.in_default-next.is at c.in-Some.ensures))
+    (no_member_left g.K.DeserializeKey.content g.K.DeserializeKey.convert g.K.DeserializeKey.refuses c.in_ok-start.start (rw c.in_default-next.is at c.in-Some.ensures.reads))
     (λ r left. (object_closed (object_from c.take_member_key.new.self c.in_ok-start.start c.loop-next.comma_due false) _ _ c.in_err-close_or_fail.ensures).left r refl left)
 
 pub returns-in_err-close_or_fail-clause-refused : goal.returns-in_err-close_or_fail-clause-refused
 returns-in_err-close_or_fail-clause-refused g c =
-    let (at, comma_due, none) = gives_none g.K.DeserializeKey.content g.K.DeserializeKey.convert g.K.DeserializeKey.refuses c.in_ok-start.start (rw c.in_default-next.is at c.in-Some.ensures) in
+    let (at, comma_due, none) = gives_none g.K.DeserializeKey.content g.K.DeserializeKey.convert g.K.DeserializeKey.refuses c.in_ok-start.start (rw c.in_default-next.is at c.in-Some.ensures.reads) in
     closes_there (object_from c.loop-next.de c.in_ok-start.start c.loop-next.comma_due false) (object_from c.take_member_key.new.self c.in_ok-start.start c.loop-next.comma_due false) _ _ at
     (object_closed (object_from c.take_member_key.new.self c.in_ok-start.start c.loop-next.comma_due false) _ _ c.in_err-close_or_fail.ensures)
 
@@ -87,6 +87,6 @@ returns-clause-sound g c = (
   c.loop-next.invariant.pairs,
   c.loop-next.invariant.gathered,
   stops g.K.DeserializeKey.content g.V.Deserialize.content g.K.DeserializeKey.convert g.V.Deserialize.convert c.loop-next.invariant.reading refl
-      (all_members g.K.DeserializeKey.content g.K.DeserializeKey.convert g.K.DeserializeKey.refuses c.in_ok-start.start (rw c.in_default-next.is at c.in-Some.ensures))
+      (all_members g.K.DeserializeKey.content g.K.DeserializeKey.convert g.K.DeserializeKey.refuses c.in_ok-start.start (rw c.in_default-next.is at c.in-Some.ensures.reads))
       (object_closed (object_from c.take_member_key.new.self c.in_ok-start.start c.loop-next.comma_due false) _ _ c.in_ok-close_or_fail.ensures).read,
 )

@@ -3,12 +3,16 @@ use Rattle.json5_de.specs.FieldKeys.{field_key_text}
 use Rattle.json5_de.specs.Convert.{every_text}
 use Rattle.json5_de.specs.Lending.{map_state_of}
 use Rattle.json5_de.specs.ShortWays.{if_given}
+use Rattle.json5_de.proofs.KeyPlaces.{named_text}
 use Rattle.json5_de.proofs.Structs.{no_pairs, reads_name, takes_pair, all_read, key_not_free, key_refuses, pair_not_free, pair_refuses, live_after_key, live_at_brace, brace_next}
 use Rattle.json5_de.proofs.StructFaults.{live_before, key_cause, value_cause}
 use Rattle.json5_de.proofs.map.MapAccess.read_fields.Goals as goal
 
 pub loop-field_key-init : goal.loop-field_key-init
 loop-field_key-init g c = record { same_reference = refl; start = refl; same_text = refl; failed = λ f. f; no_key = c.requires.no_key; reading = no_pairs g.F.Fields.step (g.F.Fields.content c.args.fields.now) (map_state_of c.args.self.now) }
+
+pub read-requires-clause-named : goal.read-requires-clause-named
+read-requires-clause-named g c = rw c.as_str.ensures (named_text (rw c.if-branch.true at c.in_ok-next_field_key.ensures.key.begins))
 
 pub loop-field_key-preserved : goal.loop-field_key-preserved
 loop-field_key-preserved g c =

@@ -1,8 +1,0 @@
-use Rattle.std.proofs.Common.{None, arith}
-use Rattle.std.proofs.lemmas.Str.Pattern.{strip_prefix_char}
-use Rattle.cli_tidy.specs.Folders.{point}
-use Rattle.cli_tidy.proofs.WordKinds.{whole_ending}
-use Rattle.cli_tidy.proofs.options.ending_of.Goals as goal
-
-pub returns-in-None : goal.returns-in-None
-returns-in-None c = whole_ending c.args.value.now (strip_prefix_char point c.args.value.now None c.in-None.ensures.cases (omega arith)) c.unless_empty-in-None.result c.unless_empty-in-None.ensures
