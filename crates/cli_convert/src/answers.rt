@@ -1,14 +1,15 @@
 //! The program over its words, its streams and the system's files.
 
-use crate::converted::convert;
+use crate::converted::{Converted, convert};
 use crate::formats::Format;
 use crate::options::Options;
 use crate::refusals::refused;
-use crate::reports::{HELP, no_memory, report_trouble, usage};
+use crate::reports::{HELP, no_memory, report_faults, report_trouble, usage};
 use crate::trouble::Trouble;
 use crate::whole_files::put_whole;
 use crate::words::{Fault, Request, Words};
 use cli_files::{Disk, Failure, Lock, VERSION, answer_with, given_names, put_texts, read_text};
+use json5_types::error::Error;
 use std::alloc::{AllocError, Global};
 use std::io::{ErrorKind, Read, Write};
 use std::os::fd::AsFd;
@@ -72,10 +73,10 @@ where
     }
 }
 
-/// The status of this outcome, whose trouble is reported.
-fn status_of<E: Write>(name: &str, outcome: Result<(), Trouble>, e: &mut E) -> u8 {
+/// The status of this outcome, whose trouble or faults are reported.
+fn status_of<E: Write>(name: &str, outcome: Result<Vec<Error>, Trouble>, e: &mut E) -> u8 {
     match outcome {
-        Ok(()) => 0,
+        Ok(faults) => report_faults(name, faults, e),
         Err(trouble) => report_trouble(name, &trouble, e),
     }
 }
@@ -106,7 +107,7 @@ fn work_on<F: Files + AllocGlobal + Clone + Drop, W: Write>(
     words: &Words,
     name: &str,
     w: &mut W,
-) -> Result<(), Trouble>
+) -> Result<Vec<Error>, Trouble>
 where
     F::File: AsFd + Lock,
 {
@@ -123,8 +124,9 @@ where
                 words.options.target(name),
                 folder.as_str(),
                 name,
-                made.as_str(),
-            )
+                made.text.as_str(),
+            )?;
+            Ok(made.faults)
         }
     }
 }
@@ -136,10 +138,10 @@ fn put_converted<R: Read, W: Write>(
     name: &str,
     r: &mut R,
     w: &mut W,
-) -> Result<(), Trouble> {
+) -> Result<Vec<Error>, Trouble> {
     let made = read_converted(alloc, options, name, r)?;
-    match put_texts(w, &[made.as_str()]) {
-        Ok(()) => Ok(()),
+    match put_texts(w, &[made.text.as_str()]) {
+        Ok(()) => Ok(made.faults),
         Err(failure) => Err(Trouble::Failed(failure)),
     }
 }
@@ -150,7 +152,7 @@ fn read_converted<R: Read>(
     options: &Options,
     name: &str,
     r: &mut R,
-) -> Result<String, Trouble> {
+) -> Result<Converted, Trouble> {
     let text = match read_text(alloc, r) {
         Ok(text) => text,
         Err(failure) => return Err(Trouble::Failed(failure)),

@@ -8,16 +8,24 @@ use json5_convert::{
 };
 use json5_read::read_document;
 use json5_styles::{to_json_in, to_string_in};
-use json5_types::ErrorCode;
+use json5_types::{ErrorCode, Position};
 use json5_types::error::{Error, Result};
 use json5_types::value::Value;
 use std::alloc::Global;
 
+/// A converted text, and the faults of the lines that were passed over.
+#[derive(Drop)]
+pub struct Converted {
+    pub text: String,
+    pub faults: Vec<Error>,
+}
+
 /// Returns the text converted as the options and the name say: tokens spelled anew where a document of JSON5 or JSON becomes
-/// another, else the value written. An array and the lines of its elements are converted into each other.
+/// another, else the value written. An array and the lines of its elements are converted into each other. Where lines are
+/// to be passed over that can't be read, their faults come with it, in their order.
 ///
 /// ```text
-/// convert(alloc, &Options::usual(), "conf.json5", "{port: 0x50}")?    // {"port": 80}
+/// convert(alloc, &Options::usual(), "conf.json5", "{port: 0x50}")?.text    // {"port": 80}
 /// ```
 ///
 /// # Errors
@@ -25,15 +33,21 @@ use std::alloc::Global;
 /// - As `json5_convert::respell`; a number that JSON lacks is refused with a custom fault at its position.
 /// - As `Values::next` of json5_convert, where the text has a document a line.
 /// - As `json5_convert::from_toml` and `json5_convert::to_toml`.
-pub fn convert(alloc: Global, options: &Options, name: &str, text: &str) -> Result<String> {
+pub fn convert(alloc: Global, options: &Options, name: &str, text: &str) -> Result<Converted> {
+    let mut faults = Vec::new(alloc);
     let target = options.target(name);
     let value = match (options.source(name), target) {
+        (Format::Lines, _) if options.keeps_going => Value::Array(lines(alloc, text, &mut faults)?),
         (Format::Lines, _) => Value::Array(documents(alloc, text)?),
         (Format::Toml, _) => from_toml(alloc, text)?,
         (_, Format::Lines | Format::Toml) => read_document(alloc, text)?,
-        _ => return respelled(alloc, options, target, text),
+        _ => {
+            let text = respelled(alloc, options, target, text)?;
+            return Ok(Converted { text, faults });
+        }
     };
-    written(alloc, options, target, value)
+    let text = written(alloc, options, target, value)?;
+    Ok(Converted { text, faults })
 }
 
 /// The documents of a text, one after another.
@@ -48,6 +62,43 @@ fn documents(alloc: Global, text: &str) -> Result<Vec<Value>> {
         }
     }
     Err(Error::new(ErrorCode::Failed))
+}
+
+/// The documents of the lines that can be read, each for itself; of the others the faults.
+fn lines(alloc: Global, text: &str, faults: &mut Vec<Error>) -> Result<Vec<Value>> {
+    let mut list = Vec::new(alloc);
+    for (line, part) in text.split('\n').enumerate() {
+        let Err(fault) = read_line(alloc, part, &mut list) else {
+            continue;
+        };
+        if fault.code() == Some(ErrorCode::OutOfMemory) {
+            return Err(fault);
+        }
+        faults.push(in_line(line, part, fault))?;
+    }
+    Ok(list)
+}
+
+/// Puts the documents of a line, up to the first that can't be read, to the list.
+fn read_line(alloc: Global, line: &str, list: &mut Vec<Value>) -> Result<()> {
+    let mut values = Values::new(alloc, line);
+    // Each document has a character.
+    for _ in 0..=line.len() {
+        match values.next()? {
+            Some(value) => list.push(value)?,
+            None => return Ok(()),
+        }
+    }
+    Ok(())
+}
+
+/// The fault of the line with this number at its place in the text; one without a place is at the end of the line.
+fn in_line(line: usize, part: &str, fault: Error) -> Error {
+    let position = fault.position().unwrap_or(Position::after(part));
+    fault.at(Position {
+        line: line.saturating_add(position.line),
+        column: position.column,
+    })
 }
 
 /// The value written, with its members in the order that is asked for.

@@ -17,6 +17,6 @@ mod whole_files;
 mod words;
 
 pub use answers::{answer, program};
-pub use converted::convert;
+pub use converted::{Converted, convert};
 pub use formats::{Format, Layout};
 pub use options::Options;

@@ -16,6 +16,8 @@ pub struct Options {
     pub sorts_keys: bool,
     /// Whether strings that are dates become dates of TOML.
     pub has_dates: bool,
+    /// Whether lines that can't be read are passed over.
+    pub keeps_going: bool,
 }
 
 impl Options {
@@ -32,6 +34,7 @@ impl Options {
             drops_comments: false,
             sorts_keys: false,
             has_dates: false,
+            keeps_going: false,
         }
     }
 

@@ -3,7 +3,8 @@
 ghost use Rattle.std.specs.Prelude.{◌≡◌};
 
 use crate::trouble::Trouble;
-use cli_files::{report, report_unwritten, say, say_of};
+use cli_files::{Failure, report, report_unwritten, say, say_of};
+use json5_types::error::Error;
 use std::io::Write;
 
 /// What `--help` writes.
@@ -23,6 +24,7 @@ and to TOML and back.
   --compact      the same on one line
   --sort-keys    writes it anew without comments, with members in the order of their keys
   --dates        to TOML: a string that is a date or a time to the letter becomes one
+  --keep-going   of lines: reads each for itself, and goes on behind one that can't be read
   --             what follows is no option
   --help         writes this
   --version      writes the version
@@ -65,4 +67,13 @@ pub(crate) fn report_trouble<E: Write>(name: &str, trouble: &Trouble, e: &mut E)
         Trouble::SameFile => say_of(e, name, &[": would be written over itself\n"]),
     }
     2
+}
+
+/// Writes the faults of lines that were passed over, each as one line, and returns the status that the program ends with.
+pub(crate) fn report_faults<E: Write>(name: &str, faults: Vec<Error>, e: &mut E) -> u8 {
+    let mut status: u8 = 0;
+    for fault in faults {
+        status = status.max(report(name, &Failure::at(fault), e));
+    }
+    status
 }

@@ -58,6 +58,7 @@ impl Request {
                 "--no-comments" => words.options.drops_comments = true,
                 "--sort-keys" => words.options.sorts_keys = true,
                 "--dates" => words.options.has_dates = true,
+                "--keep-going" => words.options.keeps_going = true,
                 "--" => {
                     words.push_names(alloc, rest)?;
                     break;
