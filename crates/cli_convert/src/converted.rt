@@ -8,9 +8,9 @@ use json5_convert::{
 };
 use json5_read::read_document;
 use json5_styles::{to_json_in, to_string_in};
-use json5_types::{ErrorCode, Position};
 use json5_types::error::{Error, Result};
 use json5_types::value::Value;
+use json5_types::{ErrorCode, Position};
 use std::alloc::Global;
 
 /// A converted text, and the faults of the lines that were passed over.
