@@ -1,5 +1,8 @@
 -- Lists the lemmas about the program.
+pub mod Drafted
+pub mod FilesChecked
 pub mod Judged
+pub mod NamesChecked
 pub mod NamesLed
 pub mod SchemasTaken
 pub mod Statuses
