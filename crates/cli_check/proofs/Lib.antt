@@ -1,5 +1,4 @@
 -- Lists the lemmas about the program.
-pub mod Drafted
 pub mod FilesChecked
 pub mod Judged
 pub mod NamesChecked

@@ -18,9 +18,11 @@ module _ (known : Known) (o : Options) (name : List ℕ) where
   pub alone : (old new : List (String Global)) → name ≡ codes "-" → old ≡ [] → names_of new ≡ names_of old ++ name ∷ [] → Stands known o name (names_of new)
   alone old new is empty e = subst (Stands known o name) (sym (e ∙ ap (λ l. names_of l ++ name ∷ []) empty)) (stream is)
 
-  pub found : (r : Result (Vec (String Global) Global) AllocError) → name ≢ codes "-" → IfOk r (λ all. StandsFor known o.endings.items o.excluded.items name (names_of all.items)) → IfOk r (λ all. Stands known o name (names_of all.items))
-  found (Ok all) other k = named other k
-  found (Err e) other k = tt
+  pub found : (r : Result (Vec (String Global) Global) AllocError) (endings excluded : List (String Global)) → name ≢ codes "-" → endings ≡ o.endings.items → excluded ≡ o.excluded.items
+      → IfOk r (λ all. StandsFor known endings excluded name (names_of all.items)) → IfOk r (λ all. Stands known o name (names_of all.items))
+  found (Ok all) endings excluded other same alike k =
+      named other (subst (λ l. StandsFor known l o.excluded.items name (names_of all.items)) same (subst (λ l. StandsFor known endings l name (names_of all.items)) alike k))
+  found (Err e) endings excluded other same alike k = tt
 
   module _ (given : Option Datum) (input : Option (List ℕ)) (all : List (String Global)) where
     pub below : (left : Option (List ℕ)) (status : ℕ) (goes_on : Bool) (each : List (String Global)) → all ≢ [] → each ≡ all → Stands known o name (names_of all)

@@ -1,12 +1,10 @@
 -- The words of the command line, one after the other.
-use Rattle.std.proofs.Common.{◌≡◌, ◌≢◌, ◌≤◌, ◌<◌, arith, length, ℕ, List, [], ◌∷◌, Some, None, Result, Ok, Err, sym, ap, ◌∙◌, subst}
+use Rattle.std.proofs.Common.{◌≡◌, ◌≤◌, ◌<◌, arith, length, ℕ, List, [], ◌∷◌, Some, None, sym, ap, ◌∙◌, subst}
 use Rattle.std.specs.declared.alloc.Global.{Global}
 use Rattle.std.specs.Prelude.{String, string_bytes}
-use Rattle.std.specs.Borrow.{Bor}
 use Rattle.cli_check.specs.declared.kinds.Flag.{Flag}
 use Rattle.cli_check.specs.declared.kinds.Setting.{Setting}
 use Rattle.cli_check.specs.declared.kinds.Word.TheVariants as word
-use Rattle.cli_check.specs.declared.options.WordFault.{WordFault}
 use Rattle.cli_check.specs.CommandWords.{Choices, Choose, all, name, behind, flag, setting, joined, no_value, wrong_value, wrong_joined, ended, kind_in, nothing_chosen, joined_word, setting_word, with_flag, with_name, Sets, SetsNothing}
 use Rattle.cli_check.specs.WordSteps.{GoesOn}
 use Rattle.cli_files.specs.NameLists.{names_of}
