@@ -1,6 +1,6 @@
 -- Two walks over documents that mean the same go on alike.
 use Rattle.std.proofs.Common.{◌≡◌, ℕ, Bool, true, false, List, [], ◌∷◌, ◌++◌, refl, ap, sym, ◌∙◌, subst, Option, Some, None}
-use Rattle.std.specs.Prelude.{◌&&◌, IsUtf8, IfNone, MatchOption, OnOk, OnSome, Result, Ok, Err, is_ok, is_err}
+use Rattle.std.specs.Prelude.{IsUtf8, IfNone, MatchOption, OnOk, OnSome, Result, Ok, Err, is_ok, is_err}
 use Rattle.std.specs.Option.{is_some}
 use Rattle.std.specs.Str.{all_scalars, chars, encode_utf8_all}
 use Rattle.std.proofs.lemmas.Bool.{and_parts}
@@ -8,7 +8,7 @@ use Rattle.std.proofs.lemmas.Str.{chars-encodes, scalars-chars}
 use Rattle.json5_grammar.specs.Language.Documents.{Doc, max_depth}
 use Rattle.json5_grammar.specs.Language.Names.{Key, string_key, name_key}
 use Rattle.json5_grammar.specs.Language.Numbers.{Number}
-use Rattle.json5_grammar.specs.Language.Trees.{Tree, Trees, Members, null, boolean, number, text, array, object, no_more, more, no_member, member}
+use Rattle.json5_grammar.specs.Language.Trees.{Tree, Trees, Members, number, text, array, object, no_more, more, no_member, member}
 use Rattle.json5_grammar.specs.Language.Values.{Val, is_null, is_true, is_false, is_number, is_text, is_empty_array, is_array, is_empty_object, is_object, ElementList, last, next, MemberList, last_member, next_member, Member, entry, KeyText}
 use Rattle.json5_grammar.specs.Language.Values as values
 use Rattle.json5_grammar.specs.Model.Collections.{snoc, snoc_member}
@@ -25,9 +25,9 @@ use Rattle.json5_read.specs.declared.kinds.Literal.{Literal}
 use Rattle.json5_read.specs.declared.kinds.Literal.TheVariants as literal
 use Rattle.json5_styles.specs.JsonTexts.{is_json, is_json_number, items_are_json, fields_are_json}
 use Rattle.json5_walk.specs.Nexts.{takes_value}
-use Rattle.json5_walk.specs.Frames.{Frame, in_array, in_object, At, at_value, at_element, at_key, at_colon, at_comma, next_of, value_frames}
-use Rattle.json5_walk.specs.Moves.{Stays, stays, TakesTree, takes_tree, Opens, opens_array, opens_object, TakesKeyOf, takes_key, TakesColon, takes_colon, TakesComma, after_element, after_member, Closes, closes_elements, closes_array, closes_members, closes_object, TakesEntryComma, no_comma, comma, EndsEntries, ends_entries}
-use Rattle.json5_walk.specs.Walks.{Walked, at_start, Trail, IsAt, Moved, Ends, TakesSign, TookSpacedString, TookString, tree_of}
+use Rattle.json5_walk.specs.Frames.{in_array, in_object, At, at_value, at_element, at_key, at_colon, at_comma, next_of, value_frames}
+use Rattle.json5_walk.specs.Moves.{Stays, stays, TakesTree, takes_tree, Opens, opens_array, opens_object, TakesKeyOf, takes_key, TakesColon, takes_colon, TakesComma, after_element, after_member, Closes, closes_elements, closes_array, closes_members, closes_object, no_comma, comma, EndsEntries, ends_entries}
+use Rattle.json5_walk.specs.Walks.{Walked, at_start, Trail, Moved, Ends, TakesSign, TookSpacedString, TookString, tree_of}
 use Rattle.json5_walk.proofs.Calls.{starts_at}
 use Rattle.json5_walk.proofs.Entries.{after_gap, then, named_so}
 use Rattle.json5_convert.specs.Alike.{meaning_of, meanings_of, member_meanings, AlikeTrees, AlikeElements, AlikeMembers, AlikeFrames, AlikeAt, StandAlike, GoAlike, GoOn, EndBoth, TakesPart, TakesText}

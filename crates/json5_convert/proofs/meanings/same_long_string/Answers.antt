@@ -1,4 +1,4 @@
-use Rattle.std.proofs.Common.{refl, sym, subst}
+use Rattle.std.proofs.Common.{sym}
 use Rattle.json5_convert.proofs.WalkedAlike.{same_texts, took_text}
 use Rattle.json5_convert.proofs.meanings.same_long_string.Goals as goal
 
