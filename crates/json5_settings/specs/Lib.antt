@@ -1,3 +1,8 @@
 -- Lists the definitions of layers.
 pub mod Stacks
 pub mod Texts
+pub mod Words
+pub mod Members
+pub mod Told
+pub mod Keys
+pub mod MemberTexts

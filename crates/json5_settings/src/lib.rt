@@ -15,6 +15,7 @@
 
 mod faults;
 mod layers;
+mod members;
 mod names;
 mod origin;
 mod spots;
