@@ -1,4 +1,5 @@
 -- Lists the definitions of layers.
+pub mod Follows
 pub mod Stacks
 pub mod Texts
 pub mod Words
