@@ -1,11 +1,11 @@
 -- Documents that set one member.
-use Rattle.std.proofs.Common.{◌≡◌, ◌⊎◌, ◌∙◌, ◌≤◌, ◌++◌, ◌∷◌, [], ℕ, List, refl, ap, sym, subst, inl, inr, arith, append_assoc, append-nil, IsUtf8, not, true, false, true≢false}
+use Rattle.std.proofs.Common.{◌≡◌, ◌∙◌, ◌++◌, ◌∷◌, [], ℕ, List, refl, ap, sym, subst, inl, inr, arith, append_assoc, append-nil, IsUtf8, not, true, false, true≢false}
 use Rattle.std.specs.declared.alloc.Global.{Global}
 use Rattle.std.specs.Prelude.{Bool, IfErr, IfOk, MatchBool, Some, OnErr, OnOk, Result, Ok, Err, String, string_bytes, codes}
 use Rattle.std.specs.Str.{chars, encode_utf8_all}
 use Rattle.std.specs.Str.Iter.{HasSubslice}
 use Rattle.std.proofs.lemmas.List.{map-append}
-use Rattle.std.proofs.lemmas.Str.{chars-append, encode_ascii, encodes-append, encodes-chars, chars-encodes}
+use Rattle.std.proofs.lemmas.Str.{chars-append, encode_ascii, encodes-append, encodes-chars}
 use Rattle.json5_grammar.specs.Language.Blanks.{Blanks, LastBlanks, empty, blank, line, open_line}
 use Rattle.json5_grammar.specs.Language.Characters.{Each, is_terminator}
 use Rattle.json5_grammar.specs.Language.Documents.{Doc, max_depth}

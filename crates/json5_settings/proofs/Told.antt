@@ -1,7 +1,6 @@
 -- The layer in which a fault is told.
-use denote.Ref.{Bor}
-use Rattle.std.proofs.Common.{◌≡◌, ◌⊎◌, ◌∙◌, ◌≤◌, ◌<◌, ◌-◌, ◌++◌, ◌∷◌, [], ℕ, Bool, true, false, List, length, take, drop, refl, ap, sym, subst, inl, inr, arith, append_assoc, IsUtf8}
-use Rattle.std.specs.Prelude.{MatchOption, Option, Some, None, codes, slice_range, string_bytes}
+use Rattle.std.proofs.Common.{◌≡◌, ◌∙◌, ◌≤◌, ◌++◌, ◌∷◌, [], ℕ, Bool, true, false, List, length, take, refl, ap, sym, subst, inl, inr, arith, append_assoc, IsUtf8}
+use Rattle.std.specs.Prelude.{Some, None, codes, slice_range, string_bytes}
 use Rattle.std.specs.Str.{chars, IsCharBoundary}
 use Rattle.std.specs.Str.Pattern.{GetsRange}
 use Rattle.std.proofs.lemmas.List.{map-append}
@@ -11,7 +10,7 @@ use Rattle.json5_grammar.specs.declared.position.Position.{Position}
 use Rattle.json5_types.specs.declared.error.Error.{Error}
 use Rattle.json5_types.specs.Errors.{error_position}
 use Rattle.json5_walk.specs.declared.place.Place.{Place}
-use Rattle.json5_edit.specs.Places.{HasPlace, Leads, LeadsNowhere}
+use Rattle.json5_edit.specs.Places.{Leads, LeadsNowhere}
 use Rattle.json5_edit.specs.declared.paths.Step.{Step}
 use Rattle.json5_edit.proofs.Placed.{starts_there}
 use Rattle.json5_report.specs.declared.report.Report.{Report}

@@ -1,24 +1,24 @@
 -- Words and the keys that they mean.
 use denote.Ref.{Bor}
-use Rattle.std.proofs.Common.{◌≡◌, ◌≢◌, ◌∙◌, ◌≤◌, ◌<◌, ◌+◌, ◌++◌, ◌∷◌, [], ℕ, zero, suc, Bool, true, false, ◌&&◌, ◌||◌, ◌==◌, not, List, length, take, drop, refl, ap, sym, subst, arith, append_assoc, append-nil, IsUtf8, true≢false}
-use Rattle.std.specs.Prelude.{IfSome, MatchOption, Option, Some, None, codes, if◌then◌else◌}
+use Rattle.std.proofs.Common.{◌≡◌, ◌∙◌, ◌≤◌, ◌<◌, ◌+◌, ◌++◌, ◌∷◌, [], ℕ, zero, suc, Bool, true, false, ◌&&◌, ◌==◌, List, length, take, drop, refl, ap, sym, subst, arith, append_assoc, append-nil, IsUtf8, true≢false}
+use Rattle.std.specs.Prelude.{IfSome, Option, Some, None, codes}
 use Rattle.std.specs.Char.{encode_utf8, to_ascii_lowercase, IsScalar}
 use Rattle.std.specs.Str.{chars}
 use Rattle.std.specs.Str.Pattern.{FindsText, LacksTextAt, SplitsAroundMatch}
 use Rattle.std.proofs.lemmas.Bool.Decides.{nat_tests}
-use Rattle.std.proofs.lemmas.Str.{IsUtf8-past_char, IsUtf8-encode, chars_past_char, chars-append, chars-nil}
+use Rattle.std.proofs.lemmas.Str.{IsUtf8-past_char, IsUtf8-encode, chars_past_char, chars-nil}
 use Rattle.std.specs.declared.alloc.Global.{Global}
 use Rattle.std.specs.Cmp.Lexicographic.{pointwise}
 use Rattle.std.specs.List.{list_any}
-use Rattle.std.specs.Prelude.{String, string_bytes, map, nat_eq, option_map}
+use Rattle.std.specs.Prelude.{String, string_bytes, nat_eq}
 use Rattle.std.proofs.lemmas.List.{map-append}
 use Rattle.json5_grammar.proofs.CommonLemmas.{eq_from}
 use Rattle.json5_grammar.specs.Language.Numbers.{is_empty}
-use Rattle.json5_types.specs.ValueMeanings.{Datum, Fields, field, fields_view, value_of}
+use Rattle.json5_types.specs.ValueMeanings.{Datum, fields_view}
 use Rattle.json5_types.specs.declared.value.Value.{Value}
 use Rattle.json5_types.proofs.LookedUp.{same_key}
 use Rattle.json5_settings.specs.Words.{in_front, is_dropped, key_like, key_meant, keys_meant, lower, lowered, underscore, words_in}
-use Rattle.json5_settings.specs.Keys.{SplitsWord, key_texts, member_in, place_of, words_left}
+use Rattle.json5_settings.specs.Keys.{SplitsWord, key_texts, member_in, words_left}
 
 -- ---- words
 

@@ -1,6 +1,6 @@
 -- The text of a document that sets one member.
 -- Private.
-use Rattle.std.specs.Prelude.{◌≡◌, ◌⊎◌, ◌++◌, ◌∷◌, [], ℕ, List, Result, Ok, Err, codes}
+use Rattle.std.specs.Prelude.{◌≡◌, ◌⊎◌, ◌++◌, ℕ, List, Result, Ok, Err, codes}
 use Rattle.std.specs.Str.Iter.{HasSubslice}
 use Rattle.json5_grammar.specs.Language.Blanks.{Blanks}
 use Rattle.json5_grammar.specs.Language.Documents.{Doc, max_depth}

@@ -1,4 +1,4 @@
-use Rattle.std.proofs.Common.{◌∙◌, ◌+◌, true, false, drop, sym, ap, arith}
+use Rattle.std.proofs.Common.{◌∙◌, true, false, sym, ap, arith}
 use Rattle.std.specs.Str.{chars}
 use Rattle.json5_types.proofs.LookedUp.{from_here}
 use Rattle.json5_settings.proofs.WordsParted.{like_here, like_later, like_none, plain_test}

@@ -1,4 +1,4 @@
-use Rattle.std.proofs.Common.{◌≡◌, ◌++◌, ℕ, List, length}
+use Rattle.std.proofs.Common.{◌≡◌, ◌++◌, List, length}
 use Rattle.json5_settings.specs.Stacks.{Layer}
 use Rattle.json5_settings.specs.Texts.{layers_in}
 use Rattle.json5_settings.specs.Told.{AllLack}
