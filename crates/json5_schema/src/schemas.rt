@@ -3,7 +3,7 @@
 ghost use Rattle.std.specs.Prelude.{◌≡◌, ◌==◌, false, vec_len, IfOk, MatchResult};
 ghost use Rattle.json5_types.specs.Errors.{LacksMemory};
 ghost use Rattle.json5_types.specs.ValueMeanings.{value_of};
-ghost use Rattle.json5_schema.specs.Conformance.{Conforms, with_formats};
+ghost use Rattle.json5_schema.specs.Conformance.{Conforms};
 ghost use Rattle.json5_schema.specs.Subschemas.{HasOnlyKeywords};
 ghost use Rattle.json5_schema.specs.Views.{IsRefusal, schema_of};
 
@@ -11,7 +11,7 @@ use crate::conforms::{MAX_DEPTH, conforms};
 use crate::document_faults::{Fault, Mismatch, Place};
 use crate::explain::explain;
 use crate::faults::{Problem, SchemaFault};
-use crate::formats::{asserts_formats, with_formats};
+use crate::formats::asserts_formats;
 use crate::found::Found;
 use crate::known::check_schema;
 use crate::looking::{Anchor, Seen, fault, look};
@@ -29,7 +29,7 @@ use std::collections::BTreeMap;
 ///
 /// The words are those of draft 2020-12 and of draft 7. Where both have a word it means the same in both; a word that only one has
 /// is taken in either. Not decided yet, and refused: `unevaluatedItems`, `unevaluatedProperties`, dynamic references, and `$id` below the top that is no name, as `#port`. `format`
-/// asserts nothing but by `with_formats`.
+/// asserts nothing, unless the root's `$vocabulary` has that of asserted formats (2020-12, validation, section 7.2.2).
 ///
 /// ```text
 /// let schema = Schema::new(alloc, &json5::from_str(alloc, "{properties: {port: {type: 'integer', maximum: 65535}}}")?)?;
@@ -86,41 +86,6 @@ impl Schema {
             patterns,
             anchors,
         })
-    }
-
-    /// As `new`, but the schema asserts formats: a text conforms to `format: 'date'` only if it is a date. It is as if the
-    /// schema's own `$vocabulary` named the vocabulary of asserted formats (2020-12, validation, section 7.2.2), and a schema
-    /// that names it asserts them by `new` too.
-    ///
-    /// Asserted are `date`, `time`, `date-time`, `duration`, `email`, `hostname`, `ipv4`, `ipv6`, `uri`, `uuid`,
-    /// `json-pointer` and `relative-json-pointer`. Others are passed over.
-    ///
-    /// ```text
-    /// let schema = Schema::with_formats(alloc, &json5::from_str(alloc, "{format: 'date'}")?)?;
-    /// schema.accepts(alloc, &json5::from_str(alloc, "'2024-02-29'")?)?     // true
-    /// schema.accepts(alloc, &json5::from_str(alloc, "'2023-02-29'")?)?     // false
-    /// ```
-    ///
-    /// # Errors
-    ///
-    /// As `new`.
-    pub fn with_formats(alloc: Global, value: &Value) -> Result<Schema, SchemaFault>
-        ensures { IfOk result (λ schema. schema_of schema ≡ with_formats (value_of value.now)) }
-    {
-        let value = with_formats(alloc, value)?;
-        Schema::new(alloc, &value)
-    }
-
-    /// As `with_formats` and `strict`, and refuses a format that isn't asserted.
-    ///
-    /// # Errors
-    ///
-    /// As `strict`; also `At` with the place of a format that isn't asserted, and the likeliest one where one is near.
-    pub fn strict_with_formats(alloc: Global, value: &Value) -> Result<Schema, SchemaFault>
-        ensures { IfOk result (λ schema. (schema_of schema ≡ with_formats (value_of value.now)) × HasOnlyKeywords (schema_of schema)) }
-    {
-        let value = with_formats(alloc, value)?;
-        Schema::strict(alloc, &value)
     }
 
     /// Says whether the value conforms to the schema.
