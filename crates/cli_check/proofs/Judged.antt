@@ -1,9 +1,7 @@
 -- The verdict on a document, from the value to the file.
-use Rattle.std.proofs.Common.{◌≡◌, ℕ, ◌+◌, ◌<◌, ◌≤◌, max, List, [], ◌∷◌, ◌++◌, length, take, get_or, Option, Some, None, Result, Ok, Err, false, sym, ap, ◌∙◌, subst}
-use Rattle.std.specs.declared.alloc.Global.{Global}
-use Rattle.std.specs.Prelude.{IfSome, String, string_bytes}
+use Rattle.std.proofs.Common.{◌≡◌, ℕ, List, Option, Some, None, Result, Ok, Err, false, sym, ◌∙◌, subst}
+use Rattle.std.specs.Prelude.{IfSome}
 use Rattle.std.specs.Str.{chars, IsUtf8}
-use Rattle.std.proofs.lemmas.List.{take_more, take_all}
 use Rattle.json5_grammar.specs.declared.error_code.ErrorCode.TheVariants as codes
 use Rattle.json5_grammar.specs.Language.Documents.{Doc, max_depth}
 use Rattle.json5_grammar.specs.Language.Trees.{Tree}
@@ -15,14 +13,15 @@ use Rattle.json5_tokens.specs.Cursor.{IsOutOfMemory}
 use Rattle.json5_schema.specs.Conformance.{Conforms}
 use Rattle.cli_files.specs.declared.failure.Failure.TheVariants as failure
 use Rattle.cli_files.specs.Failures.{failure_of_kind}
-use Rattle.cli_files.specs.Stores.{Opening}
+use Rattle.cli_files.specs.Stores.{Known}
+use Rattle.cli_check.specs.declared.options.Options.{Options}
 use Rattle.cli_check.specs.declared.verdict.Verdict.{Verdict}
 use Rattle.cli_check.specs.declared.verdict.Verdict.TheVariants as verdict
 use Rattle.cli_check.specs.declared.trouble.Trouble.{Trouble}
 use Rattle.cli_check.specs.declared.trouble.Trouble.TheVariants as trouble
 use Rattle.cli_check.specs.Troubles.{IsReadTrouble, IsUnshownTrouble, Refuses, RefusesError}
 use Rattle.cli_check.specs.Schemas.{SchemaFor}
-use Rattle.cli_check.specs.Checks.{JudgesBy, JudgesValue, JudgesText, JudgesInput, JudgesFile, status_of, ChecksFiles, next}
+use Rattle.cli_check.specs.Checks.{JudgesBy, JudgesValue, JudgesText, JudgesInput}
 
 -- what can't be shown is no verdict
 unshown_by : (s x : Datum) (t : Trouble) → IsUnshownTrouble t → JudgesBy s x (Err t)
@@ -48,9 +47,9 @@ pub text_refused : (e : Error) (r : Result Verdict Trouble) → ¬ (IsOutOfMemor
 text_refused e (Ok v) other is = (is, other)
 text_refused e (Err t) other k = k
 
-module _ (opens : List ℕ → Opening) (given : Option Datum) (maps : List (String Global)) (name : List ℕ) where
+module _ (known : Known) (given : Option Datum) (o : Options) (name : List ℕ) where
   -- the schema that was used is the one for the document
-  pub value_judged : (s x : Datum) (r : Result Verdict Trouble) → SchemaFor opens given maps name x s → JudgesBy s x r → JudgesValue opens given maps name x r
+  pub value_judged : (s x : Datum) (r : Result Verdict Trouble) → SchemaFor known given o name x s → JudgesBy s x r → JudgesValue known given o name x r
   value_judged s x (Ok v) own c = (s, own, c)
   value_judged s x (Err trouble.NoMemory) own c = tt
   value_judged s x (Err trouble.Write) own c = tt
@@ -61,10 +60,10 @@ module _ (opens : List ℕ → Opening) (given : Option Datum) (maps : List (Str
 
   -- a document means one thing
   pub text_judged : (text : List ℕ) (x : Datum) (t : Tree) (r : Result Verdict Trouble) → IsUtf8 text → Doc max_depth (chars text) t → x ≡ datum_of t
-      → ((u : Tree) → Doc max_depth (chars text) u → x ≡ datum_of u) → JudgesValue opens given maps name x r → JudgesText opens given maps name text r
+      → ((u : Tree) → Doc max_depth (chars text) u → x ≡ datum_of u) → JudgesValue known given o name x r → JudgesText known given o name text r
   text_judged text x t (Ok verdict.Conforms) utf8 doc is one (s, f, c) = (x, s, (utf8, (t, doc, is)), f, c)
   text_judged text x t (Ok verdict.Differs) utf8 doc is one (s, f, c) =
-      λ y (u8, (u, d, e)). let same : x ≡ y = one u d ∙ sym e in (s, subst (λ z. SchemaFor opens given maps name z s) same f, subst (λ z. Conforms s z false) same c)
+      λ y (u8, (u, d, e)). let same : x ≡ y = one u d ∙ sym e in (s, subst (λ z. SchemaFor known given o name z s) same f, subst (λ z. Conforms s z false) same c)
   text_judged text x t (Err trouble.NoMemory) utf8 doc is one c = tt
   text_judged text x t (Err trouble.Write) utf8 doc is one c = tt
   text_judged text x t (Err trouble.Read) utf8 doc is one c = absurd c
@@ -72,7 +71,7 @@ module _ (opens : List ℕ → Opening) (given : Option Datum) (maps : List (Str
   text_judged text x t (Err (trouble.Undecided e)) utf8 doc is one c = (x, (utf8, (t, doc, is)), c)
   text_judged text x t (Err (trouble.Schema f)) utf8 doc is one c = (x, (utf8, (t, doc, is)), c)
 
-  unshown_text : (text : List ℕ) (t : Trouble) → IsUnshownTrouble t → JudgesText opens given maps name text (Err t)
+  unshown_text : (text : List ℕ) (t : Trouble) → IsUnshownTrouble t → JudgesText known given o name text (Err t)
   unshown_text text trouble.NoMemory k = tt
   unshown_text text trouble.Write k = tt
   unshown_text text trouble.Read k = absurd k
@@ -80,16 +79,16 @@ module _ (opens : List ℕ → Opening) (given : Option Datum) (maps : List (Str
   unshown_text text (trouble.Undecided e) k = absurd k
   unshown_text text (trouble.Schema t) k = absurd k
 
-  pub no_text : (bytes : List ℕ) (r : Result Verdict Trouble) → ¬ (IsUtf8 bytes) → Refuses r → JudgesText opens given maps name bytes r
-  no_text bytes (Ok v) none is = subst (λ u. JudgesText opens given maps name bytes (Ok u)) (sym is) (λ x (utf8, (t, doc, e)). absurd (none utf8))
+  pub no_text : (bytes : List ℕ) (r : Result Verdict Trouble) → ¬ (IsUtf8 bytes) → Refuses r → JudgesText known given o name bytes r
+  no_text bytes (Ok v) none is = subst (λ u. JudgesText known given o name bytes (Ok u)) (sym is) (λ x (utf8, (t, doc, e)). absurd (none utf8))
   no_text bytes (Err t) none k = unshown_text bytes t k
 
-  pub no_document : (text : List ℕ) (e : Error) (r : Result Verdict Trouble) → ((t : Tree) → Doc max_depth (chars text) t → IsOutOfMemory e) → RefusesError e r → JudgesText opens given maps name text r
+  pub no_document : (text : List ℕ) (e : Error) (r : Result Verdict Trouble) → ((t : Tree) → Doc max_depth (chars text) t → IsOutOfMemory e) → RefusesError e r → JudgesText known given o name text r
   no_document text e (Ok v) complete (is, other) =
-      subst (λ u. JudgesText opens given maps name text (Ok u)) (sym is) (λ x (utf8, (t, doc, same)). absurd (other (complete t doc)))
+      subst (λ u. JudgesText known given o name text (Ok u)) (sym is) (λ x (utf8, (t, doc, same)). absurd (other (complete t doc)))
   no_document text e (Err t) complete k = unshown_text text t k
 
-  read_judged : (text : List ℕ) (r : Result Verdict Trouble) → JudgesText opens given maps name text r → JudgesInput opens given maps name (Some text) r
+  read_judged : (text : List ℕ) (r : Result Verdict Trouble) → JudgesText known given o name text r → JudgesInput known given o name (Some text) r
   read_judged text (Ok v) k = k
   read_judged text (Err trouble.NoMemory) k = tt
   read_judged text (Err trouble.Write) k = tt
@@ -98,9 +97,9 @@ module _ (opens : List ℕ → Opening) (given : Option Datum) (maps : List (Str
   read_judged text (Err (trouble.Undecided e)) k = k
   read_judged text (Err (trouble.Schema t)) k = k
 
-  pub input_judged : (input : Option (List ℕ)) (bytes : List ℕ) (r : Result Verdict Trouble) → IfSome input (λ known. bytes ≡ known) → JudgesText opens given maps name bytes r
-      → JudgesInput opens given maps name input r
-  input_judged (Some known) bytes r all k = read_judged known r (subst (λ l. JudgesText opens given maps name l r) all k)
+  pub input_judged : (input : Option (List ℕ)) (bytes : List ℕ) (r : Result Verdict Trouble) → IfSome input (λ whole. bytes ≡ whole) → JudgesText known given o name bytes r
+      → JudgesInput known given o name input r
+  input_judged (Some whole) bytes r all k = read_judged whole r (subst (λ l. JudgesText known given o name l r) all k)
   input_judged None bytes (Ok v) all k = tt
   input_judged None bytes (Err trouble.NoMemory) all k = tt
   input_judged None bytes (Err trouble.Write) all k = tt
@@ -109,7 +108,7 @@ module _ (opens : List ℕ → Opening) (given : Option Datum) (maps : List (Str
   input_judged None bytes (Err (trouble.Undecided e)) all k = tt
   input_judged None bytes (Err (trouble.Schema t)) all k = tt
 
-  pub unread : (input : Option (List ℕ)) (t : Trouble) → IsReadTrouble t → JudgesInput opens given maps name input (Err t)
+  pub unread : (input : Option (List ℕ)) (t : Trouble) → IsReadTrouble t → JudgesInput known given o name input (Err t)
   unread None trouble.NoMemory k = tt
   unread (Some text) trouble.NoMemory k = tt
   unread input trouble.Read k = tt
@@ -117,16 +116,3 @@ module _ (opens : List ℕ → Opening) (given : Option Datum) (maps : List (Str
   unread input (trouble.Unopened why) k = k
   unread input (trouble.Undecided e) k = absurd k
   unread input (trouble.Schema t) k = absurd k
-
-module _ (opens : List ℕ → Opening) (given : Option Datum) (maps : List (String Global)) (input : Option (List ℕ)) where
-  -- the files so far, and this one
-  pub one_more : (names : List (String Global)) (i status : ℕ) (left more : Option (List ℕ)) (name : String Global) (text : List ℕ) (r : Result Verdict Trouble)
-      → i < length names → name ≡ get_or names i name → text ≡ string_bytes name → ChecksFiles opens given maps input (take i names) left status → JudgesFile opens given maps left text more r
-      → ChecksFiles opens given maps input (take (i + 1) names) more (max status (status_of r))
-  one_more names i status left more name text r h is value g k =
-      subst (λ l. ChecksFiles opens given maps input l more (max status (status_of r))) (sym (take_more names i name h ∙ ap (λ x. take i names ++ x ∷ []) (sym is)))
-      (next name r g (subst (λ t. JudgesFile opens given maps left t more r) value k))
-
-  pub all_checked : (names all : List (String Global)) (i status : ℕ) (left : Option (List ℕ)) → names ≡ all → length names ≤ i → ChecksFiles opens given maps input (take i names) left status
-      → ChecksFiles opens given maps input all left status
-  all_checked names all i status left same h g = subst (λ l. ChecksFiles opens given maps input l left status) (take_all i names h ∙ same) g

@@ -1,14 +1,12 @@
 -- The words of the command line, one after the other.
-use Rattle.std.proofs.Common.{◌≡◌, ◌≤◌, ◌<◌, arith, length, ℕ, List, [], ◌∷◌, Some, None, Result, Ok, Err, sym, ap, ◌∙◌, subst}
+use Rattle.std.proofs.Common.{◌≡◌, ◌≤◌, ◌<◌, arith, length, ℕ, List, [], ◌∷◌, Some, None, sym, ap, ◌∙◌, subst}
 use Rattle.std.specs.declared.alloc.Global.{Global}
 use Rattle.std.specs.Prelude.{String, string_bytes}
-use Rattle.std.specs.Borrow.{Bor}
 use Rattle.cli_check.specs.declared.kinds.Flag.{Flag}
 use Rattle.cli_check.specs.declared.kinds.Setting.{Setting}
 use Rattle.cli_check.specs.declared.kinds.Word.TheVariants as word
-use Rattle.cli_check.specs.declared.options.WordFault.{WordFault}
-use Rattle.cli_check.specs.CommandWords.{Choices, Choose, all, name, behind, flag, setting, joined, unknown, no_value, ended, kind_in, nothing_chosen, joined_word, with_flag, with_name, with_setting}
-use Rattle.cli_check.specs.WordSteps.{GoesOn, TakesJoined, TakesSetting, TakesWord}
+use Rattle.cli_check.specs.CommandWords.{Choices, Choose, all, name, behind, flag, setting, joined, no_value, wrong_value, wrong_joined, ended, kind_in, nothing_chosen, joined_word, setting_word, with_flag, with_name, Sets, SetsNothing}
+use Rattle.cli_check.specs.WordSteps.{GoesOn}
 use Rattle.cli_files.specs.NameLists.{names_of}
 
 -- from the start, before the first word
@@ -31,9 +29,6 @@ at_end c d words left is before = before (Some d) (subst (λ l. Choose d l (Some
 behind_value : (value : List ℕ) (ws left : List (List ℕ)) → ws ≡ value ∷ left → length left ≤ length ws
 behind_value value ws left split = let e = ap length split in omega (arith, e)
 
-all_left : (ws left : List (List ℕ)) → ws ≡ left → length left ≤ length ws
-all_left ws left same = let e = ap length same in omega (arith, e)
-
 module _ (c d : Choices) (w : List ℕ) (ws : List (List ℕ)) where
   pub name_taken : kind_in c w ≡ word.Name → d ≡ with_name w c → GoesOn c (w ∷ ws) d ws × (length ws ≤ length ws)
   name_taken kind is = (λ r k. name c w ws r kind (subst (λ e. Choose e ws r) is k), omega arith)
@@ -44,21 +39,32 @@ module _ (c d : Choices) (w : List ℕ) (ws : List (List ℕ)) where
   pub flag_taken : (f : Flag) → kind_in c w ≡ word.Flag f → d ≡ with_flag f c → GoesOn c (w ∷ ws) d ws × (length ws ≤ length ws)
   flag_taken f kind is = (λ r k. flag c w ws r f kind (subst (λ e. Choose e ws r) is k), omega arith)
 
-setting_at : (c d : Choices) (w value : List ℕ) (ws left : List (List ℕ)) (s : Setting) → ws ≡ value ∷ left → kind_in c w ≡ word.Setting s → d ≡ with_setting s value c → GoesOn c (w ∷ ws) d left
-setting_at c d w value ws left s split kind is =
-    λ r k. subst (λ l. Choose c (w ∷ l) r) (sym split) (setting c w value left r s kind (subst (λ e. Choose e left r) is k))
+-- ---- an option with a value
 
-pub setting_taken : (c d : Choices) (w : List ℕ) (ws : List (List ℕ)) (s : Setting) (r : Result (Bor (List (String Global))) WordFault) → kind_in c w ≡ word.Setting s → TakesSetting s c d ws r → TakesWord c d w ws r
-setting_taken c d w ws s (Ok left) kind (value, split, is) = (setting_at c d w value ws (names_of left.now) s split kind is, behind_value value ws (names_of left.now) split)
-setting_taken c d w ws s (Err fault) kind none = λ unknown. subst (λ l. Choose c (w ∷ l) None) (sym (none unknown)) (no_value c w s kind)
+in_front : (w : List ℕ) (ws : List (List ℕ)) (s : Setting) (more : List (List ℕ)) → w ≡ setting_word s → ws ≡ more → w ∷ ws ≡ setting_word s ∷ more
+in_front w ws s more is split = ap (λ u. u ∷ ws) is ∙ ap (λ l. setting_word s ∷ l) split
 
-joined_at : (c d : Choices) (w value : List ℕ) (ws left : List (List ℕ)) (s : Setting) → ws ≡ left → kind_in c w ≡ word.Other → w ≡ joined_word s value → d ≡ with_setting s value c → GoesOn c (w ∷ ws) d left
-joined_at c d w value ws left s same kind is set =
-    λ r k. subst (λ l. Choose c (w ∷ l) r) (sym same) (joined c w value left r s kind is (subst (λ e. Choose e left r) set k))
+is_other : (c : Choices) (w u : List ℕ) → kind_in c w ≡ word.Other → w ≡ u → kind_in c u ≡ word.Other
+is_other c w u kind is = subst (λ v. kind_in c v ≡ word.Other) is kind
 
-pub joined_taken : (c d : Choices) (w : List ℕ) (ws : List (List ℕ)) (r : Result (Bor (List (String Global))) WordFault) → kind_in c w ≡ word.Other → TakesJoined c d w ws r → TakesWord c d w ws r
-joined_taken c d w ws (Ok left) kind (s, value, is, set, same) = (joined_at c d w value ws (names_of left.now) s same kind is set, all_left ws (names_of left.now) same)
-joined_taken c d w ws (Err fault) kind none = λ is. unknown c w ws kind (none is)
+pub setting_taken : (c d : Choices) (w value : List ℕ) (ws left : List (List ℕ)) (s : Setting) → kind_in c w ≡ word.Other → w ≡ setting_word s → ws ≡ value ∷ left → Sets s value c d
+    → GoesOn c (w ∷ ws) d left × (length left ≤ length ws)
+setting_taken c d w value ws left s kind is split set =
+    (λ r k. subst (λ l. Choose c l r) (sym (in_front w ws s (value ∷ left) is split)) (setting c d s value left r (is_other c w (setting_word s) kind is) set k), behind_value value ws left split)
+
+pub value_refused : (c : Choices) (w value : List ℕ) (ws left : List (List ℕ)) (s : Setting) → kind_in c w ≡ word.Other → w ≡ setting_word s → ws ≡ value ∷ left → SetsNothing s value c → Choose c (w ∷ ws) None
+value_refused c w value ws left s kind is split none =
+    subst (λ l. Choose c l None) (sym (in_front w ws s (value ∷ left) is split)) (wrong_value c s value left (is_other c w (setting_word s) kind is) none)
+
+pub value_missing : (c : Choices) (w : List ℕ) (ws : List (List ℕ)) (s : Setting) → kind_in c w ≡ word.Other → w ≡ setting_word s → ws ≡ [] → Choose c (w ∷ ws) None
+value_missing c w ws s kind is split = subst (λ l. Choose c l None) (sym (in_front w ws s [] is split)) (no_value c s (is_other c w (setting_word s) kind is))
+
+module _ (c : Choices) (w value : List ℕ) (ws : List (List ℕ)) (s : Setting) (kind : kind_in c w ≡ word.Other) (is : w ≡ joined_word s value) where
+  pub joined_taken : (d : Choices) → Sets s value c d → GoesOn c (w ∷ ws) d ws × (length ws ≤ length ws)
+  joined_taken d set = (λ r k. subst (λ u. Choose c (u ∷ ws) r) (sym is) (joined c d s value ws r (is_other c w (joined_word s value) kind is) set k), omega arith)
+
+  pub joined_refused : SetsNothing s value c → Choose c (w ∷ ws) None
+  joined_refused none = subst (λ u. Choose c (u ∷ ws) None) (sym is) (wrong_joined c s value ws (is_other c w (joined_word s value) kind is) none)
 
 -- each word that is taken leaves fewer
 pub fewer : (left rest : List (String Global)) (first : String Global) (after : List (String Global)) → left ≡ first ∷ rest → length (names_of after) ≤ length (names_of rest) → length (names_of after) < length (names_of left)

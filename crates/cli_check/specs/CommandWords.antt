@@ -5,6 +5,7 @@ use Rattle.std.specs.Prelude.{◌≡◌, ◌≢◌, ℕ, Bool, true, false, List
 use Rattle.std.specs.Cmp.Lexicographic.{pointwise}
 use Rattle.std.specs.List.{starts_with}
 use lib.Chars.{codes}
+use Rattle.cli_check.specs.declared.drafts.Draft.{Draft}
 use Rattle.cli_check.specs.declared.options.Options.{Options}
 use Rattle.cli_check.specs.declared.options.Asked.{Asked}
 use Rattle.cli_check.specs.declared.options.Asked.TheVariants as asked
@@ -14,22 +15,32 @@ use Rattle.cli_check.specs.declared.kinds.Setting.{Setting}
 use Rattle.cli_check.specs.declared.kinds.Setting.TheVariants as settings
 use Rattle.cli_check.specs.declared.kinds.Word.{Word}
 use Rattle.cli_check.specs.declared.kinds.Word.TheVariants as word
+use Rattle.cli_check.specs.Drafts.{draft_word}
+use Rattle.cli_check.specs.Naming.{equals}
+use Rattle.cli_files.specs.Folders.{IsEnding}
 use Rattle.cli_files.specs.NameLists.{names_of}
 
 -- it begins with a minus
 abbrev pub is_dashed : List ℕ → Bool
 is_dashed w = starts_with nat_eq w (codes "-")
 
--- an option with its value in the same word
+-- an option that has a value
+abbrev pub setting_word : Setting → List ℕ
+setting_word settings.Schema = codes "--schema"
+setting_word settings.Map = codes "--map"
+setting_word settings.Draft = codes "--draft"
+setting_word settings.Ext = codes "--ext"
+setting_word settings.Exclude = codes "--exclude"
+
+-- with its value in the same word
 abbrev pub joined_word : Setting → (value : List ℕ) → List ℕ
-joined_word settings.Schema value = codes "--schema=" ++ value
-joined_word settings.Map value = codes "--map=" ++ value
+joined_word s value = setting_word s ++ equals ∷ value
 
 -- what any other word is
 abbrev pub other_kind : List ℕ → Word
 other_kind w = if is_dashed w then word.Other else word.Name
 
--- what a word is
+-- what a word is; an option with a value is like one that is none
 abbrev pub kind_of : List ℕ → Word
 kind_of w =
     if pointwise nat_eq w (codes "-") then word.Name else
@@ -40,8 +51,6 @@ kind_of w =
     if pointwise nat_eq w (codes "--quiet") then word.Flag flags.Quiet else
     if pointwise nat_eq w (codes "--json") then word.Flag flags.Json else
     if pointwise nat_eq w (codes "--strict") then word.Flag flags.Strict else
-    if pointwise nat_eq w (codes "--schema") then word.Setting settings.Schema else
-    if pointwise nat_eq w (codes "--map") then word.Setting settings.Map else
     other_kind w
 
 -- what the words choose
@@ -49,6 +58,9 @@ pub record Choices : Type 0 where
   pub asked : Asked
   pub schema : Option (List ℕ)
   pub maps : List (List ℕ)
+  pub draft : Option Draft
+  pub endings : List (List ℕ)
+  pub excluded : List (List ℕ)
   pub is_quiet : Bool
   pub is_json : Bool
   pub is_strict : Bool
@@ -56,10 +68,10 @@ pub record Choices : Type 0 where
   pub names : List (List ℕ)
 
 abbrev pub nothing_chosen : Choices
-nothing_chosen = record { asked = asked.Files; schema = None; maps = []; is_quiet = false; is_json = false; is_strict = false; is_ended = false; names = [] }
+nothing_chosen = record { asked = asked.Files; schema = None; maps = []; draft = None; endings = []; excluded = []; is_quiet = false; is_json = false; is_strict = false; is_ended = false; names = [] }
 
 abbrev pub choices_of : Options → Choices
-choices_of o = record { asked = o.asked; schema = option_map string_bytes o.schema; maps = names_of o.maps.items; is_quiet = o.is_quiet; is_json = o.is_json; is_strict = o.is_strict; is_ended = o.is_ended; names = names_of o.names.items }
+choices_of o = record { asked = o.asked; schema = option_map string_bytes o.schema; maps = names_of o.maps.items; draft = o.draft; endings = names_of o.endings.items; excluded = names_of o.excluded.items; is_quiet = o.is_quiet; is_json = o.is_json; is_strict = o.is_strict; is_ended = o.is_ended; names = names_of o.names.items }
 
 abbrev pub ChoosesNothing : Options → Type 0
 ChoosesNothing o = choices_of o ≡ nothing_chosen
@@ -81,28 +93,38 @@ with_flag flags.Quiet c = record c { is_quiet = true }
 with_flag flags.Json c = record c { is_json = true }
 with_flag flags.Strict c = record c { is_strict = true }
 
--- of schemas the last counts, and each map does
-abbrev pub with_setting : Setting → List ℕ → Choices → Choices
-with_setting settings.Schema value c = record c { schema = Some value }
-with_setting settings.Map value c = record c { maps = c.maps ++ value ∷ [] }
+-- the option with this value makes d of what was chosen; of schemas and drafts the last counts, and each map, ending and glob does
+abbrev pub Sets : Setting → (value : List ℕ) → (c d : Choices) → Type 0
+Sets settings.Schema value c d = d ≡ record c { schema = Some value }
+Sets settings.Map value c d = d ≡ record c { maps = c.maps ++ value ∷ [] }
+Sets settings.Draft value c d = (draft : Draft) × (value ≡ draft_word draft) × (d ≡ record c { draft = Some draft })
+Sets settings.Ext value c d = (ending : List ℕ) × IsEnding value ending × (d ≡ record c { endings = c.endings ++ ending ∷ [] })
+Sets settings.Exclude value c d = (value ≢ []) × (d ≡ record c { excluded = c.excluded ++ value ∷ [] })
 
--- what the words choose after what was chosen before; nothing, where one is an option that is none or lacks its value
+-- it can't have this value
+abbrev pub SetsNothing : Setting → (value : List ℕ) → Choices → Type 0
+SetsNothing s value c = (d : Choices) → ¬ (Sets s value c d)
+
+-- what the words choose after what was chosen before; nothing, where one is an option that is none, or its value is missing or can't be that
 pub data Choose : Choices → (words : List (List ℕ)) → Option Choices → Type 0 where
   all : (c : Choices) → Choose c [] (Some c)
   name : (c : Choices) (w : List ℕ) (ws : List (List ℕ)) (r : Option Choices) → kind_in c w ≡ word.Name → Choose (with_name w c) ws r → Choose c (w ∷ ws) r
   behind : (c : Choices) (w : List ℕ) (ws : List (List ℕ)) (r : Option Choices) → kind_in c w ≡ word.End → Choose (ended c) ws r → Choose c (w ∷ ws) r
   flag : (c : Choices) (w : List ℕ) (ws : List (List ℕ)) (r : Option Choices) (f : Flag) → kind_in c w ≡ word.Flag f → Choose (with_flag f c) ws r → Choose c (w ∷ ws) r
-  setting : (c : Choices) (w value : List ℕ) (ws : List (List ℕ)) (r : Option Choices) (s : Setting) → kind_in c w ≡ word.Setting s → Choose (with_setting s value c) ws r
-      → Choose c (w ∷ value ∷ ws) r
-  joined : (c : Choices) (w value : List ℕ) (ws : List (List ℕ)) (r : Option Choices) (s : Setting) → kind_in c w ≡ word.Other → w ≡ joined_word s value → Choose (with_setting s value c) ws r
-      → Choose c (w ∷ ws) r
-  unknown : (c : Choices) (w : List ℕ) (ws : List (List ℕ)) → kind_in c w ≡ word.Other → ((s : Setting) (value : List ℕ) → w ≢ joined_word s value) → Choose c (w ∷ ws) None
-  no_value : (c : Choices) (w : List ℕ) (s : Setting) → kind_in c w ≡ word.Setting s → Choose c (w ∷ []) None
+  setting : (c d : Choices) (s : Setting) (value : List ℕ) (ws : List (List ℕ)) (r : Option Choices) → kind_in c (setting_word s) ≡ word.Other → Sets s value c d → Choose d ws r
+      → Choose c (setting_word s ∷ value ∷ ws) r
+  joined : (c d : Choices) (s : Setting) (value : List ℕ) (ws : List (List ℕ)) (r : Option Choices) → kind_in c (joined_word s value) ≡ word.Other → Sets s value c d → Choose d ws r
+      → Choose c (joined_word s value ∷ ws) r
+  unknown : (c : Choices) (w : List ℕ) (ws : List (List ℕ)) → kind_in c w ≡ word.Other → ((s : Setting) → w ≢ setting_word s) → ((s : Setting) (value : List ℕ) → w ≢ joined_word s value)
+      → Choose c (w ∷ ws) None
+  no_value : (c : Choices) (s : Setting) → kind_in c (setting_word s) ≡ word.Other → Choose c (setting_word s ∷ []) None
+  wrong_value : (c : Choices) (s : Setting) (value : List ℕ) (ws : List (List ℕ)) → kind_in c (setting_word s) ≡ word.Other → SetsNothing s value c → Choose c (setting_word s ∷ value ∷ ws) None
+  wrong_joined : (c : Choices) (s : Setting) (value : List ℕ) (ws : List (List ℕ)) → kind_in c (joined_word s value) ≡ word.Other → SetsNothing s value c → Choose c (joined_word s value ∷ ws) None
 
 -- the words ask for this
 abbrev pub Asks : (list : List (String Global)) → Options → Type 0
 Asks list o = Choose nothing_chosen (names_of list) (Some (choices_of o))
 
--- they ask for nothing: one of them is no option, or lacks its value
+-- they ask for nothing
 abbrev pub AsksNothing : (list : List (String Global)) → Type 0
 AsksNothing list = Choose nothing_chosen (names_of list) None

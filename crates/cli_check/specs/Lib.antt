@@ -2,6 +2,8 @@
 pub mod Answers
 pub mod Checks
 pub mod CommandWords
+pub mod Drafts
+pub mod Names
 pub mod Naming
 pub mod Schemas
 pub mod SchemaSteps

@@ -18,9 +18,12 @@ abbrev pub text_of : Option Datum → Option (List ℕ)
 text_of None = None
 text_of (Some x) = text_in x
 
+abbrev pub schema_name : List ℕ
+schema_name = chars (codes "$schema")
+
 -- what the document's key `$schema` says
 abbrev pub schema_key : Datum → Option (List ℕ)
-schema_key x = text_of (named_of (chars (codes "$schema")) x)
+schema_key x = text_of (named_of schema_name x)
 
 -- `NAME=FILE` has this name and this file
 abbrev pub MapsTo : (schema file : List ℕ) → String Global → Type 0

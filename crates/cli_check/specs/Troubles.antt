@@ -41,7 +41,7 @@ GivesUp line errors said status = (status ≡ 2) × AppendsFront errors said lin
 
 -- how the program is called
 abbrev pub usage_line : List ℕ
-usage_line = codes "usage: json5_check [--schema S] [--map NAME=FILE] [--strict] [--quiet or --json] FILE..." ++ line_feed ∷ []
+usage_line = codes "usage: json5_check [--schema S] [OPTION...] FILE..." ++ line_feed ∷ []
 
 -- memory ran out before any work began
 abbrev pub memory_line : List ℕ

@@ -11,24 +11,24 @@ use crate::naming::schema_file;
 use crate::options::Options;
 use crate::schemas::read_schema;
 use crate::trouble::{SchemaCause, SchemaTrouble};
-use cli_files::{Disk, shown};
+use cli_files::{Store, shown};
 use json5_schema::Schema;
 use json5_types::error::Result as Made;
 use json5_types::value::Value;
 use std::alloc::Global;
 
 /// The schema that the document with this name and this value names.
-pub(crate) fn own_schema<D: Disk>(
-    disk: &D,
+pub(crate) fn own_schema<S: Store>(
+    store: &S,
     alloc: Global,
     options: &Options,
     name: &str,
     value: &Value,
 ) -> Result<Schema, SchemaTrouble>
-    ensures { TakesOwn (D.opens disk.now) options.now.maps.items name.now (value_of value.now) result }
+    ensures { TakesOwn (S.known store.now) options.now name.now (value_of value.now) result }
 {
     match schema_key(value) {
-        Some(schema) => schema_named(disk, alloc, options, name, schema),
+        Some(schema) => schema_named(store, alloc, options, name, schema),
         None => Err(SchemaTrouble::because(SchemaCause::Unnamed, unnamed(alloc, name))),
     }
 }
@@ -44,17 +44,17 @@ fn schema_key(value: &Value) -> Option<&str>
 }
 
 /// The schema that the document with this name calls so.
-fn schema_named<D: Disk>(
-    disk: &D,
+fn schema_named<S: Store>(
+    store: &S,
     alloc: Global,
     options: &Options,
     name: &str,
     schema: &str,
 ) -> Result<Schema, SchemaTrouble>
-    ensures { TakesNamed (D.opens disk.now) options.now.maps.items name.now schema.now result }
+    ensures { TakesNamed (S.known store.now) options.now name.now schema.now result }
 {
     match schema_file(alloc, options.maps.as_slice(), name, schema) {
-        Ok(Some(file)) => read_schema(disk, alloc, options, file.as_str()),
+        Ok(Some(file)) => read_schema(store, alloc, options, file.as_str()),
         Ok(None) => Err(SchemaTrouble::because(
             SchemaCause::Elsewhere,
             elsewhere(alloc, name, schema),

@@ -13,7 +13,7 @@ use crate::faults::{show_bytes, show_faults, show_refusal};
 use crate::options::Options;
 use crate::trouble::{Trouble, Unshown};
 use crate::verdict::{Source, Verdict};
-use cli_files::{Disk, Failure, Reason, read_whole};
+use cli_files::{Failure, Reason, Store, read_whole};
 use json5_read::read_document;
 use json5_schema::Schema;
 use json5_types::error::Error;
@@ -22,8 +22,8 @@ use std::alloc::Global;
 use std::io::{Read, Write};
 
 /// Holds the document in the file with this name, or that in `r` where it is `-`, against the schema that is given, or else its own.
-pub(crate) fn check_file<D: Disk, R: Read, W: Write>(
-    disk: &D,
+pub(crate) fn check_file<S: Store, R: Read, W: Write>(
+    store: &S,
     alloc: Global,
     options: &Options,
     given: Option<&Schema>,
@@ -31,28 +31,28 @@ pub(crate) fn check_file<D: Disk, R: Read, W: Write>(
     r: &mut R,
     w: &mut W,
 ) -> Result<Verdict, Trouble>
-    ensures { JudgesFile (D.opens disk.now) (given_schema given.entry) options.now.maps.items
+    ensures { JudgesFile (S.known store.now) (given_schema given.entry) options.now
         (R.remaining r.old) name.now (R.remaining r.new) result }
 {
     if is_stdin(name) {
-        return check_input(disk, alloc, options, given, name, r, w);
+        return check_input(store, alloc, options, given, name, r, w);
     }
-    match disk.open(name) {
-        Ok(mut file) => check_input(disk, alloc, options, given, name, &mut file, w),
+    match store.open(name) {
+        Ok(mut file) => check_input(store, alloc, options, given, name, &mut file, w),
         Err(e) => Err(Trouble::Unopened(Reason::of(&e))),
     }
 }
 
 /// Whether the name is that of standard input.
-fn is_stdin(name: &str) -> bool
+pub(crate) fn is_stdin(name: &str) -> bool
     ensures { Decides result (name.now ≡ codes "-") }
 {
     name == "-"
 }
 
 /// The same of the document in a reader.
-fn check_input<D: Disk, R: Read, W: Write>(
-    disk: &D,
+fn check_input<S: Store, R: Read, W: Write>(
+    store: &S,
     alloc: Global,
     options: &Options,
     given: Option<&Schema>,
@@ -60,17 +60,17 @@ fn check_input<D: Disk, R: Read, W: Write>(
     r: &mut R,
     w: &mut W,
 ) -> Result<Verdict, Trouble>
-    ensures { JudgesInput (D.opens disk.now) (given_schema given.entry) options.now.maps.items name.now (R.remaining r.old) result }
+    ensures { JudgesInput (S.known store.now) (given_schema given.entry) options.now name.now (R.remaining r.old) result }
 {
     match read_whole(alloc, r) {
-        Ok(bytes) => check_bytes(disk, alloc, options, given, name, bytes, w),
+        Ok(bytes) => check_bytes(store, alloc, options, given, name, bytes, w),
         Err(failure) => Err(Trouble::of_read(failure)),
     }
 }
 
 /// The same of the document in bytes.
-fn check_bytes<D: Disk, W: Write>(
-    disk: &D,
+fn check_bytes<S: Store, W: Write>(
+    store: &S,
     alloc: Global,
     options: &Options,
     given: Option<&Schema>,
@@ -78,17 +78,17 @@ fn check_bytes<D: Disk, W: Write>(
     bytes: Vec<u8>,
     w: &mut W,
 ) -> Result<Verdict, Trouble>
-    ensures { JudgesText (D.opens disk.now) (given_schema given.entry) options.now.maps.items name.now bytes.items result }
+    ensures { JudgesText (S.known store.now) (given_schema given.entry) options.now name.now bytes.items result }
 {
     match String::from_utf8(bytes) {
-        Ok(text) => check_text(disk, alloc, options, given, name, text, w),
+        Ok(text) => check_text(store, alloc, options, given, name, text, w),
         Err(e) => told(show_bytes(alloc, options, name, e.as_bytes(), w)),
     }
 }
 
 /// The same of the document in a text.
-fn check_text<D: Disk, W: Write>(
-    disk: &D,
+fn check_text<S: Store, W: Write>(
+    store: &S,
     alloc: Global,
     options: &Options,
     given: Option<&Schema>,
@@ -96,21 +96,21 @@ fn check_text<D: Disk, W: Write>(
     text: String,
     w: &mut W,
 ) -> Result<Verdict, Trouble>
-    ensures { JudgesText (D.opens disk.now) (given_schema given.entry) options.now.maps.items name.now (string_bytes text) result }
+    ensures { JudgesText (S.known store.now) (given_schema given.entry) options.now name.now (string_bytes text) result }
 {
     let source = Source {
         name,
         text: text.as_str(),
     };
     match read_document(alloc, text.as_str()) {
-        Ok(value) => check_value(disk, alloc, options, given, source, &value, w),
+        Ok(value) => check_value(store, alloc, options, given, source, &value, w),
         Err(error) => refuse(alloc, options, source, error, w),
     }
 }
 
 /// Holds the value of a document against the schema that is given, or else its own.
-fn check_value<D: Disk, W: Write>(
-    disk: &D,
+fn check_value<S: Store, W: Write>(
+    store: &S,
     alloc: Global,
     options: &Options,
     given: Option<&Schema>,
@@ -118,27 +118,27 @@ fn check_value<D: Disk, W: Write>(
     value: &Value,
     w: &mut W,
 ) -> Result<Verdict, Trouble>
-    ensures { JudgesValue (D.opens disk.now) (given_schema given.entry) options.now.maps.items source.entry.name.now
+    ensures { JudgesValue (S.known store.now) (given_schema given.entry) options.now source.entry.name.now
         (value_of value.now) result }
 {
     match given {
         Some(schema) => judge(alloc, options, schema, source, value, w),
-        None => check_by_own(disk, alloc, options, source, value, w),
+        None => check_by_own(store, alloc, options, source, value, w),
     }
 }
 
 /// Holds the value of a document against the schema that it names.
-fn check_by_own<D: Disk, W: Write>(
-    disk: &D,
+fn check_by_own<S: Store, W: Write>(
+    store: &S,
     alloc: Global,
     options: &Options,
     source: Source<'_>,
     value: &Value,
     w: &mut W,
 ) -> Result<Verdict, Trouble>
-    ensures { JudgesValue (D.opens disk.now) None options.now.maps.items source.entry.name.now (value_of value.now) result }
+    ensures { JudgesValue (S.known store.now) None options.now source.entry.name.now (value_of value.now) result }
 {
-    match own_schema(disk, alloc, options, source.name, value) {
+    match own_schema(store, alloc, options, source.name, value) {
         Ok(schema) => judge(alloc, options, &schema, source, value, w),
         Err(trouble) => Err(Trouble::Schema(trouble)),
     }

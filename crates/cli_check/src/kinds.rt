@@ -1,7 +1,7 @@
 //! The words of the command line, one by one.
 
 ghost use Rattle.std.specs.Prelude.{◌≡◌, ◌≢◌, List, MatchOption, ℕ};
-ghost use Rattle.cli_check.specs.CommandWords.{is_dashed, joined_word, kind_of, other_kind};
+ghost use Rattle.cli_check.specs.CommandWords.{is_dashed, joined_word, kind_of, other_kind, setting_word};
 
 /// An option without a value.
 #[derive(Clone, Copy, Drop)]
@@ -18,18 +18,20 @@ pub(crate) enum Flag {
 pub(crate) enum Setting {
     Schema,
     Map,
+    Draft,
+    Ext,
+    Exclude,
 }
 
 /// What a word is.
 #[derive(Clone, Copy, Drop)]
 pub(crate) enum Word {
-    /// Of a file.
+    /// Of a file or a folder.
     Name,
     /// Behind it each word is a name.
     End,
     Flag(Flag),
-    Setting(Setting),
-    /// An option with its value in the same word, or one that is none.
+    /// An option with a value, or one that is none.
     Other,
 }
 
@@ -46,8 +48,6 @@ pub(crate) fn kind_of(word: &str) -> Word
         "--quiet" => Word::Flag(Flag::Quiet),
         "--json" => Word::Flag(Flag::Json),
         "--strict" => Word::Flag(Flag::Strict),
-        "--schema" => Word::Setting(Setting::Schema),
-        "--map" => Word::Setting(Setting::Map),
         _ => other_kind(word),
     }
 }
@@ -70,16 +70,30 @@ fn is_dashed(word: &str) -> bool
     word.as_bytes().starts_with(b"-")
 }
 
-/// The option and its value, if the word has both, as in `--schema=S`.
-pub(crate) fn joined(word: &str) -> Option<(Setting, &str)>
-    ensures { MatchOption result ((s : Setting) (value : List ℕ) → word.now ≢ joined_word s value)
-        (λ x. word.now ≡ joined_word x.0 x.1.now) }
-{
-    if let Some(value) = word.strip_prefix("--schema=") {
-        return Some((Setting::Schema, value));
+impl Setting {
+    /// The option with this name, if there is one.
+    pub(crate) fn named(word: &str) -> Option<Setting>
+        ensures { MatchOption result ((s : Setting) → word.now ≢ setting_word s) (λ s. word.now ≡ setting_word s) }
+    {
+        match word {
+            "--schema" => Some(Setting::Schema),
+            "--map" => Some(Setting::Map),
+            "--draft" => Some(Setting::Draft),
+            "--ext" => Some(Setting::Ext),
+            "--exclude" => Some(Setting::Exclude),
+            _ => None,
+        }
     }
-    match word.strip_prefix("--map=") {
-        Some(value) => Some((Setting::Map, value)),
-        None => None,
+
+    /// The option and its value, if the word has both, as in `--schema=S`.
+    pub(crate) fn joined(word: &str) -> Option<(Setting, &str)>
+        ensures { MatchOption result ((s : Setting) (value : List ℕ) → word.now ≢ joined_word s value)
+            (λ x. word.now ≡ joined_word x.0 x.1.now) }
+    {
+        let (name, value) = word.split_once('=')?;
+        match Setting::named(name) {
+            Some(setting) => Some((setting, value)),
+            None => None,
+        }
     }
 }

@@ -1,11 +1,12 @@
 //! What the words of the command line ask for.
 
 ghost use Rattle.std.specs.Prelude.{◌≡◌, OnOk};
-ghost use Rattle.cli_check.specs.CommandWords.{ChoosesNothing, choices_of, kind_in, with_flag, with_name, with_setting};
-ghost use Rattle.cli_check.specs.WordSteps.{ReadsWords, TakesJoined, TakesSetting, TakesWord};
+ghost use Rattle.cli_check.specs.CommandWords.{ChoosesNothing, choices_of, kind_in, with_flag, with_name};
+ghost use Rattle.cli_check.specs.WordSteps.{ReadsWords, TakesWord};
 ghost use Rattle.cli_files.specs.NameLists.{names_of};
 
-use crate::kinds::{Flag, Setting, Word, joined, kind_of};
+use crate::drafts::Draft;
+use crate::kinds::{Flag, Word, kind_of};
 use cli_files::push_name;
 use std::alloc::{AllocError, Global};
 
@@ -26,6 +27,12 @@ pub struct Options {
     pub schema: Option<String>,
     /// The files of schemas that documents name otherwise, each as `NAME=FILE`.
     pub maps: Vec<String>,
+    /// The draft of a schema that names none.
+    pub draft: Option<Draft>,
+    /// The endings, without their points, of the files that are looked for below a folder, beside `json5`.
+    pub endings: Vec<String>,
+    /// Globs of what is left alone below a folder.
+    pub excluded: Vec<String>,
     /// Whether nothing is written of faults.
     pub is_quiet: bool,
     /// Whether faults are written as lines of JSON.
@@ -34,7 +41,7 @@ pub struct Options {
     pub is_strict: bool,
     /// Whether `--` came, behind which each word is a name.
     pub is_ended: bool,
-    /// Of files, as they were given.
+    /// Of files and folders, as they were given.
     pub names: Vec<String>,
 }
 
@@ -77,6 +84,9 @@ impl Options {
             asked: Asked::Files,
             schema: None,
             maps: Vec::new(alloc),
+            draft: None,
+            endings: Vec::new(alloc),
+            excluded: Vec::new(alloc),
             is_quiet: false,
             is_json: false,
             is_strict: false,
@@ -107,8 +117,7 @@ impl Options {
                 self.take_flag(flag);
                 Ok(rest)
             }
-            Word::Setting(setting) => self.take_setting(alloc, setting, rest),
-            Word::Other => self.take_joined(alloc, word, rest),
+            Word::Other => self.take_setting(alloc, word, rest),
         }
     }
 
@@ -140,60 +149,5 @@ impl Options {
             Flag::Json => self.is_json = true,
             Flag::Strict => self.is_strict = true,
         }
-    }
-
-    /// Sets the option to the first of the words. Returns the others.
-    fn take_setting<'w>(
-        &mut self,
-        alloc: Global,
-        setting: Setting,
-        rest: &'w [String],
-    ) -> Result<&'w [String], WordFault>
-        ensures { TakesSetting setting (choices_of self.old) (choices_of self.new) (names_of rest.now) result }
-    {
-        let Some((value, left)) = rest.split_first() else {
-            return Err(WordFault::Unknown);
-        };
-        self.set(alloc, setting, value.as_str())?;
-        Ok(left)
-    }
-
-    /// Sets the option in the word to the value in it. Returns the other words.
-    fn take_joined<'w>(
-        &mut self,
-        alloc: Global,
-        word: &str,
-        rest: &'w [String],
-    ) -> Result<&'w [String], WordFault>
-        ensures { TakesJoined (choices_of self.old) (choices_of self.new) word.now (names_of rest.now) result }
-    {
-        let Some((setting, value)) = joined(word) else {
-            return Err(WordFault::Unknown);
-        };
-        self.set(alloc, setting, value)?;
-        Ok(rest)
-    }
-
-    fn set(&mut self, alloc: Global, setting: Setting, value: &str) -> Result<(), AllocError>
-        ensures { OnOk result (choices_of self.new ≡ with_setting setting value.now (choices_of self.old)) }
-    {
-        match setting {
-            Setting::Schema => self.set_schema(alloc, value),
-            Setting::Map => self.add_map(alloc, value),
-        }
-    }
-
-    fn set_schema(&mut self, alloc: Global, file: &str) -> Result<(), AllocError>
-        ensures { OnOk result (choices_of self.new ≡ with_setting Setting.Schema file.now (choices_of self.old)) }
-    {
-        self.schema = Some(String::from_str(alloc, file)?);
-        Ok(())
-    }
-
-    fn add_map(&mut self, alloc: Global, map: &str) -> Result<(), AllocError>
-        ensures { OnOk result (choices_of self.new ≡ with_setting Setting.Map map.now (choices_of self.old)) }
-    {
-        push_name(alloc, &mut self.maps, map)?;
-        Ok(())
     }
 }

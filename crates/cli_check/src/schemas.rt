@@ -1,16 +1,17 @@
 //! Reading a schema.
 
-ghost use Rattle.std.specs.Prelude.{Some, string_bytes};
+ghost use Rattle.std.specs.Prelude.{IfOk, Some, string_bytes};
 ghost use Rattle.json5_types.specs.ValueMeanings.{value_of};
 ghost use Rattle.cli_check.specs.Schemas.{TakesFile, TakesHeld};
-ghost use Rattle.cli_check.specs.SchemaSteps.{IsOfRefusal, TakesValue};
+ghost use Rattle.cli_check.specs.SchemaSteps.{IsOfRefusal, IsOfValue, TakesDrafted, TakesValue};
 
+use crate::drafts::with_draft;
 use crate::faults::report_at;
 use crate::options::Options;
 use crate::places::{Sought, find_all};
 use crate::trouble::{SchemaCause, SchemaTrouble};
 use crate::verdict::Source;
-use cli_files::{Disk, Failure, Reason, read_whole, shown};
+use cli_files::{Failure, Reason, Store, read_whole, shown};
 use json5_read::read_document;
 use json5_report::Report;
 use json5_schema::{Problem, Schema, SchemaFault};
@@ -20,15 +21,15 @@ use std::alloc::Global;
 use std::io::Read;
 
 /// Reads the schema in the file with this name.
-pub(crate) fn read_schema<D: Disk>(
-    disk: &D,
+pub(crate) fn read_schema<S: Store>(
+    store: &S,
     alloc: Global,
     options: &Options,
     file: &str,
 ) -> Result<Schema, SchemaTrouble>
-    ensures { TakesFile (D.opens disk.now) file.now result }
+    ensures { TakesFile (S.known store.now) options.now file.now result }
 {
-    match disk.open(file) {
+    match store.open(file) {
         Ok(mut opened) => schema_in(alloc, options, file, &mut opened),
         Err(e) => Err(SchemaTrouble::because(
             SchemaCause::Unopened,
@@ -44,7 +45,7 @@ fn schema_in<R: Read>(
     file: &str,
     r: &mut R,
 ) -> Result<Schema, SchemaTrouble>
-    ensures { TakesHeld (R.remaining r.old) result }
+    ensures { TakesHeld options.now (R.remaining r.old) result }
 {
     match read_whole(alloc, r) {
         Ok(bytes) => schema_of_bytes(alloc, options, file, bytes),
@@ -60,7 +61,7 @@ fn schema_of_bytes(
     file: &str,
     bytes: Vec<u8>,
 ) -> Result<Schema, SchemaTrouble>
-    ensures { TakesHeld (Some bytes.items) result }
+    ensures { TakesHeld options.now (Some bytes.items) result }
 {
     match String::from_utf8(bytes) {
         Ok(text) => schema_of_text(alloc, options, file, text),
@@ -78,14 +79,14 @@ fn schema_of_text(
     file: &str,
     text: String,
 ) -> Result<Schema, SchemaTrouble>
-    ensures { TakesHeld (Some (string_bytes text)) result }
+    ensures { TakesHeld options.now (Some (string_bytes text)) result }
 {
     let source = Source {
         name: file,
         text: text.as_str(),
     };
     match read_document(alloc, text.as_str()) {
-        Ok(value) => schema_of_value(alloc, options, source, &value),
+        Ok(value) => schema_of_value(alloc, options, source, value),
         Err(error) => Err(refuse(alloc, source, error)),
     }
 }
@@ -103,21 +104,31 @@ fn refuse(alloc: Global, source: Source<'_>, error: Error) -> SchemaTrouble
     }
 }
 
-/// The schema that the value of this document is.
+/// The schema that the value of this document is, of the draft that is asked for where it names none.
 fn schema_of_value(
+    alloc: Global,
+    options: &Options,
+    source: Source<'_>,
+    value: Value,
+) -> Result<Schema, SchemaTrouble>
+    ensures { TakesValue options.now (value_of value) result }
+{
+    match with_draft(alloc, options.draft, value) {
+        Ok(value) => schema_drafted(alloc, options, source, &value),
+        Err(_) => Err(SchemaTrouble::NoMemory),
+    }
+}
+
+/// The schema that this value is, which names its draft if one is asked for.
+fn schema_drafted(
     alloc: Global,
     options: &Options,
     source: Source<'_>,
     value: &Value,
 ) -> Result<Schema, SchemaTrouble>
-    ensures { TakesValue (value_of value.now) result }
+    ensures { TakesDrafted options.now (value_of value.now) result }
 {
-    let taken = if options.is_strict {
-        Schema::strict(alloc, value)
-    } else {
-        Schema::new(alloc, value)
-    };
-    match taken {
+    match taken(alloc, options, value) {
         Ok(schema) => Ok(schema),
         Err(SchemaFault::At(pointer, problem)) => Err(SchemaTrouble::because(
             SchemaCause::Faulty,
@@ -125,6 +136,16 @@ fn schema_of_value(
         )),
         Err(SchemaFault::Value(_)) => Err(SchemaTrouble::NoMemory),
     }
+}
+
+/// Takes the value as a schema; with `--strict` only one whose keywords are known.
+fn taken(alloc: Global, options: &Options, value: &Value) -> Result<Schema, SchemaFault>
+    ensures { IfOk result (IsOfValue options.now (value_of value.now)) }
+{
+    if options.is_strict {
+        return Schema::strict(alloc, value);
+    }
+    Schema::new(alloc, value)
 }
 
 /// That the file can't be opened.

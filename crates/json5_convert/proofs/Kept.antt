@@ -10,7 +10,7 @@ use Rattle.json5_read.specs.DocumentReads.{IsRefused, ReadsText}
 use Rattle.json5_lexemes.specs.Plain.{PlainText}
 use Rattle.json5_lexemes.proofs.PlainDocuments.{bare_document, commented_document}
 use Rattle.json5_styles.specs.JsonTexts.{is_json}
-use Rattle.json5_convert.specs.Respelled.{IsAsPlain, IsJson, IsLost, IsOfText, IsOwn, IsRespelled, KeepsNumbers, MeansValue, RefusesRespelling, loses_number}
+use Rattle.json5_convert.specs.Respelled.{IsJson, IsLost, IsMade, IsOfText, IsRespelled, MeansValue, RefusesRespelling, loses_number}
 use Rattle.json5_convert.specs.Spellings.{has_comments, has_json_numbers}
 use Rattle.json5_convert.specs.declared.faults.RespellError.{RespellError}
 use Rattle.json5_convert.specs.declared.faults.RespellError.TheVariants as error
@@ -21,8 +21,8 @@ is_json_text : (comments : Bool) (text : List ℕ) (t : Tree) → Doc max_depth 
 is_json_text false text t d p = bare_document max_depth (chars text) t d p
 is_json_text true text t d p = commented_document max_depth (chars text) t d p
 
-pub respelled : (s : Spelling) (x y : List ℕ) (d : Datum) → MeansValue d x → MeansValue d y → IsAsPlain s y → IsRespelled s x y
-respelled s x y d (t, a, e) (u, b, f) p = record { means = record { tree = t; document = a; other = u; respelled = b; same = sym f ∙ e }; json = λ asked. is_json_text (has_comments s) y u b (p asked) }
+pub respelled : (s : Spelling) (x y : List ℕ) → IsMade s x y → IsRespelled s x y
+respelled s x y m = record { means = m.means; json = λ asked. is_json_text (has_comments s) y m.means.other m.means.respelled (m.plain asked) }
 
 is_then : (b : Bool) → not b ≡ false → b ≡ true
 is_then true e = refl
@@ -39,12 +39,6 @@ both false b e = absurd (cc)
 -- ---- numbers
 
 module _ (s : Spelling) (x : List ℕ) (d : Datum) (m : MeansValue d x) where
-  pub keeps_numbers : loses_number s d ≡ false → KeepsNumbers s x
-  keeps_numbers said asked =
-      let (t, a, e) = m in
-      let k : not (is_json d) ≡ false = ap (λ z. z && not (is_json d)) (sym asked) ∙ said in
-      (t, a, ap is_json (sym e) ∙ is_then (is_json d) k)
-
   pub lost : loses_number s d ≡ true → (r : RespellError) → IsLost r → RefusesRespelling s x r
   lost said error.NoMemory l = tt
   lost said (error.Number p) l =
@@ -54,11 +48,8 @@ module _ (s : Spelling) (x : List ℕ) (d : Datum) (m : MeansValue d x) where
   lost said error.Failed l = absurd l
   lost said (error.Text f) l = absurd l
 
-  pub own : loses_number s d ≡ false → (r : RespellError) → IsOwn r → RefusesRespelling s x r
-  own said error.NoMemory l = tt
-  own said error.Failed l = let (t, a, e) = m in (t, a, λ asked. let k : not (is_json d) ≡ false = ap (λ z. z && not (is_json d)) (sym asked) ∙ said in ap is_json (sym e) ∙ is_then (is_json d) k)
-  own said (error.Number p) l = absurd l
-  own said (error.Text f) l = absurd l
+  pub failed : loses_number s d ≡ false → RefusesRespelling s x error.Failed
+  failed said = let (t, a, e) = m in (t, a, λ asked. let k : not (is_json d) ≡ false = ap (λ z. z && not (is_json d)) (sym asked) ∙ said in ap is_json (sym e) ∙ is_then (is_json d) k)
 
 -- ---- a text that is no document
 

@@ -11,3 +11,4 @@ pub mod StreamsTaken
 pub mod TomlDates
 pub mod TomlHeld
 pub mod TomlParts
+pub mod WalkedAlike

@@ -1,4 +1,5 @@
 -- Lists the definitions for documents that are spelled anew.
+pub mod Alike
 pub mod CommentSteps
 pub mod Comments
 pub mod Lines

@@ -66,12 +66,6 @@ loses_number s d = has_json_numbers s && not (is_json d)
 abbrev pub IsUnread : (text : List ℕ) → RespellError → Type 0
 IsUnread text e = (s : Spelling) → RefusesRespelling s text e
 
--- memory ran out, or what was made is at fault
-abbrev pub IsOwn : RespellError → Type 0
-IsOwn error.NoMemory = ⊤
-IsOwn error.Failed = ⊤
-IsOwn _ = ⊥
-
 -- memory ran out, or it is a number's place
 abbrev pub IsLost : RespellError → Type 0
 IsLost error.NoMemory = ⊤
@@ -91,3 +85,10 @@ MeansValue d text = (t : Tree) × Doc max_depth (chars text) t × (d ≡ datum_o
 -- JSON where that was asked: comments may be in it only if they stay
 abbrev pub IsAsPlain : Spelling → (made : List ℕ) → Type 0
 IsAsPlain spelling made = asks_json spelling ≡ true → PlainText (has_comments spelling) made
+
+-- what was made of the text is as it should be
+pub record IsMade (spelling : Spelling) (text made : List ℕ) : Type 0 where
+  pub means : MeanTheSame (chars text) (chars made)
+  pub numbers : KeepsNumbers spelling text
+  pub comments : KeepsComments spelling text made
+  pub plain : IsAsPlain spelling made

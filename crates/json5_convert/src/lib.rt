@@ -11,6 +11,7 @@ mod faults;
 mod gaps;
 pub mod laws;
 mod lines;
+mod meanings;
 mod numbers;
 mod respelled;
 mod sources;

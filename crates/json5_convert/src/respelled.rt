@@ -2,10 +2,11 @@
 
 ghost use Rattle.std.specs.Prelude.{◌≡◌, true, IsTrue, IfOk, IfErr, OnOk, string_bytes};
 ghost use Rattle.json5_types.specs.ValueMeanings.{value_of};
-ghost use Rattle.json5_convert.specs.Respelled.{IsAsPlain, IsLost, IsOwn, IsRespelled, IsUnread, KeepsComments, KeepsNumbers, MeansValue, RefusesRespelling, loses_number};
+ghost use Rattle.json5_convert.specs.Respelled.{IsAsPlain, IsLost, IsMade, IsRespelled, IsUnread, KeepsComments, KeepsNumbers, MeansValue, RefusesRespelling, loses_number};
 
 use crate::comments::keeps_comments;
 use crate::faults::{RespellError, Result};
+use crate::meanings::mean_the_same;
 use crate::spelling::Spelling;
 use crate::tokens::spelled;
 use json5_lexemes::is_plain_with;
@@ -39,15 +40,33 @@ pub fn respell(alloc: Global, text: &str, spelling: Spelling) -> Result<String>
     ensures numbers { OnOk result (KeepsNumbers spelling text.now) }
     ensures refused { IfErr result (RefusesRespelling spelling text.now) }
 {
-    let value = read(alloc, text)?;
-    if loses_number(spelling, &value) {
-        return Err(lost_number(alloc, spelling, text));
+    match spelled_anew(alloc, spelling, text) {
+        Ok(made) => Ok(made),
+        Err(RespellError::NoMemory) => Err(RespellError::NoMemory),
+        Err(_) => Err(refusal(alloc, spelling, text)),
     }
-    let made = spelled_anew(alloc, spelling, text)?;
-    if is_respelled(alloc, spelling, &value, text, made.as_str()) {
+}
+
+/// The document spelled anew, if it is as it should be.
+fn spelled_anew(alloc: Global, spelling: Spelling, text: &str) -> Result<String>
+    ensures { IfOk result (λ made. IsMade spelling text.now (string_bytes made)) }
+{
+    let made = spelled(alloc, spelling, text)?;
+    if is_made(alloc, spelling, text, made.as_str()) {
         return Ok(made);
     }
     Err(RespellError::Failed)
+}
+
+/// Why nothing was made of the text.
+#[cold]
+fn refusal(alloc: Global, spelling: Spelling, text: &str) -> RespellError
+    ensures { RefusesRespelling spelling text.now result }
+{
+    match read(alloc, text) {
+        Ok(value) => unmade(alloc, spelling, text, &value),
+        Err(why) => why,
+    }
 }
 
 /// The document's value.
@@ -61,22 +80,22 @@ fn read(alloc: Global, text: &str) -> Result<Value>
     }
 }
 
+/// Why nothing was made of the text of this value.
+fn unmade(alloc: Global, spelling: Spelling, text: &str, value: &Value) -> RespellError
+    requires { MeansValue (value_of value.now) text.now }
+    ensures { RefusesRespelling spelling text.now result }
+{
+    if loses_number(spelling, value) {
+        return lost_number(alloc, spelling, text);
+    }
+    RespellError::Failed
+}
+
 /// Whether numbers are to be JSON's, and the value has another.
 fn loses_number(spelling: Spelling, value: &Value) -> bool
     ensures { result ≡ loses_number spelling (value_of value.now) }
 {
     spelling.has_json_numbers() && !is_json(value)
-}
-
-/// The document spelled anew, which is to be checked.
-fn spelled_anew(alloc: Global, spelling: Spelling, text: &str) -> Result<String>
-    ensures own { IfErr result IsOwn }
-{
-    match spelled(alloc, spelling, text) {
-        Ok(made) => Ok(made),
-        Err(RespellError::NoMemory) => Err(RespellError::NoMemory),
-        Err(_) => Err(RespellError::Failed),
-    }
 }
 
 /// Where the first number stands that JSON lacks.
@@ -90,20 +109,18 @@ fn lost_number(alloc: Global, spelling: Spelling, text: &str) -> RespellError
     }
 }
 
-/// Whether what was made of the text is a document of this value, with the comments that are asked for, and JSON where
-/// that is asked for.
-fn is_respelled(alloc: Global, spelling: Spelling, value: &Value, text: &str, made: &str) -> bool
-    ensures means { IsTrue result → MeansValue (value_of value.now) made.now }
-    ensures comments { IsTrue result → KeepsComments spelling text.now made.now }
-    ensures plain { IsTrue result → IsAsPlain spelling made.now }
+/// Whether what was made of the text means the same, and keeps the comments that are asked for, and is JSON where that is
+/// asked for.
+fn is_made(alloc: Global, spelling: Spelling, text: &str, made: &str) -> bool
+    ensures { IsTrue result → IsMade spelling text.now made.now }
 {
-    let Ok(other) = read_document(alloc, made) else {
+    if !mean_the_same(alloc, spelling.has_json_numbers(), text, made) {
         return false;
-    };
-    if other == *value {
-        return keeps_comments(spelling, text, made) && is_as_plain(spelling, made);
     }
-    false
+    if !keeps_comments(spelling, text, made) {
+        return false;
+    }
+    is_as_plain(spelling, made)
 }
 
 /// Whether what was made is JSON where that is asked for.

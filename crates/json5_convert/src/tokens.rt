@@ -100,7 +100,7 @@ impl<'t> Speller<'t> {
         Ok(self.walk.gap()?)
     }
 
-    /// Takes the gap in front, and spells it.
+    /// Takes the gap in front, if it wasn't taken, and spells it.
     #[inline(always)]
     fn gap(&mut self) -> Result<()> {
         self.skip_gap()?;
@@ -110,6 +110,9 @@ impl<'t> Speller<'t> {
     /// Spells the gap that was taken.
     #[inline(always)]
     fn spell_gap(&mut self) -> Result<()> {
+        if self.walk.offset() == self.end {
+            return Ok(());
+        }
         let (start, gap) = self.taken();
         if stays(self.spelling, gap) {
             return Ok(());

@@ -1,2 +1,3 @@
 -- Lists the lemmas about layers.
+pub mod Followed
 pub mod Layered

@@ -1,4 +1,5 @@
-//! Settings from several places, the later over the earlier, and faults told where the value came from.
+//! Settings from several places, the later over the earlier, faults told where the value came from, and what a program
+//! changed put back into a file.
 //!
 //! ```text
 //! let mut layers = Layers::new(alloc);
@@ -13,11 +14,16 @@
 //! ```
 #![tactic(auto)]
 
+mod edits;
 mod faults;
+mod follow;
 mod layers;
 mod names;
 mod origin;
+mod rewriting;
+mod saving;
 mod spots;
 
 pub use faults::{Result, SettingError};
 pub use layers::Layers;
+pub use saving::update;

@@ -5,7 +5,9 @@ use crate::plain_readers::reads_as_json;
 use crate::rows::{text_of, wanted_of};
 use crate::streams;
 use json5::Layout;
-use json5_convert::{Keys, LastCommas, Numbers, Quotes, Spelling, from_toml, respell, to_toml, to_toml_with_dates};
+use json5_convert::{
+    Keys, LastCommas, Numbers, Quotes, Spelling, from_toml, respell, to_toml, to_toml_with_dates,
+};
 use json5_read::read_document;
 use json5_types::error::Result;
 use json5_types::value::Value;

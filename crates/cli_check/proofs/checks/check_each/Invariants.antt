@@ -4,4 +4,4 @@ use Rattle.cli_check.proofs.checks.check_each.Given as goal
 
 abbrev pub invariant-loop-name : goal.invariant-loop-name
 invariant-loop-name g l =
-    ChecksFiles (g.D.Disk.opens l.disk) (given_schema l.given) l.options.maps.items (g.R.Read.remaining l.initial.r) (take l.name-index l.name-items) (g.R.Read.remaining l.r) l.status
+    ChecksFiles (g.S.Store.known l.store) (given_schema l.given) l.options (g.R.Read.remaining l.initial.r) (take l.name-index l.names) (g.R.Read.remaining l.r) l.status

@@ -6,7 +6,7 @@ use Rattle.cli_check.proofs.files.check_by_own.Goals as goal
 
 pub returns-in-Ok : goal.returns-in-Ok
 returns-in-Ok g c =
-    value_judged (g.D.Disk.opens c.args.disk.now) None c.args.options.now.maps.items c.args.source.name.now (schema_of c.in-Ok.schema) (value_of c.args.value.now) c.judge.result c.in-Ok.ensures c.judge.ensures
+    value_judged (g.S.Store.known c.args.store.now) None c.args.options.now c.args.source.name.now (schema_of c.in-Ok.schema) (value_of c.args.value.now) c.judge.result c.in-Ok.ensures c.judge.ensures
 
 pub returns-in-Err : goal.returns-in-Err
 returns-in-Err g c = (refl, c.in-Err.ensures)

@@ -1,0 +1,103 @@
+-- Two walks over documents that mean the same, as far as they were walked.
+-- Private.
+use Rattle.std.specs.Prelude.{◌≡◌, ℕ, Bool, true, List, [], ◌∷◌, ⊤}
+use Rattle.std.specs.Str.{chars, encode_utf8_all}
+use Rattle.json5_grammar.specs.Language.Documents.{max_depth}
+use Rattle.json5_grammar.specs.Language.Numbers.{Number}
+use Rattle.json5_grammar.specs.Language.Trees.{Tree, Trees, Members, null, boolean, number, text, array, object, no_more, more, no_member, member}
+use Rattle.json5_types.specs.ValueMeanings.{Datum, Items, Fields, no_item, item, no_field, field}
+use Rattle.json5_types.specs.ValueMeanings as datum
+use Rattle.json5_styles.specs.JsonTexts.{is_json, is_json_number, items_are_json, fields_are_json}
+use Rattle.json5_walk.specs.Frames.{Frame, in_array, in_object, At, at_value, at_element, at_key, at_colon, at_comma}
+use Rattle.json5_walk.specs.Moves.{TakesComma, TakesTree, EndsEntries}
+use Rattle.json5_walk.specs.Walks.{Walked, Trail, IsAt, Moved, Ends}
+use Rattle.json5_convert.specs.declared.meanings.Part.{Part}
+use Rattle.json5_convert.specs.declared.meanings.Part.TheVariants as part
+
+-- what a tree means, as the bytes of its texts say it
+abbrev mutual
+  pub meaning_of : Tree → Datum
+  meaning_of null = datum.null
+  meaning_of (boolean b) = datum.boolean b
+  meaning_of (number n) = datum.number n
+  meaning_of (text u escape_free) = datum.text (chars (encode_utf8_all u))
+  meaning_of (array ts) = datum.array (meanings_of ts)
+  meaning_of (object ps) = datum.object (member_meanings ps)
+
+  pub meanings_of : Trees → Items
+  meanings_of no_more = no_item
+  meanings_of (more t ts) = item (meaning_of t) (meanings_of ts)
+
+  pub member_meanings : Members → Fields
+  member_meanings no_member = no_field
+  member_meanings (member u escape_free t ps) = field (chars (encode_utf8_all u)) (meaning_of t) (member_meanings ps)
+
+-- both mean the same, and all numbers are JSON's where they are to be
+abbrev pub AlikeTrees : (json : Bool) → Tree → Tree → Type 0
+AlikeTrees json t u = (meaning_of u ≡ meaning_of t) × (json ≡ true → is_json (meaning_of t) ≡ true)
+
+abbrev pub AlikeElements : (json : Bool) → Trees → Trees → Type 0
+AlikeElements json ts us = (meanings_of us ≡ meanings_of ts) × (json ≡ true → items_are_json (meanings_of ts) ≡ true)
+
+abbrev pub AlikeMembers : (json : Bool) → Members → Members → Type 0
+AlikeMembers json ps qs = (member_meanings qs ≡ member_meanings ps) × (json ≡ true → fields_are_json (member_meanings ps) ≡ true)
+
+-- so do the elements and members that were read in the open brackets, and the keys
+abbrev pub AlikeFrames : (json : Bool) → List Frame → List Frame → Type 0
+AlikeFrames json [] [] = ⊤
+AlikeFrames json (in_array ts ∷ o) (in_array us ∷ p) = AlikeElements json ts us × AlikeFrames json o p
+AlikeFrames json (in_object ps k e ∷ o) (in_object qs l f ∷ p) = AlikeMembers json ps qs × (encode_utf8_all l ≡ encode_utf8_all k) × AlikeFrames json o p
+AlikeFrames json _ _ = ⊥
+
+-- both walks are at the same token
+abbrev pub AlikeAt : (json : Bool) → At → At → Type 0
+AlikeAt json (at_value o) (at_value p) = AlikeFrames json o p
+AlikeAt json (at_element ts o) (at_element us p) = AlikeElements json ts us × AlikeFrames json o p
+AlikeAt json (at_key ps o) (at_key qs p) = AlikeMembers json ps qs × AlikeFrames json o p
+AlikeAt json (at_colon ps k e o) (at_colon qs l f p) = AlikeMembers json ps qs × (encode_utf8_all l ≡ encode_utf8_all k) × AlikeFrames json o p
+AlikeAt json (at_comma t o) (at_comma u p) = AlikeTrees json t u × AlikeFrames json o p
+AlikeAt json _ _ = ⊥
+
+-- walks over the texts x and y, which mean the same so far
+pub record StandAlike (json : Bool) (x y : List ℕ) (v w : Walked) : Type 0 where
+  pub left_text : v.text ≡ x
+  pub right_text : w.text ≡ y
+  pub left_limit : v.limit ≡ max_depth
+  pub right_limit : w.limit ≡ max_depth
+  pub left : Trail
+  pub right : Trail
+  pub left_at : IsAt v left
+  pub right_at : IsAt w right
+  pub alike : AlikeAt json left.now right.now
+
+-- both walks went on, and stand alike again; `json` says whether numbers had to be JSON's
+abbrev pub GoAlike : (json : Bool) → (v w left right : Walked) → Type 0
+GoAlike json v w left right = (x y : List ℕ) → StandAlike json x y v w → StandAlike json x y left right
+
+-- the same, where no number was taken
+abbrev pub GoOn : (v w left right : Walked) → Type 0
+GoOn v w left right = (json : Bool) → GoAlike json v w left right
+
+-- the same, where the first walk had taken this step already
+abbrev pub Follows : (At → At → Type 0) → (v w left right : Walked) → Type 0
+Follows Step v w left right = (u : Walked) → Moved Step u v → GoOn u w left right
+
+-- both texts end there
+abbrev pub EndBoth : (v w : Walked) → Type 0
+EndBoth v w = ((s : Trail) → IsAt v s → Ends v s) × ((s : Trail) → IsAt w s → Ends w s)
+
+-- after a value its comma was taken, or the closing bracket
+abbrev pub TakesPart : Walked → Walked → Part → Type 0
+TakesPart old new part.Comma = Moved TakesComma old new
+TakesPart old new part.Close = Moved EndsEntries old new
+
+-- a string was taken, whose text has these bytes
+pub record TakesText (bytes : List ℕ) (old new : Walked) : Type 0 where
+  pub text_of : List ℕ
+  pub escape_free : Bool
+  pub is_text : bytes ≡ encode_utf8_all text_of
+  pub moved : Moved (TakesTree (text text_of escape_free)) old new
+
+-- this number was taken, which is JSON's if it has to be
+abbrev pub PassesNumber : (json : Bool) → Number → (old new : Walked) → Type 0
+PassesNumber json n old new = (json ≡ true → is_json_number n ≡ true) × Moved (TakesTree (number n)) old new

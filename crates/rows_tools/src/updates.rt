@@ -1,0 +1,26 @@
+//! Rows of settings that are put back into their text.
+
+use crate::outcomes::{Outcome, said};
+use crate::rows::{text_of, wanted_of};
+use json5_read::read_document;
+use json5_settings::update;
+use json5_types::error::Result;
+use json5_types::value::Value;
+use std::alloc::Global;
+
+/// What comes of the row's text.
+pub(crate) fn outcome_of(alloc: Global, row: &Value) -> Outcome {
+    let wanted = wanted_of(row);
+    match updated(alloc, row) {
+        Ok(made) if made.as_str() == wanted => Outcome::Wanted,
+        Ok(made) => Outcome::Other(made),
+        Err(error) => said(wanted, format!(in alloc; "{error}").ok()),
+    }
+}
+
+/// The row's text, in which what was `old` has become `new`.
+fn updated(alloc: Global, row: &Value) -> Result<String> {
+    let old = read_document(alloc, text_of(row, "old"))?;
+    let new = read_document(alloc, text_of(row, "new"))?;
+    update(alloc, text_of(row, "before"), &old, &new)
+}
