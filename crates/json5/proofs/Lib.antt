@@ -6,6 +6,7 @@ pub mod ValuesBack
 pub mod MapsBack
 pub mod WrittenThenRead
 pub mod StructsBack
+pub mod FieldLoops
 -- What proofs of users' types cite.
 pub use Rattle.json5_format.proofs.Formats
 pub use Rattle.json5_grammar.proofs.ObjectsRead
@@ -16,5 +17,6 @@ pub use Rattle.json5_de.proofs.ListFaults
 pub use Rattle.json5_de.proofs.Structs
 pub use Rattle.json5_de.proofs.StructFaults
 pub use Rattle.json5_de.proofs.OwnEnums
+pub use Rattle.json5_fields.proofs.DescribedFaults
 pub use Rattle.json5_ser.proofs.RemainingOutput
 pub use Rattle.json5_ser.proofs.CollectionsWritten

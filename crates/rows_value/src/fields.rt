@@ -7,7 +7,7 @@ use json5::{Deserialize, Serialize};
 use std::alloc::Global;
 use std::collections::BTreeMap;
 use test_own_types::{
-    AtMost, Bounds, Color, Endpoint, Id, Labels, OpenPort, Reminder, Settings, Size,
+    AtMost, Bounds, Color, Endpoint, Id, Labels, OpenPort, Pair, Reminder, Settings, Size,
 };
 
 /// What is written of the value that is read as the type with this name, its lines joined by blanks.
@@ -34,12 +34,17 @@ fn again<'a, T: Deserialize<&'a str> + Serialize + Drop>(alloc: Global, text: &'
     json5::to_string(alloc, &value)
 }
 
+fn pair_again(alloc: Global, text: &str) -> Answer {
+    let pair: Pair = json5::from_str(alloc, text)?;
+    json5::to_string(alloc, &(pair.a, pair.b))
+}
+
 fn bounds_again<'a, T: Deserialize<&'a str> + Serialize>(alloc: Global, text: &'a str) -> Answer {
     let bounds = json5::from_str::<Bounds<T>>(alloc, text)?;
     json5::to_string(alloc, &(bounds.low, bounds.high))
 }
 
-/// The same of the labels, the ports, the two ends or the number that a type holds.
+/// The same of the labels, the ports, the two ends or the numbers that a type holds.
 fn held_again(alloc: Global, name: &str, text: &str) -> Answer {
     match name {
         "labels" => json5::to_string(alloc, &json5::from_str::<Labels>(alloc, text)?.texts),
@@ -51,6 +56,7 @@ fn held_again(alloc: Global, name: &str, text: &str) -> Answer {
             alloc,
             &json5::from_str::<Vec<Labels>>(alloc, text)?.len(),
         ),
+        "pair" => pair_again(alloc, text),
         "bounds" => bounds_again::<i32>(alloc, text),
         "text_bounds" => bounds_again::<&str>(alloc, text),
         _ => json5::to_string(alloc, &json5::from_str::<Id>(alloc, text)?.number),

@@ -8,7 +8,7 @@ use std::alloc::Global;
 use std::collections::BTreeMap;
 use std::io::{self, Write};
 use test_own_types::{
-    AtMost, Bounds, Color, Endpoint, Id, Labels, OpenPort, Reminder, Settings, settings_again,
+    AtMost, Bounds, Color, Endpoint, Id, Labels, OpenPort, Pair, Reminder, Settings, settings_again,
 };
 
 fn bounds(alloc: Global, text: &str) -> Result<String> {
@@ -32,6 +32,11 @@ fn at_most(alloc: Global, text: &str) -> Result<String> {
 fn labels(alloc: Global, text: &str) -> Result<String> {
     let labels: Labels = from_str(alloc, text)?;
     to_string(alloc, &labels.texts)
+}
+
+fn pair(alloc: Global, text: &str) -> Result<String> {
+    let pair: Pair = from_str(alloc, text)?;
+    to_string(alloc, &(pair.a, pair.b))
 }
 
 fn spanned(alloc: Global) -> Result<String> {
@@ -84,6 +89,8 @@ fn print_structs<W: Write>(alloc: Global, out: &mut W) -> io::Result<()> {
     print(out, "OpenPort", read::<OpenPort>(alloc, "8080"))?;
     print(out, "Endpoint", read::<Endpoint>(alloc, "['a',80]"))?;
     print(out, "Endpoint at 0", read::<Endpoint>(alloc, "['a',0]"))?;
+    print(out, "Pair", pair(alloc, "{'\\u0061':1,b:2}"))?;
+    print(out, "Pair of three", pair(alloc, "{a:1,b:2,c:3}"))?;
     print(
         out,
         "Settings",

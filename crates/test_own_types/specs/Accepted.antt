@@ -1,11 +1,17 @@
 -- What is read as the types of this crate.
 -- A promise rests on this.
-use Rattle.std.specs.Prelude.{◌==◌, ◌^◌, ℕ, Bool, if◌then◌else◌, nat_lt, length, List, [], ◌∷◌, Option, Some, None, codes, string_bytes}
+use Rattle.std.specs.Prelude.{◌==◌, ◌^◌, ℕ, Bool, if◌then◌else◌, nat_lt, length, List, [], ◌∷◌, Option, Some, None, Result, codes, string_bytes}
 use Rattle.json5.specs.Trees.{Tree, Trees}
 use Rattle.json5.specs.Collections.{contents}
 use Rattle.json5.specs.Convert.{index_of, unsigned_below}
 use Rattle.json5.specs.ConvertLists.{if_some}
-use Rattle.json5.specs.Refinement.{if_more, refined}
+use Rattle.json5.specs.Error.{Error}
+use Rattle.json5.specs.Layouts.{Layout}
+use Rattle.json5.specs.Refinement.{ReadsExactly, if_more, refined}
+use Rattle.json5.specs.State.{State}
+use Rattle.json5.specs.StructFaults.{ValueFaults}
+use Rattle.json5.specs.Structs.{RefusesOnly, struct_only}
+use Rattle.json5.specs.TokenKinds.{no_tree}
 use Rattle.json5.specs.VariantContents.{Either, first, later}
 use Rattle.test_own_types.specs.declared.colors.Color.{Color}
 use Rattle.test_own_types.specs.declared.colors.Color.TheVariants.{Red, Green, Blue}
@@ -28,6 +34,10 @@ if_at_most n cs = if nat_lt n (length cs) then None else Some cs
 -- elements that convert, at most so many
 abbrev pub at_most : {C : Type 0} → ℕ → (Tree → Option C) → Trees → Option (List C)
 at_most n f ts = if_more (if_at_most n) (contents f ts)
+
+-- an object of these fields alone is read from the front; it may take memory
+abbrev pub ReadsKnown : {S D V : Type 0} → (V → D) → Layout S D → ValueFaults → State → State → Result V Error → Type 0
+ReadsKnown content l faults = ReadsExactly content (struct_only l) no_tree (RefusesOnly l faults)
 
 abbrev pub settings_content : Settings → List ℕ × (ℕ × Option (List ℕ))
 settings_content s = (string_bytes s.host, (s.port.number, if_some string_bytes s.label))
