@@ -67,3 +67,7 @@ found_first None other h = absurd (cc)
 pub none_first : (o : Option (Bor Value)) (other : Option Datum) → is_some o ≡ false → or_else (part_view o) other ≡ other
 none_first (Some x) other h = absurd (cc)
 none_first None other h = refl
+
+-- found in a member, unless one after it has the same key
+pub kept_found : (kept through : Option Datum) (named : Bool) (a : Option Datum) → kept ≡ (if named then None else through) → through ≡ a → kept ≡ (if named then None else a)
+kept_found kept through named a e h = e ∙ ap (λ o. if named then None else o) h

@@ -1,6 +1,7 @@
 -- Lists the lemmas about schemas.
 mod Anchoring
 mod Conforming
+pub mod FormatsKnown
 mod Knowing
 mod Named
 mod Remainders

@@ -1,6 +1,6 @@
 -- When a value conforms to a schema: JSON Schema, draft 2020-12, and what draft 7 says in other words. Of equal keys the last counts.
 -- A promise rests on this.
-use Rattle.std.specs.Prelude.{◌≡◌, ℕ, zero, suc, ◌-◌, ◌%◌, ℤ, pos, Bool, true, false, ◌&&◌, ◌||◌, not, nat_eq, nat_le, int_le, if◌then◌else◌, List, [], ◌∷◌, ◌++◌, length, Option, Some, None, is_some}
+use Rattle.std.specs.Prelude.{◌≡◌, ℕ, zero, suc, ◌-◌, ◌%◌, ℤ, pos, Bool, true, false, ◌&&◌, ◌||◌, not, nat_eq, nat_le, int_le, if◌then◌else◌, List, [], ◌∷◌, ◌++◌, length, Option, Some, None, is_some, option_and_then, unwrap_or}
 use Rattle.std.specs.Bool.{beq}
 use Rattle.std.specs.Int.{int_min}
 use Rattle.std.specs.Cmp.Lexicographic.{pointwise}
@@ -11,7 +11,8 @@ use Rattle.std.specs.declared.cmp.Ordering.TheVariants.{Less, Equal}
 use Rattle.json5_grammar.specs.Language.Numbers.{Number, whole, decimal, Decimal, infinite, nan, finite}
 use Rattle.json5_types.specs.ValueMeanings.{Datum, null, boolean, number, text, array, object, Items, no_item, item, Fields, no_field, field}
 use Rattle.json5_types.specs.ValueKinds.{items_len}
-use Rattle.json5_types.specs.ValueLookups.{items_in, last_named, or_else}
+use Rattle.json5_types.specs.ValueChanges.{put_named}
+use Rattle.json5_types.specs.ValueLookups.{boolean_of, items_in, last_named, named_of, or_else}
 use Rattle.json5_types.specs.ValueEquality.{number_eq}
 use Rattle.json5_types.specs.NumberDecimals.{decimal_eq}
 use Rattle.json5_types.specs.Pointers.{pointed}
@@ -27,6 +28,7 @@ use Rattle.json5_schema.specs.declared.kind.Kind.{Kind}
 use Rattle.json5_schema.specs.declared.kind.Kind.TheVariants as kind
 use Rattle.json5_schema.specs.Keywords.{keyword_named, kind_named}
 use Rattle.json5_schema.specs.Patterns.{fits}
+use Rattle.json5_schema.specs.Formats.{has_format}
 use Rattle.json5_schema.specs.Subschemas.{takes_schema, takes_schemas, takes_named}
 
 -- ---- type (validation, section 6.1.1)
@@ -206,6 +208,26 @@ count_at_least (Some n) limit = at_most limit (count n)
 abbrev pub is_matching : Datum → Datum → Bool
 is_matching (text pattern) (text u) = fits pattern u
 is_matching _ _ = true
+
+-- ---- format (7), asserted where the root names the vocabulary of section 7.2.2; what is no known format asserts nothing
+
+abbrev pub format_vocabulary : List ℕ
+format_vocabulary = chars (codes "https://json-schema.org/draft/2020-12/vocab/format-assertion")
+
+abbrev pub vocabulary_key : List ℕ
+vocabulary_key = chars (codes "$vocabulary")
+
+abbrev pub asserts_formats : Datum → Bool
+asserts_formats root = unwrap_or (option_and_then boolean_of (option_and_then (named_of format_vocabulary) (named_of vocabulary_key root))) false
+
+-- the schema with this vocabulary in place of its own
+abbrev pub with_formats : Datum → Datum
+with_formats (object fs) = object (put_named vocabulary_key (object (field format_vocabulary (boolean true) no_field)) fs)
+with_formats s = s
+
+abbrev pub is_in_format : Datum → Datum → Bool
+is_in_format (text name) (text u) = has_format name u
+is_in_format _ _ = true
 
 -- ---- uniqueItems (6.4.3)
 
@@ -459,26 +481,27 @@ abbrev pub refers_on : Option Datum → Datum → Asked
 refers_on None x = settled false
 refers_on (Some s) x = all_on ((s, x) ∷ [])
 
--- what a keyword says by itself: the keyword, its argument, and the value
-abbrev pub asserts : Assertion → Datum → Datum → Bool
-asserts assertion.Type a x = is_of_type a x
-asserts assertion.Enum a x = is_in_enum a x
-asserts assertion.Const a x = same_datum a x
-asserts assertion.MultipleOf a x = is_multiple_of a x
-asserts assertion.Maximum a x = at_most x a
-asserts assertion.ExclusiveMaximum a x = is_below x a
-asserts assertion.Minimum a x = at_most a x
-asserts assertion.ExclusiveMinimum a x = is_below a x
-asserts assertion.MaxLength a x = count_at_most (characters_in x) a
-asserts assertion.MinLength a x = count_at_least (characters_in x) a
-asserts assertion.Pattern a x = is_matching a x
-asserts assertion.MaxItems a x = count_at_most (elements_in x) a
-asserts assertion.MinItems a x = count_at_least (elements_in x) a
-asserts assertion.UniqueItems a x = has_distinct a x
-asserts assertion.MaxProperties a x = count_at_most (names_in x) a
-asserts assertion.MinProperties a x = count_at_least (names_in x) a
-asserts assertion.Required a x = has_required a x
-asserts assertion.DependentRequired a x = has_all_dependents a x
+-- what a keyword says by itself: the schema's root, the keyword, its argument, and the value
+abbrev pub asserts : Datum → Assertion → Datum → Datum → Bool
+asserts root assertion.Type a x = is_of_type a x
+asserts root assertion.Enum a x = is_in_enum a x
+asserts root assertion.Const a x = same_datum a x
+asserts root assertion.MultipleOf a x = is_multiple_of a x
+asserts root assertion.Maximum a x = at_most x a
+asserts root assertion.ExclusiveMaximum a x = is_below x a
+asserts root assertion.Minimum a x = at_most a x
+asserts root assertion.ExclusiveMinimum a x = is_below a x
+asserts root assertion.MaxLength a x = count_at_most (characters_in x) a
+asserts root assertion.MinLength a x = count_at_least (characters_in x) a
+asserts root assertion.Pattern a x = is_matching a x
+asserts root assertion.Format a x = not (asserts_formats root) || is_in_format a x
+asserts root assertion.MaxItems a x = count_at_most (elements_in x) a
+asserts root assertion.MinItems a x = count_at_least (elements_in x) a
+asserts root assertion.UniqueItems a x = has_distinct a x
+asserts root assertion.MaxProperties a x = count_at_most (names_in x) a
+asserts root assertion.MinProperties a x = count_at_least (names_in x) a
+asserts root assertion.Required a x = has_required a x
+asserts root assertion.DependentRequired a x = has_all_dependents a x
 
 -- which schemas a keyword applies: the schema's root, all keywords beside this one, the keyword, its argument, and the value
 abbrev pub applies : Datum → Fields → Applicator → Datum → Datum → Asked
@@ -500,7 +523,7 @@ applies root all applicator.PropertyNames a x = names_on a x
 applies root all applicator.Ref a x = refers_on (target_of root a) x
 
 abbrev pub asks : Datum → Fields → Keyword → Datum → Datum → Asked
-asks root all (keyword.Assertion k) a x = settled (asserts k a x)
+asks root all (keyword.Assertion k) a x = settled (asserts root k a x)
 asks root all (keyword.Applicator k) a x = applies root all k a x
 asks root all keyword.Annotation a x = settled true
 

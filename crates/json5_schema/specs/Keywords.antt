@@ -24,6 +24,7 @@ keyword_named name =
     if pointwise nat_eq name (codes "maxLength") then keyword.Assertion assertion.MaxLength else
     if pointwise nat_eq name (codes "minLength") then keyword.Assertion assertion.MinLength else
     if pointwise nat_eq name (codes "pattern") then keyword.Assertion assertion.Pattern else
+    if pointwise nat_eq name (codes "format") then keyword.Assertion assertion.Format else
     if pointwise nat_eq name (codes "maxItems") then keyword.Assertion assertion.MaxItems else
     if pointwise nat_eq name (codes "minItems") then keyword.Assertion assertion.MinItems else
     if pointwise nat_eq name (codes "uniqueItems") then keyword.Assertion assertion.UniqueItems else

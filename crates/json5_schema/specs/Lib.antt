@@ -1,6 +1,7 @@
 -- Lists the definitions of schemas.
 pub mod Keywords
 pub mod Patterns
+pub mod Formats
 pub mod Subschemas
 pub mod Conformance
 pub mod Views

@@ -1,8 +1,9 @@
 //! Schemas that have a name, by `$anchor`, or by an `$id` of `#` and the name.
 
 ghost use Rattle.std.specs.Prelude.{◌≡◌, if◌then◌else◌, None};
+ghost use Rattle.std.specs.Str.{chars};
 ghost use Rattle.json5_types.specs.ValueMeanings.{value_of, items_view, fields_view};
-ghost use Rattle.json5_schema.specs.Conformance.{is_fragment, is_anchor, is_id, has_anchor, anchored, anchored_in, anchored_through, anchored_among, anchored_named, is_pointer, at_fragment};
+ghost use Rattle.json5_schema.specs.Conformance.{is_named, is_fragment, is_anchor, is_id, has_anchor, anchored, anchored_in, anchored_through, anchored_among, anchored_named, is_pointer, at_fragment};
 ghost use Rattle.json5_schema.specs.Subschemas.{takes_schemas, takes_named};
 ghost use Rattle.json5_schema.specs.Views.{part_view};
 
@@ -47,6 +48,20 @@ fn has_anchor(keywords: &[(String, Value)], name: &str) -> bool
     is_anchor(find(keywords, "$anchor"), name) || is_id(find(keywords, "$id"), name)
 }
 
+/// What was found in a member, unless one after it has the same key.
+fn unless_named<'a>(
+    found: Option<&'a Value>,
+    after: &[(String, Value)],
+    key: &str,
+) -> Option<&'a Value>
+    ensures { part_view result ≡ (if is_named (chars key.now) (fields_view after.now) then None else part_view found.entry) }
+{
+    if found.is_some() && is_named(after, key) {
+        return None;
+    }
+    found
+}
+
 /// The first schema with the name, of those in the schema.
 #[cycle(anchored)]
 fn anchored<'a>(schema: &'a Value, name: &str) -> Option<&'a Value>
@@ -66,11 +81,10 @@ fn anchored_in<'a>(keywords: &'a [(String, Value)], name: &str) -> Option<&'a Va
 {
     for (index, keyword) in keywords.iter().enumerate() {
         let word = keyword.0.as_str();
-        if !is_named(&keywords[index + 1..], word) {
-            let found = anchored_through(word, &keyword.1, name);
-            if found.is_some() {
-                return found;
-            }
+        let through = anchored_through(word, &keyword.1, name);
+        let found = unless_named(through, &keywords[index + 1..], word);
+        if found.is_some() {
+            return found;
         }
     }
     None
@@ -133,11 +147,10 @@ fn anchored_named<'a>(schemas: &'a [(String, Value)], name: &str) -> Option<&'a 
     ensures { part_view result ≡ anchored_named name.now (fields_view schemas.now) }
 {
     for (index, schema) in schemas.iter().enumerate() {
-        if !is_named(&schemas[index + 1..], schema.0.as_str()) {
-            let found = anchored(&schema.1, name);
-            if found.is_some() {
-                return found;
-            }
+        let here = anchored(&schema.1, name);
+        let found = unless_named(here, &schemas[index + 1..], schema.0.as_str());
+        if found.is_some() {
+            return found;
         }
     }
     None

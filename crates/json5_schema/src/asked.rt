@@ -10,6 +10,7 @@ ghost use Rattle.json5_schema.specs.Views.{AsksFor, IsRefusal, PairsFor, pairs_v
 
 use crate::anchors::at_fragment;
 use crate::equal::{has_distinct, is_in_enum, same};
+use crate::formats::format_holds;
 use crate::keyword::{Applicator, Assertion, Keyword};
 use crate::kind::is_of_type;
 use crate::limits::{
@@ -575,11 +576,12 @@ fn refers_on<'a>(alloc: Global, target: Option<&'a Value>, value: &'a Value) -> 
 fn asserts<'a>(
     alloc: Global,
     patterns: &[Pattern],
+    root: &Value,
     assertion: Assertion,
     argument: &Value,
     value: &Value,
 ) -> Result<Asked<'a>>
-    ensures { MatchResult result (λ a. asked_view a ≡ settled (asserts assertion (value_of argument.now) (value_of value.now))) IsRefusal }
+    ensures { MatchResult result (λ a. asked_view a ≡ settled (asserts (value_of root.now) assertion (value_of argument.now) (value_of value.now))) IsRefusal }
 {
     match assertion {
         Assertion::Type => Ok(Asked::Settled(is_of_type(argument, value))),
@@ -601,6 +603,9 @@ fn asserts<'a>(
             argument,
         )?)),
         Assertion::Pattern => Ok(Asked::Settled(is_matching(alloc, patterns, argument, value)?)),
+        Assertion::Format => Ok(Asked::Settled(format_holds(
+            alloc, patterns, root, argument, value,
+        )?)),
         Assertion::MaxItems => Ok(Asked::Settled(count_at_most(
             alloc,
             elements_in(value),
@@ -676,7 +681,7 @@ pub fn asks<'a>(
     ensures { MatchResult result (λ a. asked_view a ≡ asks (value_of root.now) (fields_view keywords.now) keyword (value_of argument.now) (value_of value.now)) IsRefusal }
 {
     match keyword {
-        Keyword::Assertion(assertion) => asserts(alloc, patterns, assertion, argument, value),
+        Keyword::Assertion(assertion) => asserts(alloc, patterns, root, assertion, argument, value),
         Keyword::Applicator(applicator) => {
             applies(alloc, patterns, root, keywords, applicator, argument, value)
         }

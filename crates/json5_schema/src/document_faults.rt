@@ -155,6 +155,16 @@ impl Place {
     }
 }
 
+/// How a value differs from what a keyword expects.
+#[derive(Clone, Copy, Debug, PartialEq, Eq)]
+pub(crate) enum Mismatch {
+    /// It is of another kind (`type`).
+    Kind,
+    /// It isn't one that is named (`const`, `enum`).
+    Name,
+    Other,
+}
+
 /// What is wrong at a place of a document. It prints what was expected there and what was found.
 ///
 /// ```text
@@ -170,6 +180,7 @@ pub struct Fault {
     pub found: String,
     /// What is likely to be meant, of what was expected.
     pub likeliest: Option<String>,
+    pub(crate) mismatch: Mismatch,
 }
 
 impl fmt::Display for Fault {
@@ -196,8 +207,12 @@ impl Fault {
         self.place.order.as_slice() < other.place.order.as_slice()
     }
 
-    /// How many steps it is below the top.
-    pub(crate) fn depth(&self) -> usize {
-        self.place.path.len()
+    /// How the value so many steps below the top differs, if the fault is of a value there.
+    pub(crate) fn mismatch_at(&self, depth: usize) -> Mismatch {
+        if self.place.part == Part::Value && self.place.path.len() == depth {
+            self.mismatch
+        } else {
+            Mismatch::Other
+        }
     }
 }

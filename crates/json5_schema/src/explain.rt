@@ -4,12 +4,13 @@
 
 use crate::asked::{is_additional, is_applied, is_dependent, schemas_in_front, target_of};
 use crate::conforms::{conforms_within, keyword_holds};
-use crate::document_faults::{Fault, Place, Way};
+use crate::document_faults::{Fault, Mismatch, Place, Way};
 use crate::found::Found;
 use crate::keyword::{Applicator, Keyword, keyword_named};
 use crate::members::{find, is_named};
 use crate::own_faults::{add_assertion, add_dependents, add_own, choose_branch, unknown_key};
 use crate::patterns::Pattern;
+use crate::tags::names_member;
 use crate::words::shown;
 use json5_types::error::Result;
 use json5_types::value::Value;
@@ -47,6 +48,7 @@ pub fn explain(
             expected: String::from_str(alloc, "nothing here")?,
             found: shown(alloc, value)?,
             likeliest: None,
+            mismatch: Mismatch::Other,
         }),
         Value::Object(keywords) => {
             explain_keywords(
@@ -213,6 +215,7 @@ fn explain_branches(
     for (index, schema) in schemas.iter().enumerate() {
         let here = place.copy(alloc)?.ruled(alloc, Way::Index(index))?;
         let mut branch = found.branch(alloc);
+        branch.is_tagged = names_member(alloc, root, schema, value.entries(), depth, &mut branch)?;
         explain(
             alloc,
             patterns,

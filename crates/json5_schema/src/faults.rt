@@ -13,8 +13,10 @@ use std::fmt;
 pub enum Problem {
     /// A keyword that this version doesn't decide, such as `unevaluatedItems`.
     Undecided,
-    /// A keyword that is none, and the likeliest one: only `Schema::strict` refuses it.
+    /// A keyword that is none, and the likeliest one: only strict schemas are refused for it.
     NoKeyword(Option<&'static str>),
+    /// A format that isn't asserted, and the likeliest one: only strict schemas that assert formats are refused for it.
+    NoFormat(Option<&'static str>),
     /// The argument isn't what the keyword wants.
     Expected(Shape),
     /// A regular expression that Rust's regex crate doesn't read, or one that is too large.
@@ -40,6 +42,13 @@ impl fmt::Display for Problem {
             Problem::NoKeyword(None) => f.write_str("this is no keyword"),
             Problem::NoKeyword(Some(likeliest)) => {
                 write!(f, "this is no keyword (did you mean `{likeliest}`?)")
+            }
+            Problem::NoFormat(None) => f.write_str("this format isn't asserted"),
+            Problem::NoFormat(Some(likeliest)) => {
+                write!(
+                    f,
+                    "this format isn't asserted (did you mean `{likeliest}`?)"
+                )
             }
             Problem::Expected(shape) => write!(f, "expected {}", shape.as_str()),
             Problem::Pattern => f.write_str("this regular expression can't be read"),

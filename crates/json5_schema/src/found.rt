@@ -2,7 +2,7 @@
 //!
 //! Plain code, of which no promise is made but that it is safe and ends: change it by the rows of schemas, which judge it.
 
-use crate::document_faults::{Fault, Part};
+use crate::document_faults::{Fault, Mismatch};
 use json5_types::error::Result;
 use std::alloc::Global;
 
@@ -12,10 +12,15 @@ pub const MAX_FAULTS: usize = 100;
 /// How many schemas are gone into.
 const MAX_EFFORT: usize = 20_000;
 
+/// The strangeness of a branch for another kind of value.
+pub const MAX_STRANGENESS: usize = 3;
+
 /// The faults that were found so far.
 #[derive(Drop)]
 pub struct Found {
     pub faults: Vec<Fault>,
+    /// The branch names the value of a member.
+    pub is_tagged: bool,
     /// How many schemas may still be gone into.
     effort: usize,
 }
@@ -24,6 +29,7 @@ impl Found {
     pub fn new(alloc: Global) -> Found {
         Found {
             faults: Vec::new(alloc),
+            is_tagged: false,
             effort: MAX_EFFORT,
         }
     }
@@ -32,6 +38,7 @@ impl Found {
     pub fn branch(&self, alloc: Global) -> Found {
         Found {
             faults: Vec::new(alloc),
+            is_tagged: false,
             effort: self.effort,
         }
     }
@@ -72,27 +79,30 @@ impl Found {
         Ok(())
     }
 
-    /// How far a branch is from what the document means at a place so deep: twice over where the value itself is of another
-    /// kind, and once where a member has another value than the one that the branch is for.
-    pub fn strangeness(&self, depth: usize) -> usize {
-        let mut most = 0;
+    /// How the value differs that is so many steps below the top: first in its kind.
+    pub fn mismatch_at(&self, depth: usize) -> Mismatch {
+        let mut mismatch = Mismatch::Other;
         for fault in &self.faults {
-            most = most.max(strangeness_of(fault, depth));
+            match fault.mismatch_at(depth) {
+                Mismatch::Kind => return Mismatch::Kind,
+                Mismatch::Name => mismatch = Mismatch::Name,
+                Mismatch::Other => {}
+            }
         }
-        most
+        mismatch
     }
-}
 
-/// The same of one fault.
-fn strangeness_of(fault: &Fault, depth: usize) -> usize {
-    let rule = fault.place.rule.as_str();
-    let is_value = matches!(fault.place.part, Part::Value);
-    let is_named = rule.ends_with("/const") || rule.ends_with("/enum");
-    if is_value && fault.depth() == depth && (is_named || rule.ends_with("/type")) {
-        2
-    } else if is_named && fault.depth() <= depth.saturating_add(1) {
-        1
-    } else {
+    /// How far a branch is from what the document means at a place so deep: 3 where the value itself is of another kind or
+    /// isn't one that is named. Where a member isn't one that is named it is 1 if another member is, and else 2.
+    pub fn strangeness(&self, depth: usize) -> usize {
+        if self.mismatch_at(depth) != Mismatch::Other {
+            return MAX_STRANGENESS;
+        }
+        for fault in &self.faults {
+            if fault.mismatch_at(depth.saturating_add(1)) == Mismatch::Name {
+                return if self.is_tagged { 1 } else { 2 };
+            }
+        }
         0
     }
 }

@@ -3,7 +3,7 @@
 ghost use Rattle.std.specs.Prelude.{◌≡◌};
 ghost use Rattle.json5_schema.specs.Keywords.{keyword_named};
 
-/// A keyword that says by itself whether a value is as it is wanted.
+/// A keyword that says by itself whether a value is as it is wanted; `format` says so where the schema asserts formats.
 #[derive(Clone, Copy)]
 pub enum Assertion {
     Type,
@@ -17,6 +17,7 @@ pub enum Assertion {
     MaxLength,
     MinLength,
     Pattern,
+    Format,
     MaxItems,
     MinItems,
     UniqueItems,
@@ -72,6 +73,7 @@ pub fn keyword_named(name: &str) -> Keyword
         "maxLength" => Keyword::Assertion(Assertion::MaxLength),
         "minLength" => Keyword::Assertion(Assertion::MinLength),
         "pattern" => Keyword::Assertion(Assertion::Pattern),
+        "format" => Keyword::Assertion(Assertion::Format),
         "maxItems" => Keyword::Assertion(Assertion::MaxItems),
         "minItems" => Keyword::Assertion(Assertion::MinItems),
         "uniqueItems" => Keyword::Assertion(Assertion::UniqueItems),

@@ -8,6 +8,7 @@ pub mod document_faults;
 mod equal;
 mod explain;
 pub mod faults;
+mod formats;
 mod found;
 mod keyword;
 mod kind;
@@ -23,6 +24,7 @@ mod patterns;
 mod references;
 mod schemas;
 pub mod shape;
+mod tags;
 mod words;
 
 pub use document_faults::{Fault, Part, Place, Step};

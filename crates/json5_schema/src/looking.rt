@@ -1,12 +1,15 @@
 //! A schema is looked through once, with all schemas in it.
 
 use crate::faults::{Problem, SchemaFault};
+use crate::formats::{FORMATS, expression_named};
 use crate::members::find;
+use crate::near::nearest;
 use crate::patterns::Pattern;
 use crate::shape::{Shape, is_names, is_of_shape, shape_of};
 use json5_types::error;
 use json5_types::value::Value;
 use std::alloc::Global;
+use std::collections::BTreeMap;
 
 /// What looking gives.
 pub type Looked<T> = std::result::Result<T, SchemaFault>;
@@ -18,8 +21,12 @@ pub struct Seen {
     pub counts_siblings: bool,
     /// What a reference means is to have no keyword but known ones.
     pub is_strict: bool,
+    /// Formats are asserted.
+    pub asserts_formats: bool,
     /// The references, each text once.
     pub references: Vec<Reference>,
+    /// Their places by their texts.
+    pub places: BTreeMap<String, usize>,
     /// The patterns, each text once.
     pub patterns: Vec<Pattern>,
     /// The names of schemas.
@@ -91,7 +98,7 @@ fn look_at_keywords(
     let refers = !seen.counts_siblings && find(keywords, "$ref").is_some();
     for (name, argument) in keywords {
         let place = behind(alloc, pointer, name.as_str())?;
-        let shape = shape_at(pointer, name.as_str(), argument);
+        let shape = shape_at(pointer, name.as_str(), argument, seen);
         if refers && asks_beside(name.as_str(), shape) {
             return Err(fault(alloc, place.as_str(), Problem::BesideReference));
         }
@@ -101,8 +108,9 @@ fn look_at_keywords(
 }
 
 /// What the argument of a keyword has to be, in the schema at this place: `$id` isn't decided below the top, but as a name.
-fn shape_at(pointer: &str, name: &str, argument: &Value) -> Shape {
+fn shape_at(pointer: &str, name: &str, argument: &Value, seen: &Seen) -> Shape {
     match name {
+        "format" if seen.asserts_formats => Shape::Format,
         "$id" if begins_with_sign(argument) => Shape::Anchor,
         "$id" if !pointer.is_empty() => Shape::Undecided,
         _ => shape_of(name),
@@ -149,6 +157,7 @@ fn look_at(
             look_at_each(alloc, schemas, pointer, seen)
         }
         (Shape::Pattern, Value::String(text)) => compile(alloc, text.as_str(), pointer, seen),
+        (Shape::Format, Value::String(name)) => note_format(alloc, name.as_str(), pointer, seen),
         (
             Shape::NamedSchemas | Shape::NamedSchemasOrNames | Shape::PatternSchemas,
             Value::Object(schemas),
@@ -202,13 +211,11 @@ fn note(alloc: Global, text: &str, pointer: &str, seen: &mut Seen) -> Looked<()>
     if !text.starts_with('#') || text.contains('%') {
         return Err(fault(alloc, pointer, Problem::Elsewhere));
     }
-    if seen
-        .references
-        .iter()
-        .any(|known| known.text.as_str() == text)
-    {
+    if seen.places.contains_key(text) {
         return Ok(());
     }
+    let place = seen.references.len();
+    seen.places.insert(String::from_str(alloc, text)?, place)?;
     let text = String::from_str(alloc, text)?;
     let pointer = String::from_str(alloc, pointer)?;
     seen.references.push(Reference { text, pointer })?;
@@ -249,6 +256,18 @@ fn note_anchor(alloc: Global, text: &str, pointer: &str, seen: &mut Seen) -> Loo
     let pointer = String::from_str(alloc, schema)?;
     seen.anchors.push(Anchor { name, pointer })?;
     Ok(())
+}
+
+/// Compiles the expression of a format, if it has one.
+fn note_format(alloc: Global, name: &str, pointer: &str, seen: &mut Seen) -> Looked<()> {
+    match expression_named(name) {
+        Some(expression) => compile(alloc, expression, pointer, seen),
+        None if seen.is_strict => {
+            let likeliest = nearest(alloc, name, &FORMATS)?;
+            Err(fault(alloc, pointer, Problem::NoFormat(likeliest)))
+        }
+        None => Ok(()),
+    }
 }
 
 /// Compiles a pattern, unless it was compiled before.

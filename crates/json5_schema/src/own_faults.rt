@@ -2,9 +2,9 @@
 //!
 //! Plain code, of which no promise is made but that it is safe and ends: change it by the rows of schemas, which judge it.
 
-use crate::document_faults::{Fault, Place, Way};
+use crate::document_faults::{Fault, Mismatch, Place, Way};
 use crate::equal::is_among;
-use crate::found::{Found, MAX_FAULTS};
+use crate::found::{Found, MAX_FAULTS, MAX_STRANGENESS};
 use crate::keyword::{Applicator, Assertion};
 use crate::members::{find, is_named};
 use crate::near::nearest;
@@ -20,6 +20,7 @@ fn fault(alloc: Global, place: Place, expected: &str, found: String) -> Result<F
         expected: String::from_str(alloc, expected)?,
         found,
         likeliest: None,
+        mismatch: Mismatch::Other,
     })
 }
 
@@ -44,7 +45,17 @@ pub fn add_assertion(
             expected: expected_by(alloc, assertion, argument)?,
             found: found_by(alloc, assertion, value)?,
             likeliest: likeliest_text(alloc, assertion, argument, value)?,
+            mismatch: mismatch_of(assertion),
         }),
+    }
+}
+
+/// How a value differs that an assertion doesn't hold of.
+fn mismatch_of(assertion: Assertion) -> Mismatch {
+    match assertion {
+        Assertion::Type => Mismatch::Kind,
+        Assertion::Enum | Assertion::Const => Mismatch::Name,
+        _ => Mismatch::Other,
     }
 }
 
@@ -209,13 +220,13 @@ pub fn unknown_key(
     Ok(fault(alloc, place, expected.as_str(), found)?.or_likely(likeliest))
 }
 
-/// The rank of a branch whose faults are those of another kind of value.
-const STRANGE: usize = 2 * (MAX_FAULTS + 1);
+/// The rank of a branch for another kind of value, and of those behind it.
+const STRANGE: usize = MAX_STRANGENESS * (MAX_FAULTS + 1);
 
 /// How far a branch is: 0 where it conforms.
 fn rank(branch: &Found, depth: usize) -> usize {
     let count = branch.faults.len().min(MAX_FAULTS);
-    branch.strangeness(depth).min(2) * (MAX_FAULTS + 1) + count
+    branch.strangeness(depth).min(MAX_STRANGENESS) * (MAX_FAULTS + 1) + count
 }
 
 /// Adds the faults of the branch that is nearest; where each is for another kind of value, one fault that says so.
@@ -228,23 +239,15 @@ pub fn choose_branch(
 ) -> Result<()> {
     let depth = place.path.len();
     let mut least = usize::MAX;
-    let mut words = Vec::new(alloc);
     for branch in &branches {
         least = least.min(rank(branch, depth));
-        for fault in &branch.faults {
-            if branch.strangeness(depth) == 2 && words.len() < 100 {
-                words.push(String::from_str(alloc, fault.expected.as_str())?)?;
-                break;
-            }
-        }
     }
-    if least == 0 || least >= STRANGE {
-        let expected = match least {
-            0 => String::from_str(alloc, "to conform to one schema alone")?,
-            _ => listed(alloc, &words, " or ")?,
-        };
-        let seen = shown(alloc, value)?;
-        return found.add(fault(alloc, place.copy(alloc)?, expected.as_str(), seen)?);
+    if least >= STRANGE {
+        return found.add(strange_fault(alloc, &branches, value, place)?);
+    }
+    if least == 0 {
+        let expected = "to conform to one schema alone";
+        return found.add(fault(alloc, place.copy(alloc)?, expected, shown(alloc, value)?)?);
     }
     for branch in branches {
         if rank(&branch, depth) == least {
@@ -252,4 +255,31 @@ pub fn choose_branch(
         }
     }
     Ok(())
+}
+
+/// That the value is of another kind than each of the branches is for.
+fn strange_fault(alloc: Global, branches: &[Found], value: &Value, place: &Place) -> Result<Fault> {
+    let depth = place.path.len();
+    let mut words: Vec<String> = Vec::new(alloc);
+    let mut mismatch = Mismatch::Name;
+    for branch in branches {
+        if branch.mismatch_at(depth) == Mismatch::Kind {
+            mismatch = Mismatch::Kind;
+        }
+        if let Some(fault) = branch.faults.first() {
+            let word = fault.expected.as_str();
+            if words.len() < 100 && !words.iter().any(|known| known.as_str() == word) {
+                words.push(String::from_str(alloc, word)?)?;
+            }
+        }
+    }
+    let expected = listed(alloc, &words, " or ")?;
+    let mut strange = fault(
+        alloc,
+        place.copy(alloc)?,
+        expected.as_str(),
+        shown(alloc, value)?,
+    )?;
+    strange.mismatch = mismatch;
+    Ok(strange)
 }

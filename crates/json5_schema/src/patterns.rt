@@ -84,8 +84,8 @@ impl Pattern {
     }
 }
 
-/// Whether the pattern matches somewhere in the text.
-fn matches(alloc: Global, patterns: &[Pattern], source: &str, text: &str) -> Result<bool>
+/// Whether the pattern matches somewhere in the text, by bytes.
+pub fn matches(alloc: Global, patterns: &[Pattern], source: &str, text: &str) -> Result<bool>
     ensures { MatchResult result (λ b. b ≡ matches source.now text.now) LacksMemory }
 {
     for pattern in patterns {

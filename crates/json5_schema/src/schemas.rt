@@ -8,9 +8,10 @@ ghost use Rattle.json5_schema.specs.Subschemas.{HasOnlyKeywords};
 ghost use Rattle.json5_schema.specs.Views.{IsRefusal, schema_of};
 
 use crate::conforms::{MAX_DEPTH, conforms};
-use crate::document_faults::{Fault, Place};
+use crate::document_faults::{Fault, Mismatch, Place};
 use crate::explain::explain;
 use crate::faults::{Problem, SchemaFault};
+use crate::formats::asserts_formats;
 use crate::found::Found;
 use crate::known::check_schema;
 use crate::looking::{Anchor, Seen, fault, look};
@@ -21,12 +22,14 @@ use json5_types::error::Error;
 use json5_types::value::Value;
 use json5_types::{ErrorCode, error};
 use std::alloc::Global;
+use std::collections::BTreeMap;
 
 /// A JSON Schema that was looked at once: this version decides each of its keywords, each argument is what its keyword wants,
 /// and each reference leads to a schema of the same document, and not back to itself.
 ///
 /// The words are those of draft 2020-12 and of draft 7. Where both have a word it means the same in both; a word that only one has
-/// is taken in either. Not decided yet, and refused: `unevaluatedItems`, `unevaluatedProperties`, dynamic references, and `$id` below the top that is no name, as `#port`. `format` asserts nothing.
+/// is taken in either. Not decided yet, and refused: `unevaluatedItems`, `unevaluatedProperties`, dynamic references, and `$id` below the top that is no name, as `#port`. `format`
+/// asserts nothing, unless the root's `$vocabulary` has that of asserted formats (2020-12, validation, section 7.2.2).
 ///
 /// ```text
 /// let schema = Schema::new(alloc, &json5::from_str(alloc, "{properties: {port: {type: 'integer', maximum: 65535}}}")?)?;
@@ -193,6 +196,7 @@ fn whole_fault(alloc: Global, value: &Value) -> error::Result<Fault> {
         expected: String::from_str(alloc, "a document that conforms to the schema")?,
         found: shown(alloc, value)?,
         likeliest: None,
+        mismatch: Mismatch::Other,
     })
 }
 
@@ -212,7 +216,9 @@ fn nothing_seen(alloc: Global, root: &Value, is_strict: bool) -> Result<Seen, Sc
     Ok(Seen {
         counts_siblings: counts_siblings(alloc, root)?,
         is_strict,
+        asserts_formats: asserts_formats(root),
         references: Vec::new(alloc),
+        places: BTreeMap::new(alloc),
         patterns: Vec::new(alloc),
         anchors: Vec::new(alloc),
     })

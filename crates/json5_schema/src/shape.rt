@@ -37,6 +37,8 @@ pub enum Shape {
     Pattern,
     /// An object of schemas, whose keys are regular expressions.
     PatternSchemas,
+    /// The name of a format, which is asserted.
+    Format,
     /// The keyword isn't decided.
     Undecided,
     /// The keyword asks nothing of a value.
@@ -64,6 +66,7 @@ impl Shape {
             Shape::Anchor => "a name: a letter, and then letters, digits, `-`, `_`, `.` or `:`",
             Shape::Pattern => "a regular expression",
             Shape::PatternSchemas => "an object of schemas, with regular expressions for keys",
+            Shape::Format => "the name of a format",
             Shape::Undecided => "another keyword",
             Shape::Any => "anything",
         }
@@ -168,6 +171,7 @@ pub(crate) fn is_of_shape(shape: Shape, argument: &Value) -> bool {
         Shape::Number => argument.is_number(),
         Shape::Count => is_count(argument),
         Shape::Divisor => is_divisor(argument),
+        Shape::Format => argument.is_string(),
         _ => true,
     }
 }

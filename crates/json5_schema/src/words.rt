@@ -113,6 +113,7 @@ fn limit_words(assertion: Assertion) -> (&'static str, &'static str) {
         Assertion::MaxLength => ("at most ", " characters"),
         Assertion::MinLength => ("at least ", " characters"),
         Assertion::Pattern => ("a text that matches ", ""),
+        Assertion::Format => ("a text in the format ", ""),
         Assertion::MaxItems => ("at most ", " elements"),
         Assertion::MinItems => ("at least ", " elements"),
         Assertion::MaxProperties => ("at most ", " keys"),

@@ -2,3 +2,8 @@
 pub mod Follows
 pub mod Stacks
 pub mod Texts
+pub mod Words
+pub mod Members
+pub mod Told
+pub mod Keys
+pub mod MemberTexts

@@ -1,6 +1,9 @@
 //! Why a setting isn't added.
 
+ghost use Rattle.json5_types.specs.Errors.{LacksMemory};
+
 use json5_edit::PathError;
+use json5_types::ErrorCode;
 use json5_types::error::Error;
 use std::fmt;
 
@@ -37,13 +40,30 @@ impl fmt::Display for SettingError {
 }
 
 impl From<Error> for SettingError {
+    ghost use Rattle.std.specs.Prelude.{◌≡◌};
+    ghost use Rattle.json5_settings.specs.declared.faults.SettingError.{SettingError};
+
+    ghost from_gives = { λ e r. r ≡ SettingError.Text e };
+
     fn from(error: Error) -> SettingError {
         SettingError::Text(error)
     }
 }
 
 impl From<PathError> for SettingError {
+    ghost use Rattle.std.specs.Prelude.{◌≡◌};
+    ghost use Rattle.json5_settings.specs.declared.faults.SettingError.{SettingError};
+
+    ghost from_gives = { λ e r. r ≡ SettingError.Path e };
+
     fn from(error: PathError) -> SettingError {
         SettingError::Path(error)
     }
+}
+
+/// No memory, without a position.
+pub(crate) fn out_of_memory() -> Error
+    ensures { LacksMemory result }
+{
+    Error::new(ErrorCode::OutOfMemory)
 }

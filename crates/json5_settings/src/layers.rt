@@ -5,11 +5,14 @@ ghost use Rattle.std.specs.Str.{chars};
 ghost use Rattle.json5_tokens.specs.Cursor.{IsOutOfMemory};
 ghost use Rattle.json5_types.specs.ValueMeanings.{value_of};
 ghost use Rattle.json5_read.specs.DocumentReads.{IsRefused};
-ghost use Rattle.json5_settings.specs.Stacks.{Grows, GrowsIf, Stacks, IsTextOfAll};
+ghost use Rattle.json5_settings.specs.Keys.{key_texts};
+ghost use Rattle.json5_settings.specs.Members.{Sets, SetsVariable, SetsWords};
+ghost use Rattle.json5_settings.specs.MemberTexts.{PutsMember};
+ghost use Rattle.json5_settings.specs.Stacks.{IsDocument, IsTextOfAll, Stacks};
 
 use crate::faults;
-use crate::faults::SettingError;
-use crate::names::{keys_of, member_text, variable_keys};
+use crate::members::member_text;
+use crate::names::{keys_of, variable_keys};
 use json5_edit::Path;
 use json5_read::{check_document, read_document};
 use json5_styles::{Layout, to_string_in};
@@ -41,15 +44,15 @@ pub struct Layers {
 }
 
 impl Model for Layers {
-    ghost use Rattle.std.specs.Prelude.{List, ℕ};
-    ghost use Rattle.json5_settings.specs.Stacks.{AreDocuments};
-    ghost use Rattle.json5_settings.specs.Texts.{texts_in};
+    ghost use Rattle.std.specs.Prelude.{List};
+    ghost use Rattle.json5_settings.specs.Stacks.{AreDocuments, Layer};
+    ghost use Rattle.json5_settings.specs.Texts.{layers_in};
 
-    ghost Value = { List (List ℕ) };
+    ghost Value = { List Layer };
 
-    ghost view = { λ l. texts_in l.layers.items };
+    ghost view = { λ l. layers_in l.layers.items };
 
-    ghost invariant = { λ l. AreDocuments (texts_in l.layers.items) };
+    ghost invariant = { λ l. AreDocuments (layers_in l.layers.items) };
 }
 
 impl Layers {
@@ -77,7 +80,8 @@ impl Layers {
     ///
     /// As reading the text as a value. Nothing is added then, and the position is one of the text.
     pub fn add(&mut self, name: &str, text: &str) -> Result<()>
-        ensures added { OnOk result (self.new ≡ self.old ++ (chars text.now ∷ [])) }
+        ensures document { OnOk result (IsDocument text.now) }
+        ensures added { OnOk result (self.new ≡ self.old ++ ((name.now, text.now) ∷ [])) }
         ensures refused { OnErr result (self.new ≡ self.old) }
         ensures fault { IfErr result (IsRefused (chars text.now)) }
     {
@@ -104,13 +108,20 @@ impl Layers {
     /// - `NoMember` where a step of it is an index, or there is none.
     /// - `Text` with `TooDeep` where more than 128 brackets would be open at once, or with `OutOfMemory`.
     pub fn set(&mut self, name: &str, path: &str, value: &str) -> faults::Result<()>
-        ensures { Grows self.old self.new result }
+        ensures { Sets name.now value.now self.old self.new result }
     {
         let path = Path::parse(self.alloc, path)?;
         let keys = keys_of(self.alloc, &path)?;
-        let text = member_text(self.alloc, keys.as_slice(), value)?;
-        self.add(name, &text)?;
+        self.add_member(name, keys.as_slice(), value)?;
         Ok(())
+    }
+
+    /// Adds a document whose only member, at these keys, has this value.
+    fn add_member(&mut self, name: &str, keys: &[String], value: &str) -> Result<()>
+        ensures { PutsMember name.now (key_texts keys.now) value.now self.old self.new result }
+    {
+        let text = member_text(self.alloc, keys, value)?;
+        self.add(name, &text)
     }
 
     /// Sets the member that a variable of the environment means, and says whether it means one: whether its name begins
@@ -125,17 +136,20 @@ impl Layers {
     ///
     /// As [`set`](Layers::set), but for `Path`.
     pub fn set_variable(&mut self, prefix: &str, name: &str, value: &str) -> faults::Result<bool>
-        ensures { GrowsIf self.old self.new result }
+        ensures { SetsVariable prefix.now name.now value.now self.old self.new result }
     {
-        let Some(words) = name.strip_prefix(prefix) else {
-            return Ok(false);
-        };
-        let keys = variable_keys(self.alloc, &self.merged()?, words)?;
-        if keys.is_empty() {
-            return Err(SettingError::NoMember);
+        match name.strip_prefix(prefix) {
+            Some(words) => self.set_words(name, words, value),
+            None => Ok(false),
         }
-        let text = member_text(self.alloc, keys.as_slice(), value)?;
-        self.add(name, &text)?;
+    }
+
+    /// Sets the member that these words of a variable mean, and says so.
+    fn set_words(&mut self, name: &str, words: &str, value: &str) -> faults::Result<bool>
+        ensures { SetsWords name.now words.now value.now self.old self.new result }
+    {
+        let keys = variable_keys(self.alloc, &self.merged()?, words)?;
+        self.add_member(name, keys.as_slice(), value)?;
         Ok(true)
     }
 

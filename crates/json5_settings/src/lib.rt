@@ -18,6 +18,7 @@ mod edits;
 mod faults;
 mod follow;
 mod layers;
+mod members;
 mod names;
 mod origin;
 mod rewriting;

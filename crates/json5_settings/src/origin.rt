@@ -1,12 +1,21 @@
 //! Faults of what layers make together, told where the value came from.
 
+ghost use Rattle.std.specs.Prelude.{◌≡◌, ◌≤◌, IfErr, IfOk, MatchOption, MatchResult, take};
+ghost use Rattle.std.specs.Str.{IsCharBoundary, chars};
+ghost use Rattle.json5_grammar.specs.Faults.Positions.{position_after};
+ghost use Rattle.json5_types.specs.Errors.{LacksMemory};
+ghost use Rattle.json5_edit.specs.Places.{LeadsNowhere};
+ghost use Rattle.json5_settings.specs.Told.{AllLack, IsNearer, IsTold, IsToldAt, IsToldIn, IsToldOfAll, MayBeAt};
+
 use crate::faults;
+use crate::faults::out_of_memory;
 use crate::layers::Layers;
-use crate::spots::Spot;
-use json5_edit::Path;
+use crate::spots::{Spot, key_start, steps_of};
+use json5_edit::{Path, Step, find_place};
 use json5_report::Report;
-use json5_types::Position;
 use json5_types::error::{Error, Result};
+use json5_types::{ErrorCode, Position};
+use std::alloc::Global;
 
 impl Layers {
     /// The report of an error of reading what the layers make together: it names the last layer that has the value or the
@@ -23,11 +32,16 @@ impl Layers {
     /// # Errors
     ///
     /// - `OutOfMemory`, without a position, where a request for memory was refused.
-    pub fn report(&self, text: &str, error: &Error) -> Result<Report> {
+    pub fn report(&self, text: &str, error: &Error) -> Result<Report>
+        ensures { MatchResult result (IsTold text.now error.now self.now) LacksMemory }
+    {
         let told = Report::new(self.alloc, "settings", text, error)?;
-        let spot = Spot::of(self.alloc, text, told.offset)?;
-        match self.report_at(&spot, error)? {
-            Some(report) => Ok(report),
+        let Some(spot) = Spot::of(self.alloc, text, told.offset)? else {
+            return Ok(told);
+        };
+        let steps = spot.steps(self.alloc)?;
+        match self.report_at(steps.as_slice(), spot.at_key, error)? {
+            Some(report) => Ok(nearer(report, told)),
             None => Ok(told),
         }
     }
@@ -44,32 +58,121 @@ impl Layers {
     ///
     /// - `Path` where the path isn't one.
     /// - `Text` with `OutOfMemory` where a request for memory was refused.
-    pub fn fault(&self, path: &str, message: &str) -> faults::Result<Report> {
+    pub fn fault(&self, path: &str, message: &str) -> faults::Result<Report>
+        ensures { IfOk result (IsToldOfAll self.now) }
+    {
         let path = Path::parse(self.alloc, path)?;
         let error = Error::custom(self.alloc, message)?;
         let text = self.text()?;
-        let spot = Spot::at(self.alloc, &path, &text)?;
-        match self.report_at(&spot, &error)? {
+        let steps = steps_of(self.alloc, &path, &text)?;
+        match self.report_at(steps.as_slice(), false, &error)? {
             Some(report) => Ok(report),
             None => Ok(Report::new(self.alloc, "settings", &text, &error)?),
         }
     }
 
-    /// The report of an error in the last layer that has the spot.
-    fn report_at(&self, spot: &Spot, error: &Error) -> Result<Option<Report>> {
-        for layer in self.layers.iter().rev() {
-            if let Some(offset) = spot.offset_in(self.alloc, &layer.text)? {
-                let error = error.clone(self.alloc)?;
-                let error = error.at(position_of(&layer.text, offset));
-                let report = Report::new(self.alloc, &layer.name, &layer.text, &error)?;
-                return Ok(Some(report));
+    /// The report of an error in the last layer that has the value or the key.
+    fn report_at(&self, steps: &[Step<'_>], at_key: bool, error: &Error) -> Result<Option<Report>>
+        ensures told { IfOk result (λ r. MatchOption r (AllLack steps.now self.now) (IsToldIn steps.now at_key self.now)) }
+        ensures refused { IfErr result LacksMemory }
+    {
+        let mut left = self.layers.as_slice();
+        while let Some((layer, earlier)) = left.split_last() {
+            let (name, text) = (layer.name.as_str(), layer.text.as_str());
+            match report_in(self.alloc, name, text, steps, at_key, error)? {
+                Some(report) => return Ok(Some(report)),
+                None => left = earlier,
             }
         }
         Ok(None)
     }
 }
 
+/// The report of an error at the value that the steps lead to, or at its key; None where they lead nowhere.
+fn report_in(
+    alloc: Global,
+    name: &str,
+    text: &str,
+    steps: &[Step<'_>],
+    at_key: bool,
+    error: &Error,
+) -> Result<Option<Report>>
+    ensures told { IfOk result (λ r. MatchOption r (LeadsNowhere text.now steps.now) (IsToldAt steps.now at_key (name.now, text.now))) }
+    ensures refused { IfErr result LacksMemory }
+{
+    let place = match find_place(alloc, text, steps) {
+        Ok(Some(place)) => place,
+        Ok(None) => return Ok(None),
+        Err(_) => return Err(out_of_memory()),
+    };
+    let offset = told_offset(alloc, text, steps, at_key, place.start)?;
+    let error = error.clone(alloc)?.at(position_of(text, offset));
+    Ok(Some(Report::new(alloc, name, text, &error)?))
+}
+
+/// Where the key before the value at this offset begins, if it is meant and found; else the value.
+fn told_offset(
+    alloc: Global,
+    text: &str,
+    steps: &[Step<'_>],
+    at_key: bool,
+    value: usize,
+) -> Result<usize>
+    requires { IsCharBoundary text.now value }
+    ensures before { IfOk result (λ n. MayBeAt at_key value n × IsCharBoundary text.now n) }
+    ensures refused { IfErr result LacksMemory }
+{
+    if at_key {
+        return key_offset(alloc, text, steps, value);
+    }
+    Ok(value)
+}
+
+/// Where the key before the value begins, if it is found.
+fn key_offset(alloc: Global, text: &str, steps: &[Step<'_>], value: usize) -> Result<usize>
+    requires { IsCharBoundary text.now value }
+    ensures before { IfOk result (λ n. (n ≤ value) × IsCharBoundary text.now n) }
+    ensures refused { IfErr result LacksMemory }
+{
+    match key_start(alloc, text, steps) {
+        Ok(Some(key)) => Ok(key_or_value(text, key, value)),
+        Ok(None) => Ok(value),
+        Err(_) => Err(out_of_memory()),
+    }
+}
+
+/// The key, if it stands before the value.
+fn key_or_value(text: &str, key: usize, value: usize) -> usize
+    requires { IsCharBoundary text.now value }
+    ensures before { result ≤ value }
+    ensures boundary { IsCharBoundary text.now result }
+{
+    if value < key {
+        return value;
+    }
+    if text.is_char_boundary(key) {
+        return key;
+    }
+    value
+}
+
 /// The position of an offset in bytes.
-fn position_of(text: &str, offset: usize) -> Position {
-    Position::after(text.get(..offset).unwrap_or(text))
+fn position_of(text: &str, offset: usize) -> Position
+    requires { IsCharBoundary text.now offset }
+    ensures { result ≡ position_after (chars (take offset text.now)) }
+{
+    match text.get(..offset) {
+        Some(front) => Position::after(front),
+        None => Position::after(text),
+    }
+}
+
+/// The report of the layer, if it has the path that the other one has.
+fn nearer(report: Report, told: Report) -> Report
+    ensures { IsNearer report told result }
+{
+    if report.path.as_str() == told.path.as_str() {
+        return report;
+    }
+    told
 }

@@ -1,5 +1,9 @@
 //! Where a fault is, as a way through the document.
 
+ghost use Rattle.std.specs.Prelude.{IfErr};
+ghost use Rattle.json5_types.specs.Errors.{LacksMemory};
+ghost use Rattle.json5_edit.specs.Refusals.{RefusesText};
+
 use crate::names::owned;
 use json5_edit::{EditError, Path, Step, find};
 use json5_read::brackets::BracketKind;
@@ -17,11 +21,11 @@ pub(crate) enum OwnedStep {
     Index(usize),
 }
 
-/// The innermost value that a fault is in, or the key of a member of it.
+/// The innermost value that a fault is in, or the member at whose key it is.
 #[derive(Drop)]
 pub(crate) struct Spot {
     steps: Vec<OwnedStep>,
-    key: Option<String>,
+    pub(crate) at_key: bool,
 }
 
 /// An entry around an offset, and where its value stands.
@@ -33,8 +37,17 @@ struct Around {
 }
 
 impl Spot {
-    /// The spot of an offset in a document.
-    pub(crate) fn of(alloc: Global, text: &str, offset: usize) -> Result<Spot> {
+    /// The spot of an offset in a document; None in another text.
+    pub(crate) fn of(alloc: Global, text: &str, offset: usize) -> Result<Option<Spot>>
+        ensures { IfErr result LacksMemory }
+    {
+        match Spot::in_document(alloc, text, offset) {
+            Ok(spot) => Ok(Some(spot)),
+            Err(error) => none_of(error),
+        }
+    }
+
+    fn in_document(alloc: Global, text: &str, offset: usize) -> Result<Spot> {
         let mut steps = Vec::new(alloc);
         let mut from = 0usize;
         let mut to = text.len();
@@ -43,49 +56,26 @@ impl Spot {
             let Some(around) = entry_around(alloc, part, offset.saturating_sub(from))? else {
                 break;
             };
-            if offset < from.saturating_add(around.value) {
-                let key = match around.step {
-                    OwnedStep::Key(key) => Some(key),
-                    OwnedStep::Index(_) => None,
-                };
-                return Ok(Spot { steps, key });
-            }
             to = from.saturating_add(around.end);
             from = from.saturating_add(around.value);
             steps.push(around.step)?;
+            if offset < from {
+                return Ok(Spot {
+                    steps,
+                    at_key: true,
+                });
+            }
         }
-        Ok(Spot { steps, key: None })
+        Ok(Spot {
+            steps,
+            at_key: false,
+        })
     }
 
-    /// The value that a path leads to in a document.
-    pub(crate) fn at(alloc: Global, path: &Path, text: &str) -> Result<Spot> {
-        let mut steps = Vec::new(alloc);
-        for step in &steps_of(alloc, path, text)? {
-            steps.push(match step {
-                Step::Key(key) => OwnedStep::Key(owned(alloc, key)?),
-                Step::Index(index) => OwnedStep::Index(*index),
-            })?;
-        }
-        Ok(Spot { steps, key: None })
-    }
-
-    /// Where the spot is in another document, if that has it.
-    pub(crate) fn offset_in(&self, alloc: Global, text: &str) -> Result<Option<usize>> {
-        let steps = self.borrowed(alloc)?;
-        let Some(place) = find(alloc, text, steps.as_slice())? else {
-            return Ok(None);
-        };
-        let Some(key) = &self.key else {
-            return Ok(Some(place.start));
-        };
-        let part = text.get(place.start..place.end).unwrap_or("");
-        match key_place(alloc, part, key)? {
-            Some(offset) => Ok(Some(place.start.saturating_add(offset))),
-            None => Ok(None),
-        }
-    }
-
-    fn borrowed(&self, alloc: Global) -> Result<Vec<Step<'_>>> {
+    /// The steps to the value, or to that of the member.
+    pub(crate) fn steps(&self, alloc: Global) -> Result<Vec<Step<'_>>>
+        ensures { IfErr result LacksMemory }
+    {
         let mut steps = Vec::new(alloc);
         for step in &self.steps {
             steps.push(match step {
@@ -97,8 +87,35 @@ impl Spot {
     }
 }
 
+/// None, unless memory ran out.
+fn none_of(error: Error) -> Result<Option<Spot>>
+    ensures { IfErr result LacksMemory }
+{
+    match error.code() {
+        Some(ErrorCode::OutOfMemory) => Err(Error::new(ErrorCode::OutOfMemory)),
+        _ => Ok(None),
+    }
+}
+
+/// Where the key of the last step begins, of equal ones the last.
+pub(crate) fn key_start(alloc: Global, text: &str, steps: &[Step<'_>]) -> Result<Option<usize>> {
+    let Some((Step::Key(key), outer)) = steps.split_last() else {
+        return Ok(None);
+    };
+    let Some(place) = find(alloc, text, outer)? else {
+        return Ok(None);
+    };
+    let part = text.get(place.start..place.end).unwrap_or("");
+    match key_place(alloc, part, key)? {
+        Some(offset) => Ok(Some(place.start.saturating_add(offset))),
+        None => Ok(None),
+    }
+}
+
 /// The steps of a path in a document.
-pub(crate) fn steps_of<'p>(alloc: Global, path: &'p Path, text: &str) -> Result<Vec<Step<'p>>> {
+pub(crate) fn steps_of<'p>(alloc: Global, path: &'p Path, text: &str) -> Result<Vec<Step<'p>>>
+    ensures { IfErr result (RefusesText text.now) }
+{
     match path.steps_in(alloc, text) {
         Ok(steps) => Ok(steps),
         Err(EditError::Text(error)) => Err(error),

@@ -1,4 +1,4 @@
-use Rattle.std.proofs.Common.{◌∙◌, ◌+◌, ◌≡◌, List, String, drop, true, false, None, arith, rules, sym, ap}
+use Rattle.std.proofs.Common.{◌∙◌, ◌+◌, ◌≡◌, List, String, drop, None, arith, rules, refl, sym, ap}
 use Rattle.std.proofs.lemmas.Grind.{common_steps}
 use Rattle.std.specs.declared.alloc.Global.{Global}
 use Rattle.json5_types.specs.declared.value.Value.{Value, the_lemmas}
@@ -8,9 +8,8 @@ use Rattle.json5_types.proofs.ValuesCompared.{view-Object}
 use Rattle.json5_types.proofs.LookedUp.{from_here}
 use Rattle.json5_schema.specs.Conformance.{anchored_in}
 use Rattle.json5_schema.proofs.Conforming.{rest_is}
-use Rattle.json5_schema.proofs.Anchoring.{here_anchored, inner_anchored, through_schema, through_members, through_nothing, keyword_first, found_first, none_first}
+use Rattle.json5_schema.proofs.Anchoring.{here_anchored, inner_anchored, through_schema, through_members, through_nothing, keyword_first, found_first, kept_found, none_first}
 use Rattle.json5_schema.proofs.anchors.+anchored.Goals as goal
-use Rattle.json5_schema.proofs.anchors.+anchored.Goals.{anchored_in-then-not-is_named+else-is_some, anchored_in-else-not-is_named}
 
 pub anchored-returns-in-Object : goal.anchored-returns-in-Object
 anchored-returns-in-Object t c =
@@ -33,10 +32,10 @@ anchored_in-returns-then-is_some t c =
     let all = c.args.keywords.now in
     let rest = drop (l.index + 1) all in
     let left = from_here all l.index f (omega arith) c.index-keywords-index.is in
-    let named = sym c.is_named.ensures ∙ c.if-not-is_named.true in
-    let first = keyword_first c.args.name.now c.as_str-word.result.now f rest _ (drop l.index all) false left (rest_is all (l.index + 1)) c.as_str-word.ensures.value c.as_str-word.utf8 named in
+    let first = keyword_first c.args.name.now c.as_str-word.result.now f rest _ (drop l.index all) _ left (rest_is all (l.index + 1)) c.as_str-word.ensures.value c.as_str-word.utf8 refl in
     let there = sym c.is_some.ensures ∙ c.if-is_some.true in
-    found_first c.anchored_through-found.result (anchored_in c.args.name.now (fields_view rest)) there ∙ (ap (λ o. or_else o (anchored_in c.args.name.now (fields_view rest))) c.anchored_through-found.ensures ∙ (sym first ∙ l.invariant))
+    let kept = kept_found _ _ _ _ c.unless_named-found.ensures c.anchored_through-through.ensures in
+    found_first c.unless_named-found.result (anchored_in c.args.name.now (fields_view rest)) there ∙ (ap (λ o. or_else o (anchored_in c.args.name.now (fields_view rest))) kept ∙ (sym first ∙ l.invariant))
 
 pub anchored_in-loop-index-preserved : goal.anchored_in-loop-index-preserved
 anchored_in-loop-index-preserved t c =
@@ -45,17 +44,10 @@ anchored_in-loop-index-preserved t c =
     let all = c.args.keywords.now in
     let rest = drop (l.index + 1) all in
     let left = from_here all l.index f (omega arith) c.index-keywords-index.is in
-    elim c.if-not-is_named.branch [
-      | anchored_in-then-not-is_named+else-is_some w ↦
-          let named = sym c.is_named.ensures ∙ w.if-not-is_named.true in
-          let first = keyword_first c.args.name.now c.as_str-word.result.now f rest _ (drop l.index all) false left (rest_is all (l.index + 1)) c.as_str-word.ensures.value c.as_str-word.utf8 named in
-          let none = sym w.is_some.ensures ∙ w.if-is_some.false in
-          sym (first ∙ (ap (λ o. or_else o (anchored_in c.args.name.now (fields_view rest))) (sym w.anchored_through-found.ensures) ∙ none_first w.anchored_through-found.result _ none)) ∙ l.invariant
-      | anchored_in-else-not-is_named w ↦
-          let named = sym c.is_named.ensures ∙ w.if-not-is_named.false in
-          let first = keyword_first c.args.name.now c.as_str-word.result.now f rest _ (drop l.index all) true left (rest_is all (l.index + 1)) c.as_str-word.ensures.value c.as_str-word.utf8 named in
-          sym first ∙ l.invariant
-    ]
+    let first = keyword_first c.args.name.now c.as_str-word.result.now f rest _ (drop l.index all) _ left (rest_is all (l.index + 1)) c.as_str-word.ensures.value c.as_str-word.utf8 refl in
+    let none = sym c.is_some.ensures ∙ c.if-is_some.false in
+    let kept = kept_found _ _ _ _ c.unless_named-found.ensures c.anchored_through-through.ensures in
+    sym (first ∙ (ap (λ o. or_else o (anchored_in c.args.name.now (fields_view rest))) (sym kept) ∙ none_first c.unless_named-found.result _ none)) ∙ l.invariant
 
 pub anchored_through-returns-in-Object : goal.anchored_through-returns-in-Object
 anchored_through-returns-in-Object t c =

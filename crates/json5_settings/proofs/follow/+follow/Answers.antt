@@ -1,4 +1,4 @@
-use Rattle.std.proofs.Common.{◌≡◌, ◌∙◌, ap, sym}
+use Rattle.std.proofs.Common.{◌∙◌, ap, sym}
 use Rattle.json5_types.proofs.ValuesCompared.{view-Object}
 use Rattle.json5_types.specs.ValueMeanings.{value_of, fields_view, object}
 use Rattle.json5_settings.specs.Follows.{members_followed}
