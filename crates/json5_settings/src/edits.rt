@@ -35,7 +35,7 @@ impl<'v> Edits<'v> {
             return Ok(());
         }
         match (before, wanted) {
-            (Value::Object(_), Value::Object(_)) if levels > 0 => {
+            (Value::Object(_), Value::Object(_)) if levels > 0 && keeps_order(before, wanted) => {
                 self.remove_gone(before, wanted)?;
                 self.make_members(before, wanted, levels - 1)
             }
@@ -121,5 +121,33 @@ impl<'v> Edits<'v> {
         self.text = remove(self.alloc, &self.text, self.path.as_slice())?;
         self.path.pop();
         Ok(())
+    }
+}
+
+/// Whether the wanted object begins with the members that stay, in their order.
+fn keeps_order(before: &Value, wanted: &Value) -> bool {
+    let news = wanted.entries();
+    let mut count: usize = 0;
+    for (key, _) in before.entries() {
+        if wanted.get(key.as_str()).is_some() {
+            if !is_named(news, count, key.as_str()) {
+                return false;
+            }
+            count = count.saturating_add(1);
+        }
+    }
+    for index in count..news.len() {
+        if before.get(news[index].0.as_str()).is_some() {
+            return false;
+        }
+    }
+    true
+}
+
+/// Whether the member at this place has the key.
+fn is_named(fields: &[(String, Value)], place: usize, key: &str) -> bool {
+    match fields.get(place) {
+        Some((name, _)) => name.as_str() == key,
+        None => false,
     }
 }
