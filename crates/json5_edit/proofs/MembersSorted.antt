@@ -122,11 +122,6 @@ ascending fs qs r sorted = λ k d low high.
 
 -- ---- whole objects
 
--- a text that was made and checked
-pub sorts : (room : ℕ) (old new : List ℕ) (r : Result (String Global) EditError) → IfOk r (λ made. string_bytes made ≡ new) → OnOk r (IsValue room (chars new)) → OnOk r (KeepsPlain old new) → ChangesBy HasMembersSorted old new → IfOk r (λ made. Sorts room old (string_bytes made))
-sorts room old new (Ok made) same fits plain change = subst (Sorts room old) (sym same) (change, fits, plain)
-sorts room old new (Err e) same fits plain change = tt
-
 pub members_sorted : (x y : List ℕ) (es fs : List Entry) → ListsMembers x es → AreInOrder es fs → ListsMembers y fs → ChangesBy HasMembersSorted x y
 members_sorted x y es fs (t, d, k, s) (sorted, same) (u, e, l, r) = (
   t,

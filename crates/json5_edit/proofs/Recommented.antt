@@ -53,7 +53,3 @@ recomments x y head front gone came back at was size cut old new now = record {
   old_lead = old;
   new_lead = new;
 }
-
-pub comments : (s : Step) (room at : ℕ) (old new : List ℕ) (r : Result (String Global) EditError) → IfOk r (λ made. string_bytes made ≡ new) → OnOk r (IsValue room (chars new)) → HasEntry s room old at → Recomments at old new → ChangesBy HaveSameEntries old new → IfOk r (λ made. Comments s room old (string_bytes made))
-comments s room at old new (Ok made) same fits has how change = subst (Comments s room old) (sym same) (change, (room, at, has, how), fits)
-comments s room at old new (Err e) same fits has how change = tt

@@ -310,7 +310,3 @@ module _ (room : ℕ) (name old : List ℕ) (start : ℕ) (utf8 : IsUtf8 old) (f
       )
 
 -- ---- the layout's spelling
-
-pub laid_rekeys : (room : ℕ) (name key old new : List ℕ) (r : Result (String Global) EditError) → IfOk r (λ made. string_bytes made ≡ new) → OnOk r (IsValue room (chars new)) → OnOk r (KeepsPlain old new) → ChangesBy (IsRenamed name key) old new → Respells old new → IfOk r (λ made. Rekeys room name key old (string_bytes made))
-laid_rekeys room name key old new (Ok made) same fits plain change how = subst (Rekeys room name key old) (sym same) (change, how, fits, plain)
-laid_rekeys room name key old new (Err e) same fits plain change how = tt

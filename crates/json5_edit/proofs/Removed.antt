@@ -408,10 +408,6 @@ closed_there blank whole p left e f gap is =
     let p_is : p ≡ blank = sym (take-append_seam p (44 ∷ [])) ∙ ap (λ n. take n (p ++ (44 ∷ []))) len ∙ ap (take (length blank)) (sym same) ∙ take-append_seam blank (44 ∷ []) in
     subst (λ z. Blanks (chars z)) p_is (gap_blanks 44 [] (subst (Gap (chars p)) (ap chars is ∙ ascii_comma) gap))
 
-pub kept_removed : {s : Step} (l : Lead) (limit : ℕ) (old new : List ℕ) (r : Result (String Global) EditError) → IfOk r (λ made. string_bytes made ≡ new) → OnOk r (IsValue limit (chars new)) → OnOk r (KeepsPlain old new) → ChangesBy (IsWithout s) old new → CutsWith l old new → IfOk r (λ made. Removes s l limit old (string_bytes made))
-kept_removed {s = s} l limit old new (Ok made) same fits plain change how = subst (Removes s l limit old) (sym same) (change, how, fits, plain)
-kept_removed l limit old new (Err e) same fits plain change how = tt
-
 -- where no comment goes, no other one does
 may_go : (l : Lead) (x : List ℕ) → MayGo leads.Stays x → MayGo l x
 may_go leads.Goes x m = tt

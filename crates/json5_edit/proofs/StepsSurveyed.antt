@@ -120,13 +120,3 @@ key_taken {limit = limit} {bytes = bytes} {found = found} k n small e p =
     (p.tree, value_document max_depth (chars bytes) p.tree p.value (omega (arith, d, small)), in_tree k.now p.tree (entries q.entry.before) q.entry.after q.entry.gone p.kind q.entry.all)
 
 -- ---- a text that was made and checked
-
-pub kept : {A E : Type 0} (spelling : A → List ℕ) (Bytes : List ℕ → List ℕ → Type 0) (Change : Tree → Tree → Type 0) (limit : ℕ) (old new shown : List ℕ) (r : Result A E) → shown ≡ new → ChangesBy Change old shown → Bytes old new → IfOk r (λ made. spelling made ≡ new) → OnOk r (IsValue limit (chars new)) → IfOk r (λ made. ChangesBy Change old (spelling made) × Bytes old (spelling made) × IsValue limit (chars (spelling made)))
-kept spelling Bytes Change limit old new shown (Ok made) is change how same value =
-    subst (λ x. ChangesBy Change old x × Bytes old x × IsValue limit (chars x)) (sym same) (subst (ChangesBy Change old) is change, how, value)
-kept spelling Bytes Change limit old new shown (Err e) is change how same value = tt
-
--- what holds of the text that was made holds of what is returned, which is the same
-pub same_then : {A E : Type 0} (spelling : A → List ℕ) (P : List ℕ → Type 0) (new : List ℕ) (r : Result A E) → IfOk r (λ made. spelling made ≡ new) → OnOk r (P new) → IfOk r (λ made. P (spelling made))
-same_then spelling P new (Ok made) same p = subst P (sym same) p
-same_then spelling P new (Err e) same p = tt

@@ -8,7 +8,7 @@ add_missing-requires c = leads_none c.args.text.now c.args.path.now _ c.in-Ok-No
 
 pub returns-in-Ok-Some-clause-put : goal.returns-in-Ok-Some-clause-put
 returns-in-Ok-Some-clause-put c =
-    ok_then c.owned.result (λ made k. inl (leads_there c.args.text.now c.args.path.now _ _ c.in-Ok-Some.field-0-is c.in-Ok-Some.ensures.found, k)) c.owned.ensures.same
+    inl (leads_there c.args.text.now c.args.path.now _ _ c.in-Ok-Some.field-0-is c.in-Ok-Some.ensures.found, c.in_ok-from_str.ensures)
 
 pub returns-in-Ok-None-clause-put : goal.returns-in-Ok-None-clause-put
 returns-in-Ok-None-clause-put c = ok_then c.add_missing.result (λ made k. inr k) c.add_missing.ensures.added

@@ -15,12 +15,14 @@ returns-in_err-written-clause-refused g c =
 pub returns-in_err-alike-clause-refused : goal.returns-in_err-alike-clause-refused
 returns-in_err-alike-clause-refused g c =
     let (y, is, from) = err_from_is_err_and c.from_residual-in_err-alike.result c.from_residual-in_err-alike.ensures.1 in
-    rw (is, from, c.in_err-alike.ensures.full) tt
+    rw (is, from.1) tt
 
 pub returns-clause-value : goal.returns-clause-value
 returns-clause-value g c =
-    let (u, spells, means, marked) = c.in_ok-alike.ensures.same (marks (g.T.Serialize.tree c.args.value.now)) c.in_ok-written.ensures.value in
-    ok_then c.laid_out.result (λ new k. (u, k, (means ∙ c.in_ok-written.ensures.again, marked))) (c.laid_out.ensures.same u spells)
+    let (u, spells, means, marked) = c.in_ok-alike.ensures (marks (g.T.Serialize.tree c.args.value.now)) c.in_ok-written.ensures.value in
+    (u, c.in_ok-laid_out.ensures u spells, (means ∙ c.in_ok-written.ensures.again, marked))
 
-pub returns-clause-refused : goal.returns-clause-refused
-returns-clause-refused g c = err_then c.laid_out.result (λ e k. subst (RefusesWriting (written_text (g.T.Serialize.tree c.args.value.now))) (sym k) tt) c.laid_out.ensures.full
+pub returns-in_err-laid_out-clause-refused : goal.returns-in_err-laid_out-clause-refused
+returns-in_err-laid_out-clause-refused g c =
+    let (y, is, from) = err_from_is_err_and c.from_residual-in_err-laid_out.result c.from_residual-in_err-laid_out.ensures.1 in
+    rw (is, from.1) tt

@@ -5,7 +5,7 @@ use Rattle.json5_styles.specs.Json.{JsonString}
 use Rattle.json5_edit.specs.Pieces.{SpellsKey}
 use Rattle.json5_edit.proofs.Placed.{ok_then}
 use Rattle.json5_edit.proofs.Rekeyed.{key_seam, begins, rekeyed}
-use Rattle.json5_edit.proofs.renaming.with_key.Goals as goal
+use Rattle.json5_edit.proofs.renaming.renamed.Goals as goal
 
 pub split_at-requires : goal.split_at-requires
 split_at-requires c = key_seam c.args.room c.args.name.now c.args.old.now c.args.start c.utf8.old c.requires
@@ -13,8 +13,8 @@ split_at-requires c = key_seam c.args.room c.args.name.now c.args.old.now c.args
 pub key_ahead-requires : goal.key_ahead-requires
 key_ahead-requires c = begins c.args.room c.args.name.now c.args.old.now c.args.start c.utf8.old c.requires c.split_at.result.1.now c.split_at.ensures.back
 
-pub returns-clause-renamed : goal.returns-clause-renamed
-returns-clause-renamed c = ok_then c.join_five.result (λ made e. subst (Rekeys c.args.room c.args.name.now c.args.key.now c.args.old.now) (sym e)
-    (rekeyed c.args.room c.args.name.now c.args.old.now c.args.start c.utf8.old c.requires c.split_at.result.0.now c.split_at.result.1.now c.in_ok-blank.blank.now c.in_ok-blank.back.now c.split_at.ensures.front c.split_at.ensures.back c.in_ok-blank.ensures.taken
+pub returns-in-Err-Failed : goal.returns-in-Err-Failed
+returns-in-Err-Failed c = ok_then c.join_five.result (λ made e. subst (Rekeys c.args.room c.args.name.now c.args.key.now c.args.old.now) (sym e)
+    (rekeyed c.args.room c.args.name.now c.args.old.now c.args.start c.utf8.old c.requires c.split_at.result.0.now c.split_at.result.1.now c.in_ok-blank.blank.now c.in_ok-blank.back.now c.split_at.ensures.front c.split_at.ensures.back c.in_ok-blank.ensures
     c.args.key.now c.as_str.result.now c.as_str.utf8 (subst (SpellsKey c.args.key.now) (sym c.as_str.ensures.value) c.in_ok-came.ensures.spelled)
-    (subst (λ x. JsonString (chars x)) (sym c.as_str.ensures.value) c.in_ok-came.ensures.plain) c.requires.2.small)) c.join_five.ensures.joined
+    (subst (λ x. JsonString (chars x)) (sym c.as_str.ensures.value) c.in_ok-came.ensures.plain) c.requires.2.small)) c.join_five.ensures
