@@ -1,11 +1,9 @@
 -- A collection with one entry less in its text.
-use Rattle.std.proofs.Common.{◌≡◌, ℕ, ◌+◌, ◌≤◌, Bool, true, false, List, [], ◌∷◌, ◌++◌, length, Option, Some, None, refl, ap, sym, ◌∙◌, append_assoc, subst, inl, inr, ◌⊎◌, take, drop, Result, Ok, Err, arith}
-use Rattle.std.specs.Prelude.{IfOk, OnOk, MatchOption, String, string_bytes}
-use Rattle.std.specs.declared.alloc.Global.{Global}
-use Rattle.json5_edit.specs.Pieces.{CutsWith, MayGo}
+use Rattle.std.proofs.Common.{◌≡◌, ℕ, ◌+◌, ◌≤◌, Bool, true, false, List, [], ◌∷◌, ◌++◌, length, Option, Some, None, refl, ap, sym, ◌∙◌, append_assoc, subst, inl, inr, ◌⊎◌, take, drop, arith}
+use Rattle.std.specs.Prelude.{MatchOption}
+use Rattle.json5_edit.specs.Pieces.{MayGo}
 use Rattle.json5_edit.specs.declared.belongings.Lead.{Lead}
 use Rattle.json5_edit.specs.declared.belongings.Lead.TheVariants as leads
-use Rattle.json5_edit.specs.declared.faults.EditError.{EditError}
 use Rattle.std.specs.Str.{chars, IsUtf8, IsCharBoundary, all_scalars, encode_utf8_all}
 use Rattle.std.proofs.Math.Seq.{drop-append_seam, take-append_seam}
 use Rattle.std.proofs.lemmas.List.{length-append}
@@ -18,7 +16,7 @@ use Rattle.json5_grammar.specs.Language.Values.{Val}
 use Rattle.json5_grammar.specs.Model.Collections.{IsSign}
 use Rattle.json5_grammar.proofs.BlanksSound.{Blanks-append, gap_blanks}
 use Rattle.json5_lexemes.specs.LastTokens as last
-use Rattle.json5_lexemes.specs.Plain.{Plain, KeepsPlain}
+use Rattle.json5_lexemes.specs.Plain.{Plain}
 use Rattle.json5_lexemes.specs.Spans.{Spans}
 use Rattle.json5_read.specs.declared.brackets.BracketKind.{BracketKind as Kind}
 use Rattle.json5_read.specs.declared.brackets.BracketKind.TheVariants as kind

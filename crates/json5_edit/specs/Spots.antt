@@ -25,8 +25,6 @@ use Rattle.json5_edit.specs.Pieces.{CutsWith, Grows, IsEnd, IsEntryText, IsName}
 use Rattle.json5_edit.specs.Places.{IsValue}
 use Rattle.json5_edit_style.specs.declared.collection.Collection.{Collection}
 use Rattle.json5_edit.specs.declared.belongings.Lead.{Lead}
-use Rattle.json5_edit.specs.declared.faults.EditError.{EditError}
-use Rattle.json5_edit.specs.declared.faults.EditError.TheVariants as error
 use Rattle.json5_edit.specs.declared.paths.Before.{Before}
 use Rattle.json5_edit.specs.declared.paths.Before.TheVariants as before_place
 use Rattle.json5_edit.specs.declared.paths.Step.{Step}

@@ -29,9 +29,6 @@ pushed-requires-clause-value c = rw c.limit_of-room.ensures c.in_ok-check_entry.
 pub pushed-requires-clause-plain : goal.pushed-requires-clause-plain
 pushed-requires-clause-plain c = subst (λ z. KeepsPlain z c.part_text-old.result.now) (sym c.collection-collection.ensures.document) (part_stays c.args.text.now c.part_text-old.result.now c.args.path.now c.in_ok-place.place c.utf8.text c.in_ok-place.ensures.found c.part_text-old.ensures)
 
-pub pushed-requires-clause-end : goal.pushed-requires-clause-end
-pushed-requires-clause-end c = rw c.limit_of-room.ensures at c.in_ok-end.ensures.found
-
 pub array_end-requires : goal.array_end-requires
 array_end-requires c = rw c.limit_of-room.ensures (value_fits c.args.text.now c.part_text-old.result.now c.args.path.now c.in_ok-place.place c.utf8.text c.in_ok-place.ensures.found c.part_text-old.ensures)
 
@@ -53,7 +50,7 @@ returns-in_err-check_entry-clause-refused c =
 pub returns-in_err-new-clause-refused : goal.returns-in_err-new-clause-refused
 returns-in_err-new-clause-refused c =
     let (y, is, from) = err_from_is_err_and c.from_residual-in_err-new.result c.from_residual-in_err-new.ensures.1 in
-    rw (is, from.1) tt
+    rw (is, from) tt
 
 pub returns-clause-pushed : goal.returns-clause-pushed
 returns-clause-pushed c = ok_then c.splice.result (λ made k. changed_within (Grows kind.Array c.args.value.now) (Gains kind.Array [] c.args.value.now) c.args.text.now c.part_text-old.result.now c.as_str.result.now (string_bytes c.in_ok-new.new) (string_bytes made) c.args.path.now c.in_ok-place.place c.utf8.text c.as_str.utf8 c.as_str.ensures.value c.in_ok-place.ensures.found c.part_text-old.ensures (rw c.limit_of-room.ensures at c.in_ok-new.ensures.pushed) k) c.splice.ensures.spliced

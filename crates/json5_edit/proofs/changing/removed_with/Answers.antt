@@ -37,7 +37,7 @@ returns-in_err-found-clause-refused c =
 pub returns-in_err-new-clause-refused : goal.returns-in_err-new-clause-refused
 returns-in_err-new-clause-refused c =
     let (y, is, from) = err_from_is_err_and c.from_residual-in_err-new.result c.from_residual-in_err-new.ensures.1 in
-    rw (is, from.1) tt
+    rw (is, from) tt
 
 pub returns-clause-removed : goal.returns-clause-removed
 returns-clause-removed c = ok_then c.splice.result (λ made k.

@@ -50,7 +50,7 @@ returns-in_err-check_key-clause-refused c =
 pub returns-in_err-new-clause-refused : goal.returns-in_err-new-clause-refused
 returns-in_err-new-clause-refused c =
     let (y, is, from) = err_from_is_err_and c.from_residual-in_err-new.result c.from_residual-in_err-new.ensures.1 in
-    rw (is, from.1) tt
+    rw (is, from) tt
 
 pub returns-clause-rekeyed : goal.returns-clause-rekeyed
 returns-clause-rekeyed c = ok_then c.splice.result (λ made k. let q = changed_within (λ x y. Respells x y × IsFree c.args.key.now x) (IsRenamed c.in-Key.name.now c.args.key.now) c.args.text.now c.part_text-old.result.now c.as_str.result.now (string_bytes c.in_ok-new.new) (string_bytes made) c.in-Some.outer.now c.in_ok-place.place c.utf8.text c.as_str.utf8 c.as_str.ensures.value c.in_ok-place.ensures.found c.part_text-old.ensures (let m = rw c.limit_of-room.ensures at c.in_ok-new.ensures in (m.0, (m.1, c.in_ok-check_key.ensures.free), m.2)) k in (c.in-Some.outer.now, c.in-Key.name, c.in-Some.ensures.cases.0 ∙ ap (λ s. c.in-Some.outer.now ++ (s ∷ [])) c.in-Key.is, q.0, q.1.0, q.1.1)) c.splice.ensures.spliced

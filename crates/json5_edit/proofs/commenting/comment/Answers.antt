@@ -29,15 +29,15 @@ returns-in_err-place-clause-refused c =
     let (y, is, from) = err_from_is_err_and c.from_residual.result c.from_residual.ensures.1 in
     rw (is, from) (as_removal c.args.text.now c.args.path.now c.in_err-place.field-0.0 (path_remove c.args.text.now c.args.path.now c.in-Some.outer.now c.in-Some.step.now c.in_err-place.field-0.0 c.in-Some.ensures.cases.0 c.in_err-place.ensures.refused))
 
-pub returns-in_err-entry_found-clause-refused : goal.returns-in_err-entry_found-clause-refused
-returns-in_err-entry_found-clause-refused c =
-    let (y, is, from) = err_from_is_err_and c.from_residual-in_err-entry_found.result c.from_residual-in_err-entry_found.ensures.1 in
-    rw (is, from) (as_removal c.args.text.now c.args.path.now c.in_err-entry_found.field-0.0 (step_remove c.args.text.now c.part_text-old.result.now c.in-Some.outer.now c.in_ok-place.place c.utf8.text c.in_ok-place.ensures.found c.part_text-old.ensures c.args.path.now c.in-Some.step.now c.in_err-entry_found.field-0.0 c.in-Some.ensures.cases.0 c.in_err-entry_found.ensures.refused))
+pub returns-in_err-start-clause-refused : goal.returns-in_err-start-clause-refused
+returns-in_err-start-clause-refused c =
+    let (y, is, from) = err_from_is_err_and c.from_residual-in_err-start.result c.from_residual-in_err-start.ensures.1 in
+    rw (is, from) (as_removal c.args.text.now c.args.path.now c.in_err-start.field-0.0 (step_remove c.args.text.now c.part_text-old.result.now c.in-Some.outer.now c.in_ok-place.place c.utf8.text c.in_ok-place.ensures.found c.part_text-old.ensures c.args.path.now c.in-Some.step.now c.in_err-start.field-0.0 c.in-Some.ensures.cases.0 c.in_err-start.ensures.refused))
 
 pub returns-in_err-new-clause-refused : goal.returns-in_err-new-clause-refused
 returns-in_err-new-clause-refused c =
     let (y, is, from) = err_from_is_err_and c.from_residual-in_err-new.result c.from_residual-in_err-new.ensures.1 in
-    rw is (as_own c.args.text.now c.args.path.now y from.1)
+    rw is (as_own c.args.text.now c.args.path.now y from)
 
 pub returns-clause-commented : goal.returns-clause-commented
 returns-clause-commented c = ok_then c.splice.result (λ made k.

@@ -56,7 +56,7 @@ returns-in_err-start-clause-refused c =
 pub returns-in_err-new-clause-refused : goal.returns-in_err-new-clause-refused
 returns-in_err-new-clause-refused c =
     let (y, is, from) = err_from_is_err_and c.from_residual-in_err-new.result c.from_residual-in_err-new.ensures.1 in
-    rw (is, from.1) (before_refused c.args.before c.args.text.now c.args.key.now c.args.value.now c.args.path.now _ tt)
+    rw (is, from) (before_refused c.args.before c.args.text.now c.args.key.now c.args.value.now c.args.path.now _ tt)
 
 pub returns-clause-inserted : goal.returns-clause-inserted
 returns-clause-inserted c = ok_then c.splice.result (λ made k.

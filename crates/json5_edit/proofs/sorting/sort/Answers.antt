@@ -30,7 +30,7 @@ returns-then-not-begins-clause-refused c = reaches_no c.args.text.now c.part_tex
 pub returns-in_err-new-clause-refused : goal.returns-in_err-new-clause-refused
 returns-in_err-new-clause-refused c =
     let (y, is, from) = err_from_is_err_and c.from_residual-in_err-new.result c.from_residual-in_err-new.ensures.1 in
-    rw is (own (RefusesSort c.args.text.now c.args.path.now) y tt tt from.1)
+    rw is (own (RefusesSort c.args.text.now c.args.path.now) y tt tt from)
 
 pub returns-clause-sorted : goal.returns-clause-sorted
 returns-clause-sorted c = ok_then c.splice.result (λ made k.
