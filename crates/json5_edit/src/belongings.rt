@@ -1,9 +1,8 @@
 //! What goes with an entry: the comments that belong to it, and no others.
 
-ghost use Rattle.std.specs.Prelude.{◌≡◌, ◌++◌, IfOk, IfErr, IsTrue, OnOk};
+ghost use Rattle.std.specs.Prelude.{◌≡◌, ◌++◌, IfOk, IsTrue, OnOk};
 ghost use Rattle.std.specs.Str.{chars};
 ghost use Rattle.json5_edit.specs.Pieces.{GoesWith, IsEntryText, MayGo};
-ghost use Rattle.json5_edit.specs.Refusals.{IsOwn};
 ghost use Rattle.json5_grammar.specs.Language.Blanks.{Gap, Solid};
 
 use crate::faults::{Result, Unmade};

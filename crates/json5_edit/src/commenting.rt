@@ -5,7 +5,7 @@ ghost use Rattle.std.specs.Str.{chars};
 ghost use Rattle.json5_edit_style.specs.Comments.{IsLead};
 ghost use Rattle.json5_edit.specs.Commented.{Comments, IsCommented};
 ghost use Rattle.json5_edit.specs.Pieces.{Recomments};
-ghost use Rattle.json5_edit.specs.Refusals.{IsOwn, RefusesComment};
+ghost use Rattle.json5_edit.specs.Refusals.{RefusesComment};
 ghost use Rattle.json5_edit.specs.Spots.{HasEntry};
 
 use crate::changing::{check_fits, collection, part_text, which};

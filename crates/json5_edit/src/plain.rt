@@ -4,15 +4,13 @@ ghost use Rattle.std.specs.Prelude.{◌≡◌, ◌++◌, ◌≤◌, ◌-◌, fal
 ghost use Rattle.std.specs.Str.{chars};
 ghost use Rattle.json5_grammar.specs.Language.Blanks.{Solid};
 ghost use Rattle.json5_grammar.specs.Language.Trees.{Tree, depth};
-ghost use Rattle.json5_lexemes.specs.Plain.{StaysPlain};
 ghost use Rattle.json5_types.specs.Errors.{LacksMemory};
 ghost use Rattle.json5_read.specs.declared.brackets.BracketKind.TheVariants as kind;
 ghost use Rattle.json5_read.specs.SkipSteps.{SkipsValue};
-ghost use Rattle.json5_edit.specs.Changes.{Gains, GainsAt};
 ghost use Rattle.json5_edit.specs.Pieces.{IsNameAlone};
-ghost use Rattle.json5_edit.specs.Places.{Fits, IsValue};
+ghost use Rattle.json5_edit.specs.Places.{Fits};
 ghost use Rattle.json5_edit.specs.Refusals.{IsFree, RefusesFree, RefusesKind, RefusesStep};
-ghost use Rattle.json5_edit.specs.Spots.{Adds, AddsEntry, AddsPlainly, Goes, HasEnd, HasEntry, HasFound, HasBefore, IsAhead, BeginsWithComma, IsCommaSpan, TakesCommaAhead, IsColonBefore, IsNameBefore, MayComeBefore, Measures, Parts, PassedBefore, PutsMember, ReadsColon, ReadsThen, Removes, comma_for};
+ghost use Rattle.json5_edit.specs.Spots.{AddsEntry, AddsPlainly, Goes, HasEnd, HasFound, HasBefore, IsAhead, BeginsWithComma, IsCommaSpan, TakesCommaAhead, IsColonBefore, IsNameBefore, MayComeBefore, Measures, Parts, PassedBefore, PutsMember, ReadsColon, ReadsThen, Removes, comma_for};
 ghost use Rattle.json5_edit.specs.declared.belongings.Lead.TheVariants as lead_place;
 ghost use Rattle.json5_edit.specs.declared.paths.Step.TheVariants as step;
 

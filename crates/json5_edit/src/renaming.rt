@@ -1,6 +1,6 @@
 //! Another key for a member.
 
-ghost use Rattle.std.specs.Prelude.{◌≡◌, IfOk, IfErr, string_bytes};
+ghost use Rattle.std.specs.Prelude.{IfOk, IfErr, string_bytes};
 ghost use Rattle.json5_types.specs.Errors.{LacksMemory};
 ghost use Rattle.json5_edit.specs.Keys.{BeginsWithMember, KeySpan, KeyStarts, Rekeys, TakesKeyAhead};
 

@@ -2,7 +2,7 @@
 
 ghost use Rattle.std.specs.Prelude.{IfOk, IfErr, OnOk, string_bytes};
 ghost use Rattle.json5_edit.specs.Changes.{ChangesBy};
-ghost use Rattle.json5_edit.specs.Refusals.{IsOwn, RefusesSort};
+ghost use Rattle.json5_edit.specs.Refusals.{RefusesSort};
 ghost use Rattle.json5_edit.specs.Sorted.{AreInOrder, HasMembersSorted, IsOrdered, ListsMembers, PassesAll, Sorts};
 ghost use Rattle.json5_lexemes.specs.Plain.{KeepsPlain};
 

@@ -1,6 +1,6 @@
 //! How a key is spelled.
 
-ghost use Rattle.std.specs.Prelude.{◌≡◌, IfOk, IfErr, string_bytes};
+ghost use Rattle.std.specs.Prelude.{IfOk, string_bytes};
 ghost use Rattle.std.specs.Str.{chars};
 ghost use Rattle.json5_styles.specs.Json.{JsonString};
 ghost use Rattle.json5_edit.specs.Pieces.{SpellsKey};

@@ -1,10 +1,6 @@
-use Rattle.std.proofs.Common.{sym, subst, ◌∙◌}
+use Rattle.std.proofs.Common.{◌∙◌}
 use Rattle.std.proofs.lemmas.Result.{err_from_is_err_and}
 use Rattle.json5_write.specs.EscapeFreeMarks.{marks}
-use Rattle.json5_write.specs.Out.{written_text}
-use Rattle.json5_edit.proofs.Placed.{ok_then}
-use Rattle.json5_edit_values.specs.Refusals.{RefusesWriting}
-use Rattle.json5_edit_values.proofs.ValuesSpelled.{err_then}
 use Rattle.json5_edit_values.proofs.spelled.spelled.Goals as goal
 
 pub returns-in_err-written-clause-refused : goal.returns-in_err-written-clause-refused
@@ -15,7 +11,7 @@ returns-in_err-written-clause-refused g c =
 pub returns-in_err-alike-clause-refused : goal.returns-in_err-alike-clause-refused
 returns-in_err-alike-clause-refused g c =
     let (y, is, from) = err_from_is_err_and c.from_residual-in_err-alike.result c.from_residual-in_err-alike.ensures.1 in
-    rw (is, from.1) tt
+    rw (is, from) tt
 
 pub returns-clause-value : goal.returns-clause-value
 returns-clause-value g c =
@@ -25,4 +21,4 @@ returns-clause-value g c =
 pub returns-in_err-laid_out-clause-refused : goal.returns-in_err-laid_out-clause-refused
 returns-in_err-laid_out-clause-refused g c =
     let (y, is, from) = err_from_is_err_and c.from_residual-in_err-laid_out.result c.from_residual-in_err-laid_out.ensures.1 in
-    rw (is, from.1) tt
+    rw (is, from) tt
