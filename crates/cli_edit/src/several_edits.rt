@@ -1,7 +1,7 @@
 //! Several edits of a text or of a file, all or none.
 
 ghost use Rattle.std.specs.Prelude.{◌≡◌, IfErr, IfOk, OnOk, string_bytes};
-ghost use Rattle.cli_edit.specs.SeveralEdits.{DoesTask, EditsAll, EditsFile, EditsTo, FillsFile, LeavesFile, RefusesAll, RefusesFile, RefusesTask, RefusesTo, given_of, work_of};
+ghost use Rattle.cli_edit.specs.SeveralEdits.{DoesTask, EditsAll, EditsFile, EditsTo, FillsFile, IsPathOf, LeavesFile, RefusesAll, RefusesFile, RefusesTask, RefusesTo, given_of, path_of, work_of};
 
 use crate::edits::{laid, made};
 use crate::requests::{Command, Given, Source, Task};
@@ -248,7 +248,9 @@ fn done(
 }
 
 /// The path of the edit, if there is memory for it.
-fn path_of(alloc: Global, edit: Edit<'_>) -> Option<String> {
+fn path_of(alloc: Global, edit: Edit<'_>) -> Option<String>
+    ensures { IsPathOf edit.entry result }
+{
     let (_, path, _) = parts_of(edit);
     String::from_str(alloc, path).ok()
 }
@@ -256,6 +258,7 @@ fn path_of(alloc: Global, edit: Edit<'_>) -> Option<String> {
 /// What is done, at which path, and with what value, key, path or comment.
 fn parts_of<'e>(edit: Edit<'e>) -> (Command<'e>, &'e str, &'e str)
     ensures work { result.0 ≡ work_of edit.entry }
+    ensures path { result.1.now ≡ path_of edit.entry }
     ensures given { result.2.now ≡ given_of edit.entry }
 {
     match edit {

@@ -8,4 +8,4 @@ loop-edit-preserved c =
 
 pub returns-in-Err-clause-refused : goal.returns-in-Err-clause-refused
 returns-in-Err-clause-refused c =
-    edits_stopped c.loop-edit.edit c.args.edits.now _ _ c.args.text.now (string_bytes c.loop-edit.made) _ c.loop-edit-test.true refl refl c.loop-edit.invariant (rw c.as_str.ensures.value at c.in-Err.ensures.refused)
+    edits_stopped c.loop-edit.edit c.args.edits.now _ _ c.args.text.now (string_bytes c.loop-edit.made) _ c.loop-edit-test.true refl refl c.path_of-path.ensures c.loop-edit.invariant (rw c.as_str.ensures.value at c.in-Err.ensures.refused)
