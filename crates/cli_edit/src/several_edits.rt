@@ -7,7 +7,7 @@ use crate::edits::{laid, made};
 use crate::requests::{Command, Given, Source, Task};
 use crate::texts::text_in;
 use crate::trouble::TextTrouble;
-use crate::values::{meant, owned};
+use crate::values::meant;
 use cli_files::{Failure, Store, Unwritten};
 use json5_edit::{Before, EditError, Path};
 use std::alloc::Global;
@@ -128,13 +128,12 @@ pub fn edit_text(
     ensures made { IfOk result (λ made. EditsAll edits.now text.now (string_bytes made)) }
     ensures refused { IfErr result (RefusesAll edits.now text.now) }
 {
-    let mut made = match owned(alloc, text) {
-        Ok(made) => made,
-        Err(error) => return Err(EditsError {
+    let Ok(mut made) = String::from_str(alloc, text) else {
+        return Err(EditsError {
             edit: 0,
             path: None,
-            trouble: TextTrouble::Edit(error),
-        }),
+            trouble: TextTrouble::Edit(EditError::NoMemory),
+        });
     };
     for edit in 0..edits.len() {
         match edited(alloc, name, made.as_str(), edits[edit]) {
@@ -240,9 +239,8 @@ fn done(
         Ok(steps) => steps,
         Err(error) => return Err(TextTrouble::Edit(error)),
     };
-    let value = match meant(alloc, task, text, given) {
-        Ok(value) => value,
-        Err(error) => return Err(TextTrouble::Edit(error)),
+    let Ok(value) = meant(alloc, task, text, given) else {
+        return Err(TextTrouble::Edit(EditError::NoMemory));
     };
     let (steps, value) = (steps.as_slice(), value.as_str());
     let as_given = made(alloc, task, text, steps, value)?;
