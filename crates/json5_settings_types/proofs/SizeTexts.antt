@@ -1,11 +1,11 @@
 -- Sizes that are read, and written.
-use Rattle.std.proofs.Common.{◌≡◌, ◌∙◌, ◌<◌, ◌^◌, ℕ, Bool, true, false, List, Option, Some, None, length, refl, sym, ap, arith, codes, tests}
+use Rattle.std.proofs.Common.{◌≡◌, ◌∙◌, ◌<◌, ◌^◌, ℕ, Bool, true, false, List, Some, None, length, refl, sym, ap, arith, codes}
 use Rattle.std.specs.Prelude.{◌==◌, nat_lt, if◌then◌else◌}
 use Rattle.std.specs.Str.{IsAscii, chars}
 use Rattle.std.proofs.lemmas.Bool.Decides.{nat_tests}
 use Rattle.std.proofs.lemmas.Str.{IsUtf8-from_ascii, encodes-chars}
 use Rattle.json5_de.specs.Convert.{text_of}
-use Rattle.json5_de.specs.Refinement.{if_more, refined}
+use Rattle.json5_de.specs.Refinement.{refined}
 use Rattle.json5_ser.specs.EscapeFreeMarks.{marks}
 use Rattle.json5_ser.specs.WrittenTrees.{text}
 use Rattle.json5_settings_types.specs.Sizes.{IsSize, size_of, size_text, size_units}

@@ -1,6 +1,6 @@
 -- Sums that are read part by part.
 use Rattle.std.proofs.Common.{◌≡◌, ◌∙◌, ◌+◌, ◌*◌, ◌<◌, ◌≤◌, ◌^◌, ◌&&◌, ℕ, suc, subst, Bool, true, false, List, [], ◌∷◌, Option, Some, None, Result, Ok, Err, length, get_or, take, drop, refl, sym, ap, arith, rules, tests}
-use Rattle.std.specs.Prelude.{nat_lt, if◌then◌else◌}
+use Rattle.std.specs.Prelude.{nat_lt}
 use Rattle.std.specs.List.{prefix_len}
 use Rattle.std.specs.Char.{is_ascii_digit}
 use Rattle.std.specs.Int.{IsInRange}
@@ -14,7 +14,7 @@ use Rattle.std.proofs.lemmas.Str.Parse.{numerals_by_value, parse_digits, tells_d
 use Rattle.std.proofs.lemmas.Bool.Decides.{nat_tests}
 use Rattle.std.proofs.Math.Seq.{drop-cons}
 use Rattle.json5_settings_types.specs.declared.units.Unit.{Unit}
-use Rattle.json5_settings_types.specs.Sums.{IsCut, Measure, after_digits, after_word, begins_with, comes_to, front_digits, front_word, if_below, is_no_digit, is_part_of, plus, sum_of}
+use Rattle.json5_settings_types.specs.Sums.{IsCut, Measure, after_digits, after_word, begins_with, comes_to, front_digits, if_below, is_no_digit, is_part_of, plus, sum_of}
 
 plus-plus : (a b : ℕ) (o : Option ℕ) → plus a (plus b o) ≡ plus (a + b) o
 plus-plus a b None = refl

@@ -21,13 +21,34 @@ use std::io::Write;
 
 /// The units, by their nanoseconds.
 const UNITS: [Unit<'static>; 7] = [
-    Unit { name: "d", size: 86_400_000_000_000 },
-    Unit { name: "h", size: 3_600_000_000_000 },
-    Unit { name: "m", size: 60_000_000_000 },
-    Unit { name: "s", size: 1_000_000_000 },
-    Unit { name: "ms", size: 1_000_000 },
-    Unit { name: "us", size: 1_000 },
-    Unit { name: "ns", size: 1 },
+    Unit {
+        name: "d",
+        size: 86_400_000_000_000,
+    },
+    Unit {
+        name: "h",
+        size: 3_600_000_000_000,
+    },
+    Unit {
+        name: "m",
+        size: 60_000_000_000,
+    },
+    Unit {
+        name: "s",
+        size: 1_000_000_000,
+    },
+    Unit {
+        name: "ms",
+        size: 1_000_000,
+    },
+    Unit {
+        name: "us",
+        size: 1_000,
+    },
+    Unit {
+        name: "ns",
+        size: 1,
+    },
 ];
 
 /// A length of time: `'30s'`, `'1h30m'`, `'1s500ms'`. The units are `d`, `h`, `m`, `s`, `ms`, `us` and `ns`; they stand in

@@ -21,17 +21,50 @@ use std::io::Write;
 
 /// The units, by their bytes.
 const UNITS: [Unit<'static>; 12] = [
-    Unit { name: "PiB", size: 1_125_899_906_842_624 },
-    Unit { name: "PB", size: 1_000_000_000_000_000 },
-    Unit { name: "TiB", size: 1_099_511_627_776 },
-    Unit { name: "TB", size: 1_000_000_000_000 },
-    Unit { name: "GiB", size: 1_073_741_824 },
-    Unit { name: "GB", size: 1_000_000_000 },
-    Unit { name: "MiB", size: 1_048_576 },
-    Unit { name: "MB", size: 1_000_000 },
-    Unit { name: "KiB", size: 1_024 },
-    Unit { name: "kB", size: 1_000 },
-    Unit { name: "KB", size: 1_000 },
+    Unit {
+        name: "PiB",
+        size: 1_125_899_906_842_624,
+    },
+    Unit {
+        name: "PB",
+        size: 1_000_000_000_000_000,
+    },
+    Unit {
+        name: "TiB",
+        size: 1_099_511_627_776,
+    },
+    Unit {
+        name: "TB",
+        size: 1_000_000_000_000,
+    },
+    Unit {
+        name: "GiB",
+        size: 1_073_741_824,
+    },
+    Unit {
+        name: "GB",
+        size: 1_000_000_000,
+    },
+    Unit {
+        name: "MiB",
+        size: 1_048_576,
+    },
+    Unit {
+        name: "MB",
+        size: 1_000_000,
+    },
+    Unit {
+        name: "KiB",
+        size: 1_024,
+    },
+    Unit {
+        name: "kB",
+        size: 1_000,
+    },
+    Unit {
+        name: "KB",
+        size: 1_000,
+    },
     Unit { name: "B", size: 1 },
 ];
 

@@ -83,7 +83,7 @@ impl<'a> Sum<'a> {
 
     /// Takes a part of this unit, if one stands in front. None is a sum that is too large.
     fn with(self, unit: &Unit<'_>) -> Option<Sum<'a>>
-            ensures { (us : List Measure) → goes_on us result ≡ comes_to (measure_of unit.now ∷ us) self.entry.total self.entry.rest.now }
+        ensures { (us : List Measure) → goes_on us result ≡ comes_to (measure_of unit.now ∷ us) self.entry.total self.entry.rest.now }
     {
         let (digits, word, rest) = front_part(self.rest);
         if !is_part(digits, word, unit.name) {

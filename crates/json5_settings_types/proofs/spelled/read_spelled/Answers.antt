@@ -1,5 +1,6 @@
 use Rattle.std.proofs.Common.{◌∙◌, Ok, ap, inl, inr, rules, sym}
 use Rattle.json5_de.specs.Convert.{text_of}
+use Rattle.json5_de.specs.DeserializeLaw.{Gives}
 use Rattle.json5_de.specs.Refinement.{if_more, refined}
 use Rattle.json5_de.proofs.Refinement.{accepted_completes, reads_content, refused_completes}
 use Rattle.json5_settings_types.proofs.ReadTypes.{refused_own}
@@ -17,7 +18,7 @@ returns-in-Err g c = record {
 
 pub returns-in_default : goal.returns-in_default
 returns-in_default g c =
-    let none = ap g.T.Spelled.spells (sym c.as_str.ensures.value) ∙ sym c.in_default.ensures in
+    let none = ap g.T.Spelled.spells (sym c.as_str-found.ensures.value) ∙ sym c.in_default.ensures in
     record {
       sound = tt;
       complete = refused_completes text_of g.T.Spelled.spells c.in-Ok.ensures.reads.complete none;
@@ -30,7 +31,7 @@ returns-in_default g c =
 pub returns : goal.returns
 returns g c =
     let (t, took, is) = c.in-Ok.ensures.reads.sound in
-    let sound = (t, took, ap (if_more g.T.Spelled.spells) is ∙ ap g.T.Spelled.spells (sym c.as_str.ensures.value) ∙ sym c.in-Some.ensures) in
+    let sound : Gives g.T.Spelled.meaning (refined text_of g.T.Spelled.spells) c.args.de.now c.deserialize.new.de c.in-Some.value = (t, took, ap (if_more g.T.Spelled.spells) is ∙ ap g.T.Spelled.spells (sym c.as_str-found.ensures.value) ∙ sym c.in-Some.ensures) in
     record {
       sound = sound;
       complete = reads_content g.T.Spelled.meaning (refined text_of g.T.Spelled.spells) c.args.de.now _ (Ok c.in-Some.value) sound tt;

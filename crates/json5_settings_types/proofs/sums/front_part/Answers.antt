@@ -1,5 +1,4 @@
 use Rattle.std.specs.Char.{is_ascii_digit}
-use Rattle.std.specs.List.{prefix_len}
 use Rattle.std.proofs.lemmas.List.Sums.{prefix_len-le-length}
 use Rattle.json5_settings_types.specs.Sums.{is_no_digit}
 use Rattle.json5_settings_types.proofs.SumsRead.{cut}

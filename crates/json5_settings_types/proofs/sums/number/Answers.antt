@@ -1,4 +1,3 @@
-use Rattle.std.specs.Str.Parse.{ParsesUnsigned}
 use Rattle.json5_settings_types.proofs.SumsRead.{some_of_parsed, utf8_of_digits}
 use Rattle.json5_settings_types.proofs.sums.number.Goals as goal
 

@@ -1,4 +1,3 @@
-use Rattle.std.proofs.Common.{rules}
 use Rattle.json5_settings_types.specs.Sums.{measure_of}
 use Rattle.json5_settings_types.proofs.SumsWritten.{has_part, smaller}
 use Rattle.json5_settings_types.proofs.sums.push_part.Goals as goal
