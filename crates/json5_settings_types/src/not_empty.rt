@@ -7,7 +7,7 @@ ghost use Rattle.json5_de.specs.ConvertLists.{if_some};
 ghost use Rattle.json5_de.specs.Refinement.{refined, RefusesOwn};
 ghost use Rattle.json5_ser.specs.EscapeFreeMarks.{marks};
 ghost use Rattle.json5_ser.specs.WrittenTrees.{array, elements_of};
-ghost use Rattle.json5_settings_types.specs.Bounds.{if_some_element};
+ghost use Rattle.json5_settings_types.specs.Bounds.{if_some_element, ListReadsBack};
 
 use crate::faults::fault_at;
 use json5_de::{Deserialize, Deserializer, Spanned};
@@ -87,5 +87,5 @@ impl<T: Serialize> Serialize for NotEmpty<T> {
 
 /// The law of lists that aren't empty: what is written of one reads back if its elements do. The call does nothing.
 pub fn lists_read_back<I: Input, T: Serialize + Deserialize<I>>()
-    ensures { (vs : List T) → 0 < length vs → All (λ v. T.convert (marks (T.tree v)) ≡ Some (T.content v)) vs → refined (array_of (contents T.convert)) if_some_element (marks (array (elements_of T.tree vs))) ≡ Some (map T.content vs) }
+    ensures { ListReadsBack T.tree T.convert T.content }
 {}

@@ -1,10 +1,8 @@
 //! Values that are spelled as texts.
 
 ghost use Rattle.std.specs.Prelude.{◌≡◌};
-ghost use Rattle.json5_de.specs.Convert.{text_of};
 ghost use Rattle.json5_de.specs.ConvertLists.{if_some};
-ghost use Rattle.json5_de.specs.Refinement.{refined, ReadsExactly, RefusesOwn};
-ghost use Rattle.json5_de.specs.TokenKinds.{no_tree};
+ghost use Rattle.json5_settings_types.specs.Bounds.{ReadsSpelled};
 
 use crate::faults::fault_at;
 use json5_de::{Deserialize, Deserializer, Spanned};
@@ -53,7 +51,7 @@ pub trait Spelled: Sized + Drop {
 /// - The faults of a `String`.
 /// - ``expected a duration such as '30s' or '1h30m', found `30` ``, at the quote, where the text spells no value.
 pub fn read_spelled<I: Input, T: Spelled>(de: &mut Deserializer<I>) -> Result<T>
-    ensures { ReadsExactly T.meaning (refined text_of T.spells) no_tree (RefusesOwn text_of T.spells ⟦<Spanned<String> as Deserialize<I>>⟧.refuses) de.old de.new result }
+    ensures { ReadsSpelled T.meaning T.spells ⟦<Spanned<String> as Deserialize<I>>⟧.refuses de.old de.new result }
 {
     let text = match Spanned::<String>::deserialize(de) {
         Ok(text) => text,

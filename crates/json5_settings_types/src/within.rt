@@ -6,7 +6,7 @@ ghost use Rattle.json5_de.specs.ConvertLists.{if_some};
 ghost use Rattle.json5_de.specs.Refinement.{refined, RefusesOwn};
 ghost use Rattle.json5_ser.specs.EscapeFreeMarks.{marks};
 ghost use Rattle.json5_ser.specs.WrittenTrees.{integer};
-ghost use Rattle.json5_settings_types.specs.Bounds.{if_within};
+ghost use Rattle.json5_settings_types.specs.Bounds.{if_within, NumberReadsBack};
 
 use crate::faults::fault_at;
 use json5_de::{Deserialize, Deserializer, Spanned};
@@ -73,5 +73,5 @@ impl<const LOW: i64, const HIGH: i64> Serialize for Within<LOW, HIGH> {
 
 /// The law of numbers within bounds: what is written of one reads back. The call does nothing.
 pub fn numbers_read_back()
-    ensures { (low high z : ℤ) → low ≤ℤ z → z ≤ℤ high → neg_ℤ (pos (2 ^ 63)) ≤ℤ z → z <ℤ pos (2 ^ 63) → refined (signed_below (2 ^ 63)) (if_within low high) (marks (integer z)) ≡ Some z }
+    ensures { (low high z : ℤ) → low ≤ℤ z → z ≤ℤ high → NumberReadsBack low high z }
 {}
