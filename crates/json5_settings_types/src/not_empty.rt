@@ -1,11 +1,9 @@
 //! Lists that aren't empty.
 
-ghost use Rattle.std.specs.Prelude.{◌≡◌, ◌<◌, List, Some, length, map, slice_get, vec_len};
-ghost use Rattle.std.specs.List.{All};
+ghost use Rattle.std.specs.Prelude.{◌≡◌, ◌<◌, List, Some, map, slice_get, vec_len};
 ghost use Rattle.json5_grammar.specs.Model.Collections.{array_of, contents};
 ghost use Rattle.json5_de.specs.ConvertLists.{if_some};
 ghost use Rattle.json5_de.specs.Refinement.{refined, RefusesOwn};
-ghost use Rattle.json5_ser.specs.EscapeFreeMarks.{marks};
 ghost use Rattle.json5_ser.specs.WrittenTrees.{array, elements_of};
 ghost use Rattle.json5_settings_types.specs.Bounds.{if_some_element, ListReadsBack};
 

@@ -1,10 +1,9 @@
 //! Numbers within bounds.
 
-ghost use Rattle.std.specs.Prelude.{◌≡◌, ◌^◌, ◌≤ℤ◌, ◌<ℤ◌, ℤ, Some, neg_ℤ, pos};
+ghost use Rattle.std.specs.Prelude.{◌≡◌, ◌^◌, ◌≤ℤ◌, ℤ};
 ghost use Rattle.json5_de.specs.Convert.{signed_below};
 ghost use Rattle.json5_de.specs.ConvertLists.{if_some};
 ghost use Rattle.json5_de.specs.Refinement.{refined, RefusesOwn};
-ghost use Rattle.json5_ser.specs.EscapeFreeMarks.{marks};
 ghost use Rattle.json5_ser.specs.WrittenTrees.{integer};
 ghost use Rattle.json5_settings_types.specs.Bounds.{if_within, NumberReadsBack};
 
