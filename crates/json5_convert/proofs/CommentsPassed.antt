@@ -1,5 +1,5 @@
 -- Steps over the comments of a text.
-use Rattle.std.proofs.Common.{◌≡◌, ◌≢◌, ◌<◌, ◌≤◌, ◌-◌, ℕ, Bool, true, false, not, List, [], ◌∷◌, ◌++◌, length, take, drop, refl, sym, ap, ◌∙◌, subst, append_assoc, arith}
+use Rattle.std.proofs.Common.{◌≡◌, ◌≢◌, ◌<◌, ◌≤◌, ◌-◌, ℕ, Bool, true, false, not, cond, List, [], ◌∷◌, ◌++◌, length, take, drop, refl, sym, ap, ◌∙◌, subst, append_assoc, arith}
 use Rattle.std.specs.Prelude.{◌==◌, ◌||◌}
 use Rattle.std.specs.Str.{IsUtf8, IsCharBoundary, chars}
 use Rattle.std.proofs.lemmas.List.{length-append}
@@ -10,6 +10,9 @@ use Rattle.memchr.specs.Find.{is_byte3}
 use Rattle.json5_grammar.specs.Language.Characters.{NotBegun, Each, no_char, char}
 use Rattle.json5_grammar.specs.Language.Strings.{is_quote}
 use Rattle.json5_grammar.proofs.CommonLemmas.{eq_from, neq_from}
+use lib.Bits.{bit_or}
+use lib.Lanes.{top}
+use Rattle.json5_tokens.proofs.ByteSearch.{hit}
 use Rattle.json5_tokens.specs.Outcome.{bytes_in}
 use Rattle.json5_tokens.specs.Scan.{SkipsAll}
 use Rattle.json5_tokens.proofs.RunBoundaries.{OfChars, of_ascii, quote_ascii}
@@ -52,6 +55,16 @@ quoted_run q x y r k (t, i, e) = (k.passed ++ t, inside_run q t k.each i, k.spli
 
 pub quoted_closes : (q : ℕ) (x y : List ℕ) (c : ℕ) → x ≡ c ∷ y → c ≡ q → TakesQuoted q x y
 quoted_closes q x y c e f = (q ∷ [], lexemes.closes, e ∙ ap (λ z. z ∷ y) f)
+
+-- the lanes of bytes that are one of two
+pub two_lane : (m n x : ℕ) → top 7 (bit_or (hit x m) (hit x n)) ≡ ((x == m) || (x == n))
+two_lane m n x = one_of_two (x == m) (x == n)
+  where
+    one_of_two : (a b : Bool) → top 7 (bit_or (cond a 255 0) (cond b 255 0)) ≡ (a || b)
+    one_of_two true true = refl
+    one_of_two true false = refl
+    one_of_two false true = refl
+    one_of_two false false = refl
 
 -- after a backslash any character belongs to the string
 is_second : (a b : Bool) → not (a || b) ≡ false → a ≡ false → b ≡ true

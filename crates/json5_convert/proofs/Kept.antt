@@ -7,10 +7,11 @@ use Rattle.json5_grammar.specs.Language.Trees.{Tree}
 use Rattle.json5_types.specs.declared.error.Error.{Error}
 use Rattle.json5_types.specs.ValueMeanings.{Datum}
 use Rattle.json5_read.specs.DocumentReads.{IsRefused, ReadsText}
+use Rattle.json5_read.specs.TreeMeanings.{datum_of}
 use Rattle.json5_lexemes.specs.Plain.{PlainText}
 use Rattle.json5_lexemes.proofs.PlainDocuments.{bare_document, commented_document}
 use Rattle.json5_styles.specs.JsonTexts.{is_json}
-use Rattle.json5_convert.specs.Respelled.{IsJson, IsLost, IsMade, IsOfText, IsRespelled, MeansValue, RefusesRespelling, loses_number}
+use Rattle.json5_convert.specs.Respelled.{IsJson, IsLost, IsMade, IsOfText, IsRespelled, RefusesRespelling, loses_number}
 use Rattle.json5_convert.specs.Spellings.{has_comments, has_json_numbers}
 use Rattle.json5_convert.specs.declared.faults.RespellError.{RespellError}
 use Rattle.json5_convert.specs.declared.faults.RespellError.TheVariants as error
@@ -37,6 +38,10 @@ both true b e = (refl, e)
 both false b e = absurd (cc)
 
 -- ---- numbers
+
+-- the text is a document of this meaning
+abbrev MeansValue : Datum → (text : List ℕ) → Type 0
+MeansValue d text = (t : Tree) × Doc max_depth (chars text) t × (d ≡ datum_of t)
 
 module _ (s : Spelling) (x : List ℕ) (d : Datum) (m : MeansValue d x) where
   pub lost : loses_number s d ≡ true → (r : RespellError) → IsLost r → RefusesRespelling s x r

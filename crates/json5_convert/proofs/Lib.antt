@@ -4,6 +4,7 @@ pub mod FaultsLast
 pub mod Kept
 pub mod LinesJoined
 pub mod OneComments
+pub mod PlainKept
 pub mod SourcesKept
 pub mod StreamsRead
 pub mod StreamsRefused

@@ -132,17 +132,17 @@ no_separator c h = by_char (one_of_three (c == 34) (c == 39) (c == 47) h)
     by_char (inr (inl e)) = like 39 e single
     by_char (inr (inr e)) = like 47 e slash
 
-separator_neither : (c : ℕ) → is_separator c ≡ true → begins_neither c ≡ true
+pub separator_neither : (c : ℕ) → is_separator c ≡ true → begins_neither c ≡ true
 separator_neither c h = decide (is_quote c || (c == 47)) refl
   where
     decide : (b : Bool) → (is_quote c || (c == 47)) ≡ b → begins_neither c ≡ true
     decide true e = absurd (both_ways (is_separator c) (no_separator c e) h)
     decide false e = ap not e
 
-sign_neither : (c : ℕ) → is_sign c ≡ true → begins_neither c ≡ true
+pub sign_neither : (c : ℕ) → is_sign c ≡ true → begins_neither c ≡ true
 sign_neither c h = grind (arith, nat_tests)
 
-part_neither : (c : ℕ) → is_word_part c ≡ true → begins_neither c ≡ true
+pub part_neither : (c : ℕ) → is_word_part c ≡ true → begins_neither c ≡ true
 part_neither c h = apart (is_separator c) (is_sign c) (is_quote c || (c == 47)) h
   where
     apart : (a b d : Bool) → not (a || (b || d)) ≡ true → not d ≡ true

@@ -1,7 +1,7 @@
 -- What is to be given stays as more is read.
 use Rattle.std.proofs.Common.{◌≡◌, ℕ, ◌+◌, Bool, List, [], ◌∷◌, ◌++◌, length-append, take, drop, zero, suc, refl, sym, ap, ◌∙◌, subst, append_assoc, Option, Some, None, arith}
 use Rattle.std.specs.Prelude.{IsUtf8}
-use Rattle.std.specs.Io.KnownBytes.{Keeps, IsAtEnd, prepend_known}
+use Rattle.std.specs.Io.KnownBytes.{IsAtEnd, prepend_known}
 use Rattle.std.specs.Str.{IsCharBoundary}
 use Rattle.std.proofs.lemmas.List.{drop-append-le, drop-drop, take-append-drop, length-drop}
 use Rattle.std.proofs.lemmas.Str.{IsCharBoundary-from_drop, IsUtf8-append, IsUtf8-drop}
@@ -50,9 +50,9 @@ module _ (text rest new front : List ℕ) (given count : ℕ) (known : Option (L
       ∙ append_assoc (drop given text) front (after ++ xs)
       ∙ ap (λ z. drop given text ++ z) (sym (append_assoc front after xs) ∙ ap (λ z. z ++ xs) (ap (λ z. z ++ after) is ∙ ap (λ z. take count rest ++ z) e ∙ take-append-drop count rest))
 
-  pub stream_kept : (after : List ℕ) → after ≡ drop count rest → Keeps (prepend_known (drop given text) (prepend_known rest known)) (prepend_known (drop given new) (prepend_known after known))
+  pub stream_kept : (after : List ℕ) → after ≡ drop count rest → prepend_known (drop given new) (prepend_known after known) ≡ prepend_known (drop given text) (prepend_known rest known)
   stream_kept after e = kept known
     where
-      kept : (k : Option (List ℕ)) → Keeps (prepend_known (drop given text) (prepend_known rest k)) (prepend_known (drop given new) (prepend_known after k))
-      kept None = tt
-      kept (Some xs) = joined after xs e
+      kept : (k : Option (List ℕ)) → prepend_known (drop given new) (prepend_known after k) ≡ prepend_known (drop given text) (prepend_known rest k)
+      kept None = refl
+      kept (Some xs) = ap Some (joined after xs e)

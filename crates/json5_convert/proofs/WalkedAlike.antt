@@ -20,6 +20,7 @@ use Rattle.json5_types.specs.ValueMeanings as datum
 use Rattle.json5_read.specs.TreeMeanings.{datum_of, items_of, fields_of}
 use Rattle.json5_types.specs.declared.cow_str.CowStr.{CowStr}
 use Rattle.json5_types.specs.Cows.{cow_bytes}
+use Rattle.json5_types.specs.NumberMeanings.{number_of}
 use Rattle.json5_read.specs.declared.brackets.BracketKind.{BracketKind as Kind}
 use Rattle.json5_read.specs.declared.kinds.Literal.{Literal}
 use Rattle.json5_read.specs.declared.kinds.Literal.TheVariants as literal
@@ -27,13 +28,15 @@ use Rattle.json5_styles.specs.JsonTexts.{is_json, is_json_number, items_are_json
 use Rattle.json5_walk.specs.Nexts.{takes_value}
 use Rattle.json5_walk.specs.Frames.{in_array, in_object, At, at_value, at_element, at_key, at_colon, at_comma, next_of, value_frames}
 use Rattle.json5_walk.specs.Moves.{Stays, stays, TakesTree, takes_tree, Opens, opens_array, opens_object, TakesKeyOf, takes_key, TakesColon, takes_colon, TakesComma, after_element, after_member, Closes, closes_elements, closes_array, closes_members, closes_object, no_comma, comma, EndsEntries, ends_entries}
-use Rattle.json5_walk.specs.Walks.{Walked, at_start, Trail, Moved, Ends, TakesSign, TookSpacedString, TookString, tree_of}
+use Rattle.json5_walk.specs.Walks.{Walked, at_start, Trail, IsAt, Moved, Ends, TakesSign, TookSpacedString, TookString, tree_of}
 use Rattle.json5_walk.proofs.Calls.{starts_at}
 use Rattle.json5_walk.proofs.Entries.{after_gap, then, named_so}
-use Rattle.json5_convert.specs.Alike.{meaning_of, meanings_of, member_meanings, AlikeTrees, AlikeElements, AlikeMembers, AlikeFrames, AlikeAt, StandAlike, GoAlike, GoOn, EndBoth, TakesPart, TakesText}
+use Rattle.json5_convert.specs.Alike.{meaning_of, meanings_of, member_meanings, AlikeTrees, AlikeElements, AlikeMembers, AlikeFrames, AlikeAt, AreSame, AreSameKeys, StandAlike, GoAlike, GoOn, TakesKey, TakesPart, TakesStart, TakesText}
 use Rattle.json5_convert.specs.Respelled.{MeanTheSame, HasNumbers}
 use Rattle.json5_convert.specs.declared.meanings.Part.{Part}
 use Rattle.json5_convert.specs.declared.meanings.Part.TheVariants as part
+use Rattle.json5_convert.specs.declared.meanings.Start.{Start}
+use Rattle.json5_convert.specs.declared.meanings.Start.TheVariants as start
 
 -- ---- a document's tree means what the bytes of its texts say
 
@@ -309,10 +312,46 @@ same_numbers json m n e is p q = same_trees json (number m) (number n) (ap datum
 pub stays_on : {v w left right : Walked} → Moved Stays v left → Moved Stays w right → GoOn v w left right
 stays_on p q json = both_go json Stays Stays (stays_together json) p q
 
-pub literal_json : (l : Literal) → is_json (meaning_of (tree_of l)) ≡ true
+literal_json : (l : Literal) → is_json (meaning_of (tree_of l)) ≡ true
 literal_json literal.Null = refl
 literal_json literal.True = refl
 literal_json literal.False = refl
+
+pub key_so : {v left : Walked} (bytes other : List ℕ) → bytes ≡ other → Moved (TakesKeyOf bytes) v left → Moved (TakesKeyOf other) v left
+key_so {v = v} {left = left} bytes other e p = subst (λ z. Moved (TakesKeyOf z) v left) e p
+
+pub same_keys : {v w left right : Walked} (a b : Option CowStr) → AreSameKeys a b → TakesKey a v left → TakesKey b w right → GoOn v w left right
+same_keys None None is p q = ends p q
+same_keys (Some k) (Some m) is p q = keys (cow_bytes m) (key_so (cow_bytes k) (cow_bytes m) is p) q
+same_keys None (Some m) is p q = absurd is
+same_keys (Some k) None is p q = absurd is
+
+pub same_starts : {v w left right : Walked} (json : Bool) (a b : Start) → AreSame json a b → TakesStart a v left → TakesStart b w right → GoAlike json v w left right
+same_starts {w = w} {right = right} json (start.Open k) (start.Open m) is p q = opens k p (subst (λ z. Moved (Opens z) w right) is q) json
+same_starts json start.Close start.Close is p q = ends p q json
+same_starts {w = w} {right = right} json (start.Literal l) (start.Literal m) is p q = same_literals (tree_of l) (literal_json l) p (subst (λ z. Moved (TakesTree (tree_of z)) w right) is q) json
+same_starts {v = v} {left = left} json (start.Text t) (start.Text u) is p q = same_texts (cow_bytes u) (subst (λ z. TakesText z v left) is p) q json
+same_starts json (start.Number m) (start.Number n) (same, is) p q = same_numbers json (number_of m) (number_of n) same is p q
+same_starts json (start.Open k) start.Close is p q = absurd is
+same_starts json (start.Open k) (start.Literal m) is p q = absurd is
+same_starts json (start.Open k) (start.Text m) is p q = absurd is
+same_starts json (start.Open k) (start.Number m) is p q = absurd is
+same_starts json start.Close (start.Open m) is p q = absurd is
+same_starts json start.Close (start.Literal m) is p q = absurd is
+same_starts json start.Close (start.Text m) is p q = absurd is
+same_starts json start.Close (start.Number m) is p q = absurd is
+same_starts json (start.Literal k) (start.Open m) is p q = absurd is
+same_starts json (start.Literal k) start.Close is p q = absurd is
+same_starts json (start.Literal k) (start.Text m) is p q = absurd is
+same_starts json (start.Literal k) (start.Number m) is p q = absurd is
+same_starts json (start.Text k) (start.Open m) is p q = absurd is
+same_starts json (start.Text k) start.Close is p q = absurd is
+same_starts json (start.Text k) (start.Literal m) is p q = absurd is
+same_starts json (start.Text k) (start.Number m) is p q = absurd is
+same_starts json (start.Number k) (start.Open m) is p q = absurd is
+same_starts json (start.Number k) start.Close is p q = absurd is
+same_starts json (start.Number k) (start.Literal m) is p q = absurd is
+same_starts json (start.Number k) (start.Text m) is p q = absurd is
 
 -- ---- what a call's answer says
 
@@ -336,6 +375,10 @@ pub matched_so : {B T : Type 0} (A : Type 0) (r : Option T) (done : Bool) → do
 matched_so A (Some a) done e p h = p
 matched_so A None done e p h = let k : true ≡ false = sym h ∙ e in absurd (cc)
 
+pub unmatched_so : {A T : Type 0} (B : Type 0) (r : Option T) (done : Bool) → done ≡ is_some r → MatchOption r A (λ t. B) → done ≡ false → A
+unmatched_so B (Some a) done e p h = let k : true ≡ false = sym e ∙ h in absurd (cc)
+unmatched_so B None done e p h = p
+
 pub no_sign : {v w : Walked} (Step : At → At → Type 0) (done : Bool) → TakesSign Step v w done → done ≡ false → w ≡ v
 no_sign Step true p h = absurd (cc)
 no_sign Step false p h = p
@@ -356,14 +399,14 @@ close_taken {v = v} {left = left} p is h = subst (TakesPart v left) is h
 pub spaced_text : {bytes : List ℕ} {v left : Walked} → TookSpacedString bytes v left → TakesText bytes v left
 spaced_text s = record { text_of = s.text_of; escape_free = true; is_text = s.is_text; moved = s.took.moved }
 
+pub text_kept : {bytes : List ℕ} {v w left : Walked} → w ≡ v → TakesText bytes w left → TakesText bytes v left
+text_kept {bytes = bytes} {left = left} e p = subst (λ z. TakesText bytes z left) e p
+
 pub took_text : {t : CowStr} {v left : Walked} (bytes : List ℕ) → cow_bytes t ≡ bytes → TookString t v left → TakesText bytes v left
 took_text bytes e s = record { text_of = s.text_of; escape_free = s.escape_free; is_text = sym e ∙ s.is_text.1; moved = s.took.moved }
 
 pub text_after : {bytes : List ℕ} {u v left : Walked} → Moved Stays u v → TakesText bytes v left → TakesText bytes u left
 text_after p s = record { text_of = s.text_of; escape_free = s.escape_free; is_text = s.is_text; moved = after_gap p s.moved }
-
-pub key_so : {v left : Walked} (bytes other : List ℕ) → bytes ≡ other → Moved (TakesKeyOf bytes) v left → Moved (TakesKeyOf other) v left
-key_so {v = v} {left = left} bytes other e p = subst (λ z. Moved (TakesKeyOf z) v left) e p
 
 pub number_so : {v left : Walked} (m n : Number) → n ≡ m → Moved (TakesTree (number n)) v left → Moved (TakesTree (number m)) v left
 number_so {v = v} {left = left} m n e p = subst (λ z. Moved (TakesTree (number z)) v left) e p
@@ -376,12 +419,12 @@ start_alike json x y limit other v w utf8 utf8_too l m a b =
     subst (λ z. StandAlike json x y z w) (sym a) (subst (λ z. StandAlike json x y (at_start x limit) z) (sym b)
     (record { left_text = refl; right_text = refl; left_limit = l; right_limit = m; left = begun; right = begun; left_at = starts_at utf8; right_at = starts_at utf8_too; alike = tt }))
 
-module _ (json : Bool) (x y : List ℕ) (v w : Walked) (utf8 : IsUtf8 x) (utf8_too : IsUtf8 y) (s : StandAlike json x y v w) (e : EndBoth v w) where
+module _ (json : Bool) (x y : List ℕ) (v w : Walked) (utf8 : IsUtf8 x) (utf8_too : IsUtf8 y) (s : StandAlike json x y v w) (ends_left : (s : Trail) → IsAt v s → Ends v s) (ends_right : (s : Trail) → IsAt w s → Ends w s) where
   left_end : Ends v s.left
-  left_end = e.0 s.left s.left_at
+  left_end = ends_left s.left s.left_at
 
   right_end : Ends w s.right
-  right_end = e.1 s.right s.right_at
+  right_end = ends_right s.right s.right_at
 
   alike_trees : AlikeTrees json left_end.tree right_end.tree
   alike_trees = (subst (λ z. AlikeAt json z (at_comma right_end.tree [])) left_end.walked (subst (λ z. AlikeAt json s.left.now z) right_end.walked s.alike)).0

@@ -1,18 +1,23 @@
 -- Two walks over documents that mean the same, as far as they were walked.
 -- Private.
-use Rattle.std.specs.Prelude.{◌≡◌, ℕ, Bool, true, List, [], ◌∷◌, ⊤}
+use Rattle.std.specs.Prelude.{◌≡◌, ℕ, Bool, true, List, [], ◌∷◌, Option, Some, None, ⊤}
 use Rattle.std.specs.Str.{chars, encode_utf8_all}
 use Rattle.json5_grammar.specs.Language.Documents.{max_depth}
-use Rattle.json5_grammar.specs.Language.Numbers.{Number}
 use Rattle.json5_grammar.specs.Language.Trees.{Tree, Trees, Members, null, boolean, number, text, array, object, no_more, more, no_member, member}
 use Rattle.json5_types.specs.ValueMeanings.{Datum, Items, Fields, no_item, item, no_field, field}
 use Rattle.json5_types.specs.ValueMeanings as datum
 use Rattle.json5_styles.specs.JsonTexts.{is_json, is_json_number, items_are_json, fields_are_json}
 use Rattle.json5_walk.specs.Frames.{Frame, in_array, in_object, At, at_value, at_element, at_key, at_colon, at_comma}
-use Rattle.json5_walk.specs.Moves.{TakesComma, TakesTree, EndsEntries}
-use Rattle.json5_walk.specs.Walks.{Walked, Trail, IsAt, Moved, Ends}
+use Rattle.json5_types.specs.declared.cow_str.CowStr.{CowStr}
+use Rattle.json5_types.specs.declared.number.Number.{Number}
+use Rattle.json5_types.specs.Cows.{cow_bytes}
+use Rattle.json5_types.specs.NumberMeanings.{number_of}
+use Rattle.json5_walk.specs.Moves.{Opens, TakesComma, TakesKeyOf, TakesTree, EndsEntries}
+use Rattle.json5_walk.specs.Walks.{Walked, Trail, IsAt, Moved, tree_of}
 use Rattle.json5_convert.specs.declared.meanings.Part.{Part}
 use Rattle.json5_convert.specs.declared.meanings.Part.TheVariants as part
+use Rattle.json5_convert.specs.declared.meanings.Start.{Start}
+use Rattle.json5_convert.specs.declared.meanings.Start.TheVariants as start
 
 -- what a tree means, as the bytes of its texts say it
 abbrev mutual
@@ -78,18 +83,21 @@ GoAlike json v w left right = (x y : List ℕ) → StandAlike json x y v w → S
 abbrev pub GoOn : (v w left right : Walked) → Type 0
 GoOn v w left right = (json : Bool) → GoAlike json v w left right
 
--- the same, where the first walk had taken this step already
-abbrev pub Follows : (At → At → Type 0) → (v w left right : Walked) → Type 0
-Follows Step v w left right = (u : Walked) → Moved Step u v → GoOn u w left right
-
--- both texts end there
-abbrev pub EndBoth : (v w : Walked) → Type 0
-EndBoth v w = ((s : Trail) → IsAt v s → Ends v s) × ((s : Trail) → IsAt w s → Ends w s)
-
 -- after a value its comma was taken, or the closing bracket
 abbrev pub TakesPart : Walked → Walked → Part → Type 0
 TakesPart old new part.Comma = Moved TakesComma old new
 TakesPart old new part.Close = Moved EndsEntries old new
+
+-- a key was taken, or the closing brace
+abbrev pub TakesKey : Option CowStr → Walked → Walked → Type 0
+TakesKey None old new = Moved EndsEntries old new
+TakesKey (Some key) old new = Moved (TakesKeyOf (cow_bytes key)) old new
+
+-- both are keys of one text, or none is a key
+abbrev pub AreSameKeys : Option CowStr → Option CowStr → Type 0
+AreSameKeys None None = ⊤
+AreSameKeys (Some key) (Some other) = cow_bytes key ≡ cow_bytes other
+AreSameKeys _ _ = ⊥
 
 -- a string was taken, whose text has these bytes
 pub record TakesText (bytes : List ℕ) (old new : Walked) : Type 0 where
@@ -98,6 +106,23 @@ pub record TakesText (bytes : List ℕ) (old new : Walked) : Type 0 where
   pub is_text : bytes ≡ encode_utf8_all text_of
   pub moved : Moved (TakesTree (text text_of escape_free)) old new
 
--- this number was taken, which is JSON's if it has to be
-abbrev pub PassesNumber : (json : Bool) → Number → (old new : Walked) → Type 0
-PassesNumber json n old new = (json ≡ true → is_json_number n ≡ true) × Moved (TakesTree (number n)) old new
+-- this bracket or value was taken
+abbrev pub TakesStart : Start → Walked → Walked → Type 0
+TakesStart (start.Open kind) old new = Moved (Opens kind) old new
+TakesStart start.Close old new = Moved EndsEntries old new
+TakesStart (start.Literal literal) old new = Moved (TakesTree (tree_of literal)) old new
+TakesStart (start.Text t) old new = TakesText (cow_bytes t) old new
+TakesStart (start.Number n) old new = Moved (TakesTree (number (number_of n))) old new
+
+-- both numbers are the same, which JSON has if it has to
+abbrev pub AreSameNumbers : (json : Bool) → Number → Number → Type 0
+AreSameNumbers json m n = (number_of n ≡ number_of m) × (json ≡ true → is_json_number (number_of m) ≡ true)
+
+-- both are the same bracket, or values that mean the same
+abbrev pub AreSame : (json : Bool) → Start → Start → Type 0
+AreSame json (start.Open kind) (start.Open other) = other ≡ kind
+AreSame json start.Close start.Close = ⊤
+AreSame json (start.Literal literal) (start.Literal other) = other ≡ literal
+AreSame json (start.Text t) (start.Text other) = cow_bytes t ≡ cow_bytes other
+AreSame json (start.Number m) (start.Number n) = AreSameNumbers json m n
+AreSame json _ _ = ⊥

@@ -62,10 +62,6 @@ RefusesRespelling spelling text error.Failed = (t : Tree) × Doc max_depth (char
 abbrev pub loses_number : Spelling → Datum → Bool
 loses_number s d = has_json_numbers s && not (is_json d)
 
--- memory ran out, or a text that isn't read is at fault
-abbrev pub IsUnread : (text : List ℕ) → RespellError → Type 0
-IsUnread text e = (s : Spelling) → RefusesRespelling s text e
-
 -- memory ran out, or it is a number's place
 abbrev pub IsLost : RespellError → Type 0
 IsLost error.NoMemory = ⊤
@@ -77,10 +73,6 @@ abbrev pub IsOfText : Error → RespellError → Type 0
 IsOfText e error.NoMemory = ⊤
 IsOfText e (error.Text f) = (f ≡ e) × (IsOutOfMemory e → ⊥)
 IsOfText e _ = ⊥
-
--- the text is a document of this meaning
-abbrev pub MeansValue : Datum → (text : List ℕ) → Type 0
-MeansValue d text = (t : Tree) × Doc max_depth (chars text) t × (d ≡ datum_of t)
 
 -- JSON where that was asked: comments may be in it only if they stay
 abbrev pub IsAsPlain : Spelling → (made : List ℕ) → Type 0

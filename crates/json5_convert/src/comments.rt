@@ -1,7 +1,10 @@
 //! Compares the comments of two texts.
 
-ghost use Rattle.std.specs.Prelude.{◌≡◌, IsTrue, true, IfSome};
+ghost use Rattle.std.specs.Prelude.{◌≡◌, IsTrue, true, IfSome, map};
+ghost use Rattle.std.specs.List.{prefix_len};
+ghost use Rattle.std.specs.Simd.Lanes.{mask_l};
 ghost use Rattle.std.specs.Str.{chars, IsUtf8};
+ghost use Rattle.memchr.specs.Find.{is_byte2, is_byte3};
 ghost use Rattle.json5_grammar.specs.Language.Strings.{is_quote};
 ghost use Rattle.json5_tokens.specs.Scan.{IsFront, SkipsAll};
 ghost use Rattle.json5_convert.specs.Comments.{HaveSameComments, HasNoComment, begins_neither};
@@ -11,6 +14,7 @@ ghost use Rattle.json5_convert.specs.CommentSteps.{IsComment, PassesNone, TakesC
 use crate::spelling::Spelling;
 use json5_lexemes::{Piece, Pieces};
 use memchr::{memchr2, memchr3};
+use std::simd::prelude::*;
 
 /// Whether the comments stay, or where they are to go, whether there are none.
 pub(crate) fn keeps_comments(spelling: Spelling, text: &str, made: &str) -> bool
@@ -112,12 +116,36 @@ fn skip_to_comment(text: &str) -> Option<&str>
 }
 
 /// What follows the characters in front that begin neither a string nor a comment.
+#[inline(always)]
 fn skip_neither(text: &str) -> &str
     ensures { SkipsAll begins_neither text.now result.now }
 {
-    let bytes = text.as_bytes();
-    text.split_at(memchr3(b'"', b'\'', b'/', bytes).unwrap_or(bytes.len()))
-        .1
+    text.split_at(neither_len(text.as_bytes())).1
+}
+
+/// How many bytes in front begin neither. Mostly one of the first sixteen does, and then the call of `memchr3` would take
+/// longer than the search.
+#[inline(always)]
+fn neither_len(bytes: &[u8]) -> usize
+    ensures { result ≡ prefix_len begins_neither bytes.now }
+{
+    if bytes.len() >= 16 {
+        let found = begins_either(u8x16::from_slice(bytes));
+        if found != 0 {
+            return found.trailing_zeros() as usize;
+        }
+    }
+    memchr3(b'"', b'\'', b'/', bytes).unwrap_or(bytes.len())
+}
+
+/// Which of the bytes begin a string or a comment.
+#[inline(always)]
+fn begins_either(bytes: u8x16) -> u64
+    ensures { result ≡ mask_l (map (is_byte3 34 39 47) bytes) }
+{
+    (bytes.simd_eq(u8x16::splat(b'"'))
+        | bytes.simd_eq(u8x16::splat(b'\''))
+        | bytes.simd_eq(u8x16::splat(b'/'))).to_bitmask()
 }
 
 /// After the first quote of a string: what follows its last one; None where it isn't closed.
@@ -140,13 +168,34 @@ fn skip_string(text: &str, quote: char) -> Option<&str>
 }
 
 /// What follows the characters in front that are neither this quote nor a backslash.
+#[inline(always)]
 fn skip_inside(text: &str, quote: char) -> &str
     requires { is_quote quote ≡ true }
     ensures { SkipsAll (is_inside quote) text.now result.now }
 {
-    let bytes = text.as_bytes();
-    text.split_at(memchr2(quote as u8, b'\\', bytes).unwrap_or(bytes.len()))
-        .1
+    text.split_at(inside_len(text.as_bytes(), quote as u8)).1
+}
+
+/// How many bytes in front are neither this quote nor a backslash.
+#[inline(always)]
+fn inside_len(bytes: &[u8], quote: u8) -> usize
+    ensures { result ≡ prefix_len (is_inside quote) bytes.now }
+{
+    if bytes.len() >= 16 {
+        let found = ends_inside(quote, u8x16::from_slice(bytes));
+        if found != 0 {
+            return found.trailing_zeros() as usize;
+        }
+    }
+    memchr2(quote, b'\\', bytes).unwrap_or(bytes.len())
+}
+
+/// Which of the bytes are this quote or a backslash.
+#[inline(always)]
+fn ends_inside(quote: u8, bytes: u8x16) -> u64
+    ensures { result ≡ mask_l (map (is_byte2 quote 92) bytes) }
+{
+    (bytes.simd_eq(u8x16::splat(quote)) | bytes.simd_eq(u8x16::splat(b'\\'))).to_bitmask()
 }
 
 /// The first character, and what follows it.

@@ -3,20 +3,61 @@
 //! Plain code: what it makes is read again.
 
 use crate::spelling::{Blanks, Comments, Spelling};
+use json5_tokens::byte_runs::line_len;
 use std::alloc::AllocError;
+use std::simd::prelude::*;
 
-/// Whether a gap is as the spelling has it.
+/// Whether the bytes between the offsets are surely blanks that JSON has.
 #[inline(always)]
-pub(crate) fn stays(spelling: Spelling, gap: &str) -> bool {
-    if let (Blanks::Own, Comments::Kept) = (spelling.blanks, spelling.comments) {
-        return true;
+pub(crate) fn is_blank_in_json(bytes: &[u8], from: usize, to: usize) -> bool {
+    match bytes.split_at_checked(from) {
+        Some((_, front)) => json_blanks_len(front) >= to.saturating_sub(from),
+        None => false,
     }
-    for byte in gap.bytes() {
-        if !matches!(byte, b' ' | b'\n' | b'\r' | b'\t') {
-            return false;
+}
+
+/// Whether JSON surely has the blanks of a gap around its comments.
+pub(crate) fn has_json_blanks(gap: &str) -> bool {
+    let mut rest = gap;
+    for _ in 0..gap.len() {
+        let (_, front) = parts(rest, json_blanks_len(rest.as_bytes()));
+        if front.is_empty() {
+            return true;
+        }
+        rest = match front.strip_prefix("//") {
+            Some(comment) => parts(comment, line_len(comment.as_bytes())).1,
+            None if front.len() < rest.len() => front,
+            None => return false,
+        };
+    }
+    gap.is_empty()
+}
+
+/// How many bytes in front JSON has as blanks; of many perhaps not all.
+#[inline(always)]
+fn json_blanks_len(bytes: &[u8]) -> usize {
+    if bytes.len() >= 16 {
+        return front_blanks_len(u8x16::from_slice(bytes));
+    }
+    few_blanks_len(bytes)
+}
+
+fn few_blanks_len(bytes: &[u8]) -> usize {
+    for (place, byte) in bytes.iter().enumerate() {
+        if !matches!(*byte, b' ' | b'\n' | b'\r' | b'\t') {
+            return place;
         }
     }
-    true
+    bytes.len()
+}
+
+#[inline(always)]
+fn front_blanks_len(bytes: u8x16) -> usize {
+    let blanks = bytes.simd_eq(u8x16::splat(b' '))
+        | bytes.simd_eq(u8x16::splat(b'\n'))
+        | bytes.simd_eq(u8x16::splat(b'\r'))
+        | bytes.simd_eq(u8x16::splat(b'\t'));
+    blanks.to_bitmask().trailing_ones() as usize
 }
 
 /// Appends the blanks and comments of a gap, as the spelling has them. The document may end with it.

@@ -2,15 +2,15 @@
 
 ghost use Rattle.std.specs.Prelude.{◌≡◌, true, IsTrue, IfOk, IfErr, OnOk, string_bytes};
 ghost use Rattle.json5_types.specs.ValueMeanings.{value_of};
-ghost use Rattle.json5_convert.specs.Respelled.{IsAsPlain, IsLost, IsMade, IsRespelled, IsUnread, KeepsComments, KeepsNumbers, MeansValue, RefusesRespelling, loses_number};
+ghost use Rattle.json5_convert.specs.Respelled.{IsAsPlain, IsLost, IsMade, IsRespelled, KeepsComments, KeepsNumbers, RefusesRespelling, loses_number};
 
 use crate::comments::keeps_comments;
 use crate::faults::{RespellError, Result};
-use crate::meanings::mean_the_same;
+use crate::meanings::check_meaning;
 use crate::spelling::Spelling;
 use crate::tokens::spelled;
 use json5_lexemes::is_plain_with;
-use json5_read::read_document;
+use json5_read::{check_document, read_document};
 use json5_styles::is_json;
 use json5_types::Position;
 use json5_types::value::Value;
@@ -40,19 +40,24 @@ pub fn respell(alloc: Global, text: &str, spelling: Spelling) -> Result<String>
     ensures numbers { OnOk result (KeepsNumbers spelling text.now) }
     ensures refused { IfErr result (RefusesRespelling spelling text.now) }
 {
-    match spelled_anew(alloc, spelling, text) {
+    match made(alloc, spelling, text) {
         Ok(made) => Ok(made),
         Err(RespellError::NoMemory) => Err(RespellError::NoMemory),
         Err(_) => Err(refusal(alloc, spelling, text)),
     }
 }
 
-/// The document spelled anew, if it is as it should be.
-fn spelled_anew(alloc: Global, spelling: Spelling, text: &str) -> Result<String>
+/// The document spelled anew, if it is as it should be. One that is JSON already stays as it is.
+fn made(alloc: Global, spelling: Spelling, text: &str) -> Result<String>
     ensures { IfOk result (λ made. IsMade spelling text.now (string_bytes made)) }
 {
+    if spelling.is_json() && is_plain_with(spelling.has_comments(), text) {
+        check_document(alloc, text)?;
+        return Ok(String::from_str(alloc, text)?);
+    }
     let made = spelled(alloc, spelling, text)?;
-    if is_made(alloc, spelling, text, made.as_str()) {
+    check_meaning(alloc, spelling.has_json_numbers(), text, made.as_str())?;
+    if keeps_comments(spelling, text, made.as_str()) && is_as_plain(spelling, made.as_str()) {
         return Ok(made);
     }
     Err(RespellError::Failed)
@@ -63,32 +68,11 @@ fn spelled_anew(alloc: Global, spelling: Spelling, text: &str) -> Result<String>
 fn refusal(alloc: Global, spelling: Spelling, text: &str) -> RespellError
     ensures { RefusesRespelling spelling text.now result }
 {
-    match read(alloc, text) {
-        Ok(value) => unmade(alloc, spelling, text, &value),
-        Err(why) => why,
-    }
-}
-
-/// The document's value.
-fn read(alloc: Global, text: &str) -> Result<Value>
-    ensures read { IfOk result (λ value. MeansValue (value_of value) text.now) }
-    ensures refused { IfErr result (IsUnread text.now) }
-{
     match read_document(alloc, text) {
-        Ok(value) => Ok(value),
-        Err(error) => Err(RespellError::of_text(error)),
+        Ok(value) if loses_number(spelling, &value) => lost_number(alloc, spelling, text),
+        Ok(_) => RespellError::Failed,
+        Err(error) => RespellError::of_text(error),
     }
-}
-
-/// Why nothing was made of the text of this value.
-fn unmade(alloc: Global, spelling: Spelling, text: &str, value: &Value) -> RespellError
-    requires { MeansValue (value_of value.now) text.now }
-    ensures { RefusesRespelling spelling text.now result }
-{
-    if loses_number(spelling, value) {
-        return lost_number(alloc, spelling, text);
-    }
-    RespellError::Failed
 }
 
 /// Whether numbers are to be JSON's, and the value has another.
@@ -107,20 +91,6 @@ fn lost_number(alloc: Global, spelling: Spelling, text: &str) -> RespellError
         Err(RespellError::NoMemory) => RespellError::NoMemory,
         _ => RespellError::Number(Position::after("")),
     }
-}
-
-/// Whether what was made of the text means the same, and keeps the comments that are asked for, and is JSON where that is
-/// asked for.
-fn is_made(alloc: Global, spelling: Spelling, text: &str, made: &str) -> bool
-    ensures { IsTrue result → IsMade spelling text.now made.now }
-{
-    if !mean_the_same(alloc, spelling.has_json_numbers(), text, made) {
-        return false;
-    }
-    if !keeps_comments(spelling, text, made) {
-        return false;
-    }
-    is_as_plain(spelling, made)
 }
 
 /// Whether what was made is JSON where that is asked for.

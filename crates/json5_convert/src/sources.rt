@@ -1,15 +1,15 @@
 //! What was read of a stream and isn't given yet.
 
-ghost use Rattle.std.specs.Prelude.{◌≡◌, [], true, false, drop, IfErr, MatchResult};
+ghost use Rattle.std.specs.Prelude.{◌≡◌, [], true, false, drop, IfErr, OnOk, MatchResult};
 ghost use Rattle.std.specs.Io.KnownBytes.{IsAtEnd};
 ghost use Rattle.std.specs.Str.{IsCharBoundary};
-ghost use Rattle.json5_convert.specs.Sources.{Held, IsTextFront, ReadsOn, StopsReading};
+ghost use Rattle.json5_convert.specs.Sources.{Held, IsTextFront, KeepsStream, ReadsOn, StopsReading, stream_of};
 ghost use Rattle.json5_types.specs.Errors.{kind_of};
 
 use json5_types::error::{Error, Result};
 use json5_types::{ErrorCode, Position};
 use simdutf8::compat::from_utf8;
-use std::alloc::Global;
+use std::alloc::{AllocError, Global};
 use std::io::{ErrorKind, Read};
 use std::marker::Model;
 use std::str;
@@ -146,8 +146,8 @@ impl<R: Read + Drop> Source<R> {
     }
 
     /// Reads once.
-    fn read_piece(&mut self) -> Result<()>
-        ensures { ReadsOn self.old self.new result }
+    fn read_piece(&mut self) -> std::result::Result<(), AllocError>
+        ensures { OnOk result (KeepsStream self.old self.new) }
     {
         let mut piece = [0; PIECE];
         self.has_ended = false;
@@ -171,8 +171,8 @@ impl<R: Read + Drop> Source<R> {
     }
 
     /// Moves what is text in front of the rest behind the text.
-    fn move_text(&mut self) -> Result<()>
-        ensures { ReadsOn self.old self.new result }
+    fn move_text(&mut self) -> std::result::Result<(), AllocError>
+        ensures { OnOk result (stream_of self.new ≡ stream_of self.old) }
     {
         let (count, is_broken) = text_front(&self.rest);
         let front = unsafe { str::from_utf8_unchecked(&self.rest[..count]) };

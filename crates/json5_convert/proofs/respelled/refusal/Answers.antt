@@ -1,4 +1,5 @@
+use Rattle.json5_convert.proofs.Kept.{failed, lost, unread}
 use Rattle.json5_convert.proofs.respelled.refusal.Goals as goal
 
 pub returns-in-Err : goal.returns-in-Err
-returns-in-Err c = c.in-Err.ensures.refused c.args.spelling
+returns-in-Err c = unread c.args.spelling c.args.text.now c.in-Err.error c.of_text.result c.in-Err.ensures c.of_text.ensures
