@@ -48,6 +48,10 @@ abbrev pub IsToldOfAll : List Layer → Report → Type 0
 IsToldOfAll layers report = (path : List Step) × (IsToldIn path false layers report
     ⊎ (AllLack path layers × ((text : List ℕ) × (error : Error) × IsTextOfAll layers (chars text) × IsCustomAt None error × IsReportOf (codes "settings") text error report)))
 
+-- The report is of the value that some path leads to in the file; or it leads nowhere, and the report is of the whole.
+abbrev pub IsToldOfOne : Layer → Report → Type 0
+IsToldOfOne file report = (path : List Step) × (IsToldAt path false file report ⊎ (LeadsNowhere file.1 path × ((error : Error) × IsCustomAt None error × IsReportOf file.0 file.1 error report)))
+
 -- ---- private clauses cite this
 
 -- the other report; or the first, whose path is the same

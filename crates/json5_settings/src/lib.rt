@@ -27,4 +27,5 @@ mod spots;
 
 pub use faults::{Result, SettingError};
 pub use layers::Layers;
+pub use origin::fault;
 pub use saving::update;

@@ -5,12 +5,13 @@ ghost use Rattle.std.specs.Str.{IsCharBoundary, chars};
 ghost use Rattle.json5_grammar.specs.Faults.Positions.{position_after};
 ghost use Rattle.json5_types.specs.Errors.{LacksMemory};
 ghost use Rattle.json5_edit.specs.Places.{LeadsNowhere};
-ghost use Rattle.json5_settings.specs.Told.{AllLack, IsNearer, IsTold, IsToldAt, IsToldIn, IsToldOfAll, MayBeAt};
+ghost use Rattle.json5_settings.specs.Told.{AllLack, IsNearer, IsTold, IsToldAt, IsToldIn, IsToldOfAll, IsToldOfOne, MayBeAt};
 
 use crate::faults;
 use crate::layers::Layers;
 use crate::spots::{Spot, key_start, steps_of};
 use json5_edit::{Path, Step, find_place};
+use json5_read::check_document;
 use json5_report::Report;
 use json5_types::error::{Error, Result};
 use json5_types::{ErrorCode, Position};
@@ -83,6 +84,38 @@ impl Layers {
             }
         }
         Ok(None)
+    }
+}
+
+/// The report of a fault that reading can't see, in a file without layers: at the value that a path leads to, or at the
+/// end of the text where it has none.
+///
+/// ```text
+/// if settings.least > settings.most {
+///     println!(rt; "{}", fault(alloc, "shop.json5", &text, "workers.least", "more than `workers.most`")?)?;
+/// }
+/// ```
+///
+/// # Errors
+///
+/// - `Path` where the path isn't one.
+/// - `Text` with the fault of reading where the text is no document, or with `OutOfMemory`.
+pub fn fault(
+    alloc: Global,
+    name: &str,
+    text: &str,
+    path: &str,
+    message: &str,
+) -> faults::Result<Report>
+    ensures { IfOk result (IsToldOfOne (name.now, text.now)) }
+{
+    let path = Path::parse(alloc, path)?;
+    check_document(alloc, text)?;
+    let error = Error::custom(alloc, message)?;
+    let steps = steps_of(alloc, &path, text)?;
+    match report_in(alloc, name, text, steps.as_slice(), false, &error)? {
+        Some(report) => Ok(report),
+        None => Ok(Report::new(alloc, name, text, &error)?),
     }
 }
 

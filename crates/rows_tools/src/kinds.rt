@@ -2,8 +2,9 @@
 
 use crate::example::read_ports;
 use crate::faults::error_of;
-use crate::rows::count_of;
+use crate::rows::{count_of, text_of};
 use json5_report::Report;
+use json5_settings::fault;
 use json5_types::error::Error;
 use json5_types::value::Value;
 use std::alloc::{AllocError, Global};
@@ -17,6 +18,9 @@ pub fn shown_of(alloc: Global, row: &Value, text: &str) -> Result<String, Error>
     }
     if row.get("ports").is_some() {
         return ports_shown(alloc, text);
+    }
+    if row.get("message").is_some() {
+        return fault_shown(alloc, row, text);
     }
     let Some(error) = error_of(alloc, row, text)? else {
         return Ok(String::from_str(alloc, "it is read")?);
@@ -82,6 +86,20 @@ fn bytes_shown(alloc: Global, text: &str) -> Result<String, Error> {
     match Report::of_bytes(alloc, NAME, bytes.as_slice())? {
         Some(report) => Ok(format!(in alloc; "{report}")?),
         None => Ok(String::from_str(alloc, "it is UTF-8")?),
+    }
+}
+
+/// The report of a check of one's own, at the row's path.
+fn fault_shown(alloc: Global, row: &Value, text: &str) -> Result<String, Error> {
+    match fault(
+        alloc,
+        NAME,
+        text,
+        text_of(row, "path"),
+        text_of(row, "message"),
+    ) {
+        Ok(report) => Ok(format!(in alloc; "{report}")?),
+        Err(error) => Ok(format!(in alloc; "{error}")?),
     }
 }
 

@@ -1,4 +1,4 @@
-//! Answers rows of edits, of patches, of tidying, of reports, of schemas, of settings and of conversions. Standard input has all rows in one document,
+//! Answers rows of edits, of patches, of tidying, of reports, of schemas, of settings, of conversions and of types. Standard input has all rows in one document,
 //! and what is said of each is whether what came is what the row says.
 #![tactic(auto)]
 
@@ -15,6 +15,7 @@ mod rows;
 mod schemas;
 mod streams;
 mod tidies;
+mod typed;
 mod updates;
 
 use json5_read::read_document;
@@ -48,7 +49,8 @@ fn each_tool(rt: &HostRuntime, document: &Value) -> io::Result<()> {
     each_row(rt, document, "report")?;
     each_row(rt, document, "schema")?;
     each_row(rt, document, "update")?;
-    each_row(rt, document, "convert")
+    each_row(rt, document, "convert")?;
+    each_row(rt, document, "typed")
 }
 
 fn each_row(rt: &HostRuntime, document: &Value, tool: &str) -> io::Result<()> {
@@ -77,6 +79,7 @@ fn outcome_of(alloc: Global, document: &Value, tool: &str, row: &Value) -> Outco
         "schema" => schemas::outcome_of(alloc, row),
         "update" => updates::outcome_of(alloc, row),
         "convert" => converts::outcome_of(alloc, row),
+        "typed" => typed::outcome_of(alloc, row),
         _ => reports::outcome_of(alloc, text_of(document, "base"), row),
     }
 }

@@ -1,0 +1,36 @@
+//! Rows of types for settings: what is written of what was read.
+
+use crate::outcomes::{Outcome, said};
+use crate::rows::{text_of, wanted_of};
+use json5::{Deserialize, Result, Serialize, from_str, to_string};
+use json5_settings_types::{Duration, NotEmpty, Size, Within};
+use json5_types::value::Value;
+use std::alloc::Global;
+
+const COLDEST: i64 = -40;
+
+/// What comes of the row's text.
+pub(crate) fn outcome_of(alloc: Global, row: &Value) -> Outcome {
+    let wanted = wanted_of(row);
+    match written(alloc, text_of(row, "type"), text_of(row, "text")) {
+        Ok(made) if made.as_str() == wanted => Outcome::Wanted,
+        Ok(made) => Outcome::Other(made),
+        Err(error) => said(wanted, format!(in alloc; "{error}").ok()),
+    }
+}
+
+/// The text, read as this type and written again.
+fn written(alloc: Global, name: &str, text: &str) -> Result<String> {
+    match name {
+        "duration" => again::<Duration>(alloc, text),
+        "size" => again::<Size>(alloc, text),
+        "port" => again::<Within<1024, 65535>>(alloc, text),
+        "degrees" => again::<Within<{ COLDEST }, 50>>(alloc, text),
+        _ => again::<NotEmpty<Duration>>(alloc, text),
+    }
+}
+
+fn again<'a, T: Deserialize<&'a str> + Serialize>(alloc: Global, text: &'a str) -> Result<String> {
+    let value = from_str::<T>(alloc, text)?;
+    to_string(alloc, &value)
+}
