@@ -1,11 +1,11 @@
 //! The formats of texts that a schema may assert, each as an expression of the rules of its RFC.
 
-ghost use Rattle.std.specs.Prelude.{◌≡◌, ◌||◌, not, option_map, MatchResult};
+ghost use Rattle.std.specs.Prelude.{◌≡◌, ◌||◌, true, not, option_map, IfOk, MatchResult};
 ghost use Rattle.std.specs.Str.{chars};
 ghost use Rattle.json5_types.specs.Errors.{LacksMemory};
-ghost use Rattle.json5_types.specs.ValueMeanings.{value_of};
+ghost use Rattle.json5_types.specs.ValueMeanings.{boolean, object, no_field, field, value_of};
 ghost use Rattle.json5_schema.specs.Formats.{entirely, mailbox, ipv6_address, uri_text, expression_named, has_format};
-ghost use Rattle.json5_schema.specs.Conformance.{asserts_formats, is_in_format};
+ghost use Rattle.json5_schema.specs.Conformance.{format_vocabulary, asserts_formats, is_in_format, with_formats};
 
 use crate::patterns::{Pattern, matches};
 use json5_types::error::Result;
@@ -219,4 +219,28 @@ pub fn asserts_formats(root: &Value) -> bool
         Some(asserted) => asserted.as_bool().unwrap_or(false),
         None => false,
     }
+}
+
+/// The schema with the vocabulary of asserted formats in place of its own.
+#[tactic(auto, using(crate::proofs::FormatsKnown::vocabulary_put, crate::proofs::FormatsKnown::nothing_put))]
+pub fn with_formats(alloc: Global, schema: &Value) -> Result<Value>
+    ensures { IfOk result (λ asserting. value_of asserting ≡ with_formats (value_of schema.now)) }
+{
+    let mut asserting = schema.clone(alloc)?;
+    if !asserting.is_object() {
+        return Ok(asserting);
+    }
+    let key = String::from_str(alloc, "$vocabulary")?;
+    asserting.insert(key, vocabularies(alloc)?)?;
+    Ok(asserting)
+}
+
+/// An object that asks for the vocabulary of asserted formats.
+#[tactic(auto, using(crate::proofs::FormatsKnown::vocabulary_made))]
+fn vocabularies(alloc: Global) -> Result<Value>
+    ensures { IfOk result (λ asking. value_of asking ≡ object (field format_vocabulary (boolean true) no_field)) }
+{
+    let mut asking = Value::Object(Vec::new(alloc));
+    asking.insert(String::from_str(alloc, VOCABULARY)?, Value::Bool(true))?;
+    Ok(asking)
 }

@@ -1,9 +1,9 @@
 //! Schemas, looked at once, and whether documents conform to them.
 
-ghost use Rattle.std.specs.Prelude.{◌≡◌, ◌==◌, false, vec_len, IfOk, MatchResult};
+ghost use Rattle.std.specs.Prelude.{◌≡◌, ◌==◌, true, false, vec_len, IfOk, MatchResult, OnOk};
 ghost use Rattle.json5_types.specs.Errors.{LacksMemory};
 ghost use Rattle.json5_types.specs.ValueMeanings.{value_of};
-ghost use Rattle.json5_schema.specs.Conformance.{Conforms};
+ghost use Rattle.json5_schema.specs.Conformance.{Conforms, with_formats};
 ghost use Rattle.json5_schema.specs.Subschemas.{HasOnlyKeywords};
 ghost use Rattle.json5_schema.specs.Views.{IsRefusal, schema_of};
 
@@ -11,7 +11,7 @@ use crate::conforms::{MAX_DEPTH, conforms};
 use crate::document_faults::{Fault, Mismatch, Place};
 use crate::explain::explain;
 use crate::faults::{Problem, SchemaFault};
-use crate::formats::asserts_formats;
+use crate::formats::{asserts_formats, with_formats};
 use crate::found::Found;
 use crate::known::check_schema;
 use crate::looking::{Anchor, Seen, fault, look};
@@ -29,7 +29,7 @@ use std::collections::BTreeMap;
 ///
 /// The words are those of draft 2020-12 and of draft 7. Where both have a word it means the same in both; a word that only one has
 /// is taken in either. Not decided yet, and refused: `unevaluatedItems`, `unevaluatedProperties`, dynamic references, and `$id` below the top that is no name, as `#port`. `format`
-/// asserts nothing, unless the root's `$vocabulary` has that of asserted formats (2020-12, validation, section 7.2.2).
+/// asserts nothing but by `with_formats`, or where the root's `$vocabulary` has that of asserted formats (2020-12, validation, section 7.2.2).
 ///
 /// ```text
 /// let schema = Schema::new(alloc, &json5::from_str(alloc, "{properties: {port: {type: 'integer', maximum: 65535}}}")?)?;
@@ -53,13 +53,7 @@ impl Schema {
     pub fn new(alloc: Global, value: &Value) -> Result<Schema, SchemaFault>
         ensures { IfOk result (λ schema. schema_of schema ≡ value_of value.now) }
     {
-        let seen = nothing_seen(alloc, value, false)?;
-        let (patterns, anchors) = look_at_all(alloc, value, seen)?;
-        Ok(Schema {
-            root: value.clone(alloc)?,
-            patterns,
-            anchors,
-        })
+        Schema::of(alloc, value.clone(alloc)?, false)
     }
 
     /// As `new`, but refuses a keyword that is none, which asks nothing: a misspelled one, as `propertees`.
@@ -74,15 +68,62 @@ impl Schema {
     ///
     /// # Errors
     ///
-    /// As `new`; also `At` with the place of a keyword that is none, and the likeliest one where one is near.
+    /// As `new`, and `At` for two more reasons, each with the likeliest name where one is near:
+    /// - `NoKeyword` at a keyword that is none.
+    /// - `NoFormat` at a format that isn't asserted, where the schema's `$vocabulary` asserts formats.
     pub fn strict(alloc: Global, value: &Value) -> Result<Schema, SchemaFault>
         ensures { IfOk result (λ schema. (schema_of schema ≡ value_of value.now) × HasOnlyKeywords (schema_of schema)) }
     {
-        let seen = nothing_seen(alloc, value, true)?;
-        check_schema(alloc, value, "")?;
-        let (patterns, anchors) = look_at_all(alloc, value, seen)?;
+        Schema::of(alloc, value.clone(alloc)?, true)
+    }
+
+    /// As `new`, but the schema asserts formats: a text conforms to `format: 'date'` only if it is a date. It is as if the
+    /// schema's own `$vocabulary` were that of asserted formats (2020-12, validation, section 7.2.2), and no other.
+    ///
+    /// Asserted are `date`, `time`, `date-time`, `duration`, `email`, `hostname`, `ipv4`, `ipv6`, `uri`, `uuid`,
+    /// `json-pointer` and `relative-json-pointer`. Others are passed over.
+    ///
+    /// ```text
+    /// let schema = Schema::with_formats(alloc, &json5::from_str(alloc, "{format: 'date'}")?)?;
+    /// schema.accepts(alloc, &json5::from_str(alloc, "'2024-02-29'")?)?     // true
+    /// schema.accepts(alloc, &json5::from_str(alloc, "'2023-02-29'")?)?     // false
+    /// ```
+    ///
+    /// # Errors
+    ///
+    /// As `new`.
+    pub fn with_formats(alloc: Global, value: &Value) -> Result<Schema, SchemaFault>
+        ensures { IfOk result (λ schema. schema_of schema ≡ with_formats (value_of value.now)) }
+    {
+        Schema::of(alloc, with_formats(alloc, value)?, false)
+    }
+
+    /// As `with_formats` and `strict`: refuses a format that isn't asserted, too.
+    ///
+    /// ```text
+    /// Schema::strict_with_formats(alloc, &json5::from_str(alloc, "{format: 'date-tiem'}")?)
+    ///     // Err: this format isn't asserted (did you mean `date-time`?) at `/format`
+    /// ```
+    ///
+    /// # Errors
+    ///
+    /// As `strict`.
+    pub fn strict_with_formats(alloc: Global, value: &Value) -> Result<Schema, SchemaFault>
+        ensures { IfOk result (λ schema. (schema_of schema ≡ with_formats (value_of value.now)) × HasOnlyKeywords (schema_of schema)) }
+    {
+        Schema::of(alloc, with_formats(alloc, value)?, true)
+    }
+
+    /// The value as a schema; a strict one has no keyword but known ones.
+    fn of(alloc: Global, root: Value, is_strict: bool) -> Result<Schema, SchemaFault>
+        ensures same { IfOk result (λ schema. schema_of schema ≡ value_of root) }
+        ensures known { is_strict ≡ true → IfOk result (λ schema. HasOnlyKeywords (schema_of schema)) }
+    {
+        let seen = nothing_seen(alloc, &root, is_strict)?;
+        check_keywords_of(alloc, &root, is_strict)?;
+        let (patterns, anchors) = look_at_all(alloc, &root, seen)?;
         Ok(Schema {
-            root: value.clone(alloc)?,
+            root,
             patterns,
             anchors,
         })
@@ -222,6 +263,16 @@ fn nothing_seen(alloc: Global, root: &Value, is_strict: bool) -> Result<Seen, Sc
         patterns: Vec::new(alloc),
         anchors: Vec::new(alloc),
     })
+}
+
+/// Refuses a strict schema in which a keyword isn't known.
+fn check_keywords_of(alloc: Global, root: &Value, is_strict: bool) -> Result<(), SchemaFault>
+    ensures { OnOk result (is_strict ≡ true → HasOnlyKeywords (value_of root.now)) }
+{
+    if !is_strict {
+        return Ok(());
+    }
+    check_schema(alloc, root, "")
 }
 
 /// Looks at a schema, and at all that its references mean.

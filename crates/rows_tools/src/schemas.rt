@@ -27,11 +27,13 @@ pub(crate) fn outcome_of(alloc: Global, row: &Value) -> Outcome {
     }
 }
 
-/// The row's schema, without keywords that are none if the row is strict.
+/// The row's schema, without keywords that are none if the row is strict, and asserting formats if it has `formats`.
 fn taken(alloc: Global, row: &Value, schema: &Value) -> Result<Schema, SchemaFault> {
-    match row.get("strict") {
-        Some(_) => Schema::strict(alloc, schema),
-        None => Schema::new(alloc, schema),
+    match (row.get("strict"), row.get("formats")) {
+        (None, None) => Schema::new(alloc, schema),
+        (Some(_), None) => Schema::strict(alloc, schema),
+        (None, Some(_)) => Schema::with_formats(alloc, schema),
+        (Some(_), Some(_)) => Schema::strict_with_formats(alloc, schema),
     }
 }
 
