@@ -8,3 +8,4 @@ mod Remainders
 mod OneVerdict
 mod Parts
 mod PatternsRead
+mod Evaluating

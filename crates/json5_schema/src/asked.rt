@@ -5,7 +5,7 @@ ghost use lib.Chars.{codes};
 ghost use Rattle.std.specs.Str.{chars};
 ghost use Rattle.json5_types.specs.Errors.{LacksMemory};
 ghost use Rattle.json5_types.specs.ValueMeanings.{value_of, items_view, fields_view};
-ghost use Rattle.json5_schema.specs.Conformance.{each_schema, each_item, by_name, value_for, by_index, prefix_on, schemas_in_front, items_after, elements_after, items_on, additional_items_on, contains_on, all_of_on, any_of_on, one_of_on, if_on, speaks_of, beside, is_matched, is_patterned, is_additional, is_applied, each_matched, of_pattern, by_pattern, patterns_on, each_additional, additional_on, names_on, properties_on, is_dependent, dependent_schemas, dependent_on, dependencies_on, all_on, some_on, target_of, refers_on, settled, asserts, applies, asks};
+ghost use Rattle.json5_schema.specs.Conformance.{each_schema, each_item, by_name, value_for, by_index, prefix_on, schemas_in_front, items_after, elements_after, items_on, additional_items_on, contains_on, all_of_on, any_of_on, one_of_on, if_on, members_left_on, elements_left_on, speaks_of, beside, is_matched, is_patterned, is_additional, is_applied, each_matched, of_pattern, by_pattern, patterns_on, each_additional, additional_on, names_on, properties_on, is_dependent, dependent_schemas, dependent_on, dependencies_on, all_on, some_on, target_of, refers_on, settled, asserts, applies, asks};
 ghost use Rattle.json5_schema.specs.Views.{AsksFor, IsRefusal, PairsFor, pairs_view, part_view, asked_view};
 
 use crate::anchors::at_fragment;
@@ -44,6 +44,15 @@ pub enum Asked<'a> {
     Choice(&'a Value, Option<&'a Value>, Option<&'a Value>, &'a Value),
     /// The schema has to hold of each name.
     Names(&'a Value, &'a [(String, Value)]),
+    /// The schema has to hold of each member of the value, or each element, that these keywords leave.
+    Left(&'a Value, &'a [(String, Value)], &'a Value),
+}
+
+/// A member of an object, by its name, or an element of an array, by its index.
+#[derive(Clone, Copy)]
+pub enum Child<'a> {
+    Name(&'a str),
+    Index(usize),
 }
 
 /// Each of the schemas, on the value.
@@ -192,7 +201,7 @@ fn is_patterned(
 }
 
 /// Whether one of the patterns that this has schemas for matches the name.
-fn is_matched_in(alloc: Global, patterns: &[Pattern], schemas: &Value, name: &str) -> Result<bool>
+pub fn is_matched_in(alloc: Global, patterns: &[Pattern], schemas: &Value, name: &str) -> Result<bool>
     ensures { MatchResult result (λ b. b ≡ is_patterned (Some (value_of schemas.now)) (chars name.now)) LacksMemory }
 {
     match schemas {
@@ -508,6 +517,34 @@ fn if_on<'a>(schema: &'a Value, keywords: &'a [(String, Value)], value: &'a Valu
     )
 }
 
+/// What `unevaluatedProperties` asks.
+fn members_left_on<'a>(
+    schema: &'a Value,
+    keywords: &'a [(String, Value)],
+    value: &'a Value,
+) -> Asked<'a>
+    ensures { asked_view result ≡ members_left_on (value_of schema.now) (fields_view keywords.now) (value_of value.now) }
+{
+    match value {
+        Value::Object(_) => Asked::Left(schema, keywords, value),
+        _ => Asked::Settled(true),
+    }
+}
+
+/// What `unevaluatedItems` asks.
+fn elements_left_on<'a>(
+    schema: &'a Value,
+    keywords: &'a [(String, Value)],
+    value: &'a Value,
+) -> Asked<'a>
+    ensures { asked_view result ≡ elements_left_on (value_of schema.now) (fields_view keywords.now) (value_of value.now) }
+{
+    match value {
+        Value::Array(_) => Asked::Left(schema, keywords, value),
+        _ => Asked::Settled(true),
+    }
+}
+
 /// Whether the schema of a name is applied: no later one has the name, there is a member with it, and it is no array of names.
 pub fn is_dependent(
     name: &str,
@@ -633,7 +670,7 @@ fn asserts<'a>(
 }
 
 /// Which schemas a keyword applies.
-fn applies<'a>(
+pub fn applies<'a>(
     alloc: Global,
     patterns: &[Pattern],
     root: &'a Value,
@@ -664,6 +701,8 @@ fn applies<'a>(
             alloc, patterns, argument, keywords, value,
         ),
         Applicator::PropertyNames => Ok(names_on(argument, value)),
+        Applicator::UnevaluatedProperties => Ok(members_left_on(argument, keywords, value)),
+        Applicator::UnevaluatedItems => Ok(elements_left_on(argument, keywords, value)),
         Applicator::Ref => refers_on(alloc, target_of(root, argument), value),
     }
 }

@@ -2,13 +2,13 @@
 //!
 //! Plain code, of which no promise is made but that it is safe and ends: change it by the rows of schemas, which judge it.
 
-use crate::asked::{is_additional, is_applied, is_dependent, schemas_in_front, target_of};
-use crate::conforms::{conforms_within, keyword_holds};
+use crate::asked::{Child, is_additional, is_applied, is_dependent, schemas_in_front, target_of};
+use crate::conforms::{child_left_holds, conforms_within, keyword_holds, member_left_holds};
 use crate::document_faults::{Fault, Mismatch, Place, Way};
 use crate::found::Found;
 use crate::keyword::{Applicator, Keyword, keyword_named};
 use crate::members::{find, is_named};
-use crate::own_faults::{add_assertion, add_dependents, add_own, choose_branch, unknown_key};
+use crate::own_faults::{add_assertion, add_dependents, add_own, choose_branch, other_key, unknown_key};
 use crate::patterns::Pattern;
 use crate::tags::names_member;
 use crate::words::shown;
@@ -119,6 +119,20 @@ fn explain_keyword(
         (Keyword::Applicator(Applicator::PropertyNames), _, Value::Object(members)) => {
             explain_names(
                 alloc, patterns, root, argument, members, &here, depth, found,
+            )
+        }
+        (
+            Keyword::Applicator(Applicator::UnevaluatedProperties),
+            _,
+            Value::Object(members),
+        ) => {
+            explain_left_members(
+                alloc, patterns, root, keywords, argument, value, members, &here, depth, found,
+            )
+        }
+        (Keyword::Applicator(Applicator::UnevaluatedItems), _, Value::Array(items)) => {
+            explain_left_items(
+                alloc, patterns, root, keywords, argument, value, items, &here, depth, found,
             )
         }
         (Keyword::Applicator(applicator), _, _) => {
@@ -250,6 +264,64 @@ fn explain_names(
             let way = Way::Key(member.0.as_str(), index);
             let there = place.copy(alloc)?.entered(alloc, way)?.of_key();
             explain(alloc, patterns, root, schema, &name, &there, depth, found)?;
+        }
+    }
+    Ok(())
+}
+
+/// Goes into each member that the keywords leave and that doesn't conform.
+#[cycle(explain)]
+fn explain_left_members(
+    alloc: Global,
+    patterns: &[Pattern],
+    root: &Value,
+    keywords: &[(String, Value)],
+    schema: &Value,
+    value: &Value,
+    members: &[(String, Value)],
+    place: &Place,
+    depth: usize,
+    found: &mut Found,
+) -> Result<()> {
+    for (index, member) in members.iter().enumerate() {
+        let after = &members[index + 1..];
+        if !member_left_holds(
+            alloc, patterns, root, schema, keywords, value, member, after, depth,
+        )? {
+            let key = member.0.as_str();
+            let there = place.copy(alloc)?.entered(alloc, Way::Key(key, index))?;
+            match schema {
+                Value::Bool(_) => found.add(other_key(alloc, key, there.of_key())?)?,
+                _ => explain(
+                    alloc, patterns, root, schema, &member.1, &there, depth, found,
+                )?,
+            }
+        }
+    }
+    Ok(())
+}
+
+/// Goes into each element that the keywords leave and that doesn't conform.
+#[cycle(explain)]
+fn explain_left_items(
+    alloc: Global,
+    patterns: &[Pattern],
+    root: &Value,
+    keywords: &[(String, Value)],
+    schema: &Value,
+    value: &Value,
+    items: &[Value],
+    place: &Place,
+    depth: usize,
+    found: &mut Found,
+) -> Result<()> {
+    for (index, item) in items.iter().enumerate() {
+        let child = Child::Index(index);
+        if !child_left_holds(
+            alloc, patterns, root, schema, keywords, value, child, item, depth,
+        )? {
+            let there = place.copy(alloc)?.entered(alloc, Way::Index(index))?;
+            explain(alloc, patterns, root, schema, item, &there, depth, found)?;
         }
     }
     Ok(())

@@ -220,6 +220,12 @@ pub fn unknown_key(
     Ok(fault(alloc, place, expected.as_str(), found)?.or_likely(likeliest))
 }
 
+/// That no schema there speaks of a key.
+pub fn other_key(alloc: Global, key: &str, place: Place) -> Result<Fault> {
+    let found = shown_key(alloc, key)?;
+    fault(alloc, place, "a key that one of the schemas here speaks of", found)
+}
+
 /// The rank of a branch for another kind of value, and of those behind it.
 const STRANGE: usize = MAX_STRANGENESS * (MAX_FAULTS + 1);
 

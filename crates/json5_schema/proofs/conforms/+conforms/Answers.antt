@@ -2,7 +2,7 @@ use Rattle.std.proofs.Common.{List, String, true, false, ◌≡◌, ◌∙◌, �
 use Rattle.std.proofs.lemmas.List.{length-drop}
 use Rattle.json5_types.specs.ValueMeanings.{value_of, fields_view}
 use Rattle.json5_types.specs.ValueLookups.{boolean_of, fields_in}
-use Rattle.json5_schema.specs.Conformance.{keyword_holds, less, unfolded}
+use Rattle.json5_schema.specs.Conformance.{conforming, keyword_holds, less, unfolded}
 use Rattle.json5_schema.specs.Views.{part_view, asked_view}
 use Rattle.json5_types.proofs.LookedUp.{from_here}
 use Rattle.std.specs.Str.{chars}
@@ -15,7 +15,7 @@ use Rattle.json5_schema.proofs.conforms.+conforms.Goals as goal
 pub is_within-returns-then-left-least : goal.is_within-returns-then-left-least
 is_within-returns-then-left-least t c = λ v.
     let l = c.loop-index in
-    let w = unfolded c.args.depth v (value_of c.args.root.now) in
+    let w = unfolded c.args.depth v (value_of c.args.root.now) conforming in
     let rest = drop (l.index + 1) c.args.pairs.now in
     let here = pair_from c.args.pairs.now l.index c.index-pairs-index.result (omega arith) c.index-pairs-index.is in
     let step = next w c.index-pairs-index.result rest (drop l.index c.args.pairs.now) l.least l.most c.in_ok-holds.holds here (c.in_ok-holds.ensures v) (sym c.is_full.ensures ∙ c.if-is_full.false) in
@@ -25,7 +25,7 @@ is_within-returns-then-left-least t c = λ v.
 pub is_within-returns-then-left-most : goal.is_within-returns-then-left-most
 is_within-returns-then-left-most t c = λ v.
     let l = c.loop-index in
-    let w = unfolded c.args.depth v (value_of c.args.root.now) in
+    let w = unfolded c.args.depth v (value_of c.args.root.now) conforming in
     let rest = drop (l.index + 1) c.args.pairs.now in
     let here = pair_from c.args.pairs.now l.index c.index-pairs-index.result (omega arith) c.index-pairs-index.is in
     let step = next w c.index-pairs-index.result rest (drop l.index c.args.pairs.now) l.least l.most c.in_ok-holds.holds here (c.in_ok-holds.ensures v) (sym c.is_full.ensures ∙ c.if-is_full.false) in

@@ -1,0 +1,84 @@
+-- What schemas evaluate, and what is left: steps that answers cite.
+use Rattle.std.proofs.Common.{if◌then◌else◌, ◌≡◌, ◌∙◌, ◌<◌, ◌-◌, ℕ, suc, Bool, true, false, not, ◌&&◌, ◌||◌, List, [], ◌∷◌, Option, Some, None, Result, Ok, Err, MatchResult, ap, sym, refl, arith, String, string_bytes}
+use Rattle.std.specs.declared.alloc.Global.{Global}
+use Rattle.std.specs.Str.{chars, IsUtf8, encode_utf8_all}
+use Rattle.std.proofs.lemmas.Str.{encodes-chars}
+use Rattle.json5_types.specs.declared.error.Error.{Error}
+use Rattle.json5_types.specs.declared.value.Value.{Value}
+use Rattle.json5_types.specs.ValueMeanings.{Datum, null, boolean, number, text, array, object, Fields, value_of, items_view, fields_view}
+use Rattle.json5_types.specs.ValueLookups.{fields_in}
+use Rattle.json5_schema.specs.declared.asked.Child.{Child}
+use Rattle.json5_schema.specs.declared.asked.Child.TheVariants as child
+use Rattle.json5_schema.specs.declared.asked.Pair.{Pair}
+use Rattle.json5_schema.specs.declared.keyword.Keyword.{Keyword}
+use Rattle.json5_schema.specs.Keywords.{keyword_named}
+use Rattle.json5_schema.specs.Conformance.{is_named, Question, conforming, evaluating_index, Answers, answers, schema_evaluates, evaluates, keyword_evaluates, keywords_evaluate, child_left_holds, member_left_holds, members_left_hold, elements_left_hold, pair_evaluates, some_evaluate, unfolded}
+use Rattle.json5_schema.specs.Views.{IsRefusal, question_of, pair_view, pairs_view}
+use Rattle.json5_schema.proofs.Parts.{answered}
+
+-- ---- a schema
+
+of_child : (c : Child) (w : Answers) (root s x : Datum) → answers w root (question_of c) s x ≡ schema_evaluates w root s x (question_of c)
+of_child (child.Name u) w root s x = refl
+of_child (child.Index i) w root s x = refl
+
+object_child : (s : Datum) (w : Answers) (root x : Datum) (fs : Fields) (q : Question) → fields_in s ≡ Some fs → schema_evaluates w root s x q ≡ schema_evaluates w root (object fs) x q
+object_child (object gs) w root x fs q e = let k : gs ≡ fs = cc in ap (λ (hs : Fields). schema_evaluates w root (object hs) x q) k
+object_child null w root x fs q e = absurd (cc)
+object_child (boolean b) w root x fs q e = absurd (cc)
+object_child (number m) w root x fs q e = absurd (cc)
+object_child (text u) w root x fs q e = absurd (cc)
+object_child (array ys) w root x fs q e = absurd (cc)
+
+other_child : (s : Datum) (w : Answers) (root x : Datum) (q : Question) → fields_in s ≡ None → schema_evaluates w root s x q ≡ false
+other_child (object gs) w root x q e = absurd (cc)
+other_child null w root x q e = refl
+other_child (boolean b) w root x q e = refl
+other_child (number m) w root x q e = refl
+other_child (text u) w root x q e = refl
+other_child (array ys) w root x q e = refl
+
+asked_child : (n : ℕ) (v : Answers) (root s x : Datum) (c : Child) → 0 < n → unfolded n v root (question_of c) s x ≡ schema_evaluates (unfolded (n - 1) v root) root s x (question_of c)
+asked_child n v root s x c h = answered n v root s x (question_of c) h ∙ of_child c (unfolded (n - 1) v root) root s x
+
+pub object_evaluated : (r : Result Bool Error) (n : ℕ) (root s x : Datum) (c : Child) (fs : Fields) → 0 < n → fields_in s ≡ Some fs
+    → MatchResult r (λ b. (v : Answers) → schema_evaluates (unfolded (n - 1) v root) root (object fs) x (question_of c) ≡ b) IsRefusal
+    → MatchResult r (λ b. (v : Answers) → unfolded n v root (question_of c) s x ≡ b) IsRefusal
+object_evaluated (Ok b) n root s x c fs h e k = λ v. asked_child n v root s x c h ∙ object_child s (unfolded (n - 1) v root) root x fs (question_of c) e ∙ k v
+object_evaluated (Err f) n root s x c fs h e k = k
+
+pub other_evaluated : (n : ℕ) (v : Answers) (root s x : Datum) (c : Child) → 0 < n → fields_in s ≡ None → unfolded n v root (question_of c) s x ≡ false
+other_evaluated n v root s x c h e = asked_child n v root s x c h ∙ other_child s (unfolded (n - 1) v root) root x (question_of c) e
+
+-- ---- a keyword
+
+named : (w : Answers) (root a x : Datum) (key bytes : List ℕ) (all rest : Fields) (k : Keyword) (q : Question) → is_named (chars key) rest ≡ false → IsUtf8 key → key ≡ bytes → k ≡ keyword_named key
+    → keyword_evaluates w root all (chars bytes) a rest x q ≡ evaluates w root all k a x q
+named w root a x key bytes all rest k q h u same is =
+    let e : keyword_named (encode_utf8_all (chars key)) ≡ k = ap keyword_named (encodes-chars key u) ∙ sym is in
+    ap (λ (t : List ℕ). keyword_evaluates w root all (chars t) a rest x q) (sym same)
+    ∙ ap (λ (b : Bool). not b && evaluates w root all (keyword_named (encode_utf8_all (chars key))) a x q) h
+    ∙ ap (λ (l : Keyword). evaluates w root all l a x q) e
+
+pub named_evaluates : (r : Result Bool Error) (n : ℕ) (root a x : Datum) (key bytes : List ℕ) (all rest : Fields) (k : Keyword) (q : Question) → is_named (chars key) rest ≡ false → IsUtf8 key → key ≡ bytes → k ≡ keyword_named key
+    → MatchResult r (λ b. (v : Answers) → evaluates (unfolded n v root) root all k a x q ≡ b) IsRefusal
+    → MatchResult r (λ b. (v : Answers) → keyword_evaluates (unfolded n v root) root all (chars bytes) a rest x q ≡ b) IsRefusal
+named_evaluates (Ok b) n root a x key bytes all rest k q h u same is found = λ v. named (unfolded n v root) root a x key bytes all rest k q h u same is ∙ found v
+named_evaluates (Err f) n root a x key bytes all rest k q h u same is found = found
+
+-- ---- the first of some, and those after it
+
+pub keyword_first : (w : Answers) (root x : Datum) (all : Fields) (q : Question) (f : String Global × Value) (fs xs : List (String Global × Value)) (b : Bool) → xs ≡ f ∷ fs
+    → keyword_evaluates w root all (chars (string_bytes f.0)) (value_of f.1) (fields_view fs) x q ≡ b → keywords_evaluate w root all (fields_view xs) x q ≡ (b || keywords_evaluate w root all (fields_view fs) x q)
+keyword_first w root x all q f fs xs b e h = rw e (ap (λ (c : Bool). c || keywords_evaluate w root all (fields_view fs) x q) h)
+
+pub member_first : (w : Answers) (root s x : Datum) (all : Fields) (f : String Global × Value) (fs xs : List (String Global × Value)) (b : Bool) → xs ≡ f ∷ fs
+    → member_left_holds w root s all x (chars (string_bytes f.0)) (value_of f.1) (fields_view fs) ≡ b → members_left_hold w root s all x (fields_view xs) ≡ (b && members_left_hold w root s all x (fields_view fs))
+member_first w root s x all f fs xs b e h = rw e (ap (λ (c : Bool). c && members_left_hold w root s all x (fields_view fs)) h)
+
+pub element_first : (w : Answers) (root s x : Datum) (all : Fields) (i : ℕ) (y : Value) (ys xs : List Value) (b : Bool) → xs ≡ y ∷ ys
+    → child_left_holds w root s all x (evaluating_index i) (value_of y) ≡ b → elements_left_hold w root s all x i (items_view xs) ≡ (b && elements_left_hold w root s all x (suc i) (items_view ys))
+element_first w root s x all i y ys xs b e h = rw e (ap (λ (c : Bool). c && elements_left_hold w root s all x (suc i) (items_view ys)) h)
+
+pub pair_first : (w : Answers) (q : Question) (p : Pair) (ps xs : List Pair) (b : Bool) → xs ≡ p ∷ ps → pair_evaluates w q (pair_view p) ≡ b → some_evaluate w q (pairs_view xs) ≡ (b || some_evaluate w q (pairs_view ps))
+pair_first w q p ps xs b e h = rw e (ap (λ (c : Bool). c || some_evaluate w q (pairs_view ps)) h)
