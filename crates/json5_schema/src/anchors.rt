@@ -1,14 +1,13 @@
 //! Schemas that have a name, by `$anchor`, or by an `$id` of `#` and the name.
 
 ghost use Rattle.std.specs.Prelude.{◌≡◌, if◌then◌else◌, None};
-ghost use Rattle.std.specs.Str.{chars};
 ghost use Rattle.json5_types.specs.ValueMeanings.{value_of, items_view, fields_view};
-ghost use Rattle.json5_schema.specs.Conformance.{is_named, is_fragment, is_anchor, is_id, has_anchor, anchored, anchored_in, anchored_through, anchored_among, anchored_named, is_pointer, at_fragment};
+ghost use Rattle.json5_schema.specs.Conformance.{is_fragment, is_anchor, is_id, has_anchor, anchored, anchored_in, anchored_through, anchored_among, anchored_named, is_pointer, at_fragment};
 ghost use Rattle.json5_schema.specs.Subschemas.{takes_schemas, takes_named};
 ghost use Rattle.json5_schema.specs.Views.{part_view};
 
 use crate::known::{takes_named, takes_schema, takes_schemas};
-use crate::members::{find, is_named};
+use crate::members::{find, unless_named};
 use json5_types::value::Value;
 
 /// Whether the text is `#` and the name.
@@ -46,20 +45,6 @@ fn has_anchor(keywords: &[(String, Value)], name: &str) -> bool
     ensures { result ≡ has_anchor name.now (fields_view keywords.now) }
 {
     is_anchor(find(keywords, "$anchor"), name) || is_id(find(keywords, "$id"), name)
-}
-
-/// What was found in a member, unless one after it has the same key.
-fn unless_named<'a>(
-    found: Option<&'a Value>,
-    after: &[(String, Value)],
-    key: &str,
-) -> Option<&'a Value>
-    ensures { part_view result ≡ (if is_named (chars key.now) (fields_view after.now) then None else part_view found.entry) }
-{
-    if found.is_some() && is_named(after, key) {
-        return None;
-    }
-    found
 }
 
 /// The first schema with the name, of those in the schema.

@@ -17,7 +17,7 @@ use crate::limits::{
     characters_in, count_at_least, count_at_most, elements_in, elements_len, is_at_most, is_below,
     names_in,
 };
-use crate::members::{find, has_all_dependents, has_required, is_named};
+use crate::members::{find, has_all_dependents, has_required, is_named, unless_named};
 use crate::multiples::is_multiple_of;
 use crate::patterns::{Pattern, fits, is_matching};
 use json5_types::error::Result;
@@ -105,10 +105,8 @@ fn value_for<'a>(
 ) -> Option<&'a Value>
     ensures { option_map (λ v. value_of v.now) result ≡ value_for (chars (string_bytes property.now.0)) (fields_view after.now) (fields_view members.now) }
 {
-    if is_named(after, property.0.as_str()) {
-        return None;
-    }
-    find(members, property.0.as_str())
+    let key = property.0.as_str();
+    unless_named(find(members, key), after, key)
 }
 
 /// All of the pairs.

@@ -1,10 +1,11 @@
 //! The members of objects. Of equal keys the last counts.
 
-ghost use Rattle.std.specs.Prelude.{◌≡◌, option_map, is_some};
+ghost use Rattle.std.specs.Prelude.{◌≡◌, if◌then◌else◌, None, option_map, is_some};
 ghost use Rattle.std.specs.Str.{chars};
 ghost use Rattle.json5_types.specs.ValueMeanings.{value_of, items_view, fields_view};
 ghost use Rattle.json5_types.specs.ValueLookups.{last_named};
 ghost use Rattle.json5_schema.specs.Conformance.{is_named, has_name, has_names, has_required, has_dependent, has_dependents, has_all_dependents};
+ghost use Rattle.json5_schema.specs.Views.{part_view};
 
 use json5_types::value::Value;
 
@@ -26,6 +27,20 @@ pub fn is_named(members: &[(String, Value)], key: &str) -> bool
     ensures { result ≡ is_named (chars key.now) (fields_view members.now) }
 {
     find(members, key).is_some()
+}
+
+/// What was found in a member, unless one after it has the same key.
+pub fn unless_named<'a>(
+    found: Option<&'a Value>,
+    after: &[(String, Value)],
+    key: &str,
+) -> Option<&'a Value>
+    ensures { part_view result ≡ (if is_named (chars key.now) (fields_view after.now) then None else part_view found.entry) }
+{
+    if found.is_some() && is_named(after, key) {
+        return None;
+    }
+    found
 }
 
 /// Whether a member has the key that this text is.
