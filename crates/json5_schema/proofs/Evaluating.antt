@@ -1,5 +1,5 @@
 -- What schemas evaluate, and what is left: steps that answers cite.
-use Rattle.std.proofs.Common.{if◌then◌else◌, ◌≡◌, ◌∙◌, ◌<◌, ◌-◌, ℕ, suc, Bool, true, false, not, ◌&&◌, ◌||◌, List, [], ◌∷◌, Option, Some, None, Result, Ok, Err, MatchResult, ap, sym, refl, arith, String, string_bytes}
+use Rattle.std.proofs.Common.{if◌then◌else◌, ◌≡◌, ◌∙◌, ◌<◌, ◌-◌, ◌+◌, drop, take, get_or, length, ℕ, suc, Bool, true, false, not, ◌&&◌, ◌||◌, List, [], ◌∷◌, Option, Some, None, Result, Ok, Err, MatchResult, ap, sym, refl, arith, String, string_bytes}
 use Rattle.std.specs.declared.alloc.Global.{Global}
 use Rattle.std.specs.Str.{chars, IsUtf8, encode_utf8_all}
 use Rattle.std.proofs.lemmas.Str.{encodes-chars}
@@ -14,6 +14,9 @@ use Rattle.json5_schema.specs.declared.keyword.Keyword.{Keyword}
 use Rattle.json5_schema.specs.Keywords.{keyword_named}
 use Rattle.json5_schema.specs.Conformance.{is_named, Question, conforming, evaluating_index, Answers, answers, schema_evaluates, evaluates, keyword_evaluates, keywords_evaluate, child_left_holds, member_left_holds, members_left_hold, elements_left_hold, pair_evaluates, some_evaluate, unfolded}
 use Rattle.json5_schema.specs.Views.{IsRefusal, question_of, pair_view, pairs_view}
+use Rattle.std.proofs.lemmas.List.{drop_more}
+use Rattle.json5_types.proofs.LookedUp.{from_here}
+use Rattle.json5_schema.proofs.Conforming.{pair_from, rest_is}
 use Rattle.json5_schema.proofs.Parts.{answered}
 
 -- ---- a schema
@@ -66,19 +69,33 @@ pub named_evaluates : (r : Result Bool Error) (n : ℕ) (root a x : Datum) (key 
 named_evaluates (Ok b) n root a x key bytes all rest k q h u same is found = λ v. named (unfolded n v root) root a x key bytes all rest k q h u same is ∙ found v
 named_evaluates (Err f) n root a x key bytes all rest k q h u same is found = found
 
--- ---- the first of some, and those after it
+-- ---- one of some, and those after it
 
-pub keyword_first : (w : Answers) (root x : Datum) (all : Fields) (q : Question) (f : String Global × Value) (fs xs : List (String Global × Value)) (b : Bool) → xs ≡ f ∷ fs
-    → keyword_evaluates w root all (chars (string_bytes f.0)) (value_of f.1) (fields_view fs) x q ≡ b → keywords_evaluate w root all (fields_view xs) x q ≡ (b || keywords_evaluate w root all (fields_view fs) x q)
-keyword_first w root x all q f fs xs b e h = rw e (ap (λ (c : Bool). c || keywords_evaluate w root all (fields_view fs) x q) h)
+pub keyword_at : (w : Answers) (root x : Datum) (all : Fields) (q : Question) (fs : List (String Global × Value)) (i : ℕ) (f : String Global × Value) (b : Bool) → i < length fs → f ≡ get_or fs i f
+    → keyword_evaluates w root all (chars (string_bytes f.0)) (value_of f.1) (fields_view (take (length fs - (i + 1)) (drop (i + 1) fs))) x q ≡ b
+    → keywords_evaluate w root all (fields_view (drop i fs)) x q ≡ (b || keywords_evaluate w root all (fields_view (drop (i + 1) fs)) x q)
+keyword_at w root x all q fs i f b h is known =
+    let here = from_here fs i f h is in
+    let first : keyword_evaluates w root all (chars (string_bytes f.0)) (value_of f.1) (fields_view (drop (i + 1) fs)) x q ≡ b =
+    ap (λ (gs : List (String Global × Value)). keyword_evaluates w root all (chars (string_bytes f.0)) (value_of f.1) (fields_view gs) x q) (sym (rest_is fs (i + 1))) ∙ known in
+    rw here (ap (λ (c : Bool). c || keywords_evaluate w root all (fields_view (drop (i + 1) fs)) x q) first)
 
-pub member_first : (w : Answers) (root s x : Datum) (all : Fields) (f : String Global × Value) (fs xs : List (String Global × Value)) (b : Bool) → xs ≡ f ∷ fs
-    → member_left_holds w root s all x (chars (string_bytes f.0)) (value_of f.1) (fields_view fs) ≡ b → members_left_hold w root s all x (fields_view xs) ≡ (b && members_left_hold w root s all x (fields_view fs))
-member_first w root s x all f fs xs b e h = rw e (ap (λ (c : Bool). c && members_left_hold w root s all x (fields_view fs)) h)
+pub member_at : (w : Answers) (root s x : Datum) (all : Fields) (fs : List (String Global × Value)) (i : ℕ) (f : String Global × Value) (b : Bool) → i < length fs → f ≡ get_or fs i f
+    → member_left_holds w root s all x (chars (string_bytes f.0)) (value_of f.1) (fields_view (take (length fs - (i + 1)) (drop (i + 1) fs))) ≡ b
+    → members_left_hold w root s all x (fields_view (drop i fs)) ≡ (b && members_left_hold w root s all x (fields_view (drop (i + 1) fs)))
+member_at w root s x all fs i f b h is known =
+    let here = from_here fs i f h is in
+    let first : member_left_holds w root s all x (chars (string_bytes f.0)) (value_of f.1) (fields_view (drop (i + 1) fs)) ≡ b =
+    ap (λ (gs : List (String Global × Value)). member_left_holds w root s all x (chars (string_bytes f.0)) (value_of f.1) (fields_view gs)) (sym (rest_is fs (i + 1))) ∙ known in
+    rw here (ap (λ (c : Bool). c && members_left_hold w root s all x (fields_view (drop (i + 1) fs))) first)
 
-pub element_first : (w : Answers) (root s x : Datum) (all : Fields) (i : ℕ) (y : Value) (ys xs : List Value) (b : Bool) → xs ≡ y ∷ ys
-    → child_left_holds w root s all x (evaluating_index i) (value_of y) ≡ b → elements_left_hold w root s all x i (items_view xs) ≡ (b && elements_left_hold w root s all x (suc i) (items_view ys))
-element_first w root s x all i y ys xs b e h = rw e (ap (λ (c : Bool). c && elements_left_hold w root s all x (suc i) (items_view ys)) h)
+pub element_at : (w : Answers) (root s x : Datum) (all : Fields) (ys : List Value) (i : ℕ) (y : Value) (b : Bool) → i < length ys → y ≡ get_or ys i y
+    → child_left_holds w root s all x (evaluating_index i) (value_of y) ≡ b → elements_left_hold w root s all x i (items_view (drop i ys)) ≡ (b && elements_left_hold w root s all x (i + 1) (items_view (drop (i + 1) ys)))
+element_at w root s x all ys i y b h is known =
+    let here : drop i ys ≡ y ∷ drop (i + 1) ys = drop_more ys i y h ∙ ap (λ (z : Value). z ∷ drop (i + 1) ys) (sym is) in
+    let more : i + 1 ≡ suc i = omega arith in
+    rw (here, more) (ap (λ (c : Bool). c && elements_left_hold w root s all x (suc i) (items_view (drop (suc i) ys))) known)
 
-pub pair_first : (w : Answers) (q : Question) (p : Pair) (ps xs : List Pair) (b : Bool) → xs ≡ p ∷ ps → pair_evaluates w q (pair_view p) ≡ b → some_evaluate w q (pairs_view xs) ≡ (b || some_evaluate w q (pairs_view ps))
-pair_first w q p ps xs b e h = rw e (ap (λ (c : Bool). c || some_evaluate w q (pairs_view ps)) h)
+pub pair_at : (w : Answers) (q : Question) (ps : List Pair) (i : ℕ) (p : Pair) (b : Bool) → i < length ps → p ≡ get_or ps i p → pair_evaluates w q (pair_view p) ≡ b
+    → some_evaluate w q (pairs_view (drop i ps)) ≡ (b || some_evaluate w q (pairs_view (drop (i + 1) ps)))
+pair_at w q ps i p b h is known = rw (pair_from ps i p h is) (ap (λ (c : Bool). c || some_evaluate w q (pairs_view (drop (i + 1) ps))) known)

@@ -31,6 +31,15 @@ pub struct Seen {
     pub patterns: Vec<Pattern>,
     /// The names of schemas.
     pub anchors: Vec<Anchor>,
+    /// Their places by the names.
+    pub anchor_places: BTreeMap<String, usize>,
+}
+
+impl Seen {
+    /// The schema with this name, of those that were met.
+    fn anchor_named(&self, name: &str) -> Option<&Anchor> {
+        self.anchors.get(*self.anchor_places.get(name)?)
+    }
 }
 
 /// A reference, and the pointer to the place where it was met first.
@@ -243,15 +252,15 @@ fn note_anchor(alloc: Global, text: &str, pointer: &str, seen: &mut Seen) -> Loo
     let Some((name, schema)) = name_at(text, pointer).filter(|found| is_anchor_name(found.0)) else {
         return Err(fault(alloc, pointer, Problem::Expected(Shape::Anchor)));
     };
-    for known in &seen.anchors {
-        if known.name.as_str() == name {
-            return if known.pointer.as_str() == schema {
-                Ok(())
-            } else {
-                Err(fault(alloc, pointer, Problem::SameAnchor))
-            };
-        }
+    if let Some(known) = seen.anchor_named(name) {
+        return if known.pointer.as_str() == schema {
+            Ok(())
+        } else {
+            Err(fault(alloc, pointer, Problem::SameAnchor))
+        };
     }
+    let place = seen.anchors.len();
+    seen.anchor_places.insert(String::from_str(alloc, name)?, place)?;
     let name = String::from_str(alloc, name)?;
     let pointer = String::from_str(alloc, schema)?;
     seen.anchors.push(Anchor { name, pointer })?;

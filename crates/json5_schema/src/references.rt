@@ -93,6 +93,7 @@ pub fn follow(alloc: Global, root: &Value, seen: Seen) -> Looked<(Vec<Pattern>, 
         places: _,
         patterns,
         anchors,
+        anchor_places: _,
     } = seen;
     Ok((patterns, anchors))
 }

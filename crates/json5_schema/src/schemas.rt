@@ -262,6 +262,7 @@ fn nothing_seen(alloc: Global, root: &Value, is_strict: bool) -> Result<Seen, Sc
         places: BTreeMap::new(alloc),
         patterns: Vec::new(alloc),
         anchors: Vec::new(alloc),
+        anchor_places: BTreeMap::new(alloc),
     })
 }
 

@@ -3,13 +3,14 @@ use Rattle.std.proofs.lemmas.List.{length-drop}
 use Rattle.json5_types.specs.ValueMeanings.{value_of, fields_view}
 use Rattle.json5_types.specs.ValueLookups.{boolean_of, fields_in}
 use Rattle.json5_schema.specs.Conformance.{conforming, keyword_holds, less, unfolded}
-use Rattle.json5_schema.specs.Views.{part_view, asked_view}
+use Rattle.json5_schema.specs.Views.{part_view, question_of, asked_view}
 use Rattle.json5_types.proofs.LookedUp.{from_here}
 use Rattle.std.specs.Str.{chars}
 use Rattle.std.specs.declared.alloc.Global.{Global}
 use Rattle.json5_types.specs.declared.value.Value.{Value}
 use Rattle.json5_schema.proofs.Conforming.{rest_is, keywords_first, next, few_left, enough_left, pair_from}
 use Rattle.json5_schema.proofs.Parts.{chosen_then, chosen_else, boolean_schema, object_schema, other_schema, asked_keyword}
+use Rattle.json5_schema.proofs.Evaluating.{keyword_at, member_at, named_evaluates, object_evaluated, other_evaluated}
 use Rattle.json5_schema.proofs.conforms.+conforms.Goals as goal
 
 pub is_within-returns-then-left-least : goal.is_within-returns-then-left-least
@@ -87,3 +88,55 @@ pub satisfied-returns-else-branch : goal.satisfied-returns-else-branch
 satisfied-returns-else-branch t c =
     let w = c.in-Choice in
     rw w.is (chosen_else c.part_holds-else-branch.result c.args.depth (value_of c.args.root.now) (value_of w.condition.now) (value_of w.value.now) (part_view w.then) (part_view w.other) c.in_ok-conforms_within-in-Choice.field-0 c.if-branch.false c.in_ok-conforms_within-in-Choice.ensures c.part_holds-else-branch.ensures)
+
+-- ---- what schemas evaluate, and what is left
+
+pub members_left_hold-returns-then-not-branch : goal.members_left_hold-returns-then-not-branch
+members_left_hold-returns-then-not-branch t c = λ v.
+    let l = c.loop-index in
+    let w = unfolded c.args.depth v (value_of c.args.root.now) in
+    sym (l.invariant v)
+    ∙ member_at w (value_of c.args.root.now) (value_of c.args.schema.now) (value_of c.args.value.now) (fields_view c.args.keywords.now) c.args.members.now l.index c.index-members-index.result false (omega arith) c.index-members-index.is
+    (c.in_ok-member_left_holds.ensures v ∙ c.if-not-branch.true)
+
+pub members_left_hold-loop-index-preserved : goal.members_left_hold-loop-index-preserved
+members_left_hold-loop-index-preserved t c = λ v.
+    let l = c.loop-index in
+    let w = unfolded c.args.depth v (value_of c.args.root.now) in
+    sym
+    (member_at w (value_of c.args.root.now) (value_of c.args.schema.now) (value_of c.args.value.now) (fields_view c.args.keywords.now) c.args.members.now l.index c.index-members-index.result true (omega arith) c.index-members-index.is
+    (c.in_ok-member_left_holds.ensures v ∙ c.if-not-branch.false))
+    ∙ l.invariant v
+
+pub keywords_evaluate-returns-then-branch : goal.keywords_evaluate-returns-then-branch
+keywords_evaluate-returns-then-branch t c = λ v.
+    let l = c.loop-index in
+    let w = unfolded c.args.depth v (value_of c.args.root.now) in
+    sym (l.invariant v)
+    ∙ keyword_at w (value_of c.args.root.now) (value_of c.args.value.now) (fields_view c.args.keywords.now) (question_of c.args.child) c.args.keywords.now l.index c.index-keywords-index.result true (omega arith) c.index-keywords-index.is
+    (c.in_ok-keyword_evaluates.ensures v ∙ c.if-branch.true)
+
+pub keywords_evaluate-loop-index-preserved : goal.keywords_evaluate-loop-index-preserved
+keywords_evaluate-loop-index-preserved t c = λ v.
+    let l = c.loop-index in
+    let w = unfolded c.args.depth v (value_of c.args.root.now) in
+    sym
+    (keyword_at w (value_of c.args.root.now) (value_of c.args.value.now) (fields_view c.args.keywords.now) (question_of c.args.child) c.args.keywords.now l.index c.index-keywords-index.result false (omega arith) c.index-keywords-index.is
+    (c.in_ok-keyword_evaluates.ensures v ∙ c.if-branch.false))
+    ∙ l.invariant v
+
+pub keyword_evaluates-returns-in-Applicator : goal.keyword_evaluates-returns-in-Applicator
+keyword_evaluates-returns-in-Applicator t c =
+    named_evaluates c.applicator_evaluates.result c.args.depth (value_of c.args.root.now) (value_of c.args.member.now.1) (value_of c.args.value.now) c.as_str-name.result.now (string_bytes c.args.member.now.0) (fields_view c.args.keywords.now) (fields_view c.args.after.now)
+    c.keyword_named.result (question_of c.args.child) (sym c.is_named.ensures ∙ c.if-is_named.false) c.as_str-name.utf8 c.as_str-name.ensures.value c.keyword_named.ensures (rw c.in-Applicator.is c.applicator_evaluates.ensures)
+
+pub evaluates_within-returns-in-Some : goal.evaluates_within-returns-in-Some
+evaluates_within-returns-in-Some t c =
+    let keywords = fields_view c.in-Some.keywords.now in
+    let known : fields_in (value_of c.args.schema.now) ≡ Some keywords = sym c.as_object.ensures ∙ ap (λ o. option_map (λ fields. fields_view fields.now) o) c.in-Some.is in
+    object_evaluated c.object_evaluates.result c.args.depth (value_of c.args.root.now) (value_of c.args.schema.now) (value_of c.args.value.now) c.args.child keywords (omega arith) known c.object_evaluates.ensures
+
+pub evaluates_within-returns-in-None : goal.evaluates_within-returns-in-None
+evaluates_within-returns-in-None t c = λ v.
+    let none : fields_in (value_of c.args.schema.now) ≡ None = sym c.as_object.ensures ∙ ap (λ o. option_map (λ fields. fields_view fields.now) o) c.in-None.is in
+    other_evaluated c.args.depth v (value_of c.args.root.now) (value_of c.args.schema.now) (value_of c.args.value.now) c.args.child (omega arith) none
