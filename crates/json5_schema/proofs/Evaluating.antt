@@ -12,7 +12,7 @@ use Rattle.json5_schema.specs.declared.asked.Child.TheVariants as child
 use Rattle.json5_schema.specs.declared.asked.Pair.{Pair}
 use Rattle.json5_schema.specs.declared.keyword.Keyword.{Keyword}
 use Rattle.json5_schema.specs.Keywords.{keyword_named}
-use Rattle.json5_schema.specs.Conformance.{is_named, Question, conforming, evaluating_index, Answers, answers, schema_evaluates, evaluates, keyword_evaluates, keywords_evaluate, child_left_holds, member_left_holds, members_left_hold, elements_left_hold, pair_evaluates, some_evaluate, unfolded}
+use Rattle.json5_schema.specs.Conformance.{is_named, Question, conforming, evaluating_index, Answers, answers, schema_evaluates, evaluates, keyword_evaluates, keywords_evaluate, child_left_holds, elements_left_hold, pair_evaluates, some_evaluate, unfolded}
 use Rattle.json5_schema.specs.Views.{IsRefusal, question_of, pair_view, pairs_view}
 use Rattle.std.proofs.lemmas.List.{drop_more}
 use Rattle.json5_types.proofs.LookedUp.{from_here}
@@ -79,15 +79,6 @@ keyword_at w root x all q fs i f b h is known =
     let first : keyword_evaluates w root all (chars (string_bytes f.0)) (value_of f.1) (fields_view (drop (i + 1) fs)) x q ≡ b =
     ap (λ (gs : List (String Global × Value)). keyword_evaluates w root all (chars (string_bytes f.0)) (value_of f.1) (fields_view gs) x q) (sym (rest_is fs (i + 1))) ∙ known in
     rw here (ap (λ (c : Bool). c || keywords_evaluate w root all (fields_view (drop (i + 1) fs)) x q) first)
-
-pub member_at : (w : Answers) (root s x : Datum) (all : Fields) (fs : List (String Global × Value)) (i : ℕ) (f : String Global × Value) (b : Bool) → i < length fs → f ≡ get_or fs i f
-    → member_left_holds w root s all x (chars (string_bytes f.0)) (value_of f.1) (fields_view (take (length fs - (i + 1)) (drop (i + 1) fs))) ≡ b
-    → members_left_hold w root s all x (fields_view (drop i fs)) ≡ (b && members_left_hold w root s all x (fields_view (drop (i + 1) fs)))
-member_at w root s x all fs i f b h is known =
-    let here = from_here fs i f h is in
-    let first : member_left_holds w root s all x (chars (string_bytes f.0)) (value_of f.1) (fields_view (drop (i + 1) fs)) ≡ b =
-    ap (λ (gs : List (String Global × Value)). member_left_holds w root s all x (chars (string_bytes f.0)) (value_of f.1) (fields_view gs)) (sym (rest_is fs (i + 1))) ∙ known in
-    rw here (ap (λ (c : Bool). c && members_left_hold w root s all x (fields_view (drop (i + 1) fs))) first)
 
 pub element_at : (w : Answers) (root s x : Datum) (all : Fields) (ys : List Value) (i : ℕ) (y : Value) (b : Bool) → i < length ys → y ≡ get_or ys i y
     → child_left_holds w root s all x (evaluating_index i) (value_of y) ≡ b → elements_left_hold w root s all x i (items_view (drop i ys)) ≡ (b && elements_left_hold w root s all x (i + 1) (items_view (drop (i + 1) ys)))

@@ -9,3 +9,4 @@ mod OneVerdict
 mod Parts
 mod PatternsRead
 mod Evaluating
+mod Latest

@@ -375,17 +375,19 @@ abbrev pub is_patterned : Option Datum → List ℕ → Bool
 is_patterned (Some (object ss)) u = is_matched ss u
 is_patterned _ u = false
 
--- neither shadowed by a later member, nor one that `properties` or `patternProperties` speaks of
-abbrev pub is_additional : Fields → List ℕ → Fields → Bool
-is_additional keywords u fs = not (is_named u fs) && (not (speaks_of (beside (codes "properties") keywords) u) && not (is_patterned (beside (codes "patternProperties") keywords) u))
+-- neither `properties` nor `patternProperties` speaks of it
+abbrev pub is_additional : Fields → List ℕ → Bool
+is_additional keywords u = not (speaks_of (beside (codes "properties") keywords) u) && not (is_patterned (beside (codes "patternProperties") keywords) u)
 
-abbrev pub is_applied : List ℕ → List ℕ → Fields → Bool
-is_applied pattern u fs = not (is_named u fs) && fits pattern u
+-- without the members whose name a later one has
+abbrev pub latest : Fields → Fields
+latest no_field = no_field
+latest (field u x fs) = if is_named u fs then latest fs else field u x (latest fs)
 
 -- the schema of a pattern, on the members with a name that it matches
 abbrev pub each_matched : List ℕ → Datum → Fields → List (Datum × Datum)
 each_matched pattern s no_field = []
-each_matched pattern s (field u x fs) = if is_applied pattern u fs then (s, x) ∷ each_matched pattern s fs else each_matched pattern s fs
+each_matched pattern s (field u x fs) = if fits pattern u then (s, x) ∷ each_matched pattern s fs else each_matched pattern s fs
 
 abbrev pub of_pattern : List ℕ → Datum → Fields → Fields → List (Datum × Datum)
 of_pattern pattern s ss fs = if is_named pattern ss then [] else each_matched pattern s fs
@@ -396,15 +398,15 @@ by_pattern no_field fs = []
 by_pattern (field pattern s ss) fs = of_pattern pattern s ss fs ++ by_pattern ss fs
 
 abbrev pub patterns_on : Datum → Datum → Asked
-patterns_on (object ss) (object fs) = all_on (by_pattern ss fs)
+patterns_on (object ss) (object fs) = all_on (by_pattern ss (latest fs))
 patterns_on _ _ = settled true
 
 abbrev pub each_additional : Datum → Fields → Fields → List (Datum × Datum)
 each_additional s keywords no_field = []
-each_additional s keywords (field u x fs) = if is_additional keywords u fs then (s, x) ∷ each_additional s keywords fs else each_additional s keywords fs
+each_additional s keywords (field u x fs) = if is_additional keywords u then (s, x) ∷ each_additional s keywords fs else each_additional s keywords fs
 
 abbrev pub additional_on : Datum → Fields → Datum → Asked
-additional_on s keywords (object fs) = all_on (each_additional s keywords fs)
+additional_on s keywords (object fs) = all_on (each_additional s keywords (latest fs))
 additional_on s keywords _ = settled true
 
 abbrev pub names_on : Datum → Datum → Asked
@@ -581,7 +583,7 @@ is_few (Some most) n = at_most (count n) most
 abbrev pub reaches : Fields → Applicator → Datum → Question → Bool
 reaches all applicator.Properties a (evaluating_name u) = speaks_of (Some a) u
 reaches all applicator.PatternProperties a (evaluating_name u) = is_patterned (Some a) u
-reaches all applicator.AdditionalProperties a (evaluating_name u) = is_additional all u no_field
+reaches all applicator.AdditionalProperties a (evaluating_name u) = is_additional all u
 reaches all applicator.PrefixItems a (evaluating_index i) = nat_lt i (schemas_in_front (Some a))
 reaches all applicator.Items a (evaluating_index i) = reaches_item a (beside (codes "prefixItems") all) i
 reaches all applicator.AdditionalItems a (evaluating_index i) = is_behind (beside (codes "items") all) i
@@ -666,13 +668,9 @@ schema_evaluates v root _ x q = false
 abbrev pub child_left_holds : Answers → Datum → Datum → Fields → Datum → Question → Datum → Bool
 child_left_holds v root s all x q y = keywords_evaluate v root all all x q || v conforming s y
 
--- one whose name a later member has is passed over
-abbrev pub member_left_holds : Answers → Datum → Datum → Fields → Datum → List ℕ → Datum → Fields → Bool
-member_left_holds v root s all x u y fs = is_named u fs || child_left_holds v root s all x (evaluating_name u) y
-
 abbrev pub members_left_hold : Answers → Datum → Datum → Fields → Datum → Fields → Bool
 members_left_hold v root s all x no_field = true
-members_left_hold v root s all x (field u y fs) = member_left_holds v root s all x u y fs && members_left_hold v root s all x fs
+members_left_hold v root s all x (field u y fs) = child_left_holds v root s all x (evaluating_name u) y && members_left_hold v root s all x fs
 
 -- from an index on
 abbrev pub elements_left_hold : Answers → Datum → Datum → Fields → Datum → ℕ → Items → Bool
@@ -680,7 +678,7 @@ elements_left_hold v root s all x i no_item = true
 elements_left_hold v root s all x i (item y ys) = child_left_holds v root s all x (evaluating_index i) y && elements_left_hold v root s all x (suc i) ys
 
 abbrev pub left_holds : Answers → Datum → Datum → Fields → Datum → Bool
-left_holds v root s all (object fs) = members_left_hold v root s all (object fs) fs
+left_holds v root s all (object fs) = members_left_hold v root s all (object fs) (latest fs)
 left_holds v root s all (array xs) = elements_left_hold v root s all (array xs) 0 xs
 left_holds v root s all x = true
 

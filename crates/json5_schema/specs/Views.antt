@@ -1,6 +1,6 @@
 -- What the code's pairs and questions mean, and why there is no answer.
 -- A promise rests on this.
-use Rattle.std.specs.Prelude.{◌≡◌, ◌⊎◌, ℕ, Bool, String, string_bytes, List, map, Option, None, option_map, Result, MatchResult, Vec}
+use Rattle.std.specs.Prelude.{◌≡◌, ◌⊎◌, ℕ, Bool, String, string_bytes, List, [], ◌∷◌, map, Option, None, option_map, Result, MatchResult, Vec}
 use Rattle.std.specs.declared.alloc.Global.{Global}
 use Rattle.std.specs.Str.{chars}
 use Rattle.std.specs.Borrow.{Bor}
@@ -8,10 +8,11 @@ use Rattle.json5_grammar.specs.declared.error_code.ErrorCode.TheVariants.{Overfl
 use Rattle.json5_types.specs.declared.error.Error.{Error}
 use Rattle.json5_types.specs.declared.value.Value.{Value}
 use Rattle.json5_types.specs.Errors.{code, LacksMemory, SaysAt}
-use Rattle.json5_types.specs.ValueMeanings.{Datum, value_of, fields_view}
+use Rattle.json5_types.specs.ValueMeanings.{Datum, Fields, no_field, field, value_of, fields_view}
 use Rattle.json5_schema.specs.Conformance.{Asked, settled, within, counted, choice, names, left, Question, evaluating_name, evaluating_index, Answers, keyword_holds, keyword_evaluates, unfolded}
 use Rattle.json5_schema.specs.declared.schemas.Schema.{Schema}
 use Rattle.json5_schema.specs.declared.asked.Pair.{Pair}
+use Rattle.json5_schema.specs.declared.members.Member.{Member}
 use Rattle.json5_schema.specs.declared.asked.Asked as declared
 use Rattle.json5_schema.specs.declared.asked.Child.{Child}
 use Rattle.json5_schema.specs.declared.asked.Child.TheVariants as child
@@ -22,6 +23,10 @@ pair_view p = (value_of p.schema.now, value_of p.value.now)
 
 abbrev pub pairs_view : List Pair → List (Datum × Datum)
 pairs_view ps = map pair_view ps
+
+abbrev pub members_view : List Member → Fields
+members_view [] = no_field
+members_view (m ∷ ms) = field (chars m.name.now) (value_of m.value.now) (members_view ms)
 
 abbrev pub part_view : Option (Bor Value) → Option Datum
 part_view t = option_map (λ p. value_of p.now) t

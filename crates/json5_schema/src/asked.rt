@@ -5,8 +5,8 @@ ghost use lib.Chars.{codes};
 ghost use Rattle.std.specs.Str.{chars};
 ghost use Rattle.json5_types.specs.Errors.{LacksMemory};
 ghost use Rattle.json5_types.specs.ValueMeanings.{value_of, items_view, fields_view};
-ghost use Rattle.json5_schema.specs.Conformance.{each_schema, each_item, by_name, value_for, by_index, prefix_on, schemas_in_front, items_after, elements_after, items_on, additional_items_on, contains_on, all_of_on, any_of_on, one_of_on, if_on, members_left_on, elements_left_on, speaks_of, beside, is_matched, is_patterned, is_additional, is_applied, each_matched, of_pattern, by_pattern, patterns_on, each_additional, additional_on, names_on, properties_on, is_dependent, dependent_schemas, dependent_on, dependencies_on, all_on, some_on, target_of, refers_on, settled, asserts, applies, asks};
-ghost use Rattle.json5_schema.specs.Views.{AsksFor, IsRefusal, PairsFor, pairs_view, part_view, asked_view};
+ghost use Rattle.json5_schema.specs.Conformance.{each_schema, each_item, by_name, value_for, by_index, prefix_on, schemas_in_front, items_after, elements_after, items_on, additional_items_on, contains_on, all_of_on, any_of_on, one_of_on, if_on, members_left_on, elements_left_on, speaks_of, beside, is_matched, is_patterned, is_additional, each_matched, of_pattern, by_pattern, patterns_on, each_additional, additional_on, names_on, properties_on, is_dependent, dependent_schemas, dependent_on, dependencies_on, all_on, some_on, target_of, refers_on, settled, asserts, applies, asks};
+ghost use Rattle.json5_schema.specs.Views.{AsksFor, IsRefusal, PairsFor, members_view, pairs_view, part_view, asked_view};
 
 use crate::anchors::at_fragment;
 use crate::equal::{has_distinct, is_in_enum, same};
@@ -17,7 +17,9 @@ use crate::limits::{
     characters_in, count_at_least, count_at_most, elements_in, elements_len, is_at_most, is_below,
     names_in,
 };
-use crate::members::{find, has_all_dependents, has_required, is_named, unless_named};
+use crate::members::{
+    Member, find, has_all_dependents, has_required, is_named, latest, unless_named,
+};
 use crate::multiples::is_multiple_of;
 use crate::patterns::{Pattern, fits, is_matching};
 use json5_types::error::Result;
@@ -208,17 +210,16 @@ pub fn is_matched_in(alloc: Global, patterns: &[Pattern], schemas: &Value, name:
     }
 }
 
-/// Whether neither a later member has the name, nor `properties` or `patternProperties` speaks of it.
+/// Whether neither `properties` nor `patternProperties` speaks of the name.
 pub fn is_additional(
     alloc: Global,
     patterns: &[Pattern],
     keywords: &[(String, Value)],
     name: &str,
-    after: &[(String, Value)],
 ) -> Result<bool>
-    ensures { MatchResult result (λ b. b ≡ is_additional (fields_view keywords.now) (chars name.now) (fields_view after.now)) LacksMemory }
+    ensures { MatchResult result (λ b. b ≡ is_additional (fields_view keywords.now) (chars name.now)) LacksMemory }
 {
-    if is_named(after, name) || speaks_of(keywords, name) {
+    if speaks_of(keywords, name) {
         return Ok(false);
     }
     Ok(!is_patterned(alloc, patterns, keywords, name)?)
@@ -230,18 +231,15 @@ fn each_additional<'a>(
     patterns: &[Pattern],
     schema: &'a Value,
     keywords: &[(String, Value)],
-    members: &'a [(String, Value)],
+    members: &[Member<'a>],
 ) -> Result<Vec<Pair<'a>>>
-    ensures { MatchResult result (λ ps. pairs_view ps.items ≡ each_additional (value_of schema.now) (fields_view keywords.now) (fields_view members.now)) LacksMemory }
+    ensures { MatchResult result (λ ps. pairs_view ps.items ≡ each_additional (value_of schema.now) (fields_view keywords.now) (members_view members.now)) LacksMemory }
 {
     let mut pairs = Vec::new(alloc);
-    for (index, member) in members.iter().enumerate() {
-        let name = member.0.as_str();
-        if is_additional(alloc, patterns, keywords, name, &members[index + 1..])? {
-            pairs.push(Pair {
-                schema,
-                value: &member.1,
-            })?;
+    for member in members {
+        if is_additional(alloc, patterns, keywords, member.name)? {
+            let value = member.value;
+            pairs.push(Pair { schema, value })?;
         }
     }
     Ok(pairs)
@@ -258,27 +256,12 @@ fn additional_on<'a>(
     ensures { MatchResult result (λ a. asked_view a ≡ additional_on (value_of schema.now) (fields_view keywords.now) (value_of value.now)) IsRefusal }
 {
     match value {
-        Value::Object(members) => Ok(all_of(each_additional(
-            alloc, patterns, schema, keywords, members,
-        )?)),
+        Value::Object(members) => {
+            let members = latest(alloc, members)?;
+            Ok(all_of(each_additional(alloc, patterns, schema, keywords, &members)?))
+        }
         _ => Ok(Asked::Settled(true)),
     }
-}
-
-/// Whether a pattern's schema is applied to a member: no later one has its name, and the pattern matches it.
-pub fn is_applied(
-    alloc: Global,
-    patterns: &[Pattern],
-    pattern: &str,
-    name: &str,
-    after: &[(String, Value)],
-) -> Result<bool>
-    ensures { MatchResult result (λ b. b ≡ is_applied (chars pattern.now) (chars name.now) (fields_view after.now)) LacksMemory }
-{
-    if is_named(after, name) {
-        return Ok(false);
-    }
-    fits(alloc, patterns, pattern, name)
 }
 
 /// The schema of a pattern, on the members with a name that it matches.
@@ -287,18 +270,15 @@ fn each_matched<'a>(
     patterns: &[Pattern],
     pattern: &str,
     schema: &'a Value,
-    members: &'a [(String, Value)],
+    members: &[Member<'a>],
 ) -> Result<Vec<Pair<'a>>>
-    ensures { MatchResult result (λ ps. pairs_view ps.items ≡ each_matched (chars pattern.now) (value_of schema.now) (fields_view members.now)) LacksMemory }
+    ensures { MatchResult result (λ ps. pairs_view ps.items ≡ each_matched (chars pattern.now) (value_of schema.now) (members_view members.now)) LacksMemory }
 {
     let mut pairs = Vec::new(alloc);
-    for (index, member) in members.iter().enumerate() {
-        let name = member.0.as_str();
-        if is_applied(alloc, patterns, pattern, name, &members[index + 1..])? {
-            pairs.push(Pair {
-                schema,
-                value: &member.1,
-            })?;
+    for member in members {
+        if fits(alloc, patterns, pattern, member.name)? {
+            let value = member.value;
+            pairs.push(Pair { schema, value })?;
         }
     }
     Ok(pairs)
@@ -310,9 +290,9 @@ fn of_pattern<'a>(
     patterns: &[Pattern],
     pattern: &'a (String, Value),
     after: &[(String, Value)],
-    members: &'a [(String, Value)],
+    members: &[Member<'a>],
 ) -> Result<Vec<Pair<'a>>>
-    ensures { PairsFor (of_pattern (chars (string_bytes pattern.now.0)) (value_of pattern.now.1) (fields_view after.now) (fields_view members.now)) result }
+    ensures { PairsFor (of_pattern (chars (string_bytes pattern.now.0)) (value_of pattern.now.1) (fields_view after.now) (members_view members.now)) result }
 {
     let source = pattern.0.as_str();
     if is_named(after, source) {
@@ -326,9 +306,9 @@ fn by_pattern<'a>(
     alloc: Global,
     patterns: &[Pattern],
     schemas: &'a [(String, Value)],
-    members: &'a [(String, Value)],
+    members: &[Member<'a>],
 ) -> Result<Vec<Pair<'a>>>
-    ensures { MatchResult result (λ ps. pairs_view ps.items ≡ by_pattern (fields_view schemas.now) (fields_view members.now)) LacksMemory }
+    ensures { MatchResult result (λ ps. pairs_view ps.items ≡ by_pattern (fields_view schemas.now) (members_view members.now)) LacksMemory }
 {
     let mut pairs = Vec::new(alloc);
     for (index, schema) in schemas.iter().enumerate() {
@@ -348,9 +328,10 @@ fn patterns_on<'a>(
     ensures { MatchResult result (λ a. asked_view a ≡ patterns_on (value_of schemas.now) (value_of value.now)) IsRefusal }
 {
     match (schemas, value) {
-        (Value::Object(schemas), Value::Object(members)) => Ok(all_of(by_pattern(
-            alloc, patterns, schemas, members,
-        )?)),
+        (Value::Object(schemas), Value::Object(members)) => {
+            let members = latest(alloc, members)?;
+            Ok(all_of(by_pattern(alloc, patterns, schemas, &members)?))
+        }
         _ => Ok(Asked::Settled(true)),
     }
 }

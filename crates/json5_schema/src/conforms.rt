@@ -1,15 +1,15 @@
 //! Whether a value conforms to a schema.
 
-ghost use Rattle.std.specs.Prelude.{◌≡◌, MatchResult, ◌&&◌, nat_eq, string_bytes};
+ghost use Rattle.std.specs.Prelude.{◌≡◌, MatchResult, ◌&&◌, nat_eq};
 ghost use Rattle.std.specs.Str.{chars};
 ghost use Rattle.json5_types.specs.ValueMeanings.{object, text, value_of, items_view, fields_view};
-ghost use Rattle.json5_schema.specs.Conformance.{applicator_evaluates, asked_evaluates, child_left_holds, choice_evaluates, conforming, count_conforming, elements_left_hold, is_contained, is_within, keywords_evaluate, left_holds, less, member_left_holds, members_left_hold, names_hold, pair_evaluates, part_evaluates, part_holds, satisfied, schema_evaluates, schema_holds, some_evaluate, Conforms};
-ghost use Rattle.json5_schema.specs.Views.{IsRefusal, Settles, member_evaluates, member_holds, pair_view, pairs_view, part_view, question_of, asked_view};
+ghost use Rattle.json5_schema.specs.Conformance.{applicator_evaluates, asked_evaluates, child_left_holds, choice_evaluates, conforming, count_conforming, elements_left_hold, is_contained, is_within, keywords_evaluate, left_holds, less, members_left_hold, names_hold, pair_evaluates, part_evaluates, part_holds, satisfied, schema_evaluates, schema_holds, some_evaluate, Conforms};
+ghost use Rattle.json5_schema.specs.Views.{IsRefusal, Settles, member_evaluates, member_holds, members_view, pair_view, pairs_view, part_view, question_of, asked_view};
 
 use crate::asked::{Asked, Child, Pair, applies, asks};
 use crate::keyword::{Applicator, Keyword, keyword_named};
 use crate::limits::is_counted;
-use crate::members::is_named;
+use crate::members::{Member, is_named, latest};
 use crate::patterns::Pattern;
 use crate::reaching::{element_at, is_contains, is_in_place, reaches, takes_rest};
 use json5_types::ErrorCode;
@@ -284,9 +284,12 @@ fn left_holds(
     ensures { Settles depth (value_of root.now) (λ v. left_holds v (value_of root.now) (value_of schema.now) (fields_view keywords.now) (value_of value.now)) result }
 {
     match value {
-        Value::Object(members) => members_left_hold(
-            alloc, patterns, root, schema, keywords, value, members, depth,
-        ),
+        Value::Object(members) => {
+            let members = latest(alloc, members)?;
+            members_left_hold(
+                alloc, patterns, root, schema, keywords, value, &members, depth,
+            )
+        }
         Value::Array(items) => elements_left_hold(
             alloc, patterns, root, schema, keywords, value, items, depth,
         ),
@@ -303,59 +306,27 @@ fn members_left_hold(
     schema: &Value,
     keywords: &[(String, Value)],
     value: &Value,
-    members: &[(String, Value)],
+    members: &[Member<'_>],
     depth: usize,
 ) -> Result<bool>
-    ensures { Settles depth (value_of root.now) (λ v. members_left_hold v (value_of root.now) (value_of schema.now) (fields_view keywords.now) (value_of value.now) (fields_view members.now)) result }
+    ensures { Settles depth (value_of root.now) (λ v. members_left_hold v (value_of root.now) (value_of schema.now) (fields_view keywords.now) (value_of value.now) (members_view members.now)) result }
 {
-    for (index, member) in members.iter().enumerate() {
-        if !member_left_holds(
+    for member in members {
+        if !child_left_holds(
             alloc,
             patterns,
             root,
             schema,
             keywords,
             value,
-            member,
-            &members[index + 1..],
+            Child::Name(member.name),
+            member.value,
             depth,
         )? {
             return Ok(false);
         }
     }
     Ok(true)
-}
-
-/// The same of a member, unless a later one has its name.
-#[cycle(conforms)]
-pub fn member_left_holds(
-    alloc: Global,
-    patterns: &[Pattern],
-    root: &Value,
-    schema: &Value,
-    keywords: &[(String, Value)],
-    value: &Value,
-    member: &(String, Value),
-    after: &[(String, Value)],
-    depth: usize,
-) -> Result<bool>
-    ensures { Settles depth (value_of root.now) (λ v. member_left_holds v (value_of root.now) (value_of schema.now) (fields_view keywords.now) (value_of value.now) (chars (string_bytes member.now.0)) (value_of member.now.1) (fields_view after.now)) result }
-{
-    let name = member.0.as_str();
-    if is_named(after, name) {
-        return Ok(true);
-    }
-    child_left_holds(
-        alloc,
-        patterns,
-        root,
-        schema,
-        keywords,
-        value,
-        Child::Name(name),
-        &member.1,
-        depth,
-    )
 }
 
 /// The same of these elements of it, from an index on.

@@ -2,14 +2,14 @@
 //!
 //! Plain code, of which no promise is made but that it is safe and ends: change it by the rows of schemas, which judge it.
 
-use crate::asked::{Child, is_additional, is_applied, is_dependent, schemas_in_front, target_of};
-use crate::conforms::{child_left_holds, conforms_within, keyword_holds, member_left_holds};
+use crate::asked::{Child, is_additional, is_dependent, schemas_in_front, target_of};
+use crate::conforms::{child_left_holds, conforms_within, keyword_holds};
 use crate::document_faults::{Fault, Mismatch, Place, Way};
 use crate::found::Found;
 use crate::keyword::{Applicator, Keyword, keyword_named};
-use crate::members::{find, is_named};
+use crate::members::{find, is_named, latest};
 use crate::own_faults::{add_assertion, add_dependents, add_own, choose_branch, other_key, unknown_key};
-use crate::patterns::Pattern;
+use crate::patterns::{Pattern, fits};
 use crate::tags::names_member;
 use crate::words::shown;
 use json5_types::error::Result;
@@ -283,18 +283,17 @@ fn explain_left_members(
     depth: usize,
     found: &mut Found,
 ) -> Result<()> {
-    for (index, member) in members.iter().enumerate() {
-        let after = &members[index + 1..];
-        if !member_left_holds(
-            alloc, patterns, root, schema, keywords, value, member, after, depth,
+    for member in &latest(alloc, members)? {
+        let (key, inner) = (member.name, member.value);
+        let child = Child::Name(key);
+        if !child_left_holds(
+            alloc, patterns, root, schema, keywords, value, child, inner, depth,
         )? {
-            let key = member.0.as_str();
-            let there = place.copy(alloc)?.entered(alloc, Way::Key(key, index))?;
+            let way = Way::Key(key, member.index);
+            let there = place.copy(alloc)?.entered(alloc, way)?;
             match schema {
                 Value::Bool(_) => found.add(other_key(alloc, key, there.of_key())?)?,
-                _ => explain(
-                    alloc, patterns, root, schema, &member.1, &there, depth, found,
-                )?,
+                _ => explain(alloc, patterns, root, schema, inner, &there, depth, found)?,
             }
         }
     }
@@ -429,16 +428,12 @@ fn member_schema<'a>(
     applicator: Applicator,
     argument: &'a Value,
     key: &'a str,
-    after: &'a [(String, Value)],
 ) -> Result<Option<(&'a Value, Way<'a>)>> {
     if matches!(applicator, Applicator::AdditionalProperties) {
-        let is_additional = is_additional(alloc, patterns, keywords, key, after)?;
+        let is_additional = is_additional(alloc, patterns, keywords, key)?;
         return Ok(is_additional.then_some((argument, Way::Here)));
     }
-    match find(argument.entries(), key) {
-        Some(schema) if !is_named(after, key) => Ok(Some((schema, Way::Key(key, 0)))),
-        _ => Ok(None),
-    }
+    Ok(find(argument.entries(), key).map(|schema| (schema, Way::Key(key, 0))))
 }
 
 /// The members that a pattern has a schema for.
@@ -449,15 +444,14 @@ fn of_patterns<'a>(
     members: &'a [(String, Value)],
 ) -> Result<Vec<Applied<'a>>> {
     let mut parts = Vec::new(alloc);
-    for (index, member) in members.iter().enumerate() {
-        let (key, after) = (member.0.as_str(), &members[index + 1..]);
+    for member in &latest(alloc, members)? {
         for (pattern, schema) in schemas {
-            if is_applied(alloc, patterns, pattern.as_str(), key, after)? {
+            if fits(alloc, patterns, pattern.as_str(), member.name)? {
                 parts.push(Applied {
                     schema,
-                    value: &member.1,
+                    value: member.value,
                     rule: Way::Key(pattern.as_str(), 0),
-                    at: Way::Key(key, index),
+                    at: Way::Key(member.name, member.index),
                 })?;
             }
         }
@@ -475,15 +469,15 @@ fn of_members<'a>(
     members: &'a [(String, Value)],
 ) -> Result<Vec<Applied<'a>>> {
     let mut parts = Vec::new(alloc);
-    for (index, member) in members.iter().enumerate() {
-        let (key, after) = (member.0.as_str(), &members[index + 1..]);
-        let found = member_schema(alloc, patterns, keywords, applicator, argument, key, after)?;
+    for member in &latest(alloc, members)? {
+        let key = member.name;
+        let found = member_schema(alloc, patterns, keywords, applicator, argument, key)?;
         if let Some((schema, rule)) = found {
             parts.push(Applied {
                 schema,
-                value: &member.1,
+                value: member.value,
                 rule,
-                at: Way::Key(key, index),
+                at: Way::Key(key, member.index),
             })?;
         }
     }

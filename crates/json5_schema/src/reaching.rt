@@ -73,7 +73,7 @@ fn reaches_name(
     match applicator {
         Applicator::Properties => Ok(has_property(argument, name)),
         Applicator::PatternProperties => is_matched_in(alloc, patterns, argument, name),
-        Applicator::AdditionalProperties => is_additional(alloc, patterns, keywords, name, &[]),
+        Applicator::AdditionalProperties => is_additional(alloc, patterns, keywords, name),
         _ => Ok(false),
     }
 }

@@ -10,7 +10,7 @@ use Rattle.std.specs.declared.alloc.Global.{Global}
 use Rattle.json5_types.specs.declared.value.Value.{Value}
 use Rattle.json5_schema.proofs.Conforming.{rest_is, keywords_first, next, few_left, enough_left, pair_from}
 use Rattle.json5_schema.proofs.Parts.{chosen_then, chosen_else, boolean_schema, object_schema, other_schema, asked_keyword}
-use Rattle.json5_schema.proofs.Evaluating.{keyword_at, member_at, named_evaluates, object_evaluated, other_evaluated}
+use Rattle.json5_schema.proofs.Evaluating.{keyword_at, named_evaluates, object_evaluated, other_evaluated}
 use Rattle.json5_schema.proofs.conforms.+conforms.Goals as goal
 
 pub is_within-returns-then-left-least : goal.is_within-returns-then-left-least
@@ -90,23 +90,6 @@ satisfied-returns-else-branch t c =
     rw w.is (chosen_else c.part_holds-else-branch.result c.args.depth (value_of c.args.root.now) (value_of w.condition.now) (value_of w.value.now) (part_view w.then) (part_view w.other) c.in_ok-conforms_within-in-Choice.field-0 c.if-branch.false c.in_ok-conforms_within-in-Choice.ensures c.part_holds-else-branch.ensures)
 
 -- ---- what schemas evaluate, and what is left
-
-pub members_left_hold-returns-then-not-branch : goal.members_left_hold-returns-then-not-branch
-members_left_hold-returns-then-not-branch t c = λ v.
-    let l = c.loop-index in
-    let w = unfolded c.args.depth v (value_of c.args.root.now) in
-    sym (l.invariant v)
-    ∙ member_at w (value_of c.args.root.now) (value_of c.args.schema.now) (value_of c.args.value.now) (fields_view c.args.keywords.now) c.args.members.now l.index c.index-members-index.result false (omega arith) c.index-members-index.is
-    (c.in_ok-member_left_holds.ensures v ∙ c.if-not-branch.true)
-
-pub members_left_hold-loop-index-preserved : goal.members_left_hold-loop-index-preserved
-members_left_hold-loop-index-preserved t c = λ v.
-    let l = c.loop-index in
-    let w = unfolded c.args.depth v (value_of c.args.root.now) in
-    sym
-    (member_at w (value_of c.args.root.now) (value_of c.args.schema.now) (value_of c.args.value.now) (fields_view c.args.keywords.now) c.args.members.now l.index c.index-members-index.result true (omega arith) c.index-members-index.is
-    (c.in_ok-member_left_holds.ensures v ∙ c.if-not-branch.false))
-    ∙ l.invariant v
 
 pub keywords_evaluate-returns-then-branch : goal.keywords_evaluate-returns-then-branch
 keywords_evaluate-returns-then-branch t c = λ v.

@@ -1,7 +1,7 @@
 use Rattle.std.proofs.Common.{◌≡◌, ◌≤◌, ◌+◌, ◌*◌, Bool, drop}
 use Rattle.json5_types.specs.ValueMeanings.{value_of, items_view, fields_view}
 use Rattle.json5_schema.specs.Conformance.{Answers, conforming, keywords_hold, names_hold, count_conforming, is_within, members_left_hold, elements_left_hold, keywords_evaluate, some_evaluate, unfolded}
-use Rattle.json5_schema.specs.Views.{pairs_view, question_of}
+use Rattle.json5_schema.specs.Views.{members_view, pairs_view, question_of}
 use Rattle.json5_schema.proofs.conforms.+conforms.Given as goal
 
 abbrev pub decreases-conforms_within : goal.decreases-conforms_within
@@ -61,9 +61,6 @@ decreases-child_left_holds l = 16 * l.depth + 7
 abbrev pub decreases-elements_left_hold : goal.decreases-elements_left_hold
 decreases-elements_left_hold l = 16 * l.depth + 8
 
-abbrev pub decreases-member_left_holds : goal.decreases-member_left_holds
-decreases-member_left_holds l = 16 * l.depth + 8
-
 abbrev pub decreases-members_left_hold : goal.decreases-members_left_hold
 decreases-members_left_hold l = 16 * l.depth + 9
 
@@ -102,10 +99,10 @@ invariant-count_conforming-loop-pair l =
     ≡ count_conforming (unfolded l.depth v (value_of l.root) conforming) (pairs_view l.pairs))
     × (l.count ≤ l.pair-index)
 
-abbrev pub invariant-members_left_hold-loop-index : goal.invariant-members_left_hold-loop-index
-invariant-members_left_hold-loop-index l = (v : Answers) →
-    members_left_hold (unfolded l.depth v (value_of l.root)) (value_of l.root) (value_of l.schema) (fields_view l.keywords) (value_of l.value) (fields_view (drop l.index l.members))
-    ≡ members_left_hold (unfolded l.depth v (value_of l.root)) (value_of l.root) (value_of l.schema) (fields_view l.keywords) (value_of l.value) (fields_view l.members)
+abbrev pub invariant-members_left_hold-loop-member : goal.invariant-members_left_hold-loop-member
+invariant-members_left_hold-loop-member l = (v : Answers) →
+    members_left_hold (unfolded l.depth v (value_of l.root)) (value_of l.root) (value_of l.schema) (fields_view l.keywords) (value_of l.value) (members_view (drop l.member-index l.members))
+    ≡ members_left_hold (unfolded l.depth v (value_of l.root)) (value_of l.root) (value_of l.schema) (fields_view l.keywords) (value_of l.value) (members_view l.members)
 
 abbrev pub invariant-elements_left_hold-loop-index : goal.invariant-elements_left_hold-loop-index
 invariant-elements_left_hold-loop-index l = (v : Answers) →
