@@ -10,9 +10,10 @@ use Rattle.json5_types.specs.ValueLookups.{fields_in}
 use Rattle.json5_schema.specs.declared.asked.Child.{Child}
 use Rattle.json5_schema.specs.declared.asked.Child.TheVariants as child
 use Rattle.json5_schema.specs.declared.asked.Pair.{Pair}
+use Rattle.json5_schema.specs.declared.keyword.Applicator.{Applicator}
 use Rattle.json5_schema.specs.declared.keyword.Keyword.{Keyword}
 use Rattle.json5_schema.specs.Keywords.{keyword_named}
-use Rattle.json5_schema.specs.Conformance.{is_named, Question, conforming, evaluating_index, Answers, answers, schema_evaluates, evaluates, keyword_evaluates, keywords_evaluate, child_left_holds, elements_left_hold, pair_evaluates, some_evaluate, unfolded}
+use Rattle.json5_schema.specs.Conformance.{is_named, Question, conforming, evaluating_index, Answers, answers, schema_evaluates, Asked, is_in_place, is_contains, is_contained, reaches, applies, applicator_evaluates, asked_evaluates, evaluates, keyword_evaluates, keywords_evaluate, child_left_holds, elements_left_hold, pair_evaluates, some_evaluate, unfolded}
 use Rattle.json5_schema.specs.Views.{IsRefusal, question_of, pair_view, pairs_view}
 use Rattle.std.proofs.lemmas.List.{drop_more}
 use Rattle.json5_types.proofs.LookedUp.{from_here}
@@ -68,6 +69,31 @@ pub named_evaluates : (r : Result Bool Error) (n : ℕ) (root a x : Datum) (key 
     → MatchResult r (λ b. (v : Answers) → keyword_evaluates (unfolded n v root) root all (chars bytes) a rest x q ≡ b) IsRefusal
 named_evaluates (Ok b) n root a x key bytes all rest k q h u same is found = λ v. named (unfolded n v root) root a x key bytes all rest k q h u same is ∙ found v
 named_evaluates (Err f) n root a x key bytes all rest k q h u same is found = found
+
+pub named_other : (n : ℕ) (v : Answers) (root a x : Datum) (key bytes : List ℕ) (all rest : Fields) (k : Keyword) (q : Question) → is_named (chars key) rest ≡ false → IsUtf8 key → key ≡ bytes → k ≡ keyword_named key
+    → ((w : Answers) → evaluates w root all k a x q ≡ false) → keyword_evaluates (unfolded n v root) root all (chars bytes) a rest x q ≡ false
+named_other n v root a x key bytes all rest k q h u same is none = named (unfolded n v root) root a x key bytes all rest k q h u same is ∙ none (unfolded n v root)
+
+-- ---- what is the same settles the same
+
+pub settles_as : (r : Result Bool Error) (n : ℕ) (root : Datum) (f g : Answers → Bool) → ((v : Answers) → f (unfolded n v root) ≡ g (unfolded n v root))
+    → MatchResult r (λ b. (v : Answers) → g (unfolded n v root) ≡ b) IsRefusal → MatchResult r (λ b. (v : Answers) → f (unfolded n v root) ≡ b) IsRefusal
+settles_as (Ok b) n root f g same k = λ v. same v ∙ k v
+settles_as (Err e) n root f g same k = k
+
+pub in_place : (w : Answers) (root a x : Datum) (all : Fields) (k : Applicator) (q : Question) (asked : Asked) → is_in_place k ≡ true → asked ≡ applies root all k a x → applicator_evaluates w root all k a x q ≡ asked_evaluates w q asked
+in_place w root a x all k q asked h e =
+    ap (λ (b : Bool). if b then asked_evaluates w q (applies root all k a x) else (if is_contains k then is_contained w a x q else reaches all k a q)) h ∙ ap (asked_evaluates w q) (sym e)
+
+pub found_by : (w : Answers) (root a x : Datum) (all : Fields) (k : Applicator) (q : Question) → is_in_place k ≡ false → is_contains k ≡ true → applicator_evaluates w root all k a x q ≡ is_contained w a x q
+found_by w root a x all k q h e =
+    ap (λ (b : Bool). if b then asked_evaluates w q (applies root all k a x) else (if is_contains k then is_contained w a x q else reaches all k a q)) h
+    ∙ ap (λ (b : Bool). if b then is_contained w a x q else reaches all k a q) e
+
+pub reached_by : (w : Answers) (root a x : Datum) (all : Fields) (k : Applicator) (q : Question) → is_in_place k ≡ false → is_contains k ≡ false → applicator_evaluates w root all k a x q ≡ reaches all k a q
+reached_by w root a x all k q h e =
+    ap (λ (b : Bool). if b then asked_evaluates w q (applies root all k a x) else (if is_contains k then is_contained w a x q else reaches all k a q)) h
+    ∙ ap (λ (b : Bool). if b then is_contained w a x q else reaches all k a q) e
 
 -- ---- one of some, and those after it
 

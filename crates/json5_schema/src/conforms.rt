@@ -436,7 +436,8 @@ fn keyword_evaluates(
         Keyword::Applicator(applicator) => applicator_evaluates(
             alloc, patterns, root, keywords, applicator, &member.1, value, child, depth,
         ),
-        _ => Ok(false),
+        Keyword::Assertion(_) => Ok(false),
+        Keyword::Annotation => Ok(false),
     }
 }
 
@@ -501,7 +502,10 @@ fn asked_evaluates(
         Asked::Choice(condition, then, other, value) => choice_evaluates(
             alloc, patterns, root, condition, *then, *other, value, child, depth,
         ),
-        _ => Ok(false),
+        Asked::Settled(_) => Ok(false),
+        Asked::Counted(_, _, _) => Ok(false),
+        Asked::Names(_, _) => Ok(false),
+        Asked::Left(_, _, _) => Ok(false),
     }
 }
 

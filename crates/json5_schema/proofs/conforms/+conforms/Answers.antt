@@ -1,4 +1,4 @@
-use Rattle.std.proofs.Common.{List, String, true, false, ◌≡◌, ◌∙◌, ◌<◌, ◌≤◌, ◌+◌, length, drop, arith, sym, ap, Some, None, option_map, string_bytes}
+use Rattle.std.proofs.Common.{List, String, refl, true, false, ◌≡◌, ◌∙◌, ◌<◌, ◌≤◌, ◌+◌, length, drop, arith, sym, ap, Some, None, option_map, string_bytes}
 use Rattle.std.proofs.lemmas.List.{length-drop}
 use Rattle.json5_types.specs.ValueMeanings.{value_of, fields_view}
 use Rattle.json5_types.specs.ValueLookups.{boolean_of, fields_in}
@@ -10,7 +10,7 @@ use Rattle.std.specs.declared.alloc.Global.{Global}
 use Rattle.json5_types.specs.declared.value.Value.{Value}
 use Rattle.json5_schema.proofs.Conforming.{rest_is, keywords_first, next, few_left, enough_left, pair_from}
 use Rattle.json5_schema.proofs.Parts.{chosen_then, chosen_else, boolean_schema, object_schema, other_schema, asked_keyword}
-use Rattle.json5_schema.proofs.Evaluating.{keyword_at, named_evaluates, object_evaluated, other_evaluated}
+use Rattle.json5_schema.proofs.Evaluating.{keyword_at, named_evaluates, named_other, object_evaluated, other_evaluated}
 use Rattle.json5_schema.proofs.conforms.+conforms.Goals as goal
 
 pub is_within-returns-then-left-least : goal.is_within-returns-then-left-least
@@ -123,3 +123,13 @@ pub evaluates_within-returns-in-None : goal.evaluates_within-returns-in-None
 evaluates_within-returns-in-None t c = λ v.
     let none : fields_in (value_of c.args.schema.now) ≡ None = sym c.as_object.ensures ∙ ap (λ o. option_map (λ fields. fields_view fields.now) o) c.in-None.is in
     other_evaluated c.args.depth v (value_of c.args.root.now) (value_of c.args.schema.now) (value_of c.args.value.now) c.args.child (omega arith) none
+
+pub keyword_evaluates-returns-in-Assertion : goal.keyword_evaluates-returns-in-Assertion
+keyword_evaluates-returns-in-Assertion t c = λ v.
+    named_other c.args.depth v (value_of c.args.root.now) (value_of c.args.member.now.1) (value_of c.args.value.now) c.as_str-name.result.now (string_bytes c.args.member.now.0) (fields_view c.args.keywords.now) (fields_view c.args.after.now) c.keyword_named.result
+    (question_of c.args.child) (sym c.is_named.ensures ∙ c.if-is_named.false) c.as_str-name.utf8 c.as_str-name.ensures.value c.keyword_named.ensures (λ w. rw c.in-Assertion.is refl)
+
+pub keyword_evaluates-returns-in-Annotation : goal.keyword_evaluates-returns-in-Annotation
+keyword_evaluates-returns-in-Annotation t c = λ v.
+    named_other c.args.depth v (value_of c.args.root.now) (value_of c.args.member.now.1) (value_of c.args.value.now) c.as_str-name.result.now (string_bytes c.args.member.now.0) (fields_view c.args.keywords.now) (fields_view c.args.after.now) c.keyword_named.result
+    (question_of c.args.child) (sym c.is_named.ensures ∙ c.if-is_named.false) c.as_str-name.utf8 c.as_str-name.ensures.value c.keyword_named.ensures (λ w. rw c.in-Annotation.is refl)
