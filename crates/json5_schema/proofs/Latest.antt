@@ -1,5 +1,5 @@
 -- The members of which none later has the name, and those that were seen from the last one on.
-use Rattle.std.proofs.Common.{◌≡◌, ◌∙◌, ◌+◌, if◌then◌else◌, drop, ℕ, Bool, true, false, nat_eq, not, List, [], ◌∷◌, ◌++◌, Option, Some, None, is_some, refl, sym, ap, subst, String, string_bytes}
+use Rattle.std.proofs.Common.{◌≡◌, ◌∙◌, ◌+◌, if◌then◌else◌, drop, length, suc, ℕ, Bool, true, false, nat_eq, not, List, [], ◌∷◌, ◌++◌, Option, Some, None, is_some, refl, sym, ap, subst, String, string_bytes}
 use Rattle.std.specs.Prelude.{cond, reverse}
 use Rattle.std.specs.Borrow.{Bor}
 use Rattle.std.specs.BTreeSet.{BTreeSet, contains_by}
@@ -10,6 +10,7 @@ use Rattle.std.specs.Str.{chars, IsUtf8}
 use Rattle.std.specs.Cmp.Lexicographic.{pointwise, slice_cmp, texts_ties}
 use Rattle.json5_types.specs.declared.value.Value.{Value}
 use Rattle.json5_types.specs.ValueMeanings.{Datum, Fields, field, value_of, fields_view}
+use Rattle.json5_types.specs.ValueKinds.{fields_len}
 use Rattle.json5_types.specs.ValueLookups.{or_else}
 use Rattle.json5_types.proofs.ValuesCompared.{bytes_or_characters}
 use Rattle.json5_schema.specs.declared.members.Member.{Member}
@@ -50,3 +51,7 @@ pub one_passed : (found : List Member) (f : String Global × Value) (fs xs : Lis
 one_passed found f fs xs here were there =
     let passed : latest (fields_view (f ∷ fs)) ≡ latest (fields_view fs) = ap (λ b. if b then latest (fields_view fs) else field (chars (string_bytes f.0)) (value_of f.1) (latest (fields_view fs))) there in
     were ∙ sym passed ∙ ap (λ gs. latest (fields_view gs)) (sym here)
+
+pub members_counted : (ms : List Member) → fields_len (members_view ms) ≡ length ms
+members_counted [] = refl
+members_counted (m ∷ ms) = ap suc (members_counted ms)

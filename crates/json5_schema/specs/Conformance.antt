@@ -10,7 +10,7 @@ use Rattle.std.specs.declared.cmp.Ordering.{Ordering}
 use Rattle.std.specs.declared.cmp.Ordering.TheVariants.{Less, Equal}
 use Rattle.json5_grammar.specs.Language.Numbers.{Number, whole, decimal, Decimal, infinite, nan, finite}
 use Rattle.json5_types.specs.ValueMeanings.{Datum, null, boolean, number, text, array, object, Items, no_item, item, Fields, no_field, field}
-use Rattle.json5_types.specs.ValueKinds.{items_len}
+use Rattle.json5_types.specs.ValueKinds.{items_len, fields_len}
 use Rattle.json5_types.specs.ValueChanges.{put_named}
 use Rattle.json5_types.specs.ValueLookups.{boolean_of, items_in, element_of, last_named, named_of, or_else}
 use Rattle.json5_types.specs.ValueEquality.{number_eq}
@@ -182,13 +182,13 @@ abbrev pub elements_in : Datum → Option ℕ
 elements_in (array xs) = Some (items_len xs)
 elements_in _ = None
 
--- equal names are counted once
-abbrev pub names_len : Fields → ℕ
-names_len no_field = 0
-names_len (field u x fs) = if is_named u fs then names_len fs else suc (names_len fs)
+-- without the members whose name a later one has
+abbrev pub latest : Fields → Fields
+latest no_field = no_field
+latest (field u x fs) = if is_named u fs then latest fs else field u x (latest fs)
 
 abbrev pub names_in : Datum → Option ℕ
-names_in (object fs) = Some (names_len fs)
+names_in (object fs) = Some (fields_len (latest fs))
 names_in _ = None
 
 abbrev pub count : ℕ → Datum
@@ -378,11 +378,6 @@ is_patterned _ u = false
 -- neither `properties` nor `patternProperties` speaks of it
 abbrev pub is_additional : Fields → List ℕ → Bool
 is_additional keywords u = not (speaks_of (beside (codes "properties") keywords) u) && not (is_patterned (beside (codes "patternProperties") keywords) u)
-
--- without the members whose name a later one has
-abbrev pub latest : Fields → Fields
-latest no_field = no_field
-latest (field u x fs) = if is_named u fs then latest fs else field u x (latest fs)
 
 -- the schema of a pattern, on the members with a name that it matches
 abbrev pub each_matched : List ℕ → Datum → Fields → List (Datum × Datum)

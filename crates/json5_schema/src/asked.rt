@@ -635,12 +635,12 @@ fn asserts<'a>(
         Assertion::UniqueItems => Ok(Asked::Settled(has_distinct(alloc, argument, value)?)),
         Assertion::MaxProperties => Ok(Asked::Settled(count_at_most(
             alloc,
-            names_in(value),
+            names_in(alloc, value)?,
             argument,
         )?)),
         Assertion::MinProperties => Ok(Asked::Settled(count_at_least(
             alloc,
-            names_in(value),
+            names_in(alloc, value)?,
             argument,
         )?)),
         Assertion::Required => Ok(Asked::Settled(has_required(argument, value))),

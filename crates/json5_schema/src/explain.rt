@@ -292,7 +292,7 @@ fn explain_left_members(
             let way = Way::Key(key, member.index);
             let there = place.copy(alloc)?.entered(alloc, way)?;
             match schema {
-                Value::Bool(_) => found.add(other_key(alloc, key, there.of_key())?)?,
+                Value::Bool(_) => found.add(other_key(alloc, keywords, key, there.of_key())?)?,
                 _ => explain(alloc, patterns, root, schema, inner, &there, depth, found)?,
             }
         }
