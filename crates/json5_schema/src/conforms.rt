@@ -374,7 +374,7 @@ pub fn child_left_holds(
     inner: &Value,
     depth: usize,
 ) -> Result<bool>
-    ensures { Settles depth (value_of root.now) (λ v. child_left_holds v (value_of root.now) (value_of schema.now) (fields_view keywords.now) (value_of value.now) (question_of child) (value_of inner.now)) result }
+    ensures { Settles depth (value_of root.now) (λ v. child_left_holds v (value_of root.now) (value_of schema.now) (fields_view keywords.now) (value_of value.now) (question_of child.entry) (value_of inner.now)) result }
 {
     if keywords_evaluate(alloc, patterns, root, keywords, value, child, depth)? {
         return Ok(true);
@@ -393,7 +393,7 @@ fn keywords_evaluate(
     child: Child<'_>,
     depth: usize,
 ) -> Result<bool>
-    ensures { Settles depth (value_of root.now) (λ v. keywords_evaluate v (value_of root.now) (fields_view keywords.now) (fields_view keywords.now) (value_of value.now) (question_of child)) result }
+    ensures { Settles depth (value_of root.now) (λ v. keywords_evaluate v (value_of root.now) (fields_view keywords.now) (fields_view keywords.now) (value_of value.now) (question_of child.entry)) result }
 {
     for (index, member) in keywords.iter().enumerate() {
         if keyword_evaluates(
@@ -426,7 +426,7 @@ fn keyword_evaluates(
     child: Child<'_>,
     depth: usize,
 ) -> Result<bool>
-    ensures { Settles depth (value_of root.now) (λ v. member_evaluates v (value_of root.now) keywords.now member.now after.now (value_of value.now) (question_of child)) result }
+    ensures { Settles depth (value_of root.now) (λ v. member_evaluates v (value_of root.now) keywords.now member.now after.now (value_of value.now) (question_of child.entry)) result }
 {
     let name = member.0.as_str();
     if is_named(after, name) {
@@ -454,7 +454,7 @@ fn applicator_evaluates(
     child: Child<'_>,
     depth: usize,
 ) -> Result<bool>
-    ensures { Settles depth (value_of root.now) (λ v. applicator_evaluates v (value_of root.now) (fields_view keywords.now) applicator (value_of argument.now) (value_of value.now) (question_of child)) result }
+    ensures { Settles depth (value_of root.now) (λ v. applicator_evaluates v (value_of root.now) (fields_view keywords.now) applicator (value_of argument.now) (value_of value.now) (question_of child.entry)) result }
 {
     if is_in_place(applicator) {
         let asked = applies(alloc, patterns, root, keywords, applicator, argument, value)?;
@@ -477,7 +477,7 @@ fn is_contained(
     child: Child<'_>,
     depth: usize,
 ) -> Result<bool>
-    ensures { Settles depth (value_of root.now) (λ v. is_contained v (value_of schema.now) (value_of value.now) (question_of child)) result }
+    ensures { Settles depth (value_of root.now) (λ v. is_contained v (value_of schema.now) (value_of value.now) (question_of child.entry)) result }
 {
     match element_at(value, child) {
         Some(item) => conforms_within(alloc, patterns, root, schema, item, depth),
@@ -495,7 +495,7 @@ fn asked_evaluates(
     child: Child<'_>,
     depth: usize,
 ) -> Result<bool>
-    ensures { Settles depth (value_of root.now) (λ v. asked_evaluates v (question_of child) (asked_view asked.now)) result }
+    ensures { Settles depth (value_of root.now) (λ v. asked_evaluates v (question_of child.entry) (asked_view asked.now)) result }
 {
     match asked {
         Asked::Within(_, _, pairs) => some_evaluate(alloc, patterns, root, pairs, child, depth),
@@ -519,7 +519,7 @@ fn some_evaluate(
     child: Child<'_>,
     depth: usize,
 ) -> Result<bool>
-    ensures { Settles depth (value_of root.now) (λ v. some_evaluate v (question_of child) (pairs_view pairs.now)) result }
+    ensures { Settles depth (value_of root.now) (λ v. some_evaluate v (question_of child.entry) (pairs_view pairs.now)) result }
 {
     for pair in pairs {
         if pair_evaluates(alloc, patterns, root, pair, child, depth)? {
@@ -539,7 +539,7 @@ fn pair_evaluates(
     child: Child<'_>,
     depth: usize,
 ) -> Result<bool>
-    ensures { Settles depth (value_of root.now) (λ v. pair_evaluates v (question_of child) (pair_view pair.now)) result }
+    ensures { Settles depth (value_of root.now) (λ v. pair_evaluates v (question_of child.entry) (pair_view pair.now)) result }
 {
     if !conforms_within(alloc, patterns, root, pair.schema, pair.value, depth)? {
         return Ok(false);
@@ -560,7 +560,7 @@ fn choice_evaluates(
     child: Child<'_>,
     depth: usize,
 ) -> Result<bool>
-    ensures { Settles depth (value_of root.now) (λ v. choice_evaluates v (question_of child) (value_of condition.now) (part_view then.entry) (part_view other.entry) (value_of value.now)) result }
+    ensures { Settles depth (value_of root.now) (λ v. choice_evaluates v (question_of child.entry) (value_of condition.now) (part_view then.entry) (part_view other.entry) (value_of value.now)) result }
 {
     if !conforms_within(alloc, patterns, root, condition, value, depth)? {
         return part_evaluates(alloc, patterns, root, other, value, child, depth);
@@ -582,7 +582,7 @@ fn part_evaluates(
     child: Child<'_>,
     depth: usize,
 ) -> Result<bool>
-    ensures { Settles depth (value_of root.now) (λ v. part_evaluates v (question_of child) (part_view part.entry) (value_of value.now)) result }
+    ensures { Settles depth (value_of root.now) (λ v. part_evaluates v (question_of child.entry) (part_view part.entry) (value_of value.now)) result }
 {
     match part {
         Some(schema) => evaluates_within(alloc, patterns, root, schema, value, child, depth),
@@ -601,7 +601,7 @@ fn evaluates_within(
     child: Child<'_>,
     depth: usize,
 ) -> Result<bool>
-    ensures { Settles depth (value_of root.now) (λ v. v (question_of child) (value_of schema.now) (value_of value.now)) result }
+    ensures { Settles depth (value_of root.now) (λ v. v (question_of child.entry) (value_of schema.now) (value_of value.now)) result }
 {
     if depth == 0 {
         return Err(Error::new(ErrorCode::TooDeep));
@@ -625,7 +625,7 @@ fn object_evaluates(
     child: Child<'_>,
     depth: usize,
 ) -> Result<bool>
-    ensures { Settles depth (value_of root.now) (λ v. schema_evaluates v (value_of root.now) (object (fields_view keywords.now)) (value_of value.now) (question_of child)) result }
+    ensures { Settles depth (value_of root.now) (λ v. schema_evaluates v (value_of root.now) (object (fields_view keywords.now)) (value_of value.now) (question_of child.entry)) result }
 {
     if takes_rest(keywords, child) {
         return Ok(true);

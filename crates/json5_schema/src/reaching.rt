@@ -51,7 +51,7 @@ pub fn reaches(
     argument: &Value,
     child: Child<'_>,
 ) -> Result<bool>
-    ensures { MatchResult result (λ b. b ≡ reaches (fields_view keywords.now) applicator (value_of argument.now) (question_of child)) LacksMemory }
+    ensures { MatchResult result (λ b. b ≡ reaches (fields_view keywords.now) applicator (value_of argument.now) (question_of child.entry)) LacksMemory }
 {
     match child {
         Child::Name(name) => reaches_name(alloc, patterns, keywords, applicator, argument, name),
@@ -127,7 +127,7 @@ fn is_behind(schemas: Option<&Value>, index: usize) -> bool
 
 /// Whether the keyword for what is left is there, which evaluates it.
 pub fn takes_rest(keywords: &[(String, Value)], child: Child<'_>) -> bool
-    ensures { result ≡ takes_rest (fields_view keywords.now) (question_of child) }
+    ensures { result ≡ takes_rest (fields_view keywords.now) (question_of child.entry) }
 {
     match child {
         Child::Name(_) => is_named(keywords, "unevaluatedProperties"),
@@ -137,7 +137,7 @@ pub fn takes_rest(keywords: &[(String, Value)], child: Child<'_>) -> bool
 
 /// The element of the value that the child is.
 pub fn element_at<'v>(value: &'v Value, child: Child<'_>) -> Option<&'v Value>
-    ensures { part_view result ≡ element_asked (question_of child) (value_of value.now) }
+    ensures { part_view result ≡ element_asked (question_of child.entry) (value_of value.now) }
 {
     match child {
         Child::Index(index) => value.get(index),
