@@ -1,5 +1,5 @@
 -- The members of which none later has the name, and those that were seen from the last one on.
-use Rattle.std.proofs.Common.{◌≡◌, ◌∙◌, ◌+◌, if◌then◌else◌, drop, length, suc, ℕ, Bool, true, false, nat_eq, not, List, [], ◌∷◌, ◌++◌, Option, Some, None, is_some, refl, sym, ap, subst, String, string_bytes}
+use Rattle.std.proofs.Common.{◌≡◌, ◌∙◌, ◌<◌, ◌+◌, get_or, if◌then◌else◌, drop, length, suc, ℕ, Bool, true, false, nat_eq, not, List, [], ◌∷◌, ◌++◌, Option, Some, None, is_some, refl, sym, ap, subst, String, string_bytes}
 use Rattle.std.specs.Prelude.{cond, reverse}
 use Rattle.std.specs.Borrow.{Bor}
 use Rattle.std.specs.BTreeSet.{BTreeSet, contains_by}
@@ -12,6 +12,7 @@ use Rattle.json5_types.specs.declared.value.Value.{Value}
 use Rattle.json5_types.specs.ValueMeanings.{Datum, Fields, field, value_of, fields_view}
 use Rattle.json5_types.specs.ValueKinds.{fields_len}
 use Rattle.json5_types.specs.ValueLookups.{or_else}
+use Rattle.json5_types.proofs.LookedUp.{from_here}
 use Rattle.json5_types.proofs.ValuesCompared.{bytes_or_characters}
 use Rattle.json5_schema.specs.declared.members.Member.{Member}
 use Rattle.json5_schema.specs.Conformance.{is_named, latest}
@@ -51,6 +52,38 @@ pub one_passed : (found : List Member) (f : String Global × Value) (fs xs : Lis
 one_passed found f fs xs here were there =
     let passed : latest (fields_view (f ∷ fs)) ≡ latest (fields_view fs) = ap (λ b. if b then latest (fields_view fs) else field (chars (string_bytes f.0)) (value_of f.1) (latest (fields_view fs))) there in
     were ∙ sym passed ∙ ap (λ gs. latest (fields_view gs)) (sym here)
+
+-- ---- a turn: one more member, from the last one on
+
+abbrev Named : Type 0
+Named = String Global × Value
+
+has_none : (b c d : Bool) → b ≡ not c → c ≡ d → b ≡ true → d ≡ false
+has_none b true d e h k = absurd (cc)
+has_none b false d e h k = sym h
+
+has_one : (b c d : Bool) → b ≡ not c → c ≡ d → b ≡ false → d ≡ true
+has_one b true d e h k = sym h
+has_one b false d e h k = absurd (cc)
+
+module _ (members : List Named) (i n : ℕ) (f : Named) (key : Bor (List ℕ)) (seen new : BTreeSet (Bor (List ℕ))) (found : List Member) (b : Bool) (next : i + 1 ≡ n) (within : i < length members) (is : f ≡ get_or members i f) (named : key.now ≡ string_bytes f.0)
+    (utf8 : IsUtf8 key.now) (added : b ≡ not (contains_by (λ k. slice_cmp nat_cmp key.now k.now) seen))
+    (updated : (q : Bor (List ℕ)) → contains_by (λ k. slice_cmp nat_cmp q.now k.now) new ≡ cond (is_eq (slice_cmp nat_cmp key.now q.now)) true (contains_by (λ k. slice_cmp nat_cmp q.now k.now) seen))
+    (were : members_view (reverse found) ≡ latest (fields_view (drop n members))) (saw : Sees seen (fields_view (drop n members))) where
+  here : drop i members ≡ f ∷ drop n members
+  here = from_here members i f within is ∙ ap (λ m. f ∷ drop m members) next
+
+  before : contains_by (λ k. slice_cmp nat_cmp key.now k.now) seen ≡ is_named (chars (string_bytes f.0)) (fields_view (drop n members))
+  before = saw key utf8 ∙ ap (λ t. is_named (chars t) (fields_view (drop n members))) named
+
+  sees : Sees new (fields_view (drop i members))
+  sees = seen_more seen new f (drop n members) (drop i members) key.now here named utf8 saw updated
+
+  pub kept_step : (m : Member) → b ≡ true → m.name.now ≡ string_bytes f.0 → m.value.now ≡ f.1 → (members_view (reverse (found ++ m ∷ [])) ≡ latest (fields_view (drop i members))) × Sees new (fields_view (drop i members))
+  kept_step m yes name value = (one_kept found m f (drop n members) (drop i members) here were name value (has_none b _ _ added before yes), sees)
+
+  pub passed_step : b ≡ false → (members_view (reverse found) ≡ latest (fields_view (drop i members))) × Sees new (fields_view (drop i members))
+  passed_step no = (one_passed found f (drop n members) (drop i members) here were (has_one b _ _ added before no), sees)
 
 pub members_counted : (ms : List Member) → fields_len (members_view ms) ≡ length ms
 members_counted [] = refl
