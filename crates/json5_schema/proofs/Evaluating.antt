@@ -5,7 +5,7 @@ use Rattle.std.specs.Str.{chars, IsUtf8, encode_utf8_all}
 use Rattle.std.proofs.lemmas.Str.{encodes-chars}
 use Rattle.json5_types.specs.declared.error.Error.{Error}
 use Rattle.json5_types.specs.declared.value.Value.{Value}
-use Rattle.json5_types.specs.ValueMeanings.{Datum, null, boolean, number, text, array, object, Fields, value_of, items_view, fields_view}
+use Rattle.json5_types.specs.ValueMeanings.{Datum, null, boolean, number, text, array, object, Fields, Items, value_of, items_view, fields_view}
 use Rattle.json5_types.specs.ValueLookups.{fields_in}
 use Rattle.json5_schema.specs.declared.asked.Child.{Child}
 use Rattle.json5_schema.specs.declared.asked.Child.TheVariants as child
@@ -13,7 +13,7 @@ use Rattle.json5_schema.specs.declared.asked.Pair.{Pair}
 use Rattle.json5_schema.specs.declared.keyword.Applicator.{Applicator}
 use Rattle.json5_schema.specs.declared.keyword.Keyword.{Keyword}
 use Rattle.json5_schema.specs.Keywords.{keyword_named}
-use Rattle.json5_schema.specs.Conformance.{is_named, Question, conforming, evaluating_index, Answers, answers, schema_evaluates, Asked, is_in_place, is_contains, is_contained, reaches, applies, applicator_evaluates, asked_evaluates, evaluates, keyword_evaluates, keywords_evaluate, child_left_holds, elements_left_hold, pair_evaluates, some_evaluate, unfolded}
+use Rattle.json5_schema.specs.Conformance.{is_named, Question, conforming, evaluating_index, Answers, answers, schema_evaluates, Asked, is_in_place, is_contains, is_contained, reaches, applies, applicator_evaluates, asked_evaluates, evaluates, keyword_evaluates, keywords_evaluate, child_left_holds, elements_left_hold, left_holds, pair_evaluates, some_evaluate, unfolded}
 use Rattle.json5_schema.specs.Views.{IsRefusal, question_of, pair_view, pairs_view}
 use Rattle.std.proofs.lemmas.List.{drop_more}
 use Rattle.json5_types.proofs.LookedUp.{from_here}
@@ -116,3 +116,9 @@ element_at w root s x all ys i y b h is known =
 pub pair_at : (w : Answers) (q : Question) (ps : List Pair) (i : ℕ) (p : Pair) (b : Bool) → i < length ps → p ≡ get_or ps i p → pair_evaluates w q (pair_view p) ≡ b
     → some_evaluate w q (pairs_view (drop i ps)) ≡ (b || some_evaluate w q (pairs_view (drop (i + 1) ps)))
 pair_at w q ps i p b h is known = rw (pair_from ps i p h is) (ap (λ (c : Bool). c || some_evaluate w q (pairs_view (drop (i + 1) ps))) known)
+
+-- ---- what is left of an array
+
+pub left_elements : (r : Result Bool Error) (n : ℕ) (root s x : Datum) (all : Fields) (xs : Items) → x ≡ array xs → MatchResult r (λ b. (v : Answers) → elements_left_hold (unfolded n v root) root s all x 0 xs ≡ b) IsRefusal
+    → MatchResult r (λ b. (v : Answers) → left_holds (unfolded n v root) root s all x ≡ b) IsRefusal
+left_elements r n root s x all xs e k = settles_as r n root (λ w. left_holds w root s all x) (λ w. elements_left_hold w root s all x 0 xs) (λ v. rw e refl) k

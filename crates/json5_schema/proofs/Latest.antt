@@ -1,5 +1,5 @@
 -- The members of which none later has the name, and those that were seen from the last one on.
-use Rattle.std.proofs.Common.{◌≡◌, ◌∙◌, ◌<◌, ◌+◌, get_or, if◌then◌else◌, drop, length, suc, ℕ, Bool, true, false, nat_eq, not, List, [], ◌∷◌, ◌++◌, Option, Some, None, is_some, refl, sym, ap, subst, String, string_bytes}
+use Rattle.std.proofs.Common.{◌≡◌, ◌∙◌, ◌<◌, ◌+◌, get_or, if◌then◌else◌, drop, length, zero, suc, arith, ℕ, Bool, true, false, nat_eq, not, List, [], ◌∷◌, ◌++◌, Option, Some, None, is_some, refl, sym, ap, subst, String, string_bytes}
 use Rattle.std.specs.Prelude.{cond, reverse}
 use Rattle.std.specs.Borrow.{Bor}
 use Rattle.std.specs.BTreeSet.{BTreeSet, contains_by}
@@ -52,6 +52,12 @@ pub one_passed : (found : List Member) (f : String Global × Value) (fs xs : Lis
 one_passed found f fs xs here were there =
     let passed : latest (fields_view (f ∷ fs)) ≡ latest (fields_view fs) = ap (λ b. if b then latest (fields_view fs) else field (chars (string_bytes f.0)) (value_of f.1) (latest (fields_view fs))) there in
     were ∙ sym passed ∙ ap (λ gs. latest (fields_view gs)) (sym here)
+
+-- the same place has the same member
+pub same_at : {A : Type 0} (xs : List A) (i : ℕ) (f g : A) → i < length xs → f ≡ get_or xs i f → g ≡ get_or xs i g → g ≡ f
+same_at [] i f g h is also = absurd (omega (arith, h))
+same_at (x ∷ xs) zero f g h is also = also ∙ sym is
+same_at (x ∷ xs) (suc i) f g h is also = same_at xs i f g (omega (arith, h)) is also
 
 -- ---- a turn: one more member, from the last one on
 

@@ -5,7 +5,7 @@ ghost use lib.Chars.{codes};
 ghost use Rattle.std.specs.Str.{chars};
 ghost use Rattle.json5_types.specs.Errors.{LacksMemory};
 ghost use Rattle.json5_types.specs.ValueMeanings.{value_of, items_view, fields_view};
-ghost use Rattle.json5_schema.specs.Conformance.{each_schema, each_item, by_name, value_for, by_index, prefix_on, schemas_in_front, items_after, elements_after, items_on, additional_items_on, contains_on, all_of_on, any_of_on, one_of_on, if_on, members_left_on, elements_left_on, speaks_of, beside, is_matched, is_patterned, is_additional, each_matched, of_pattern, by_pattern, patterns_on, each_additional, additional_on, names_on, properties_on, is_dependent, dependent_schemas, dependent_on, dependencies_on, all_on, some_on, target_of, refers_on, settled, asserts, applies, asks};
+ghost use Rattle.json5_schema.specs.Conformance.{each_schema, each_item, by_name, value_for, by_index, prefix_on, schemas_in_front, items_after, elements_after, items_on, additional_items_on, contains_on, all_of_on, any_of_on, one_of_on, if_on, members_left_on, elements_left_on, speaks_of, beside, is_matched, is_patterned, is_additional, latest, each_matched, of_pattern, by_pattern, patterns_on, each_additional, additional_on, names_on, properties_on, is_dependent, dependent_schemas, dependent_on, dependencies_on, all_on, some_on, target_of, refers_on, settled, asserts, applies, asks};
 ghost use Rattle.json5_schema.specs.Views.{AsksFor, IsRefusal, PairsFor, members_view, pairs_view, part_view, asked_view};
 
 use crate::anchors::at_fragment;
@@ -318,6 +318,19 @@ fn by_pattern<'a>(
     Ok(pairs)
 }
 
+/// The same, on the last member with each name.
+fn matched_on<'a>(
+    alloc: Global,
+    patterns: &[Pattern],
+    schemas: &'a [(String, Value)],
+    members: &'a [(String, Value)],
+) -> Result<Asked<'a>>
+    ensures { AsksFor (all_on (by_pattern (fields_view schemas.now) (latest (fields_view members.now)))) result }
+{
+    let members = latest(alloc, members)?;
+    Ok(all_of(by_pattern(alloc, patterns, schemas, &members)?))
+}
+
 /// What `patternProperties` asks.
 fn patterns_on<'a>(
     alloc: Global,
@@ -329,8 +342,7 @@ fn patterns_on<'a>(
 {
     match (schemas, value) {
         (Value::Object(schemas), Value::Object(members)) => {
-            let members = latest(alloc, members)?;
-            Ok(all_of(by_pattern(alloc, patterns, schemas, &members)?))
+            matched_on(alloc, patterns, schemas, members)
         }
         _ => Ok(Asked::Settled(true)),
     }

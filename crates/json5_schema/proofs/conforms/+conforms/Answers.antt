@@ -1,6 +1,6 @@
 use Rattle.std.proofs.Common.{List, String, refl, true, false, ◌≡◌, ◌∙◌, ◌<◌, ◌≤◌, ◌+◌, length, drop, arith, sym, ap, Some, None, option_map, string_bytes}
 use Rattle.std.proofs.lemmas.List.{length-drop}
-use Rattle.json5_types.specs.ValueMeanings.{value_of, fields_view}
+use Rattle.json5_types.specs.ValueMeanings.{array, value_of, items_view, fields_view}
 use Rattle.json5_types.specs.ValueLookups.{boolean_of, fields_in}
 use Rattle.json5_schema.specs.Conformance.{conforming, keyword_holds, less, unfolded}
 use Rattle.json5_schema.specs.Views.{part_view, question_of, asked_view}
@@ -10,7 +10,8 @@ use Rattle.std.specs.declared.alloc.Global.{Global}
 use Rattle.json5_types.specs.declared.value.Value.{Value}
 use Rattle.json5_schema.proofs.Conforming.{rest_is, keywords_first, next, few_left, enough_left, pair_from}
 use Rattle.json5_schema.proofs.Parts.{chosen_then, chosen_else, boolean_schema, object_schema, other_schema, asked_keyword}
-use Rattle.json5_schema.proofs.Evaluating.{keyword_at, named_evaluates, named_other, object_evaluated, other_evaluated}
+use Rattle.json5_types.proofs.ValuesCompared.{view-Array}
+use Rattle.json5_schema.proofs.Evaluating.{keyword_at, left_elements, named_evaluates, named_other, object_evaluated, other_evaluated}
 use Rattle.json5_schema.proofs.conforms.+conforms.Goals as goal
 
 pub is_within-returns-then-left-least : goal.is_within-returns-then-left-least
@@ -133,3 +134,8 @@ pub keyword_evaluates-returns-in-Annotation : goal.keyword_evaluates-returns-in-
 keyword_evaluates-returns-in-Annotation t c = λ v.
     named_other c.args.depth v (value_of c.args.root.now) (value_of c.args.member.now.1) (value_of c.args.value.now) c.as_str-name.result.now (string_bytes c.args.member.now.0) (fields_view c.args.keywords.now) (fields_view c.args.after.now) c.keyword_named.result
     (question_of c.args.child) (sym c.is_named.ensures ∙ c.if-is_named.false) c.as_str-name.utf8 c.as_str-name.ensures.value c.keyword_named.ensures (λ w. rw c.in-Annotation.is refl)
+
+pub left_holds-returns-in-Array : goal.left_holds-returns-in-Array
+left_holds-returns-in-Array t c =
+    let is = ap value_of c.in-Array.is ∙ view-Array c.in-Array.items ∙ ap (λ (ys : List Value). array (items_view ys)) (sym c.deref-in-Array.ensures.value) in
+    left_elements c.elements_left_hold.result c.args.depth (value_of c.args.root.now) (value_of c.args.schema.now) (value_of c.args.value.now) (fields_view c.args.keywords.now) _ is c.elements_left_hold.ensures
