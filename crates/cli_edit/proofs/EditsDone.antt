@@ -1,7 +1,7 @@
 -- Edits that are made one after the other.
 use Rattle.std.proofs.Common.{◌≡◌, ◌<◌, ◌≤◌, ◌+◌, ◌∙◌, ℕ, zero, suc, List, [], ◌∷◌, ◌++◌, ap, arith, drop, get_or, length, refl, subst, sym, take}
 use Rattle.std.proofs.lemmas.List.{length-take-le}
-use Rattle.cli_edit.specs.SeveralEdits.{EditsAll, EditsTo, RefusesAll, RefusesTo, stopped}
+use Rattle.cli_edit.specs.SeveralEdits.{EditsAll, EditsTo, IsPathOf, RefusesAll, RefusesTo, stopped}
 use Rattle.cli_edit.specs.declared.several_edits.Edit.{Edit}
 use Rattle.cli_edit.specs.declared.several_edits.EditsError.{EditsError}
 
@@ -24,8 +24,8 @@ edits_on i es d e text mid made h is p q =
     rw next (edits_more i es d text mid made h p (subst (λ z. EditsTo z mid made) is q))
 
 -- the edit with this index isn't made
-pub edits_stopped : (i : ℕ) (es : List Edit) (d e : Edit) (text mid : List ℕ) (x : EditsError) → i < length es → e ≡ get_or es i d → x.edit ≡ i → EditsAll (take i es) text mid → RefusesTo e mid x.trouble
+pub edits_stopped : (i : ℕ) (es : List Edit) (d e : Edit) (text mid : List ℕ) (x : EditsError) → i < length es → e ≡ get_or es i d → x.edit ≡ i → IsPathOf e x.path → EditsAll (take i es) text mid → RefusesTo e mid x.trouble
     → RefusesAll es text x
-edits_stopped i es d e text mid x h is at p q =
+edits_stopped i es d e text mid x h is at path p q =
     let within : i ≤ length es = omega (arith, h) in
-    stopped (take i es) (drop (suc i) es) (get_or es i d) mid (split_at i es d h) (length-take-le i es within ∙ sym at) p (subst (λ z. RefusesTo z mid x.trouble) is q)
+    stopped (take i es) (drop (suc i) es) (get_or es i d) mid (split_at i es d h) (length-take-le i es within ∙ sym at) (subst (λ z. IsPathOf z x.path) is path) p (subst (λ z. RefusesTo z mid x.trouble) is q)

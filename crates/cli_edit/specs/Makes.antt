@@ -128,13 +128,13 @@ RefusesEdit work.PutAbsent text steps value e = RefusesPut text steps value e
 RefusesEdit work.Rename text steps value e = RefusesRename text steps value e
 RefusesEdit work.Remove text steps value e = RefusesRemoving text steps e
 RefusesEdit work.Comment text steps value e = RefusesCommenting text steps e
+RefusesEdit work.ShowComment text steps value e = RefusesCommenting text steps e
 RefusesEdit work.Sort text steps value e = RefusesSort text steps e
 RefusesEdit work.RemoveAlone text steps value e = RefusesRemoving text steps e
 RefusesEdit w text steps value e = ⊤
 
 abbrev pub RefusesWork : Command → List ℕ → List Step → List ℕ → TextTrouble → Type 0
 RefusesWork (work.Show v) text steps value x = RefusesShowing v text steps x
-RefusesWork work.ShowComment text steps value x = ⊤
 RefusesWork work.Move text steps value x = ⊤
 RefusesWork work.Copy text steps value x = ⊤
 RefusesWork work.Apply text steps value x = ⊤

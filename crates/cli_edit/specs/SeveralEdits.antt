@@ -1,6 +1,7 @@
 -- Several edits of a text or of a file, one after the other.
 -- A promise rests on this.
-use Rattle.std.specs.Prelude.{⊤, ◌≡◌, ◌⊎◌, ℕ, List, [], ◌∷◌, ◌++◌, length, None, Some}
+use Rattle.std.specs.declared.alloc.Global.{Global}
+use Rattle.std.specs.Prelude.{⊤, ◌≡◌, ◌⊎◌, ℕ, List, [], ◌∷◌, ◌++◌, length, IfSome, None, Option, Some, String, string_bytes}
 use Rattle.cli_files.specs.Stores.{Known}
 use Rattle.json5_edit.specs.Refusals.{RefusesPath}
 use Rattle.json5_edit.specs.declared.faults.EditError.{EditError}
@@ -37,6 +38,21 @@ work_of (edit.RemoveAlone p) = work.RemoveAlone
 work_of (edit.Comment p t) = work.Comment
 work_of (edit.Sort p) = work.Sort
 
+abbrev pub path_of : Edit → List ℕ
+path_of (edit.Set p v) = p.now
+path_of (edit.Insert p v) = p.now
+path_of (edit.InsertBefore p b v) = p.now
+path_of (edit.Push p v) = p.now
+path_of (edit.Put p v) = p.now
+path_of (edit.PutIfAbsent p v) = p.now
+path_of (edit.Rename p k) = p.now
+path_of (edit.Move p t) = p.now
+path_of (edit.Copy p t) = p.now
+path_of (edit.Remove p) = p.now
+path_of (edit.RemoveAlone p) = p.now
+path_of (edit.Comment p t) = p.now
+path_of (edit.Sort p) = p.now
+
 -- its value, key, path or comment
 abbrev pub given_of : Edit → List ℕ
 given_of (edit.Set p v) = v.now
@@ -66,10 +82,14 @@ abbrev pub EditsAll : List Edit → (text made : List ℕ) → Type 0
 EditsAll [] text made = made ≡ text
 EditsAll (e ∷ es) text made = (between : List ℕ) × EditsTo e text between × EditsAll es between made
 
+-- the path is that of the edit, if there was memory for it
+abbrev pub IsPathOf : Edit → Option (String Global) → Type 0
+IsPathOf e path = IfSome path (λ p. string_bytes p ≡ path_of e)
+
 -- those before one are made, and that one isn't; or memory ran out
 pub data RefusesAll (es : List Edit) (text : List ℕ) (x : EditsError) : Type 0 where
-  full : x.trouble ≡ trouble.Edit error.NoMemory → RefusesAll es text x
-  stopped : (before after : List Edit) (e : Edit) (between : List ℕ) → es ≡ before ++ (e ∷ after) → length before ≡ x.edit → EditsAll before text between → RefusesTo e between x.trouble → RefusesAll es text x
+  full : x.trouble ≡ trouble.Edit error.NoMemory → x.path ≡ None → RefusesAll es text x
+  stopped : (before after : List Edit) (e : Edit) (between : List ℕ) → es ≡ before ++ (e ∷ after) → length before ≡ x.edit → IsPathOf e x.path → EditsAll before text between → RefusesTo e between x.trouble → RefusesAll es text x
 
 -- ---- a file
 

@@ -146,7 +146,9 @@ fn removed_alone(alloc: Global, text: &str, steps: &[Step<'_>]) -> Result<String
 }
 
 /// What the comments say before the entry to which the steps lead, with a line end; nothing, if there are none.
-fn comment_line(alloc: Global, text: &str, steps: &[Step<'_>]) -> Result<String> {
+fn comment_line(alloc: Global, text: &str, steps: &[Step<'_>]) -> Result<String>
+    ensures { IfErr result (RefusesCommenting text.now steps.now) }
+{
     if steps.is_empty() {
         return Err(EditError::NoKey);
     }

@@ -7,7 +7,6 @@ ghost use Rattle.cli_edit.specs.Makes.{AreTokensOf, IsCopied, IsMerged, IsMoved,
 
 use crate::parts::part_at;
 use crate::trouble::TextTrouble;
-use crate::values::owned;
 use json5_edit::{EditError, Names, Path, Result as EditResult, Step};
 use json5_edit_values::patch::{
     Operation, Patch, PatchFault, Pointer, Trouble, apply_patch_in, merge_patch_in,
@@ -173,7 +172,7 @@ fn token_of(alloc: Global, step: Step<'_>) -> EditResult<String>
     ensures { IfOk result (λ token. IsTokenOf step.entry (string_bytes token)) }
 {
     match step {
-        Step::Key(key) => owned(alloc, key),
+        Step::Key(key) => Ok(String::from_str(alloc, key)?),
         Step::Index(index) => match format!(in alloc; "{index}") {
             Ok(token) => Ok(token),
             Err(_) => Err(EditError::NoMemory),

@@ -1,13 +1,13 @@
 //! Several edits of a text or of a file, all or none.
 
 ghost use Rattle.std.specs.Prelude.{◌≡◌, IfErr, IfOk, OnOk, string_bytes};
-ghost use Rattle.cli_edit.specs.SeveralEdits.{DoesTask, EditsAll, EditsFile, EditsTo, FillsFile, LeavesFile, RefusesAll, RefusesFile, RefusesTask, RefusesTo, given_of, work_of};
+ghost use Rattle.cli_edit.specs.SeveralEdits.{DoesTask, EditsAll, EditsFile, EditsTo, FillsFile, IsPathOf, LeavesFile, RefusesAll, RefusesFile, RefusesTask, RefusesTo, given_of, path_of, work_of};
 
 use crate::edits::{laid, made};
 use crate::requests::{Command, Given, Source, Task};
 use crate::texts::text_in;
 use crate::trouble::TextTrouble;
-use crate::values::{meant, owned};
+use crate::values::meant;
 use cli_files::{Failure, Store, Unwritten};
 use json5_edit::{Before, EditError, Path};
 use std::alloc::Global;
@@ -128,13 +128,12 @@ pub fn edit_text(
     ensures made { IfOk result (λ made. EditsAll edits.now text.now (string_bytes made)) }
     ensures refused { IfErr result (RefusesAll edits.now text.now) }
 {
-    let mut made = match owned(alloc, text) {
-        Ok(made) => made,
-        Err(error) => return Err(EditsError {
+    let Ok(mut made) = String::from_str(alloc, text) else {
+        return Err(EditsError {
             edit: 0,
             path: None,
-            trouble: TextTrouble::Edit(error),
-        }),
+            trouble: TextTrouble::Edit(EditError::NoMemory),
+        });
     };
     for edit in 0..edits.len() {
         match edited(alloc, name, made.as_str(), edits[edit]) {
@@ -240,9 +239,8 @@ fn done(
         Ok(steps) => steps,
         Err(error) => return Err(TextTrouble::Edit(error)),
     };
-    let value = match meant(alloc, task, text, given) {
-        Ok(value) => value,
-        Err(error) => return Err(TextTrouble::Edit(error)),
+    let Ok(value) = meant(alloc, task, text, given) else {
+        return Err(TextTrouble::Edit(EditError::NoMemory));
     };
     let (steps, value) = (steps.as_slice(), value.as_str());
     let as_given = made(alloc, task, text, steps, value)?;
@@ -250,7 +248,9 @@ fn done(
 }
 
 /// The path of the edit, if there is memory for it.
-fn path_of(alloc: Global, edit: Edit<'_>) -> Option<String> {
+fn path_of(alloc: Global, edit: Edit<'_>) -> Option<String>
+    ensures { IsPathOf edit.entry result }
+{
     let (_, path, _) = parts_of(edit);
     String::from_str(alloc, path).ok()
 }
@@ -258,6 +258,7 @@ fn path_of(alloc: Global, edit: Edit<'_>) -> Option<String> {
 /// What is done, at which path, and with what value, key, path or comment.
 fn parts_of<'e>(edit: Edit<'e>) -> (Command<'e>, &'e str, &'e str)
     ensures work { result.0 ≡ work_of edit.entry }
+    ensures path { result.1.now ≡ path_of edit.entry }
     ensures given { result.2.now ≡ given_of edit.entry }
 {
     match edit {

@@ -1,7 +1,6 @@
 //! What is put into the document for VALUE.
 
-ghost use Rattle.std.specs.Prelude.{◌≡◌, IfErr, IfOk, IsTrue, string_bytes};
-ghost use Rattle.json5_edit.specs.declared.faults.EditError.TheVariants as edit_errors;
+ghost use Rattle.std.specs.Prelude.{◌≡◌, IfOk, IsTrue, string_bytes};
 ghost use Rattle.json5_types.specs.ValueMeanings.{value_of};
 ghost use Rattle.json5_grammar.specs.Language.Documents.{max_depth};
 ghost use Rattle.json5_styles.specs.LaidBack.{ReadsAs};
@@ -19,35 +18,38 @@ use json5_types::nesting::Limit;
 use json5_types::value::Value;
 use json5_walk::next::Next;
 use json5_walk::walk::Walk;
-use std::alloc::Global;
+use std::alloc::{AllocError, Global};
 
 /// What VALUE means: the value without blanks and comments around it, or the string of this content, spelled as the
 /// document spells strings. KEY, TO and TEXT are the word itself.
-pub(crate) fn meant(alloc: Global, task: &Task<'_>, text: &str, value: &str) -> Result<String>
-    ensures meant { IfOk result (λ made. Means task.now value.now (string_bytes made)) }
-    ensures full { IfErr result (λ e. e ≡ edit_errors.NoMemory) }
+pub(crate) fn meant(
+    alloc: Global,
+    task: &Task<'_>,
+    text: &str,
+    value: &str,
+) -> Result<String, AllocError>
+    ensures { IfOk result (λ made. Means task.now value.now (string_bytes made)) }
 {
     if task.given.is_text {
         return spelled(alloc, text, content_of(task.given.source, value));
     }
     match task.work {
-        Command::Rename => owned(alloc, value),
-        Command::Move => owned(alloc, value),
-        Command::Copy => owned(alloc, value),
-        Command::Comment => owned(alloc, value),
+        Command::Rename => String::from_str(alloc, value),
+        Command::Move => String::from_str(alloc, value),
+        Command::Copy => String::from_str(alloc, value),
+        Command::Comment => String::from_str(alloc, value),
         _ => stripped(alloc, value),
     }
 }
 
 /// The value without blanks and comments around it; or the bytes themselves, if they are no document.
-fn stripped(alloc: Global, value: &str) -> Result<String>
-    ensures stripped { IfOk result (λ made. Strips value.now (string_bytes made)) }
-    ensures full { IfErr result (λ e. e ≡ edit_errors.NoMemory) }
+fn stripped(alloc: Global, value: &str) -> Result<String, AllocError>
+    ensures { IfOk result (λ made. Strips value.now (string_bytes made)) }
 {
     match part_at(alloc, value, &[]) {
-        Ok(part) => owned(alloc, part),
-        Err(EditError::NoMemory) => Err(EditError::NoMemory),
-        Err(_) => owned(alloc, value),
+        Ok(part) => String::from_str(alloc, part),
+        Err(EditError::NoMemory) => Err(AllocError),
+        Err(_) => String::from_str(alloc, value),
     }
 }
 
@@ -71,11 +73,10 @@ const PATTERN: Collection<'static> = Collection {
 };
 
 /// The string of this content: in single quotes if the document's last string has them, else as JSON writes it.
-fn spelled(alloc: Global, document: &str, content: &str) -> Result<String>
-    ensures spelled { IfOk result (λ made. IsTextOf content.now (string_bytes made)) }
-    ensures full { IfErr result (λ e. e ≡ edit_errors.NoMemory) }
+fn spelled(alloc: Global, document: &str, content: &str) -> Result<String, AllocError>
+    ensures { IfOk result (λ made. IsTextOf content.now (string_bytes made)) }
 {
-    let value = Value::String(owned(alloc, content)?);
+    let value = Value::String(String::from_str(alloc, content)?);
     if let Some('\'') = last_quote(alloc, document)
         && let Ok(Respelling { key: made, .. }) = respelling_for(
             alloc,
@@ -89,7 +90,7 @@ fn spelled(alloc: Global, document: &str, content: &str) -> Result<String>
     }
     match to_json(alloc, &value) {
         Ok(made) => Ok(made),
-        Err(_) => Err(EditError::NoMemory),
+        Err(_) => Err(AllocError),
     }
 }
 
@@ -131,15 +132,4 @@ fn last_quote(alloc: Global, document: &str) -> Option<char> {
         }
     }
     quote
-}
-
-/// A copy.
-pub(crate) fn owned(alloc: Global, text: &str) -> Result<String>
-    ensures same { IfOk result (λ made. string_bytes made ≡ text.now) }
-    ensures full { IfErr result (λ e. e ≡ edit_errors.NoMemory) }
-{
-    match String::from_str(alloc, text) {
-        Ok(made) => Ok(made),
-        Err(_) => Err(EditError::NoMemory),
-    }
 }

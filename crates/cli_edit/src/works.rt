@@ -12,7 +12,7 @@ use crate::texts::{name_of, text_of, value_of};
 use crate::trouble::TextTrouble;
 use crate::values::meant;
 use cli_files::{Store, put_texts};
-use json5_edit::{Path, Step};
+use json5_edit::{EditError, Path, Step};
 use std::alloc::Global;
 use std::io::{Read, Write};
 
@@ -79,9 +79,9 @@ fn do_at<S: Store, W: Write, E: Write>(
         Ok(steps) => steps,
         Err(error) => return tell(alloc, task, value, text, &[], &TextTrouble::Edit(error), e),
     };
-    let value = match meant(alloc, task, text, value) {
-        Ok(value) => value,
-        Err(error) => return tell(alloc, task, value, text, &[], &TextTrouble::Edit(error), e),
+    let Ok(value) = meant(alloc, task, text, value) else {
+        let trouble = TextTrouble::Edit(EditError::NoMemory);
+        return tell(alloc, task, value, text, &[], &trouble, e);
     };
     match work_on(
         store,

@@ -1,10 +1,10 @@
 -- The entries that a walk passes.
-use Rattle.std.proofs.Common.{◌≡◌, ℕ, ◌-◌, Bool, true, false, List, [], ◌∷◌, ◌++◌, length, refl, ap, sym, ◌∙◌, append_assoc, subst, None}
+use Rattle.std.proofs.Common.{◌≡◌, ℕ, ◌-◌, Bool, true, List, [], ◌∷◌, ◌++◌, length, refl, ap, sym, ◌∙◌, append_assoc, subst, None}
 use Rattle.std.specs.Prelude.{slice_range}
 use Rattle.std.specs.Str.{chars, IsUtf8, all_scalars, encode_utf8_all}
 use Rattle.std.proofs.lemmas.Str.{chars-encodes, scalars-chars}
 use Rattle.json5_grammar.specs.Language.Documents.{Doc, max_depth}
-use Rattle.json5_grammar.specs.Language.Trees.{Tree, array, object, Trees, Members, no_more, more, no_member, member}
+use Rattle.json5_grammar.specs.Language.Trees.{Tree, Trees, Members, no_more, more, no_member, member}
 use Rattle.json5_grammar.specs.Language.Values.{Val}
 use Rattle.json5_grammar.specs.Model.Collections.{snoc, snoc_member}
 use Rattle.json5_tokens.specs.Outcome.{bytes_in}
@@ -13,7 +13,7 @@ use Rattle.json5_read.specs.declared.brackets.BracketKind.TheVariants as kind
 use Rattle.json5_types.specs.Cows.{cow_bytes}
 use Rattle.json5_walk.specs.declared.entry.EntryKey.{EntryKey}
 use Rattle.json5_walk.specs.Entries.{is_inside, BeginsEntry}
-use Rattle.json5_walk.specs.Frames.{Frame, in_array, in_object, At, at_value, at_element, at_comma, value_frames}
+use Rattle.json5_walk.specs.Frames.{Frame, At, at_value, at_comma, value_frames}
 use Rattle.json5_walk.specs.Moves.{Opens, TakesFront, EndsEntries}
 use Rattle.json5_walk.specs.Walks.{Walked, at_start, Trail, IsAt, Moved, PassesValue, Ends}
 use Rattle.json5_walk.proofs.Calls.{starts_at, bytes_before}

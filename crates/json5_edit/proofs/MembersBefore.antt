@@ -1,7 +1,7 @@
 -- One more member before another.
 use denote.Ref.{Bor}
 use Rattle.std.proofs.Common.{◌≡◌, ℕ, ◌≤◌, ◌-◌, false, List, [], ◌∷◌, ◌++◌, refl, ap, sym, ◌∙◌, append_assoc, subst, inl, Some, Result, Ok, Err, arith}
-use Rattle.std.specs.Prelude.{IfErr, IfOk, String, string_bytes}
+use Rattle.std.specs.Prelude.{IfOk, String, string_bytes}
 use Rattle.std.specs.declared.alloc.Global.{Global}
 use Rattle.std.specs.Str.{chars, IsUtf8, encode_utf8_all}
 use Rattle.json5_grammar.specs.Language.Documents.{max_depth}
@@ -201,43 +201,40 @@ member_before b limit n bytes new front back key json name value small utf8 json
     )
 
 -- in a document
-pub puts_within : (b : Before) (key value : List ℕ) (limit : ℕ) (document old : List ℕ) (r : Result (String Global) EditError) → KeepsPlain document old → PutsMember b key value limit old old r → PutsMember b key value limit document old r
-puts_within b key value limit document old r keeps (made, full) = (ok_then r (λ new k. (k.0, stays_within document old value (string_bytes new) keeps k.1)) made, full)
+pub puts_within : {E : Type 0} (b : Before) (key value : List ℕ) (limit : ℕ) (document old : List ℕ) (r : Result (String Global) E) → KeepsPlain document old → PutsMember b key value limit old old r → PutsMember b key value limit document old r
+puts_within b key value limit document old r keeps made = ok_then r (λ new k. (k.0, stays_within document old value (string_bytes new) keeps k.1)) made
 
 -- the same where less is asked
-pub puts_there : (b : Before) (key value : List ℕ) (limit : ℕ) (c : Collection) (old : List ℕ) (r : Result (String Global) EditError) → PutsMember b key value limit c.document.now old r → PutsThere b key value limit c old r
-puts_there b key value limit c old r (made, full) = (ok_then r (λ new k. (k.0, λ quoted. k.1)) made, full)
+pub puts_there : {E : Type 0} (b : Before) (key value : List ℕ) (limit : ℕ) (c : Collection) (old : List ℕ) (r : Result (String Global) E) → PutsMember b key value limit c.document.now old r → PutsThere b key value limit c old r
+puts_there b key value limit c old r made = ok_then r (λ new k. (k.0, λ quoted. k.1)) made
 
 -- the first one of an object that has none
-pub first_of_none : (limit : ℕ) (c : Collection) (old key value : List ℕ) (r : Result (String Global) EditError) → Val (chars old) (object no_member) → IfOk r (λ new. Adds kind.Object value (Gains kind.Object key value) limit old (string_bytes new)) → IfOk r (λ new. StaysPlainQuoted c.names c.document.now value (string_bytes new)) → IfErr r (λ e. e ≡ error.NoMemory) → PutsThere before_place.First key value limit c old r
-first_of_none limit c old key value (Err e) none adds plain full = (tt, full)
-first_of_none limit c old key value (Ok new) none ((t, w, was, now, (v, val, with_last)), grows, fits) plain full =
+pub first_of_none : {E : Type 0} (limit : ℕ) (c : Collection) (old key value : List ℕ) (r : Result (String Global) E) → Val (chars old) (object no_member) → IfOk r (λ new. Adds kind.Object value (Gains kind.Object key value) limit old (string_bytes new)) → IfOk r (λ new. StaysPlainQuoted c.names c.document.now value (string_bytes new)) → PutsThere before_place.First key value limit c old r
+first_of_none limit c old key value (Err e) none adds plain = tt
+first_of_none limit c old key value (Ok new) none ((t, w, was, now, (v, val, with_last)), grows, fits) plain =
     let same : t ≡ object no_member = tree_of (chars old) t (object no_member) was none in (
       (
         (
+          t,
+          w,
+          was,
+          now,
           (
-            t,
-            w,
-            was,
-            now,
-            (
-              v,
-              val,
-              record {
-                was_kind = with_last.was_kind;
-                kind = with_last.kind;
-                before = [];
-                after = [];
-                was = ap entries same;
-                now = with_last.one_more ∙ ap (λ z. entries z ++ ((key, v) ∷ [])) same;
-                there = refl;
-              },
-            ),
+            v,
+            val,
+            record {
+              was_kind = with_last.was_kind;
+              kind = with_last.kind;
+              before = [];
+              after = [];
+              was = ap entries same;
+              now = with_last.one_more ∙ ap (λ z. entries z ++ ((key, v) ∷ [])) same;
+              there = refl;
+            },
           ),
-          grows,
-          fits,
         ),
-        plain,
+        grows,
+        fits,
       ),
-      tt,
+      plain,
     )

@@ -1,14 +1,12 @@
 -- An object whose members were sorted.
-use Rattle.std.proofs.Common.{◌≡◌, ℕ, suc, ◌+◌, ◌<◌, Bool, true, false, List, [], ◌∷◌, ◌++◌, length, map, refl, ap, sym, ◌∙◌, subst, Some, arith}
+use Rattle.std.proofs.Common.{◌≡◌, ℕ, suc, ◌+◌, Bool, true, false, List, [], ◌∷◌, ◌++◌, length, map, refl, ap, sym, ◌∙◌, subst, arith}
 use Rattle.std.proofs.Math.ListN.{get_or-map, get_or}
-use Rattle.std.specs.declared.alloc.Global.{Global}
-use Rattle.std.specs.Prelude.{IfOk, OnOk, Result, Ok, Err, String, string_bytes, cond, filter, not, ◌&&◌}
+use Rattle.std.specs.Prelude.{cond, filter, not, ◌&&◌}
 use Rattle.std.specs.List.Sorted.{IsSortedByKey, IsStableByKey, ties}
 use Rattle.std.specs.Ordering.{is_lt}
-use Rattle.std.specs.Str.{chars, IsUtf8}
+use Rattle.std.specs.Str.{chars}
 use Rattle.json5_grammar.specs.Language.Trees.{Tree}
 use Rattle.json5_grammar.specs.Language.Values.{Val}
-use Rattle.json5_lexemes.specs.Plain.{KeepsPlain}
 use Rattle.json5_read.specs.declared.brackets.BracketKind.TheVariants as kind
 use Rattle.json5_types.specs.Cows.{cow_bytes}
 use Rattle.json5_types.specs.declared.cow_str.CowStr.TheVariants as cow
@@ -17,10 +15,8 @@ use Rattle.json5_walk.specs.Walks.{Walked, Trail, IsAt, Moved, Ends}
 use Rattle.json5_edit.specs.Changes.{ChangesBy}
 use Rattle.json5_edit.specs.Comparing.{With}
 use Rattle.json5_edit.specs.Entries.{entries, empty_of, Holds, TakesEntry}
-use Rattle.json5_edit.specs.Places.{IsValue}
-use Rattle.json5_edit.specs.Sorted.{HasMembersSorted, AreInOrder, ListsMembers, PassesAll, Sorts, Spell, entry_key, key_of, text_cmp}
+use Rattle.json5_edit.specs.Sorted.{HasMembersSorted, AreInOrder, ListsMembers, PassesAll, Spell, entry_key, key_of, text_cmp}
 use Rattle.json5_edit.specs.declared.entries.Entry.{Entry}
-use Rattle.json5_edit.specs.declared.faults.EditError.{EditError}
 use Rattle.json5_edit.proofs.Compared.{from_empty, no_more_with, passes, same_value, with_more}
 use Rattle.json5_edit.proofs.EntriesPassed.{closes, is_document}
 
@@ -121,11 +117,6 @@ ascending fs qs r sorted = λ k d low high.
     ∙ sorted k y low (omega (arith, size, high))
 
 -- ---- whole objects
-
--- a text that was made and checked
-pub sorts : (room : ℕ) (old new : List ℕ) (r : Result (String Global) EditError) → IfOk r (λ made. string_bytes made ≡ new) → OnOk r (IsValue room (chars new)) → OnOk r (KeepsPlain old new) → ChangesBy HasMembersSorted old new → IfOk r (λ made. Sorts room old (string_bytes made))
-sorts room old new (Ok made) same fits plain change = subst (Sorts room old) (sym same) (change, fits, plain)
-sorts room old new (Err e) same fits plain change = tt
 
 pub members_sorted : (x y : List ℕ) (es fs : List Entry) → ListsMembers x es → AreInOrder es fs → ListsMembers y fs → ChangesBy HasMembersSorted x y
 members_sorted x y es fs (t, d, k, s) (sorted, same) (u, e, l, r) = (

@@ -1,16 +1,9 @@
 -- Other comments before an entry.
-use Rattle.std.proofs.Common.{◌≡◌, ℕ, List, ◌++◌, length, ap, sym, ◌∙◌, append_assoc, subst}
-use Rattle.std.specs.declared.alloc.Global.{Global}
-use Rattle.std.specs.Prelude.{IfOk, OnOk, Result, Ok, Err, String, string_bytes}
+use Rattle.std.proofs.Common.{◌≡◌, ℕ, List, ◌++◌, length, ap, sym, ◌∙◌, append_assoc}
 use Rattle.std.specs.Str.{chars}
 use Rattle.json5_edit_style.specs.Comments.{IsLead}
-use Rattle.json5_edit.specs.Changes.{ChangesBy}
-use Rattle.json5_edit.specs.Commented.{Comments}
-use Rattle.json5_edit.specs.Comparing.{HaveSameEntries}
 use Rattle.json5_edit.specs.Pieces.{Recomments}
-use Rattle.json5_edit.specs.Places.{IsValue}
 use Rattle.json5_edit.specs.Refusals.{IsOwn, RefusesComment, RefusesRemove}
-use Rattle.json5_edit.specs.Spots.{HasEntry}
 use Rattle.json5_edit.specs.declared.faults.EditError.{EditError}
 use Rattle.json5_edit.specs.declared.faults.EditError.TheVariants as error
 use Rattle.json5_edit.specs.declared.paths.Step.{Step}
@@ -53,7 +46,3 @@ recomments x y head front gone came back at was size cut old new now = record {
   old_lead = old;
   new_lead = new;
 }
-
-pub comments : (s : Step) (room at : ℕ) (old new : List ℕ) (r : Result (String Global) EditError) → IfOk r (λ made. string_bytes made ≡ new) → OnOk r (IsValue room (chars new)) → HasEntry s room old at → Recomments at old new → ChangesBy HaveSameEntries old new → IfOk r (λ made. Comments s room old (string_bytes made))
-comments s room at old new (Ok made) same fits has how change = subst (Comments s room old) (sym same) (change, (room, at, has, how), fits)
-comments s room at old new (Err e) same fits has how change = tt

@@ -1,7 +1,5 @@
 -- Another key in the place of one.
-use Rattle.std.proofs.Common.{◌≡◌, ℕ, suc, ◌≤◌, Bool, true, false, List, [], ◌∷◌, ◌++◌, refl, ap, sym, ◌∙◌, append_assoc, subst, arith, take, drop, take-append-drop, Some, Result, Ok, Err}
-use Rattle.std.specs.Prelude.{IfOk, OnOk, String, string_bytes}
-use Rattle.std.specs.declared.alloc.Global.{Global}
+use Rattle.std.proofs.Common.{◌≡◌, ℕ, suc, ◌≤◌, Bool, true, false, List, [], ◌∷◌, ◌++◌, refl, ap, sym, ◌∙◌, append_assoc, subst, arith, take, drop, take-append-drop, Some}
 use Rattle.std.specs.Str.{chars, IsUtf8, IsCharBoundary, all_scalars, encode_utf8_all}
 use Rattle.std.proofs.lemmas.Str.{chars-append, chars-encodes, scalars-chars}
 use Rattle.std.proofs.Math.Seq.{drop-append_seam, take-append_seam}
@@ -27,14 +25,11 @@ use Rattle.json5_walk.specs.Frames.{value_end, Spells}
 use Rattle.json5_walk.specs.Seams.{WholeTokens}
 use Rattle.json5_walk.proofs.Calls.{sign_front}
 use Rattle.json5_walk.proofs.Rests.{append_nil}
-use Rattle.json5_edit.specs.Changes.{ChangesBy}
 use Rattle.json5_edit.specs.Comparing.{IsRenamed, LacksKey}
 use Rattle.json5_edit.specs.Entries.{members, entries, kind_of}
 use Rattle.json5_edit.specs.Keys.{BeginsWithMember, KeyStarts, TakesKeyAhead, Rekeys}
-use Rattle.json5_edit.specs.Pieces.{Respells, SpellsKey}
-use Rattle.json5_edit.specs.Places.{IsValue}
+use Rattle.json5_edit.specs.Pieces.{SpellsKey}
 use Rattle.json5_edit.specs.Spots.{Goes, joined, Spot}
-use Rattle.json5_edit.specs.declared.faults.EditError.{EditError}
 use Rattle.json5_edit.proofs.Compared.{alone}
 use Rattle.json5_edit.proofs.Placed.{bytes_cut, encoded, scalars_left, scalars_right, seam}
 use Rattle.json5_edit.proofs.Seeks.{object_begins}
@@ -310,7 +305,3 @@ module _ (room : ℕ) (name old : List ℕ) (start : ℕ) (utf8 : IsUtf8 old) (f
       )
 
 -- ---- the layout's spelling
-
-pub laid_rekeys : (room : ℕ) (name key old new : List ℕ) (r : Result (String Global) EditError) → IfOk r (λ made. string_bytes made ≡ new) → OnOk r (IsValue room (chars new)) → OnOk r (KeepsPlain old new) → ChangesBy (IsRenamed name key) old new → Respells old new → IfOk r (λ made. Rekeys room name key old (string_bytes made))
-laid_rekeys room name key old new (Ok made) same fits plain change how = subst (Rekeys room name key old) (sym same) (change, how, fits, plain)
-laid_rekeys room name key old new (Err e) same fits plain change how = tt

@@ -1,11 +1,9 @@
 -- A collection with one entry less in its text.
-use Rattle.std.proofs.Common.{◌≡◌, ℕ, ◌+◌, ◌≤◌, Bool, true, false, List, [], ◌∷◌, ◌++◌, length, Option, Some, None, refl, ap, sym, ◌∙◌, append_assoc, subst, inl, inr, ◌⊎◌, take, drop, Result, Ok, Err, arith}
-use Rattle.std.specs.Prelude.{IfOk, OnOk, MatchOption, String, string_bytes}
-use Rattle.std.specs.declared.alloc.Global.{Global}
-use Rattle.json5_edit.specs.Pieces.{CutsWith, MayGo}
+use Rattle.std.proofs.Common.{◌≡◌, ℕ, ◌+◌, ◌≤◌, Bool, true, false, List, [], ◌∷◌, ◌++◌, length, Option, Some, None, refl, ap, sym, ◌∙◌, append_assoc, subst, inl, inr, ◌⊎◌, take, drop, arith}
+use Rattle.std.specs.Prelude.{MatchOption}
+use Rattle.json5_edit.specs.Pieces.{MayGo}
 use Rattle.json5_edit.specs.declared.belongings.Lead.{Lead}
 use Rattle.json5_edit.specs.declared.belongings.Lead.TheVariants as leads
-use Rattle.json5_edit.specs.declared.faults.EditError.{EditError}
 use Rattle.std.specs.Str.{chars, IsUtf8, IsCharBoundary, all_scalars, encode_utf8_all}
 use Rattle.std.proofs.Math.Seq.{drop-append_seam, take-append_seam}
 use Rattle.std.proofs.lemmas.List.{length-append}
@@ -18,7 +16,7 @@ use Rattle.json5_grammar.specs.Language.Values.{Val}
 use Rattle.json5_grammar.specs.Model.Collections.{IsSign}
 use Rattle.json5_grammar.proofs.BlanksSound.{Blanks-append, gap_blanks}
 use Rattle.json5_lexemes.specs.LastTokens as last
-use Rattle.json5_lexemes.specs.Plain.{Plain, KeepsPlain}
+use Rattle.json5_lexemes.specs.Plain.{Plain}
 use Rattle.json5_lexemes.specs.Spans.{Spans}
 use Rattle.json5_read.specs.declared.brackets.BracketKind.{BracketKind as Kind}
 use Rattle.json5_read.specs.declared.brackets.BracketKind.TheVariants as kind
@@ -407,10 +405,6 @@ closed_there blank whole p left e f gap is =
     let len : length p ≡ length blank = omega (arith, size) in
     let p_is : p ≡ blank = sym (take-append_seam p (44 ∷ [])) ∙ ap (λ n. take n (p ++ (44 ∷ []))) len ∙ ap (take (length blank)) (sym same) ∙ take-append_seam blank (44 ∷ []) in
     subst (λ z. Blanks (chars z)) p_is (gap_blanks 44 [] (subst (Gap (chars p)) (ap chars is ∙ ascii_comma) gap))
-
-pub kept_removed : {s : Step} (l : Lead) (limit : ℕ) (old new : List ℕ) (r : Result (String Global) EditError) → IfOk r (λ made. string_bytes made ≡ new) → OnOk r (IsValue limit (chars new)) → OnOk r (KeepsPlain old new) → ChangesBy (IsWithout s) old new → CutsWith l old new → IfOk r (λ made. Removes s l limit old (string_bytes made))
-kept_removed {s = s} l limit old new (Ok made) same fits plain change how = subst (Removes s l limit old) (sym same) (change, how, fits, plain)
-kept_removed l limit old new (Err e) same fits plain change how = tt
 
 -- where no comment goes, no other one does
 may_go : (l : Lead) (x : List ℕ) → MayGo leads.Stays x → MayGo l x

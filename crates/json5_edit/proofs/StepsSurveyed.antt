@@ -1,13 +1,12 @@
 -- What a survey of a collection says of a step from it.
 use denote.Ref.{Bor}
-use Rattle.std.proofs.Common.{◌≡◌, ℕ, zero, suc, ◌≤◌, Bool, true, false, List, [], ◌∷◌, ◌++◌, length, refl, ap, sym, ◌∙◌, subst, Option, Some, None, nat_eq, arith}
-use Rattle.std.specs.Prelude.{MatchOption, IfOk, OnOk, Result, Ok, Err}
+use Rattle.std.proofs.Common.{◌≡◌, ℕ, zero, suc, ◌≤◌, Bool, true, false, List, [], ◌∷◌, ◌++◌, length, refl, ap, ◌∙◌, subst, Option, Some, None, nat_eq, arith}
+use Rattle.std.specs.Prelude.{MatchOption}
 use Rattle.std.specs.Cmp.Lexicographic.{pointwise, bytes_decides}
 use Rattle.std.specs.Str.{chars, encode_utf8_all}
 use Rattle.json5_grammar.specs.Language.Documents.{Doc, max_depth}
 use Rattle.json5_grammar.specs.Language.Trees.{Tree, null, boolean, number, text, array, object, Trees, Members, no_more, more, no_member, member}
 use Rattle.json5_read.specs.declared.brackets.BracketKind.TheVariants as kind
-use Rattle.json5_edit.specs.Changes.{ChangesBy}
 use Rattle.json5_edit.specs.Comparing.{LacksKey, step_kind}
 use Rattle.json5_edit.specs.Entries.{elements, members, entries, kind_of}
 use Rattle.json5_edit.specs.Parts.{element_of, later_or, member_of, in_element, in_member, positions_of}
@@ -120,13 +119,3 @@ key_taken {limit = limit} {bytes = bytes} {found = found} k n small e p =
     (p.tree, value_document max_depth (chars bytes) p.tree p.value (omega (arith, d, small)), in_tree k.now p.tree (entries q.entry.before) q.entry.after q.entry.gone p.kind q.entry.all)
 
 -- ---- a text that was made and checked
-
-pub kept : {A E : Type 0} (spelling : A → List ℕ) (Bytes : List ℕ → List ℕ → Type 0) (Change : Tree → Tree → Type 0) (limit : ℕ) (old new shown : List ℕ) (r : Result A E) → shown ≡ new → ChangesBy Change old shown → Bytes old new → IfOk r (λ made. spelling made ≡ new) → OnOk r (IsValue limit (chars new)) → IfOk r (λ made. ChangesBy Change old (spelling made) × Bytes old (spelling made) × IsValue limit (chars (spelling made)))
-kept spelling Bytes Change limit old new shown (Ok made) is change how same value =
-    subst (λ x. ChangesBy Change old x × Bytes old x × IsValue limit (chars x)) (sym same) (subst (ChangesBy Change old) is change, how, value)
-kept spelling Bytes Change limit old new shown (Err e) is change how same value = tt
-
--- what holds of the text that was made holds of what is returned, which is the same
-pub same_then : {A E : Type 0} (spelling : A → List ℕ) (P : List ℕ → Type 0) (new : List ℕ) (r : Result A E) → IfOk r (λ made. spelling made ≡ new) → OnOk r (P new) → IfOk r (λ made. P (spelling made))
-same_then spelling P new (Ok made) same p = subst P (sym same) p
-same_then spelling P new (Err e) same p = tt

@@ -1,7 +1,7 @@
 -- Where an entry stands in the text of a collection, and where one more may stand.
 -- A promise rests on this.
 use Rattle.std.specs.declared.alloc.Global.{Global}
-use Rattle.std.specs.Prelude.{◌≡◌, ◌⊎◌, ℕ, ◌+◌, ◌-◌, ◌≤◌, IfErr, IfOk, Result, String, string_bytes, Bool, true, false, List, [], ◌∷◌, ◌++◌, length, Option, Some, None, MatchOption, take, ⊤}
+use Rattle.std.specs.Prelude.{◌≡◌, ◌⊎◌, ℕ, ◌+◌, ◌-◌, ◌≤◌, IfOk, Result, String, string_bytes, Bool, true, false, List, [], ◌∷◌, ◌++◌, length, Option, Some, None, MatchOption, take, ⊤}
 use Rattle.std.specs.Str.{chars, IsUtf8, encode_utf8_all}
 use Rattle.json5_grammar.specs.Language.Blanks.{Blanks, Gap, LastBlanks, Solid}
 use Rattle.json5_grammar.specs.Language.Characters.{comma_sign, colon_sign}
@@ -25,8 +25,6 @@ use Rattle.json5_edit.specs.Pieces.{CutsWith, Grows, IsEnd, IsEntryText, IsName}
 use Rattle.json5_edit.specs.Places.{IsValue}
 use Rattle.json5_edit_style.specs.declared.collection.Collection.{Collection}
 use Rattle.json5_edit.specs.declared.belongings.Lead.{Lead}
-use Rattle.json5_edit.specs.declared.faults.EditError.{EditError}
-use Rattle.json5_edit.specs.declared.faults.EditError.TheVariants as error
 use Rattle.json5_edit.specs.declared.paths.Before.{Before}
 use Rattle.json5_edit.specs.declared.paths.Before.TheVariants as before_place
 use Rattle.json5_edit.specs.declared.paths.Step.{Step}
@@ -198,13 +196,13 @@ StartsBefore b limit bytes start = MatchOption start ((b ≡ before_place.First)
 abbrev pub AddsMember : Before → (key value : List ℕ) → ℕ → (document old new : List ℕ) → Type 0
 AddsMember b key value limit document old new = Adds kind.Object value (GainsMember b key value) limit old new × StaysPlain document value new
 
--- the same; or memory ran out
-abbrev pub PutsMember : Before → (key value : List ℕ) → ℕ → (document old : List ℕ) → Result (String Global) EditError → Type 0
-PutsMember b key value limit document old result = IfOk result (λ made. AddsMember b key value limit document old (string_bytes made)) × IfErr result (λ e. e ≡ error.NoMemory)
+-- the same, of what a call answers
+abbrev pub PutsMember : {E : Type 0} → Before → (key value : List ℕ) → ℕ → (document old : List ℕ) → Result (String Global) E → Type 0
+PutsMember b key value limit document old result = IfOk result (λ made. AddsMember b key value limit document old (string_bytes made))
 
 -- the same, where a name as the first key of a document may make it less plain
-abbrev pub PutsThere : Before → (key value : List ℕ) → ℕ → Collection → (old : List ℕ) → Result (String Global) EditError → Type 0
-PutsThere b key value limit c old result = IfOk result (λ made. Adds kind.Object value (GainsMember b key value) limit old (string_bytes made) × StaysPlainQuoted c.names c.document.now value (string_bytes made)) × IfErr result (λ e. e ≡ error.NoMemory)
+abbrev pub PutsThere : {E : Type 0} → Before → (key value : List ℕ) → ℕ → Collection → (old : List ℕ) → Result (String Global) E → Type 0
+PutsThere b key value limit c old result = IfOk result (λ made. Adds kind.Object value (GainsMember b key value) limit old (string_bytes made) × StaysPlainQuoted c.names c.document.now value (string_bytes made))
 
 -- the value may be put there
 abbrev pub MayComeBefore : Before → ℕ → (document old : List ℕ) → ℕ → List ℕ → Type 0

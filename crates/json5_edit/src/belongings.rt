@@ -1,12 +1,11 @@
 //! What goes with an entry: the comments that belong to it, and no others.
 
-ghost use Rattle.std.specs.Prelude.{◌≡◌, ◌++◌, IfOk, IfErr, IsTrue, OnOk};
+ghost use Rattle.std.specs.Prelude.{◌≡◌, ◌++◌, IfOk, IsTrue, OnOk};
 ghost use Rattle.std.specs.Str.{chars};
 ghost use Rattle.json5_edit.specs.Pieces.{GoesWith, IsEntryText, MayGo};
-ghost use Rattle.json5_edit.specs.Refusals.{IsOwn};
 ghost use Rattle.json5_grammar.specs.Language.Blanks.{Gap, Solid};
 
-use crate::faults::{EditError, Result};
+use crate::faults::{Result, Unmade};
 use crate::pieces::{is_blank, split};
 use crate::plain::entry_len;
 use json5_edit_style::comments::{is_lead, is_trail};
@@ -31,20 +30,19 @@ pub(crate) fn check_gone(
     kind: BracketKind,
     leads: Lead,
     room: Limit,
-) -> Result<()>
-    ensures belongs { OnOk result (GoesWith leads before.now gone.now after.now) }
-    ensures own { IfErr result IsOwn }
+) -> Result<(), Unmade>
+    ensures { OnOk result (GoesWith leads before.now gone.now after.now) }
 {
     let (lead, rest) = split_blanks(alloc, gone)?;
     let (_entry, trail) = split_entry(alloc, rest, kind, room)?;
     if !is_lead(alloc, before, lead) {
-        return Err(EditError::Failed);
+        return Err(Unmade::Failed);
     }
     if !is_trail(alloc, trail, after) {
-        return Err(EditError::Failed);
+        return Err(Unmade::Failed);
     }
     if !may_go(leads, lead) {
-        return Err(EditError::Failed);
+        return Err(Unmade::Failed);
     }
     Ok(())
 }
@@ -60,27 +58,26 @@ fn may_go(leads: Lead, lead: &str) -> bool
 }
 
 /// The blanks and comments in front of the text, and what follows them.
-pub(crate) fn split_blanks(alloc: Global, text: &str) -> Result<(&str, &str)>
+pub(crate) fn split_blanks(alloc: Global, text: &str) -> Result<(&str, &str), Unmade>
     ensures split { IfOk result (λ parts. text.now ≡ parts.0.now ++ parts.1.now) }
     ensures blank { IfOk result (λ parts. Gap (chars parts.0.now) (chars parts.1.now)) }
     ensures solid { IfOk result (λ parts. Solid (chars parts.1.now)) }
-    ensures own { IfErr result IsOwn }
 {
     let mut scanner = Scanner::new(alloc, text);
-    match scanner.skip_blank() {
-        Ok(()) => split(text, scanner.offset()),
-        Err(error) => Err(EditError::of_made(error)),
-    }
+    scanner.skip_blank()?;
+    split(text, scanner.offset())
 }
 
 /// The entry in front of the text, with the comma after it, if there is one, and what follows it.
-fn split_entry(alloc: Global, text: &str, kind: BracketKind, room: Limit) -> Result<(&str, &str)>
+fn split_entry(
+    alloc: Global,
+    text: &str,
+    kind: BracketKind,
+    room: Limit,
+) -> Result<(&str, &str), Unmade>
     ensures split { IfOk result (λ parts. text.now ≡ parts.0.now ++ parts.1.now) }
     ensures entry { IfOk result (λ parts. Solid (chars text.now) → IsEntryText (chars parts.0.now)) }
-    ensures own { IfErr result IsOwn }
 {
-    match entry_len(alloc, text, kind, room) {
-        Ok(len) => split(text, len.whole),
-        Err(error) => Err(EditError::of_made(error)),
-    }
+    let len = entry_len(alloc, text, kind, room)?;
+    split(text, len.whole)
 }

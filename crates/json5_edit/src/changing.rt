@@ -1,12 +1,10 @@
 //! Adds, removes and renames the entries of a collection.
 
 ghost use Rattle.std.specs.Prelude.{◌≡◌, ◌≤◌, ◌-◌, ℕ, List, [], false, IfOk, IfErr, OnOk, string_bytes};
-ghost use Rattle.json5_edit.specs.Changes.{ChangesBy, Gains, GainsAt, IsRemoved, IsRemovedAlone, RemovesWith, IsPushed, IsPutIn, IsInserted, IsRekeyed, StaysPlainQuoted};
-ghost use Rattle.json5_edit.specs.Pieces.{Grows};
-ghost use Rattle.json5_edit.specs.Places.{Fits, HasPlace, IsPart, IsValue};
-ghost use Rattle.json5_edit.specs.Refusals.{RefusesRemove, RefusesPush, RefusesPutIn, RefusesInsert, RefusesRename, RefusesKind, RefusesKey, RefusesValue, IsFree, IsOwn, BeginsNo};
+ghost use Rattle.json5_edit.specs.Changes.{Gains, GainsAt, IsRemoved, IsRemovedAlone, RemovesWith, IsPushed, IsPutIn, IsInserted, IsRekeyed, StaysPlainQuoted};
+ghost use Rattle.json5_edit.specs.Places.{HasPlace, IsPart, IsValue};
+ghost use Rattle.json5_edit.specs.Refusals.{RefusesRemove, RefusesPush, RefusesPutIn, RefusesInsert, RefusesRename, RefusesKey, RefusesValue, IsFree, BeginsNo};
 ghost use Rattle.json5_edit.specs.Spots.{Adds, HasEnd, HasEntry, HasFound, Removes, due_at};
-ghost use Rattle.json5_edit.specs.declared.faults.EditError.TheVariants as edit_errors;
 ghost use Rattle.json5_edit.specs.declared.paths.Step.TheVariants as step;
 ghost use Rattle.json5_edit_style.specs.declared.habits.Names.TheVariants as layout_names;
 ghost use Rattle.json5_lexemes.specs.Plain.{KeepsPlain, StaysPlain};
@@ -15,19 +13,17 @@ ghost use Rattle.json5_grammar.specs.Language.Documents.{max_depth};
 ghost use Rattle.json5_walk.specs.Walks.{IsDocument};
 ghost use Rattle.std.specs.Str.{chars, encode_utf8_all};
 
-use crate::as_plain::fitting_as_plain;
+use crate::as_plain::check_as_plain;
 use crate::belongings::Lead;
 use crate::comparing::{check_added, check_put_in, check_removed, kind};
-use crate::faults::{EditError, Result};
+use crate::faults::{EditError, Result, Unmade, lack};
 use crate::paths::Step;
 use crate::pieces::{cut, grown};
 use crate::places::walked_place;
-use crate::plain::{
-    End, array_end, entry_found, entry_start, free_end, with_element, with_last, with_member,
-    without_entry,
-};
+use crate::plain::{End, array_end, entry_found, free_end, join_four, with_last, without_entry};
 use crate::renaming::renamed;
-use crate::setting::{check_value, place_of, splice};
+use crate::setting::{check_value, join, place_of, splice};
+use crate::spelled::json_key;
 use crate::survey::{Found, limit_of};
 use json5_edit_style::{
     Added, Collection, Cut, Names, Which, cut_alone_for, cut_for, growth_before, growth_for,
@@ -37,7 +33,7 @@ use json5_read::brackets::BracketKind;
 use json5_tokens::scanner::Scanner;
 use json5_types::nesting::Limit;
 use json5_walk::place::Place;
-use std::alloc::Global;
+use std::alloc::{AllocError, Global};
 
 /// Returns the text without the element or the member that the path leads to: without its comma, the comments that
 /// belong to it, and its line, if it has one to itself. A comment belongs to it that stands after it on its line, or
@@ -117,12 +113,10 @@ pub fn push(alloc: Global, text: &str, path: &[Step<'_>], value: &str) -> Result
     let place = place_of(alloc, text, path)?;
     let room = limit_of(place.room);
     let old = part_text(text, place);
-    if !begins(alloc, old, BracketKind::Array) {
-        return Err(EditError::NotArray);
-    }
+    let end = array_end(alloc, old, room)?;
     check_entry(alloc, value, place)?;
     let collection = collection(text, place);
-    let new = pushed(alloc, &collection, old, value, room)?;
+    let new = pushed(alloc, &collection, old, end, value, room)?;
     splice(alloc, text, place, new.as_str())
 }
 
@@ -158,10 +152,10 @@ pub fn insert_element(
     if !begins(alloc, old, BracketKind::Array) {
         return Err(EditError::NotArray);
     }
-    let start = entry_start(alloc, old, Step::Index(index), room)?;
+    let found = entry_found(alloc, old, Step::Index(index), room)?;
     check_entry(alloc, value, place)?;
     let collection = collection(text, place);
-    let new = put_in(alloc, &collection, old, index, start, value, room)?;
+    let new = put_in(alloc, &collection, old, index, found.start, value, room)?;
     splice(alloc, text, place, new.as_str())
 }
 
@@ -257,10 +251,10 @@ pub fn rename(alloc: Global, text: &str, path: &[Step<'_>], key: &str) -> Result
     let place = place_of(alloc, text, outer)?;
     let room = limit_of(place.room);
     let old = part_text(text, place);
-    let start = entry_start(alloc, old, *step, room)?;
+    let found = entry_found(alloc, old, *step, room)?;
     check_key(alloc, old, key)?;
     let collection = collection(text, place);
-    let new = renamed(alloc, &collection, old, room, start, name, key)?;
+    let new = renamed(alloc, &collection, old, room, found.start, name, key)?;
     splice(alloc, text, place, new.as_str())
 }
 
@@ -303,7 +297,7 @@ fn check_key(alloc: Global, old: &str, key: &str) -> Result<()>
     match walked_place(alloc, old, &[Step::Key(key)]) {
         Ok(None) => Ok(()),
         Ok(Some(_)) => Err(EditError::Taken),
-        Err(error) => Err(EditError::of_made(error)),
+        Err(error) => Err(lack(error).into()),
     }
 }
 
@@ -316,15 +310,14 @@ fn removed(
     found: Found,
     leads: Lead,
     room: Limit,
-) -> Result<String>
+) -> Result<String, AllocError>
     requires { HasFound step room old.now found }
-    ensures removed { IfOk result (λ new. Removes step.entry leads room old.now (string_bytes new)) }
-    ensures full { IfErr result (λ e. e ≡ edit_errors.NoMemory) }
+    ensures { IfOk result (λ new. Removes step.entry leads room old.now (string_bytes new)) }
 {
     match removed_by_lines(alloc, old, step, found, leads, room) {
         Ok(new) => Ok(new),
-        Err(EditError::NoMemory) => Err(EditError::NoMemory),
-        Err(_) => without_entry(alloc, old, step, found, room),
+        Err(Unmade::NoMemory) => Err(AllocError),
+        Err(Unmade::Failed) => without_entry(alloc, old, step, found, room),
     }
 }
 
@@ -336,16 +329,17 @@ fn removed_by_lines(
     found: Found,
     leads: Lead,
     room: Limit,
-) -> Result<String>
+) -> Result<String, Unmade>
     requires { HasFound step room old.now found }
     ensures { IfOk result (λ new. Removes step.entry leads room old.now (string_bytes new)) }
 {
-    let gone = laid(cut_with(alloc, old, which(step), leads))?;
+    let gone = cut_with(alloc, old, which(step), leads)?;
     let new = cut(alloc, old, gone, found.before, kind(step), leads, room)?;
-    match check_removed(alloc, old, new.as_str(), step, gone.index) {
-        Ok(()) => kept_plain(alloc, old, new, room),
-        Err(error) => Err(EditError::of_made(error)),
-    }
+    let text = new.as_str();
+    check_removed(alloc, old, text, step, gone.index)?;
+    check_plain(old, text)?;
+    check_fits(alloc, text, room)?;
+    Ok(new)
 }
 
 /// What goes with the entry, as the layout says it.
@@ -361,29 +355,22 @@ fn cut_with(
     }
 }
 
-/// The text, if it is a value that fits.
-pub(crate) fn fitting(alloc: Global, new: String, room: Limit) -> Result<String>
-    ensures same { IfOk result (λ made. string_bytes made ≡ string_bytes new) }
-    ensures value { OnOk result (IsValue room (chars (string_bytes new))) }
-    ensures own { IfErr result IsOwn }
+/// Refuses what isn't a value alone that fits.
+pub(crate) fn check_fits(alloc: Global, new: &str, room: Limit) -> Result<(), Unmade>
+    ensures { OnOk result (IsValue room (chars new.now)) }
 {
-    match check_value(alloc, new.as_str(), usize::from(room.get())) {
-        Ok(()) => Ok(new),
-        Err(error) => Err(EditError::of_made(error)),
-    }
+    check_value(alloc, new, usize::from(room.get()))?;
+    Ok(())
 }
 
-/// The text, if it is a value that fits, and as plain as the old one.
-pub(crate) fn kept_plain(alloc: Global, old: &str, new: String, room: Limit) -> Result<String>
-    ensures same { IfOk result (λ made. string_bytes made ≡ string_bytes new) }
-    ensures value { OnOk result (IsValue room (chars (string_bytes new))) }
-    ensures plain { OnOk result (KeepsPlain old.now (string_bytes new)) }
-    ensures own { IfErr result IsOwn }
+/// Refuses what is less plain than the old text.
+pub(crate) fn check_plain(old: &str, new: &str) -> Result<(), Unmade>
+    ensures { OnOk result (KeepsPlain old.now new.now) }
 {
-    if !keeps_plain(old, new.as_str()) {
-        return Err(EditError::Failed);
+    if keeps_plain(old, new) {
+        return Ok(());
     }
-    fitting(alloc, new, room)
+    Err(Unmade::Failed)
 }
 
 /// The array with one more element: with its lines and comments, if that reads so, or else at its end alone.
@@ -391,30 +378,21 @@ fn pushed(
     alloc: Global,
     collection: &Collection<'_>,
     old: &str,
+    end: End,
     value: &str,
     room: Limit,
-) -> Result<String>
-    requires old { Fits room old.now }
+) -> Result<String, AllocError>
+    requires end { HasEnd kind.Array room old.now end }
     requires value { IsValue (room - 1) (chars value.now) }
     requires plain { KeepsPlain collection.now.document.now old.now }
     ensures pushed { IfOk result (λ new. Adds kind.Array value.now (Gains kind.Array [] value.now) room old.now (string_bytes new)) }
     ensures plain { IfOk result (λ new. StaysPlainQuoted collection.now.names collection.now.document.now value.now (string_bytes new)) }
-    ensures refused { IfErr result (RefusesKind kind.Array old.now) }
 {
-    let end = array_end(alloc, old, room)?;
-    match added_by_lines(
-        alloc,
-        collection,
-        old,
-        end,
-        BracketKind::Array,
-        "",
-        value,
-        room,
-    ) {
+    let kind = BracketKind::Array;
+    match added_by_lines(alloc, collection, old, end, kind, "", value, room) {
         Ok(new) => Ok(new),
-        Err(EditError::NoMemory) => Err(EditError::NoMemory),
-        Err(_) => with_last(alloc, old, end, "", value, BracketKind::Array, room),
+        Err(Unmade::NoMemory) => Err(AllocError),
+        Err(Unmade::Failed) => with_last(alloc, old, end, "", value, kind, room),
     }
 }
 
@@ -427,27 +405,22 @@ pub(crate) fn inserted(
     key: &str,
     value: &str,
     room: Limit,
-) -> Result<String>
+) -> Result<String, AllocError>
     requires end { HasEnd kind.Object room old.now end }
     requires value { IsValue (room - 1) (chars value.now) }
     requires plain { KeepsPlain collection.now.document.now old.now }
     ensures inserted { IfOk result (λ new. Adds kind.Object value.now (Gains kind.Object key.now value.now) room old.now (string_bytes new)) }
     ensures plain { IfOk result (λ new. StaysPlainQuoted collection.now.names collection.now.document.now value.now (string_bytes new)) }
-    ensures full { IfErr result (λ e. e ≡ edit_errors.NoMemory) }
 {
-    match added_by_lines(
-        alloc,
-        collection,
-        old,
-        end,
-        BracketKind::Object,
-        key,
-        value,
-        room,
-    ) {
+    let kind = BracketKind::Object;
+    match added_by_lines(alloc, collection, old, end, kind, key, value, room) {
         Ok(new) => Ok(new),
-        Err(EditError::NoMemory) => Err(EditError::NoMemory),
-        Err(_) => with_member(alloc, old, end, key, value, room),
+        Err(Unmade::NoMemory) => Err(AllocError),
+        Err(Unmade::Failed) => {
+            let key = json_key(alloc, key)?;
+            let name = join(alloc, key.as_str(), ":", "")?;
+            with_last(alloc, old, end, name.as_str(), value, kind, room)
+        }
     }
 }
 
@@ -461,25 +434,19 @@ fn added_by_lines(
     key: &str,
     value: &str,
     room: Limit,
-) -> Result<String>
+) -> Result<String, Unmade>
     requires { HasEnd kind room old.now end }
     ensures added { IfOk result (λ new. Adds kind value.now (Gains kind key.now value.now) room old.now (string_bytes new)) }
     ensures plain { IfOk result (λ new. StaysPlainQuoted collection.now.names collection.now.document.now value.now (string_bytes new)) }
 {
     let added = Added { kind, key, value };
-    let growth = laid(growth_for(alloc, collection, added))?;
+    let growth = growth_for(alloc, collection, added)?;
     let new = grown(alloc, old, &growth, due_at(end), kind, value)?;
-    match check_added(alloc, old, new.as_str(), growth.count, kind, key, value) {
-        Ok(()) => fitting_as_plain(
-            alloc,
-            collection.names,
-            collection.document,
-            value,
-            new,
-            room,
-        ),
-        Err(error) => Err(EditError::of_made(error)),
-    }
+    let text = new.as_str();
+    check_added(alloc, old, text, growth.count, kind, key, value)?;
+    check_as_plain(collection.names, collection.document, value, text)?;
+    check_fits(alloc, text, room)?;
+    Ok(new)
 }
 
 /// The offset at which a comma is due, if one is.
@@ -499,18 +466,20 @@ fn put_in(
     start: usize,
     value: &str,
     room: Limit,
-) -> Result<String>
+) -> Result<String, AllocError>
     requires entry { HasEntry (step.Index index) room old.now start }
     requires value { IsValue (room - 1) (chars value.now) }
     requires plain { KeepsPlain collection.now.document.now old.now }
     ensures put_in { IfOk result (λ new. Adds kind.Array value.now (GainsAt index value.now) room old.now (string_bytes new)) }
     ensures plain { IfOk result (λ new. StaysPlain collection.now.document.now value.now (string_bytes new)) }
-    ensures full { IfErr result (λ e. e ≡ edit_errors.NoMemory) }
 {
     match put_in_by_lines(alloc, collection, old, index, value, room) {
         Ok(new) => Ok(new),
-        Err(EditError::NoMemory) => Err(EditError::NoMemory),
-        Err(_) => with_element(alloc, old, index, start, value, room),
+        Err(Unmade::NoMemory) => Err(AllocError),
+        Err(Unmade::Failed) => {
+            let (front, back) = old.split_at(start);
+            join_four(alloc, front, value, ",", back)
+        }
     }
 }
 
@@ -522,26 +491,17 @@ fn put_in_by_lines(
     index: usize,
     value: &str,
     room: Limit,
-) -> Result<String>
+) -> Result<String, Unmade>
     ensures added { IfOk result (λ new. Adds kind.Array value.now (GainsAt index value.now) room old.now (string_bytes new)) }
     ensures plain { IfOk result (λ new. StaysPlain collection.now.document.now value.now (string_bytes new)) }
 {
-    let growth = laid(growth_before(alloc, collection, index))?;
+    let growth = growth_before(alloc, collection, index)?;
     let new = grown(alloc, old, &growth, None, BracketKind::Array, value)?;
-    match check_put_in(alloc, old, new.as_str(), index, value) {
-        Ok(()) => fitting_as_plain(alloc, Names::Quoted, collection.document, value, new, room),
-        Err(error) => Err(EditError::of_made(error)),
-    }
-}
-
-/// What the layout says, or why it says nothing.
-pub(crate) fn laid<T: Drop>(said: json5_types::error::Result<T>) -> Result<T>
-    ensures { IfErr result IsOwn }
-{
-    match said {
-        Ok(said) => Ok(said),
-        Err(error) => Err(EditError::of_made(error)),
-    }
+    let text = new.as_str();
+    check_put_in(alloc, old, text, index, value)?;
+    check_as_plain(Names::Quoted, collection.document, value, text)?;
+    check_fits(alloc, text, room)?;
+    Ok(new)
 }
 
 /// Refuses what isn't a value alone that fits within the place.

@@ -5,15 +5,15 @@ ghost use Rattle.std.specs.Str.{chars};
 ghost use Rattle.json5_edit_style.specs.Comments.{IsLead};
 ghost use Rattle.json5_edit.specs.Commented.{Comments, IsCommented};
 ghost use Rattle.json5_edit.specs.Pieces.{Recomments};
-ghost use Rattle.json5_edit.specs.Refusals.{IsOwn, RefusesComment};
+ghost use Rattle.json5_edit.specs.Refusals.{RefusesComment};
 ghost use Rattle.json5_edit.specs.Spots.{HasEntry};
 
-use crate::changing::{collection, fitting, laid, part_text, which};
+use crate::changing::{check_fits, collection, part_text, which};
 use crate::comparing::{check_same, kind};
-use crate::faults::{EditError, Result};
+use crate::faults::{EditError, Result, Unmade};
 use crate::paths::Step;
 use crate::pieces::split;
-use crate::plain::entry_start;
+use crate::plain::entry_found;
 use crate::setting::{join, place_of, splice};
 use crate::survey::limit_of;
 use json5_edit_style::comments::is_lead;
@@ -48,7 +48,7 @@ pub fn comment(alloc: Global, text: &str, path: &[Step<'_>], comment: &str) -> R
     let place = place_of(alloc, text, outer)?;
     let room = limit_of(place.room);
     let old = part_text(text, place);
-    let start = entry_start(alloc, old, *step, room)?;
+    let start = entry_found(alloc, old, *step, room)?.start;
     let collection = collection(text, place);
     let new = commented(alloc, &collection, old, *step, start, comment, room)?;
     splice(alloc, text, place, new.as_str())
@@ -73,12 +73,9 @@ pub fn comment_of(alloc: Global, text: &str, path: &[Step<'_>]) -> Result<String
     let place = place_of(alloc, text, outer)?;
     let room = limit_of(place.room);
     let old = part_text(text, place);
-    let start = entry_start(alloc, old, *step, room)?;
+    let start = entry_found(alloc, old, *step, room)?.start;
     let from = comments_start(alloc, old, *step, start)?;
-    match said(alloc, old.get(from..start)) {
-        Ok(said) => Ok(said),
-        Err(_) => Err(EditError::NoMemory),
-    }
+    Ok(said(alloc, old.get(from..start))?)
 }
 
 /// The collection with the comment before the entry that the step goes to, which begins at the offset.
@@ -90,16 +87,14 @@ fn commented(
     start: usize,
     comment: &str,
     room: Limit,
-) -> Result<String>
+) -> Result<String, Unmade>
     requires { HasEntry step room old.now start }
-    ensures commented { IfOk result (λ new. Comments step.entry room old.now (string_bytes new)) }
-    ensures own { IfErr result IsOwn }
+    ensures { IfOk result (λ new. Comments step.entry room old.now (string_bytes new)) }
 {
     let new = recommented(alloc, collection, old, step, start, comment)?;
-    match check_same(alloc, old, new.as_str(), kind(step)) {
-        Ok(()) => fitting(alloc, new, room),
-        Err(error) => Err(EditError::of_made(error)),
-    }
+    check_same(alloc, old, new.as_str(), kind(step))?;
+    check_fits(alloc, new.as_str(), room)?;
+    Ok(new)
 }
 
 /// The text with the comment right before the offset.
@@ -110,39 +105,32 @@ fn recommented(
     step: Step<'_>,
     start: usize,
     comment: &str,
-) -> Result<String>
-    ensures recomments { IfOk result (λ new. Recomments start old.now (string_bytes new)) }
-    ensures own { IfErr result IsOwn }
+) -> Result<String, Unmade>
+    ensures { IfOk result (λ new. Recomments start old.now (string_bytes new)) }
 {
     let from = comments_start(alloc, old, step, start)?;
     let (head, back) = split(old, start)?;
     let (front, gone) = split(head, from)?;
-    let came = match spelled(alloc, collection, front, comment) {
-        Ok(came) => came,
-        Err(_) => return Err(EditError::NoMemory),
-    };
+    let came = spelled(alloc, collection, front, comment)?;
     let lead = came.as_str();
     check_lead(alloc, front, gone)?;
     check_lead(alloc, front, lead)?;
-    join(alloc, front, lead, back)
+    Ok(join(alloc, front, lead, back)?)
 }
 
 /// Refuses what isn't comments that belong to an entry, after this text.
-fn check_lead(alloc: Global, front: &str, lead: &str) -> Result<()>
-    ensures lead { OnOk result (IsLead (chars front.now) (chars lead.now)) }
-    ensures own { IfErr result IsOwn }
+fn check_lead(alloc: Global, front: &str, lead: &str) -> Result<(), Unmade>
+    ensures { OnOk result (IsLead (chars front.now) (chars lead.now)) }
 {
     if is_lead(alloc, front, lead) {
         return Ok(());
     }
-    Err(EditError::Failed)
+    Err(Unmade::Failed)
 }
 
 /// Where the comments begin that belong to the entry which begins at the offset: there, if there are none.
-fn comments_start(alloc: Global, old: &str, step: Step<'_>, start: usize) -> Result<usize>
-    ensures { IfErr result IsOwn }
-{
-    let gone = laid(cut_for(alloc, old, which(step)))?;
+fn comments_start(alloc: Global, old: &str, step: Step<'_>, start: usize) -> Result<usize, Unmade> {
+    let gone = cut_for(alloc, old, which(step))?;
     let Some(lead) = old.get(gone.start..start) else {
         return Ok(start);
     };
@@ -161,7 +149,7 @@ fn spelled(
     collection: &Collection<'_>,
     front: &str,
     comment: &str,
-) -> std::result::Result<String, AllocError> {
+) -> Result<String, AllocError> {
     if comment.is_empty() {
         return Ok(String::new(alloc));
     }
@@ -181,7 +169,7 @@ fn spelled(
 }
 
 /// Appends each line behind `//`, and what begins the next one.
-fn push_lines(made: &mut String, comment: &str, next: &str) -> std::result::Result<(), AllocError> {
+fn push_lines(made: &mut String, comment: &str, next: &str) -> Result<(), AllocError> {
     for line in comment.lines() {
         made.push_str("//")?;
         if !line.is_empty() {
@@ -196,7 +184,7 @@ fn push_lines(made: &mut String, comment: &str, next: &str) -> std::result::Resu
 }
 
 /// What these comments say.
-fn said(alloc: Global, comments: Option<&str>) -> std::result::Result<String, AllocError> {
+fn said(alloc: Global, comments: Option<&str>) -> Result<String, AllocError> {
     let mut made = String::new(alloc);
     let Some(comments) = comments else {
         return Ok(made);

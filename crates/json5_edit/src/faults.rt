@@ -10,6 +10,7 @@ ghost use Rattle.json5_edit.specs.declared.paths.Step.{Step};
 
 use json5_types::ErrorCode;
 use json5_types::error::Error;
+use std::alloc::AllocError;
 use std::fmt;
 
 /// Why an edit isn't made. Nothing is changed then.
@@ -41,7 +42,16 @@ pub enum EditError {
 }
 
 /// What an edit returns: the new text, or why it isn't made.
-pub type Result<T> = std::result::Result<T, EditError>;
+pub type Result<T, E = EditError> = std::result::Result<T, E>;
+
+/// Why a text isn't made in one way. Another is tried then, unless memory ran out.
+#[derive(Drop)]
+pub(crate) enum Unmade {
+    /// Memory ran out.
+    NoMemory,
+    /// What was made doesn't read as it should.
+    Failed,
+}
 
 impl EditError {
     /// Returns the error of an edit whose reading of the document ended with this fault.
@@ -70,15 +80,46 @@ impl EditError {
             _ => EditError::Value(error),
         }
     }
+}
 
-    /// The error that reading what was made ended with.
-    pub(crate) fn of_made(error: Error) -> EditError
-        ensures own { IsOwn result }
-        ensures memory { LacksMemory error → result ≡ errors.NoMemory }
-    {
+/// What is told where reading could only want memory.
+pub(crate) fn lack(_error: Error) -> AllocError
+    requires { LacksMemory _error }
+{
+    AllocError
+}
+
+impl From<AllocError> for EditError {
+    ghost from_gives = { λ _ e. e ≡ errors.NoMemory };
+
+    fn from(_error: AllocError) -> EditError {
+        EditError::NoMemory
+    }
+}
+
+impl From<Unmade> for EditError {
+    ghost from_gives = { λ _ e. IsOwn e };
+
+    fn from(unmade: Unmade) -> EditError {
+        match unmade {
+            Unmade::NoMemory => EditError::NoMemory,
+            Unmade::Failed => EditError::Failed,
+        }
+    }
+}
+
+impl From<AllocError> for Unmade {
+    fn from(_error: AllocError) -> Unmade {
+        Unmade::NoMemory
+    }
+}
+
+/// Reading what was made ended with this fault.
+impl From<Error> for Unmade {
+    fn from(error: Error) -> Unmade {
         match error.code() {
-            Some(ErrorCode::OutOfMemory) => EditError::NoMemory,
-            _ => EditError::Failed,
+            Some(ErrorCode::OutOfMemory) => Unmade::NoMemory,
+            _ => Unmade::Failed,
         }
     }
 }

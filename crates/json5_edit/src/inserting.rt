@@ -7,14 +7,14 @@ ghost use Rattle.json5_edit.specs.Spots.{AddsMember, IsObject, MayComeBefore, Ma
 ghost use Rattle.json5_types.specs.Errors.{LacksMemory};
 ghost use Rattle.json5_edit.specs.declared.paths.Before.TheVariants as before_place;
 
-use crate::as_plain::fitting_as_plain;
-use crate::changing::{check_entry, collection, inserted, laid, part_text};
+use crate::as_plain::check_as_plain;
+use crate::changing::{check_entry, check_fits, collection, inserted, part_text};
 use crate::comparing::check_inserted;
 use crate::entries::failed;
-use crate::faults::{EditError, Result};
+use crate::faults::{Result, Unmade, lack};
 use crate::paths::{Before, Step};
 use crate::pieces::grown;
-use crate::plain::{End, entry_start, free_end, with_member_before};
+use crate::plain::{End, entry_found, free_end, with_member_before};
 use crate::setting::{place_of, splice};
 use crate::survey::limit_of;
 use json5_edit_style::{Collection, Names, Which, member_growth_before};
@@ -22,7 +22,7 @@ use json5_read::brackets::BracketKind;
 use json5_types::error;
 use json5_types::nesting::Limit;
 use json5_walk::walk::Walk;
-use std::alloc::Global;
+use std::alloc::{AllocError, Global};
 
 /// Returns the text with one more member of the object that the path leads to, before another or before all: this key,
 /// and `value`, a JSON5 value without blanks or comments around it. It stands on a line of its own if the member after
@@ -81,10 +81,10 @@ fn start_before(alloc: Global, old: &str, before: Before<'_>, room: Limit) -> Re
     match before {
         Before::First => match first_start(alloc, old, room) {
             Ok(start) => Ok(start),
-            Err(error) => Err(EditError::of_made(error)),
+            Err(error) => Err(lack(error).into()),
         },
-        Before::Key(next) => match entry_start(alloc, old, Step::Key(next), room) {
-            Ok(start) => Ok(Some(start)),
+        Before::Key(next) => match entry_found(alloc, old, Step::Key(next), room) {
+            Ok(found) => Ok(Some(found.start)),
             Err(error) => Err(error),
         },
     }
@@ -119,7 +119,7 @@ fn put_there(
     key: &str,
     value: &str,
     room: Limit,
-) -> Result<String>
+) -> Result<String, AllocError>
     requires { MayComeThere before room collection.now old.now start end value.now }
     ensures { PutsThere before.entry key.now value.now room collection.now old.now result }
 {
@@ -140,14 +140,14 @@ fn put_before(
     key: &str,
     value: &str,
     room: Limit,
-) -> Result<String>
+) -> Result<String, AllocError>
     requires { MayComeBefore before room collection.now.document.now old.now start value.now }
     ensures { PutsMember before.entry key.now value.now room collection.now.document.now old.now result }
 {
     match put_by_lines(alloc, collection, old, before, key, value, room) {
         Ok(new) => Ok(new),
-        Err(EditError::NoMemory) => Err(EditError::NoMemory),
-        Err(_) => with_member_before(alloc, old, before, start, key, value, room),
+        Err(Unmade::NoMemory) => Err(AllocError),
+        Err(Unmade::Failed) => with_member_before(alloc, old, before, start, key, value, room),
     }
 }
 
@@ -160,15 +160,16 @@ fn put_by_lines(
     key: &str,
     value: &str,
     room: Limit,
-) -> Result<String>
+) -> Result<String, Unmade>
     ensures { IfOk result (λ new. AddsMember before.entry key.now value.now room collection.now.document.now old.now (string_bytes new)) }
 {
-    let growth = laid(member_growth_before(alloc, collection, which(before), key))?;
+    let growth = member_growth_before(alloc, collection, which(before), key)?;
     let new = grown(alloc, old, &growth, None, BracketKind::Object, value)?;
-    match check_inserted(alloc, old, new.as_str(), before, growth.count, key, value) {
-        Ok(()) => fitting_as_plain(alloc, Names::Quoted, collection.document, value, new, room),
-        Err(error) => Err(EditError::of_made(error)),
-    }
+    let text = new.as_str();
+    check_inserted(alloc, old, text, before, growth.count, key, value)?;
+    check_as_plain(Names::Quoted, collection.document, value, text)?;
+    check_fits(alloc, text, room)?;
+    Ok(new)
 }
 
 /// The member after the new one, in the layout's words.

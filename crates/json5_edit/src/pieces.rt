@@ -1,16 +1,14 @@
 //! A text with a part taken out of it or put into it.
 
-ghost use Rattle.std.specs.Prelude.{◌≡◌, ◌++◌, IfOk, IfErr, OnOk, IsTrue, true, [], length, string_bytes, take};
+ghost use Rattle.std.specs.Prelude.{◌≡◌, ◌++◌, IfOk, OnOk, IsTrue, true, [], length, string_bytes, take};
 ghost use Rattle.std.specs.Str.{chars};
 ghost use Rattle.json5_edit.specs.Pieces.{CutsWith, Grows, Respells, IsEntryAlone, IsNameAlone, SplitsKey};
-ghost use Rattle.json5_edit.specs.Refusals.{IsOwn};
 ghost use Rattle.json5_edit.specs.Spots.{EndTokens, IsAroundComma, TakesComma};
-ghost use Rattle.json5_edit.specs.declared.faults.EditError.TheVariants as edit_errors;
 ghost use Rattle.json5_grammar.specs.Language.Blanks.{Blanks};
 ghost use Rattle.json5_lexemes.specs.Lexemes.{HaveSameLexemes};
 
 use crate::belongings::{Lead, check_gone, split_blanks};
-use crate::faults::{EditError, Result};
+use crate::faults::{Result, Unmade};
 use crate::plain::join_four;
 use crate::setting::join;
 use json5_edit_style::{Cut, Growth, Respelling};
@@ -18,7 +16,7 @@ use json5_lexemes::same_lexemes;
 use json5_read::brackets::BracketKind;
 use json5_tokens::scanner::Scanner;
 use json5_types::nesting::Limit;
-use std::alloc::Global;
+use std::alloc::{AllocError, Global};
 
 /// The text without what goes, where that is an entry of such a collection with the comments that go with it, and
 /// perhaps the comma after the value that ends at the offset.
@@ -30,16 +28,15 @@ pub(crate) fn cut(
     kind: BracketKind,
     leads: Lead,
     room: Limit,
-) -> Result<String>
+) -> Result<String, Unmade>
     requires { EndTokens text.now before }
-    ensures cuts { IfOk result (λ new. CutsWith leads text.now (string_bytes new)) }
-    ensures own { IfErr result IsOwn }
+    ensures { IfOk result (λ new. CutsWith leads text.now (string_bytes new)) }
 {
     let (head, back) = split(text, cut.end)?;
     let (head, gone) = split(head, cut.start)?;
     check_gone(alloc, head, gone, back, kind, leads, room)?;
     let (front, blank, middle) = around_comma(alloc, head, cut.comma, before)?;
-    join_four(alloc, front, blank, middle, back)
+    Ok(join_four(alloc, front, blank, middle, back)?)
 }
 
 /// The text with what comes: an entry of such a collection with this value, and perhaps a comma after the last value, if
@@ -51,19 +48,18 @@ pub(crate) fn grown(
     last: Option<usize>,
     kind: BracketKind,
     value: &str,
-) -> Result<String>
+) -> Result<String, Unmade>
     requires { EndTokens text.now last }
-    ensures grows { IfOk result (λ new. Grows kind value.now text.now (string_bytes new)) }
-    ensures own { IfErr result IsOwn }
+    ensures { IfOk result (λ new. Grows kind value.now text.now (string_bytes new)) }
 {
     let (head, back) = split(text, growth.end)?;
     let (head, gone) = split(head, growth.start)?;
     let (front, comma, middle) = with_comma(alloc, head, growth.comma, growth.at, last)?;
     if !is_blank(gone) {
-        return Err(EditError::Failed);
+        return Err(Unmade::Failed);
     }
     let came = part(alloc, growth, kind, value)?;
-    join_five(alloc, front, comma, middle, came.as_str(), back)
+    Ok(join_five(alloc, front, comma, middle, came.as_str(), back)?)
 }
 
 /// The text up to the offset, a comma if one comes, and the rest; or the text, and nothing. Between the comma and the last
@@ -74,9 +70,8 @@ fn with_comma(
     comes: bool,
     at: usize,
     last: Option<usize>,
-) -> Result<(&str, &'static str, &str)>
-    ensures comma { IfOk result (λ parts. TakesComma text.now last parts.0.now parts.1.now parts.2.now) }
-    ensures own { IfErr result IsOwn }
+) -> Result<(&str, &'static str, &str), Unmade>
+    ensures { IfOk result (λ parts. TakesComma text.now last parts.0.now parts.1.now parts.2.now) }
 {
     let (true, Some(end)) = (comes, last) else {
         return Ok((text, "", ""));
@@ -88,13 +83,12 @@ fn with_comma(
     if is_closed && left == "" {
         return Ok((front, ",", middle));
     }
-    Err(EditError::Failed)
+    Err(Unmade::Failed)
 }
 
 /// Whether the text is blanks and comments alone, none of which a comma after them would belong to.
-fn are_closed_blanks(alloc: Global, text: &str) -> Result<bool>
-    ensures blanks { IfOk result (λ yes. yes ≡ true → Blanks (chars text.now)) }
-    ensures own { IfErr result IsOwn }
+fn are_closed_blanks(alloc: Global, text: &str) -> Result<bool, Unmade>
+    ensures { IfOk result (λ yes. yes ≡ true → Blanks (chars text.now)) }
 {
     let before_comma = join(alloc, text, ",", "")?;
     let (_blank, left) = split_blanks(alloc, before_comma.as_str())?;
@@ -102,9 +96,8 @@ fn are_closed_blanks(alloc: Global, text: &str) -> Result<bool>
 }
 
 /// The entry with this value, and what comes around it: blanks and commas alone.
-fn part(alloc: Global, growth: &Growth, kind: BracketKind, value: &str) -> Result<String>
-    ensures alone { IfOk result (λ came. IsEntryAlone kind value.now (string_bytes came)) }
-    ensures own { IfErr result IsOwn }
+fn part(alloc: Global, growth: &Growth, kind: BracketKind, value: &str) -> Result<String, Unmade>
+    ensures { IfOk result (λ came. IsEntryAlone kind value.now (string_bytes came)) }
 {
     let (lead, name, trail) = (
         growth.lead.as_str(),
@@ -112,16 +105,15 @@ fn part(alloc: Global, growth: &Growth, kind: BracketKind, value: &str) -> Resul
         growth.trail.as_str(),
     );
     if !is_blank(lead) || !is_blank(trail) {
-        return Err(EditError::Failed);
+        return Err(Unmade::Failed);
     }
     check_name(alloc, name, kind)?;
-    join_four(alloc, lead, name, value, trail)
+    Ok(join_four(alloc, lead, name, value, trail)?)
 }
 
 /// Refuses what isn't a key and a colon alone, or in an array nothing.
-fn check_name(alloc: Global, name: &str, kind: BracketKind) -> Result<()>
-    ensures named { OnOk result (IsNameAlone kind name.now) }
-    ensures own { IfErr result IsOwn }
+fn check_name(alloc: Global, name: &str, kind: BracketKind) -> Result<(), Unmade>
+    ensures { OnOk result (IsNameAlone kind name.now) }
 {
     match kind {
         BracketKind::Array => {
@@ -136,7 +128,7 @@ fn check_name(alloc: Global, name: &str, kind: BracketKind) -> Result<()>
             }
         }
     }
-    Err(EditError::Failed)
+    Err(Unmade::Failed)
 }
 
 /// The five texts one after another.
@@ -147,21 +139,15 @@ pub(crate) fn join_five(
     middle: &str,
     came: &str,
     back: &str,
-) -> Result<String>
-    ensures joined { IfOk result (λ made. string_bytes made ≡ front.now ++ (comma.now ++ (middle.now ++ (came.now ++ back.now)))) }
-    ensures full { IfErr result (λ e. e ≡ edit_errors.NoMemory) }
+) -> Result<String, AllocError>
+    ensures { IfOk result (λ made. string_bytes made ≡ front.now ++ (comma.now ++ (middle.now ++ (came.now ++ back.now)))) }
 {
-    let parts = [front, comma, middle, came, back];
-    match parts.as_slice().concat(alloc) {
-        Ok(made) => Ok(made),
-        Err(_) => Err(EditError::NoMemory),
-    }
+    [front, comma, middle, came, back].as_slice().concat(alloc)
 }
 
 /// The text with another key in the place of one.
-pub(crate) fn respelled(alloc: Global, text: &str, new: &Respelling) -> Result<String>
-    ensures respells { IfOk result (λ made. Respells text.now (string_bytes made)) }
-    ensures own { IfErr result IsOwn }
+pub(crate) fn respelled(alloc: Global, text: &str, new: &Respelling) -> Result<String, Unmade>
+    ensures { IfOk result (λ made. Respells text.now (string_bytes made)) }
 {
     let (front, rest) = split(text, new.at)?;
     let (_gone, back) = split_key(alloc, rest)?;
@@ -169,33 +155,29 @@ pub(crate) fn respelled(alloc: Global, text: &str, new: &Respelling) -> Result<S
     let tail = join(alloc, key, back, "")?;
     let (came, _back) = split_key(alloc, tail.as_str())?;
     if came == key {
-        return join(alloc, front, key, back);
+        return Ok(join(alloc, front, key, back)?);
     }
-    Err(EditError::Failed)
+    Err(Unmade::Failed)
 }
 
 /// The key in front of the text, and what follows it.
-fn split_key(alloc: Global, text: &str) -> Result<(&str, &str)>
-    ensures split { IfOk result (λ parts. SplitsKey text.now parts.0.now parts.1.now) }
-    ensures own { IfErr result IsOwn }
+fn split_key(alloc: Global, text: &str) -> Result<(&str, &str), Unmade>
+    ensures { IfOk result (λ parts. SplitsKey text.now parts.0.now parts.1.now) }
 {
     let mut scanner = Scanner::new(alloc, text);
-    match scanner.key() {
-        Ok(_) => split(text, scanner.offset()),
-        Err(error) => Err(EditError::of_made(error)),
-    }
+    scanner.key()?;
+    split(text, scanner.offset())
 }
 
 /// The text before the offset, and that after it.
-pub(crate) fn split(text: &str, at: usize) -> Result<(&str, &str)>
+pub(crate) fn split(text: &str, at: usize) -> Result<(&str, &str), Unmade>
     ensures split { IfOk result (λ parts. text.now ≡ parts.0.now ++ parts.1.now) }
     ensures front { IfOk result (λ parts. parts.0.now ≡ take at text.now) }
     ensures front_len { IfOk result (λ parts. length parts.0.now ≡ at) }
-    ensures own { IfErr result IsOwn }
 {
     match text.split_at_checked(at) {
         Some(parts) => Ok(parts),
-        None => Err(EditError::Failed),
+        None => Err(Unmade::Failed),
     }
 }
 
@@ -206,9 +188,8 @@ fn around_comma(
     text: &str,
     goes: bool,
     before: Option<usize>,
-) -> Result<(&str, &str, &str)>
-    ensures around { IfOk result (λ parts. IsAroundComma text.now before parts.0.now parts.1.now parts.2.now) }
-    ensures own { IfErr result IsOwn }
+) -> Result<(&str, &str, &str), Unmade>
+    ensures { IfOk result (λ parts. IsAroundComma text.now before parts.0.now parts.1.now parts.2.now) }
 {
     let (true, Some(end)) = (goes, before) else {
         return Ok((text, "", ""));
@@ -220,7 +201,7 @@ fn around_comma(
     if comma == "," && left == "" {
         return Ok((front, blank, middle));
     }
-    Err(EditError::Failed)
+    Err(Unmade::Failed)
 }
 
 /// Whether there is no token and no comment in the text; a comma may be.

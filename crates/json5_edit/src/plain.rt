@@ -4,22 +4,19 @@ ghost use Rattle.std.specs.Prelude.{◌≡◌, ◌++◌, ◌≤◌, ◌-◌, fal
 ghost use Rattle.std.specs.Str.{chars};
 ghost use Rattle.json5_grammar.specs.Language.Blanks.{Solid};
 ghost use Rattle.json5_grammar.specs.Language.Trees.{Tree, depth};
-ghost use Rattle.json5_lexemes.specs.Plain.{StaysPlain};
 ghost use Rattle.json5_types.specs.Errors.{LacksMemory};
 ghost use Rattle.json5_read.specs.declared.brackets.BracketKind.TheVariants as kind;
 ghost use Rattle.json5_read.specs.SkipSteps.{SkipsValue};
-ghost use Rattle.json5_edit.specs.Changes.{Gains, GainsAt};
 ghost use Rattle.json5_edit.specs.Pieces.{IsNameAlone};
-ghost use Rattle.json5_edit.specs.Places.{Fits, IsValue};
+ghost use Rattle.json5_edit.specs.Places.{Fits};
 ghost use Rattle.json5_edit.specs.Refusals.{IsFree, RefusesFree, RefusesKind, RefusesStep};
-ghost use Rattle.json5_edit.specs.Spots.{Adds, AddsEntry, AddsPlainly, Goes, HasEnd, HasEntry, HasFound, HasBefore, IsAhead, BeginsWithComma, IsCommaSpan, TakesCommaAhead, IsColonBefore, IsNameBefore, MayComeBefore, Measures, Parts, PassedBefore, PutsMember, ReadsColon, ReadsThen, Removes, comma_for};
+ghost use Rattle.json5_edit.specs.Spots.{AddsEntry, AddsPlainly, Goes, HasEnd, HasFound, HasBefore, IsAhead, BeginsWithComma, IsCommaSpan, TakesCommaAhead, IsColonBefore, IsNameBefore, MayComeBefore, Measures, Parts, PassedBefore, PutsMember, ReadsColon, ReadsThen, Removes, comma_for};
 ghost use Rattle.json5_edit.specs.declared.belongings.Lead.TheVariants as lead_place;
-ghost use Rattle.json5_edit.specs.declared.faults.EditError.TheVariants as edit_errors;
 ghost use Rattle.json5_edit.specs.declared.paths.Step.TheVariants as step;
 
 use crate::comparing::kind;
 use crate::entries::failed;
-use crate::faults::{EditError, Result};
+use crate::faults::{EditError, Result, lack};
 use crate::paths::{Before, Step};
 use crate::pieces::join_five;
 use crate::setting::join;
@@ -30,17 +27,7 @@ use json5_read::skip::skip_value;
 use json5_tokens::scanner::Scanner;
 use json5_types::error;
 use json5_types::nesting::Limit;
-use std::alloc::Global;
-
-/// Where the entry begins that the step goes to.
-pub(crate) fn entry_start(alloc: Global, old: &str, step: Step<'_>, room: Limit) -> Result<usize>
-    requires { Fits room old.now }
-    ensures found { IfOk result (HasEntry step.entry room old.now) }
-    ensures refused { IfErr result (RefusesStep old.now step.entry) }
-{
-    let found = entry_found(alloc, old, step, room)?;
-    Ok(found.start)
-}
+use std::alloc::{AllocError, Global};
 
 /// Where the entry stands that the step goes to.
 pub(crate) fn entry_found(alloc: Global, old: &str, step: Step<'_>, room: Limit) -> Result<Found>
@@ -48,13 +35,12 @@ pub(crate) fn entry_found(alloc: Global, old: &str, step: Step<'_>, room: Limit)
     ensures found { IfOk result (HasFound step.entry room old.now) }
     ensures refused { IfErr result (RefusesStep old.now step.entry) }
 {
-    match find_entry(alloc, old, step, room) {
-        Ok(Some(found)) => match found.entry {
+    match find_entry(alloc, old, step, room)? {
+        Some(found) => match found.entry {
             Some(entry) => Ok(entry),
             None => Err(EditError::Nowhere),
         },
-        Ok(None) => Err(EditError::Nowhere),
-        Err(error) => Err(EditError::of_made(error)),
+        None => Err(EditError::Nowhere),
     }
 }
 
@@ -65,13 +51,12 @@ pub(crate) fn array_end(alloc: Global, old: &str, room: Limit) -> Result<End>
     ensures refused { IfErr result (RefusesKind kind.Array old.now) }
 {
     // Any index will do: the end alone is asked for.
-    match find_entry(alloc, old, Step::Index(0), room) {
-        Ok(Some(found)) => Ok(End {
+    match find_entry(alloc, old, Step::Index(0), room)? {
+        Some(found) => Ok(End {
             at: found.end,
             comma: found.comma,
         }),
-        Ok(None) => Err(EditError::NotArray),
-        Err(error) => Err(EditError::of_made(error)),
+        None => Err(EditError::NotArray),
     }
 }
 
@@ -82,16 +67,15 @@ pub(crate) fn free_end(alloc: Global, old: &str, key: &str, room: Limit) -> Resu
     ensures free { OnOk result (IsFree key.now old.now) }
     ensures refused { IfErr result (RefusesFree old.now key.now) }
 {
-    match find_entry(alloc, old, Step::Key(key), room) {
-        Ok(Some(found)) => match found.entry {
+    match find_entry(alloc, old, Step::Key(key), room)? {
+        Some(found) => match found.entry {
             Some(_) => Err(EditError::Taken),
             None => Ok(End {
                 at: found.end,
                 comma: found.comma,
             }),
         },
-        Ok(None) => Err(EditError::NotObject),
-        Err(error) => Err(EditError::of_made(error)),
+        None => Err(EditError::NotObject),
     }
 }
 
@@ -102,10 +86,9 @@ pub(crate) fn without_entry(
     step: Step<'_>,
     found: Found,
     room: Limit,
-) -> Result<String>
+) -> Result<String, AllocError>
     requires { HasFound step room old.now found }
-    ensures removed { IfOk result (λ new. Removes step.entry lead_place.Stays room old.now (string_bytes new)) }
-    ensures full { IfErr result (λ e. e ≡ edit_errors.NoMemory) }
+    ensures { IfOk result (λ new. Removes step.entry lead_place.Stays room old.now (string_bytes new)) }
 {
     let (front, rest) = old.split_at(found.start);
     let len = len_ahead(alloc, rest, kind(step), room)?;
@@ -127,10 +110,9 @@ fn without_last(
     found: Found,
     end: usize,
     room: Limit,
-) -> Result<String>
+) -> Result<String, AllocError>
     requires { HasBefore step room old.now found.start end }
-    ensures removed { IfOk result (λ new. Removes step.entry lead_place.Stays room old.now (string_bytes new)) }
-    ensures full { IfErr result (λ e. e ≡ edit_errors.NoMemory) }
+    ensures { IfOk result (λ new. Removes step.entry lead_place.Stays room old.now (string_bytes new)) }
 {
     let (front, text) = old.split_at(end);
     let (before, after, rest) = comma_ahead(alloc, text)?;
@@ -140,22 +122,25 @@ fn without_last(
 }
 
 /// How long the entry in front of the text is.
-fn len_ahead(alloc: Global, rest: &str, kind: BracketKind, room: Limit) -> Result<EntryLen>
+fn len_ahead(
+    alloc: Global,
+    rest: &str,
+    kind: BracketKind,
+    room: Limit,
+) -> Result<EntryLen, AllocError>
     requires { IsAhead kind room (chars rest.now) }
-    ensures measured { IfOk result (Measures kind room rest.now) }
-    ensures full { IfErr result (λ e. e ≡ edit_errors.NoMemory) }
+    ensures { IfOk result (Measures kind room rest.now) }
 {
     match entry_len(alloc, rest, kind, room) {
         Ok(len) => Ok(len),
-        Err(error) => Err(EditError::of_made(error)),
+        Err(error) => Err(lack(error)),
     }
 }
 
 /// What stands before and after the comma in front of the text, up to the next entry, and what follows.
-fn comma_ahead(alloc: Global, text: &str) -> Result<(&str, &str, &str)>
+fn comma_ahead(alloc: Global, text: &str) -> Result<(&str, &str, &str), AllocError>
     requires { BeginsWithComma (chars text.now) }
-    ensures taken { IfOk result (λ parts. TakesCommaAhead text.now parts.0.now parts.1.now parts.2.now) }
-    ensures full { IfErr result (λ e. e ≡ edit_errors.NoMemory) }
+    ensures { IfOk result (λ parts. TakesCommaAhead text.now parts.0.now parts.1.now parts.2.now) }
 {
     match comma_span(alloc, text) {
         Ok(span) => {
@@ -164,7 +149,7 @@ fn comma_ahead(alloc: Global, text: &str) -> Result<(&str, &str, &str)>
             let (_, after) = head.split_at(span.end);
             Ok((before, after, rest))
         }
-        Err(error) => Err(EditError::of_made(error)),
+        Err(error) => Err(lack(error)),
     }
 }
 
@@ -193,25 +178,6 @@ fn comma_span(alloc: Global, text: &str) -> error::Result<CommaSpan>
     Ok(CommaSpan { start, end, next })
 }
 
-/// The array with the value before the element that begins at the offset.
-pub(crate) fn with_element(
-    alloc: Global,
-    old: &str,
-    index: usize,
-    start: usize,
-    value: &str,
-    room: Limit,
-) -> Result<String>
-    requires entry { HasEntry (step.Index index) room old.now start }
-    requires value { IsValue (room - 1) (chars value.now) }
-    ensures added { IfOk result (λ new. Adds kind.Array value.now (GainsAt index value.now) room old.now (string_bytes new)) }
-    ensures plain { IfOk result (λ new. StaysPlain old.now value.now (string_bytes new)) }
-    ensures full { IfErr result (λ e. e ≡ edit_errors.NoMemory) }
-{
-    let (front, back) = old.split_at(start);
-    join_four(alloc, front, value, ",", back)
-}
-
 /// Where one more entry may stand at the end of a collection.
 #[derive(Clone, Copy, Drop)]
 pub(crate) struct End {
@@ -229,43 +195,14 @@ pub(crate) fn with_last(
     value: &str,
     kind: BracketKind,
     room: Limit,
-) -> Result<String>
+) -> Result<String, AllocError>
     requires end { HasEnd kind room old.now end }
     requires name { IsNameAlone kind name.now }
     ensures added { IfOk result (λ new. AddsEntry kind name.now value.now room old.now (string_bytes new)) }
     ensures plain { IfOk result (λ new. AddsPlainly kind (name.now ++ value.now) old.now (string_bytes new)) }
-    ensures full { IfErr result (λ e. e ≡ edit_errors.NoMemory) }
 {
     let (front, back) = old.split_at(end.at);
     join_five(alloc, front, comma_for(end.comma), name, value, back)
-}
-
-/// The object with the member at its end.
-pub(crate) fn with_member(
-    alloc: Global,
-    old: &str,
-    end: End,
-    key: &str,
-    value: &str,
-    room: Limit,
-) -> Result<String>
-    requires end { HasEnd kind.Object room old.now end }
-    requires value { IsValue (room - 1) (chars value.now) }
-    ensures added { IfOk result (λ new. Adds kind.Object value.now (Gains kind.Object key.now value.now) room old.now (string_bytes new)) }
-    ensures plain { IfOk result (λ new. StaysPlain old.now value.now (string_bytes new)) }
-    ensures full { IfErr result (λ e. e ≡ edit_errors.NoMemory) }
-{
-    let key = json_key(alloc, key)?;
-    let name = join(alloc, key.as_str(), ":", "")?;
-    with_last(
-        alloc,
-        old,
-        end,
-        name.as_str(),
-        value,
-        BracketKind::Object,
-        room,
-    )
 }
 
 /// The object with the member before that which begins at the offset.
@@ -277,7 +214,7 @@ pub(crate) fn with_member_before(
     key: &str,
     value: &str,
     room: Limit,
-) -> Result<String>
+) -> Result<String, AllocError>
     requires { MayComeBefore before room old.now old.now start value.now }
     ensures { PutsMember before.entry key.now value.now room old.now old.now result }
 {
@@ -294,15 +231,10 @@ pub(crate) fn join_four(
     came: &str,
     more: &str,
     back: &str,
-) -> Result<String>
-    ensures joined { IfOk result (λ made. string_bytes made ≡ front.now ++ (came.now ++ (more.now ++ back.now))) }
-    ensures full { IfErr result (λ e. e ≡ edit_errors.NoMemory) }
+) -> Result<String, AllocError>
+    ensures { IfOk result (λ made. string_bytes made ≡ front.now ++ (came.now ++ (more.now ++ back.now))) }
 {
-    let parts = [front, came, more, back];
-    match parts.as_slice().concat(alloc) {
-        Ok(made) => Ok(made),
-        Err(_) => Err(EditError::NoMemory),
-    }
+    [front, came, more, back].as_slice().concat(alloc)
 }
 
 /// A comma, if one is due.

@@ -1,13 +1,12 @@
 //! Another key for a member.
 
-ghost use Rattle.std.specs.Prelude.{◌≡◌, IfOk, IfErr, string_bytes};
+ghost use Rattle.std.specs.Prelude.{IfOk, IfErr, string_bytes};
 ghost use Rattle.json5_types.specs.Errors.{LacksMemory};
 ghost use Rattle.json5_edit.specs.Keys.{BeginsWithMember, KeySpan, KeyStarts, Rekeys, TakesKeyAhead};
-ghost use Rattle.json5_edit.specs.declared.faults.EditError.TheVariants as edit_errors;
 
-use crate::changing::{kept_plain, laid};
+use crate::changing::{check_fits, check_plain};
 use crate::comparing::check_renamed;
-use crate::faults::{EditError, Result};
+use crate::faults::{Result, Unmade, lack};
 use crate::pieces::{join_five, respelled};
 use crate::places::ValueSpan;
 use crate::spelled::json_key;
@@ -15,7 +14,7 @@ use json5_edit_style::{Collection, Which, respelling_for};
 use json5_tokens::scanner::Scanner;
 use json5_types::error;
 use json5_types::nesting::Limit;
-use std::alloc::Global;
+use std::alloc::{AllocError, Global};
 
 /// The object with another key for its last member that has this one: spelled like the old one if that reads so, else
 /// as JSON writes it.
@@ -27,15 +26,19 @@ pub(crate) fn renamed(
     start: usize,
     name: &str,
     key: &str,
-) -> Result<String>
+) -> Result<String, AllocError>
     requires { KeyStarts room name.now old.now start }
-    ensures renamed { IfOk result (λ new. Rekeys room name.now key.now old.now (string_bytes new)) }
-    ensures full { IfErr result (λ e. e ≡ edit_errors.NoMemory) }
+    ensures { IfOk result (λ new. Rekeys room name.now key.now old.now (string_bytes new)) }
 {
     match renamed_alike(alloc, collection, old, room, name, key) {
         Ok(new) => Ok(new),
-        Err(EditError::NoMemory) => Err(EditError::NoMemory),
-        Err(_) => with_key(alloc, old, room, start, name, key),
+        Err(Unmade::NoMemory) => Err(AllocError),
+        Err(Unmade::Failed) => {
+            let (front, rest) = old.split_at(start);
+            let (blank, back) = key_ahead(alloc, rest)?;
+            let came = json_key(alloc, key)?;
+            join_five(alloc, front, "", blank, came.as_str(), back)
+        }
     }
 }
 
@@ -47,41 +50,22 @@ fn renamed_alike(
     room: Limit,
     name: &str,
     key: &str,
-) -> Result<String>
+) -> Result<String, Unmade>
     ensures { IfOk result (λ new. Rekeys room name.now key.now old.now (string_bytes new)) }
 {
-    let respelling = laid(respelling_for(alloc, collection, Which::Key(name), key))?;
+    let respelling = respelling_for(alloc, collection, Which::Key(name), key)?;
     let new = respelled(alloc, old, &respelling)?;
-    match check_renamed(alloc, old, new.as_str(), name, respelling.index, key) {
-        Ok(()) => kept_plain(alloc, old, new, room),
-        Err(error) => Err(EditError::of_made(error)),
-    }
-}
-
-/// The object with the key as JSON writes it, in the place of the old one.
-fn with_key(
-    alloc: Global,
-    old: &str,
-    room: Limit,
-    start: usize,
-    name: &str,
-    key: &str,
-) -> Result<String>
-    requires { KeyStarts room name.now old.now start }
-    ensures renamed { IfOk result (λ new. Rekeys room name.now key.now old.now (string_bytes new)) }
-    ensures full { IfErr result (λ e. e ≡ edit_errors.NoMemory) }
-{
-    let (front, rest) = old.split_at(start);
-    let (blank, back) = key_ahead(alloc, rest)?;
-    let came = json_key(alloc, key)?;
-    join_five(alloc, front, "", blank, came.as_str(), back)
+    let text = new.as_str();
+    check_renamed(alloc, old, text, name, respelling.index, key)?;
+    check_plain(old, text)?;
+    check_fits(alloc, text, room)?;
+    Ok(new)
 }
 
 /// What stands before and after the key in front of the text.
-fn key_ahead(alloc: Global, text: &str) -> Result<(&str, &str)>
+fn key_ahead(alloc: Global, text: &str) -> Result<(&str, &str), AllocError>
     requires { BeginsWithMember text.now }
-    ensures taken { IfOk result (λ parts. TakesKeyAhead text.now parts.0.now parts.1.now) }
-    ensures full { IfErr result (λ e. e ≡ edit_errors.NoMemory) }
+    ensures { IfOk result (λ parts. TakesKeyAhead text.now parts.0.now parts.1.now) }
 {
     match key_span(alloc, text) {
         Ok(span) => {
@@ -89,7 +73,7 @@ fn key_ahead(alloc: Global, text: &str) -> Result<(&str, &str)>
             let (_, back) = text.split_at(span.end);
             Ok((blank, back))
         }
-        Err(error) => Err(EditError::of_made(error)),
+        Err(error) => Err(lack(error)),
     }
 }
 

@@ -2,14 +2,14 @@
 
 ghost use Rattle.std.specs.Prelude.{IfOk, IfErr, OnOk, string_bytes};
 ghost use Rattle.json5_edit.specs.Changes.{ChangesBy};
-ghost use Rattle.json5_edit.specs.Refusals.{IsOwn, RefusesSort};
+ghost use Rattle.json5_edit.specs.Refusals.{RefusesSort};
 ghost use Rattle.json5_edit.specs.Sorted.{AreInOrder, HasMembersSorted, IsOrdered, ListsMembers, PassesAll, Sorts};
 ghost use Rattle.json5_lexemes.specs.Plain.{KeepsPlain};
 
-use crate::changing::{begins, kept_plain, part_text};
+use crate::changing::{begins, check_fits, check_plain, part_text};
 use crate::comparing::{is_same, some_entry};
 use crate::entries::{Entry, failed, next_entry};
-use crate::faults::{EditError, Result};
+use crate::faults::{EditError, Result, Unmade};
 use crate::moving::{pieces_of, rearranged};
 use crate::paths::Step;
 use crate::setting::{place_of, splice};
@@ -52,14 +52,13 @@ pub fn sort(alloc: Global, text: &str, path: &[Step<'_>]) -> Result<String>
 }
 
 /// The object with its members in order.
-fn sorted(alloc: Global, old: &str, line_end: &str, room: Limit) -> Result<String>
-    ensures sorted { IfOk result (λ new. Sorts room old.now (string_bytes new)) }
-    ensures own { IfErr result IsOwn }
+fn sorted(alloc: Global, old: &str, line_end: &str, room: Limit) -> Result<String, Unmade>
+    ensures { IfOk result (λ new. Sorts room old.now (string_bytes new)) }
 {
-    match sorted_by_lines(alloc, old, line_end) {
-        Ok(new) => kept_plain(alloc, old, new, room),
-        Err(error) => Err(EditError::of_made(error)),
-    }
+    let new = sorted_by_lines(alloc, old, line_end)?;
+    check_plain(old, new.as_str())?;
+    check_fits(alloc, new.as_str(), room)?;
+    Ok(new)
 }
 
 /// The object with its members in order, each with its comments, if it reads so.

@@ -12,12 +12,13 @@ ghost use Rattle.json5_edit.specs.Spots.{Inside, Surveys, latest};
 
 use crate::comparing::kind;
 use crate::entries::failed;
+use crate::faults::lack;
 use crate::paths::Step;
 use crate::places::is_sought;
 use json5_types::error::Result;
 use json5_types::nesting::Limit;
 use json5_walk::walk::Walk;
-use std::alloc::Global;
+use std::alloc::{AllocError, Global};
 
 /// Where an entry begins, and where the value of the entry before it ends, if there is one.
 #[derive(Clone, Copy, Drop)]
@@ -42,17 +43,18 @@ pub(crate) fn find_entry(
     old: &str,
     step: Step<'_>,
     room: Limit,
-) -> Result<Option<Survey>>
+) -> std::result::Result<Option<Survey>, AllocError>
     requires { Fits room old.now }
-    ensures surveyed { IfOk result (λ found. MatchOption found (BeginsNo (step_kind step.entry) (chars old.now)) (Surveys step.entry room old.now)) }
-    ensures refused { IfErr result LacksMemory }
+    ensures { IfOk result (λ found. MatchOption found (BeginsNo (step_kind step.entry) (chars old.now)) (Surveys step.entry room old.now)) }
 {
     let mut walk = Walk::new(alloc, old, room);
     if !walk.open(kind(step)) {
         return Ok(None);
     }
-    let found = survey_entries(&mut walk, step)?;
-    Ok(Some(found))
+    match survey_entries(&mut walk, step) {
+        Ok(found) => Ok(Some(found)),
+        Err(error) => Err(lack(error)),
+    }
 }
 
 /// Passes over the rest of the collection, which was just opened.

@@ -1,8 +1,7 @@
 //! The edits.
 
-ghost use Rattle.std.specs.Prelude.{IfOk, IfErr, string_bytes};
-ghost use Rattle.json5_edit_values.specs.Refusals.{IsPlaceless, RefusesInsertOf, RefusesPushOf, RefusesPutInOf, RefusesSetTo};
-ghost use Rattle.json5_edit_values.specs.Trees.{IsInsertedAs, IsPushedAs, IsPutInAs, IsSetTo};
+ghost use Rattle.json5_edit_values.specs.Refusals.{IsPlaceless};
+ghost use Rattle.json5_edit_values.specs.Trees.{InsertsAs, PushesAs, PutsInAs, SetsTo};
 
 use crate::choices::Choices;
 use crate::seats::Goes;
@@ -32,8 +31,7 @@ pub fn set_value<T: Serialize>(
     path: &[Step<'_>],
     value: &T,
 ) -> Result<String>
-    ensures set { IfOk result (λ made. IsSetTo (T.tree value.now) text.now path.now (string_bytes made)) }
-    ensures refused { IfErr result (RefusesSetTo (T.tree value.now) text.now path.now) }
+    ensures { SetsTo (T.tree value.now) text.now path.now result }
 {
     set_value_in(alloc, Choices::of_text(), text, path, value)
 }
@@ -54,8 +52,7 @@ pub fn set_value_in<T: Serialize>(
     path: &[Step<'_>],
     value: &T,
 ) -> Result<String>
-    ensures set { IfOk result (λ made. IsSetTo (T.tree value.now) text.now path.now (string_bytes made)) }
-    ensures refused { IfErr result (RefusesSetTo (T.tree value.now) text.now path.now) }
+    ensures { SetsTo (T.tree value.now) text.now path.now result }
 {
     let new = spelled(alloc, value, text, path, Goes::Instead, choices.layout)?;
     match set(alloc, text, path, new.as_str()) {
@@ -81,8 +78,7 @@ pub fn push_value<T: Serialize>(
     path: &[Step<'_>],
     value: &T,
 ) -> Result<String>
-    ensures pushed { IfOk result (λ made. IsPushedAs (T.tree value.now) text.now path.now (string_bytes made)) }
-    ensures refused { IfErr result (RefusesPushOf (T.tree value.now) text.now path.now) }
+    ensures { PushesAs (T.tree value.now) text.now path.now result }
 {
     push_value_in(alloc, Choices::of_text(), text, path, value)
 }
@@ -103,8 +99,7 @@ pub fn push_value_in<T: Serialize>(
     path: &[Step<'_>],
     value: &T,
 ) -> Result<String>
-    ensures pushed { IfOk result (λ made. IsPushedAs (T.tree value.now) text.now path.now (string_bytes made)) }
-    ensures refused { IfErr result (RefusesPushOf (T.tree value.now) text.now path.now) }
+    ensures { PushesAs (T.tree value.now) text.now path.now result }
 {
     let new = spelled(alloc, value, text, path, Goes::Last(0), choices.layout)?;
     match push(alloc, text, path, new.as_str()) {
@@ -131,8 +126,7 @@ pub fn insert_element_value<T: Serialize>(
     index: usize,
     value: &T,
 ) -> Result<String>
-    ensures put_in { IfOk result (λ made. IsPutInAs (T.tree value.now) text.now path.now index (string_bytes made)) }
-    ensures refused { IfErr result (RefusesPutInOf (T.tree value.now) text.now path.now index) }
+    ensures { PutsInAs (T.tree value.now) text.now path.now index result }
 {
     insert_element_value_in(alloc, Choices::of_text(), text, path, index, value)
 }
@@ -154,8 +148,7 @@ pub fn insert_element_value_in<T: Serialize>(
     index: usize,
     value: &T,
 ) -> Result<String>
-    ensures put_in { IfOk result (λ made. IsPutInAs (T.tree value.now) text.now path.now index (string_bytes made)) }
-    ensures refused { IfErr result (RefusesPutInOf (T.tree value.now) text.now path.now index) }
+    ensures { PutsInAs (T.tree value.now) text.now path.now index result }
 {
     let new = spelled(
         alloc,
@@ -189,8 +182,7 @@ pub fn insert_value<T: Serialize>(
     key: &str,
     value: &T,
 ) -> Result<String>
-    ensures inserted { IfOk result (λ made. IsInsertedAs (T.tree value.now) text.now path.now key.now (string_bytes made)) }
-    ensures refused { IfErr result (RefusesInsertOf (T.tree value.now) text.now path.now key.now) }
+    ensures { InsertsAs (T.tree value.now) text.now path.now key.now result }
 {
     insert_value_in(alloc, Choices::of_text(), text, path, key, value)
 }
@@ -212,8 +204,7 @@ pub fn insert_value_in<T: Serialize>(
     key: &str,
     value: &T,
 ) -> Result<String>
-    ensures inserted { IfOk result (λ made. IsInsertedAs (T.tree value.now) text.now path.now key.now (string_bytes made)) }
-    ensures refused { IfErr result (RefusesInsertOf (T.tree value.now) text.now path.now key.now) }
+    ensures { InsertsAs (T.tree value.now) text.now path.now key.now result }
 {
     let new = spelled(
         alloc,

@@ -1,25 +1,22 @@
 //! A written value as JSON, for texts that are plain.
 
-ghost use Rattle.std.specs.Prelude.{◌≡◌, IfOk, IfErr, string_bytes};
+ghost use Rattle.std.specs.Prelude.{IfOk, string_bytes};
 ghost use Rattle.std.specs.Str.{chars};
-ghost use Rattle.json5_edit.specs.declared.faults.EditError.TheVariants as edit_errors;
 ghost use Rattle.json5_edit_values.specs.Spelled.{MeansAlike, SpellsAlike};
 ghost use Rattle.json5_grammar.specs.Language.Trees.{Tree};
 ghost use Rattle.json5_grammar.specs.Language.Values.{Val};
 
 use crate::laid_out::is_value;
-use json5_edit::{EditError, Result};
 use json5_lexemes::is_plain;
 use json5_read::read_document;
 use json5_styles::to_json;
 use json5_types::ErrorCode;
 use json5_types::error::{self, Error};
-use std::alloc::Global;
+use std::alloc::{AllocError, Global};
 
 /// The written value as the text is: as JSON, if that is plain and JSON has the value, else as it is.
-pub(crate) fn spelled_like(alloc: Global, text: &str, written: String) -> Result<String>
-    ensures same { (t : Tree) → Val (chars (string_bytes written)) t → IfOk result (λ new. SpellsAlike t text.now (chars (string_bytes new))) }
-    ensures full { IfErr result (λ e. e ≡ edit_errors.NoMemory) }
+pub(crate) fn spelled_like(alloc: Global, text: &str, written: String) -> Result<String, AllocError>
+    ensures { (t : Tree) → Val (chars (string_bytes written)) t → IfOk result (λ new. SpellsAlike t text.now (chars (string_bytes new))) }
 {
     if !is_plain(text) {
         return Ok(written);
@@ -30,7 +27,7 @@ pub(crate) fn spelled_like(alloc: Global, text: &str, written: String) -> Result
     match json_of(alloc, written.as_str()) {
         Ok(json) => Ok(json),
         Err(error) => match error.code() {
-            Some(ErrorCode::OutOfMemory) => Err(EditError::NoMemory),
+            Some(ErrorCode::OutOfMemory) => Err(AllocError),
             _ => Ok(written),
         },
     }

@@ -1,17 +1,16 @@
 //! A written value with its lines as they are where it goes.
 
 ghost use Rattle.std.specs.Bool.{OnTrue};
-ghost use Rattle.std.specs.Prelude.{◌≡◌, IfOk, IfErr, string_bytes};
+ghost use Rattle.std.specs.Prelude.{IfOk, string_bytes};
 ghost use Rattle.std.specs.Str.{chars};
 ghost use Rattle.json5_edit.specs.Places.{IsValue};
-ghost use Rattle.json5_edit.specs.declared.faults.EditError.TheVariants as edit_errors;
 ghost use Rattle.json5_grammar.specs.Language.Documents.{max_depth};
 ghost use Rattle.json5_grammar.specs.Language.Trees.{Tree};
 ghost use Rattle.json5_grammar.specs.Language.Values.{Val};
 
 use crate::lines::arranged;
 use crate::seats::{Goes, seat_of};
-use json5_edit::{EditError, Result, Step};
+use json5_edit::Step;
 use json5_lexemes::same_lexemes;
 use json5_read::skip::skip_value;
 use json5_styles::Layout;
@@ -26,16 +25,13 @@ pub(crate) fn laid_out(
     goes: Goes,
     layout: Option<Layout>,
     written: String,
-) -> Result<String>
-    ensures same { (t : Tree) → Val (chars (string_bytes written)) t → IfOk result (λ new. Val (chars (string_bytes new)) t) }
-    ensures full { IfErr result (λ e. e ≡ edit_errors.NoMemory) }
+) -> Result<String, AllocError>
+    ensures { (t : Tree) → Val (chars (string_bytes written)) t → IfOk result (λ new. Val (chars (string_bytes new)) t) }
 {
     if !written.as_str().contains('\n') {
         return Ok(written);
     }
-    let Ok(made) = seated(alloc, text, path, goes, layout, written.as_str()) else {
-        return Err(EditError::NoMemory);
-    };
+    let made = seated(alloc, text, path, goes, layout, written.as_str())?;
     if lays_out(alloc, written.as_str(), made.as_str()) {
         return Ok(made);
     }
@@ -50,7 +46,7 @@ fn seated(
     goes: Goes,
     layout: Option<Layout>,
     written: &str,
-) -> std::result::Result<String, AllocError> {
+) -> Result<String, AllocError> {
     let seat = seat_of(alloc, text, path, goes, layout)?;
     arranged(alloc, &seat, written)
 }

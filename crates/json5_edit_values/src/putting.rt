@@ -9,7 +9,6 @@ ghost use Rattle.json5_lexemes.specs.Plain.{StaysPlain};
 ghost use Rattle.json5_edit_values.specs.Puts.{EndsAfter, GetsAlong, GetsText, IsAdded, IsPut, IsPutIfAbsent, RefusesAlong, RefusesEntry, RefusesPut, first_in};
 
 use crate::patch::adding::count_at;
-use crate::patch::new_values::owned;
 use json5_edit::{EditError, Names, Result, Step, find, insert_in, push, set};
 use std::alloc::Global;
 
@@ -85,7 +84,7 @@ pub fn put_if_absent(
     ensures refused { IfErr result (RefusesPut text.now path.now value.now) }
 {
     match find(alloc, text, path) {
-        Ok(Some(_)) => owned(alloc, text),
+        Ok(Some(_)) => Ok(String::from_str(alloc, text)?),
         Ok(None) => add_missing(alloc, text, path, value, names),
         Err(error) => Err(EditError::of_text(error)),
     }
@@ -142,7 +141,7 @@ fn add_along(
 {
     let (outer, rest) = path.split_at(count);
     let Some((step, inner)) = rest.split_first() else {
-        return owned(alloc, text);
+        return Ok(String::from_str(alloc, text)?);
     };
     let new = first_in(inner, value);
     match entered(alloc, text, outer, *step, new, names) {

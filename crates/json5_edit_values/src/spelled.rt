@@ -33,7 +33,7 @@ pub(crate) fn spelled<T: Serialize>(
 {
     let written = written(alloc, value)?;
     let alike = spelled_like(alloc, text, written)?;
-    laid_out(alloc, text, path, goes, layout, alike)
+    Ok(laid_out(alloc, text, path, goes, layout, alike)?)
 }
 
 /// The value as json5 writes it.

@@ -1,16 +1,15 @@
 //! What a patch puts into a text.
 
-ghost use Rattle.std.specs.Prelude.{◌≡◌, IfErr, IfOk, string_bytes};
+ghost use Rattle.std.specs.Prelude.{◌≡◌, IfOk, string_bytes};
 ghost use Rattle.std.specs.Str.{chars};
 ghost use Rattle.json5_grammar.specs.Language.Trees.{Tree};
 ghost use Rattle.json5_grammar.specs.Language.Values.{Val};
-ghost use Rattle.json5_edit.specs.declared.faults.EditError.TheVariants as edit_errors;
 ghost use Rattle.json5_edit_values.specs.News.{Brings, IsNew};
 
 use crate::laid_out::lays_out;
 use crate::seats::{Goes, seat_of};
 use crate::spelled::spelled;
-use json5_edit::{EditError, Result, Step};
+use json5_edit::{Result, Step};
 use json5_edit_style::relined;
 use json5_types::value::Value;
 use std::alloc::Global;
@@ -53,13 +52,9 @@ fn lined(alloc: Global, part: &str, text: &str, path: &[Step<'_>], goes: Goes) -
 
 /// A copy.
 pub(crate) fn owned(alloc: Global, text: &str) -> Result<String>
-    ensures same { IfOk result (λ made. string_bytes made ≡ text.now) }
-    ensures full { IfErr result (λ e. e ≡ edit_errors.NoMemory) }
+    ensures { IfOk result (λ made. string_bytes made ≡ text.now) }
 {
-    match String::from_str(alloc, text) {
-        Ok(made) => Ok(made),
-        Err(_) => Err(EditError::NoMemory),
-    }
+    Ok(String::from_str(alloc, text)?)
 }
 
 /// What is made of its lines, which isn't trusted; None if it has one.

@@ -5,13 +5,12 @@ ghost use Rattle.std.specs.Str.{chars};
 ghost use Rattle.json5_grammar.specs.Language.Values.{Val};
 ghost use Rattle.json5_types.specs.Pointers.{begins_index, index_in};
 ghost use Rattle.json5_edit.specs.Refusals.{Reaches, RefusesPath};
-ghost use Rattle.json5_edit.specs.declared.faults.EditError.TheVariants as edit_errors;
 ghost use Rattle.json5_edit_values.specs.Locations.{AreSteps, IsStep};
 ghost use Rattle.json5_edit_values.specs.News.{LeadsToObject};
 
 use json5_edit::{EditError, Result, Step, find_place};
 use json5_read::read_document;
-use std::alloc::Global;
+use std::alloc::{AllocError, Global};
 
 /// The steps that the tokens are in the text: digits are an index where they come to an array, and a key elsewhere.
 pub(crate) fn steps_in<'p>(alloc: Global, text: &str, tokens: &'p [String]) -> Result<Vec<Step<'p>>>
@@ -27,13 +26,12 @@ pub(crate) fn steps_in<'p>(alloc: Global, text: &str, tokens: &'p [String]) -> R
 }
 
 /// Appends a step.
-fn push_step<'p>(steps: &mut Vec<Step<'p>>, step: Step<'p>) -> Result<()>
-    ensures more { OnOk result (steps.new.items ≡ steps.old.items ++ step.entry ∷ []) }
-    ensures full { IfErr result (λ e. e ≡ edit_errors.NoMemory) }
+fn push_step<'p>(steps: &mut Vec<Step<'p>>, step: Step<'p>) -> Result<(), AllocError>
+    ensures { OnOk result (steps.new.items ≡ steps.old.items ++ step.entry ∷ []) }
 {
     match steps.push(step) {
         Ok(()) => Ok(()),
-        Err(_) => Err(EditError::NoMemory),
+        Err(_) => Err(AllocError),
     }
 }
 
@@ -78,7 +76,7 @@ pub(crate) fn further<'s>(
     alloc: Global,
     steps: &[Step<'s>],
     step: Step<'s>,
-) -> Result<Vec<Step<'s>>>
+) -> Result<Vec<Step<'s>>, AllocError>
     ensures { IfOk result (λ path. path.items ≡ steps.now ++ step.entry ∷ []) }
 {
     let mut path = Vec::new(alloc);

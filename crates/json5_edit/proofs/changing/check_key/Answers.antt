@@ -7,5 +7,5 @@ returns-in-Ok-None-clause-free c = leads_free c.args.old.now c.args.key (rw c.in
 pub returns-in-Ok-Some-clause-refused : goal.returns-in-Ok-Some-clause-refused
 returns-in-Ok-Some-clause-refused c = is_taken c.args.old.now c.args.key _ (rw c.in-Ok-Some.field-0-is at c.in-Ok-Some.ensures.found)
 
-pub returns-in-Err-clause-refused : goal.returns-in-Err-clause-refused
-returns-in-Err-clause-refused c = rw (c.of_made.ensures.memory (c.in-Err.ensures.refused c.requires)) tt
+pub lack-requires : goal.lack-requires
+lack-requires c = c.in-Err.ensures.refused c.requires

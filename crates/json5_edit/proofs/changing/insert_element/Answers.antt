@@ -6,6 +6,7 @@ use Rattle.json5_edit.specs.Pieces.{Grows}
 use Rattle.json5_edit.specs.Refusals.{RefusesPutIn}
 use Rattle.json5_read.specs.declared.brackets.BracketKind.TheVariants as kind
 use Rattle.json5_edit.proofs.Placed.{ok_then}
+use Rattle.json5_edit.proofs.Removed.{found_entry}
 use Rattle.json5_edit.proofs.PlainlyEdited.{has_index}
 use Rattle.json5_edit.proofs.Changed.{has_place, is_small, changed_within}
 use Rattle.json5_edit.proofs.PlainPlaces.{part_stays, plain_within}
@@ -24,8 +25,11 @@ splice-requires c = has_place c.in_ok-place.ensures.found
 pub check_entry-requires : goal.check_entry-requires
 check_entry-requires c = is_small c.in_ok-place.ensures.found
 
-pub entry_start-requires : goal.entry_start-requires
-entry_start-requires c = rw c.limit_of-room.ensures (value_fits c.args.text.now c.part_text-old.result.now c.args.path.now c.in_ok-place.place c.utf8.text c.in_ok-place.ensures.found c.part_text-old.ensures)
+pub entry_found-requires : goal.entry_found-requires
+entry_found-requires c = rw c.limit_of-room.ensures (value_fits c.args.text.now c.part_text-old.result.now c.args.path.now c.in_ok-place.place c.utf8.text c.in_ok-place.ensures.found c.part_text-old.ensures)
+
+pub put_in-requires-clause-entry : goal.put_in-requires-clause-entry
+put_in-requires-clause-entry c = found_entry c.in_ok-found.ensures.found
 
 pub put_in-requires-clause-value : goal.put_in-requires-clause-value
 put_in-requires-clause-value c = rw c.limit_of-room.ensures c.in_ok-check_entry.ensures.value
@@ -41,10 +45,10 @@ returns-in_err-place-clause-refused c =
 pub returns-then-not-begins-clause-refused : goal.returns-then-not-begins-clause-refused
 returns-then-not-begins-clause-refused c = reaches_no c.args.text.now c.part_text-old.result.now c.args.path.now c.in_ok-place.place c.utf8.text c.in_ok-place.ensures.found c.part_text-old.ensures kind.Array (c.if-not-begins.ensures refl)
 
-pub returns-in_err-start-clause-refused : goal.returns-in_err-start-clause-refused
-returns-in_err-start-clause-refused c =
-    let (y, is, from) = err_from_is_err_and c.from_residual-in_err-start.result c.from_residual-in_err-start.ensures.1 in
-    rw (is, from) (step_put_in c.args.text.now c.part_text-old.result.now c.args.path.now c.in_ok-place.place c.utf8.text c.in_ok-place.ensures.found c.part_text-old.ensures c.args.value.now c.args.index c.in_err-start.field-0.0 c.in_err-start.ensures.refused)
+pub returns-in_err-found-clause-refused : goal.returns-in_err-found-clause-refused
+returns-in_err-found-clause-refused c =
+    let (y, is, from) = err_from_is_err_and c.from_residual-in_err-found.result c.from_residual-in_err-found.ensures.1 in
+    rw (is, from) (step_put_in c.args.text.now c.part_text-old.result.now c.args.path.now c.in_ok-place.place c.utf8.text c.in_ok-place.ensures.found c.part_text-old.ensures c.args.value.now c.args.index c.in_err-found.field-0.0 c.in_err-found.ensures.refused)
 
 pub returns-in_err-check_entry-clause-refused : goal.returns-in_err-check_entry-clause-refused
 returns-in_err-check_entry-clause-refused c =
@@ -54,10 +58,10 @@ returns-in_err-check_entry-clause-refused c =
 pub returns-in_err-new-clause-refused : goal.returns-in_err-new-clause-refused
 returns-in_err-new-clause-refused c =
     let (y, is, from) = err_from_is_err_and c.from_residual-in_err-new.result c.from_residual-in_err-new.ensures.1 in
-    rw (is, from, c.in_err-new.ensures.full) tt
+    rw (is, from) tt
 
 pub returns-clause-put_in : goal.returns-clause-put_in
-returns-clause-put_in c = ok_then c.splice.result (λ made k. let q = changed_within (λ x y. Grows kind.Array c.args.value.now x y × HasIndex c.args.index x) (GainsAt c.args.index c.args.value.now) c.args.text.now c.part_text-old.result.now c.as_str.result.now (string_bytes c.in_ok-new.new) (string_bytes made) c.args.path.now c.in_ok-place.place c.utf8.text c.as_str.utf8 c.as_str.ensures.value c.in_ok-place.ensures.found c.part_text-old.ensures (let m = rw c.limit_of-room.ensures at c.in_ok-new.ensures.put_in in (m.0, (m.1, has_index c.in_ok-start.ensures.found), m.2)) k in (q.0, q.1.0, q.1.1)) c.splice.ensures.spliced
+returns-clause-put_in c = ok_then c.splice.result (λ made k. let q = changed_within (λ x y. Grows kind.Array c.args.value.now x y × HasIndex c.args.index x) (GainsAt c.args.index c.args.value.now) c.args.text.now c.part_text-old.result.now c.as_str.result.now (string_bytes c.in_ok-new.new) (string_bytes made) c.args.path.now c.in_ok-place.place c.utf8.text c.as_str.utf8 c.as_str.ensures.value c.in_ok-place.ensures.found c.part_text-old.ensures (let m = rw c.limit_of-room.ensures at c.in_ok-new.ensures.put_in in (m.0, (m.1, has_index (found_entry c.in_ok-found.ensures.found)), m.2)) k in (q.0, q.1.0, q.1.1)) c.splice.ensures.spliced
 
 pub returns-clause-plain : goal.returns-clause-plain
 returns-clause-plain c = ok_then c.splice.result (λ made k. plain_within c.args.text.now c.args.value.now c.as_str.result.now (string_bytes c.in_ok-new.new) (string_bytes made) c.args.path.now c.in_ok-place.place c.utf8.text c.as_str.utf8 c.as_str.ensures.value c.in_ok-place.ensures.found (rw c.limit_of-room.ensures at c.in_ok-new.ensures.put_in.2) (subst (λ z. StaysPlain z c.args.value.now (string_bytes c.in_ok-new.new)) c.collection-collection.ensures.document (c.in_ok-new.ensures.plain)) k) c.splice.ensures.spliced

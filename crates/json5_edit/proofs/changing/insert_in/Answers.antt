@@ -50,7 +50,7 @@ returns-in_err-check_entry-clause-refused c =
 pub returns-in_err-new-clause-refused : goal.returns-in_err-new-clause-refused
 returns-in_err-new-clause-refused c =
     let (y, is, from) = err_from_is_err_and c.from_residual-in_err-new.result c.from_residual-in_err-new.ensures.1 in
-    rw (is, from, c.in_err-new.ensures.full) tt
+    rw (is, from) tt
 
 pub returns-clause-inserted : goal.returns-clause-inserted
 returns-clause-inserted c = ok_then c.splice.result (λ made k. let q = changed_within (λ x y. Grows kind.Object c.args.value.now x y × IsFree c.args.key.now x) (Gains kind.Object c.args.key.now c.args.value.now) c.args.text.now c.part_text-old.result.now c.as_str.result.now (string_bytes c.in_ok-new.new) (string_bytes made) c.args.path.now c.in_ok-place.place c.utf8.text c.as_str.utf8 c.as_str.ensures.value c.in_ok-place.ensures.found c.part_text-old.ensures (let m = rw c.limit_of-room.ensures at c.in_ok-new.ensures.inserted in (m.0, (m.1, c.in_ok-end.ensures.free), m.2)) k in (q.0, q.1.0, q.1.1)) c.splice.ensures.spliced

@@ -1,4 +1,4 @@
-use Rattle.std.proofs.Common.{refl, string_bytes, [], subst, sym}
+use Rattle.std.proofs.Common.{string_bytes, [], subst, sym}
 use Rattle.std.proofs.lemmas.Result.{err_from_is_err_and}
 use Rattle.json5_lexemes.specs.Plain.{KeepsPlain, StaysPlain}
 use Rattle.json5_edit.specs.Changes.{Gains}
@@ -8,7 +8,7 @@ use Rattle.json5_read.specs.declared.brackets.BracketKind.TheVariants as kind
 use Rattle.json5_edit.proofs.Placed.{ok_then}
 use Rattle.json5_edit.proofs.Changed.{has_place, is_small, changed_within}
 use Rattle.json5_edit.proofs.PlainPlaces.{part_stays, plain_within}
-use Rattle.json5_edit.proofs.Refused.{lacking, path_push, array_push, reaches_no, new_push, value_fits}
+use Rattle.json5_edit.proofs.Refused.{lacking, path_push, array_push, new_push, value_fits}
 use Rattle.json5_edit.proofs.changing.push.Goals as goal
 
 pub limit_of-room-requires : goal.limit_of-room-requires
@@ -29,16 +29,18 @@ pushed-requires-clause-value c = rw c.limit_of-room.ensures c.in_ok-check_entry.
 pub pushed-requires-clause-plain : goal.pushed-requires-clause-plain
 pushed-requires-clause-plain c = subst (λ z. KeepsPlain z c.part_text-old.result.now) (sym c.collection-collection.ensures.document) (part_stays c.args.text.now c.part_text-old.result.now c.args.path.now c.in_ok-place.place c.utf8.text c.in_ok-place.ensures.found c.part_text-old.ensures)
 
-pub pushed-requires-clause-old : goal.pushed-requires-clause-old
-pushed-requires-clause-old c = rw c.limit_of-room.ensures (value_fits c.args.text.now c.part_text-old.result.now c.args.path.now c.in_ok-place.place c.utf8.text c.in_ok-place.ensures.found c.part_text-old.ensures)
+pub array_end-requires : goal.array_end-requires
+array_end-requires c = rw c.limit_of-room.ensures (value_fits c.args.text.now c.part_text-old.result.now c.args.path.now c.in_ok-place.place c.utf8.text c.in_ok-place.ensures.found c.part_text-old.ensures)
 
 pub returns-in_err-place-clause-refused : goal.returns-in_err-place-clause-refused
 returns-in_err-place-clause-refused c =
     let (y, is, from) = err_from_is_err_and c.from_residual.result c.from_residual.ensures.1 in
     rw (is, from) (path_push c.args.text.now c.args.value.now c.args.path.now c.in_err-place.field-0.0 c.in_err-place.ensures.refused)
 
-pub returns-then-not-begins-clause-refused : goal.returns-then-not-begins-clause-refused
-returns-then-not-begins-clause-refused c = reaches_no c.args.text.now c.part_text-old.result.now c.args.path.now c.in_ok-place.place c.utf8.text c.in_ok-place.ensures.found c.part_text-old.ensures kind.Array (c.if-not-begins.ensures refl)
+pub returns-in_err-end-clause-refused : goal.returns-in_err-end-clause-refused
+returns-in_err-end-clause-refused c =
+    let (y, is, from) = err_from_is_err_and c.from_residual-in_err-end.result c.from_residual-in_err-end.ensures.1 in
+    rw (is, from) (array_push c.args.text.now c.part_text-old.result.now c.args.path.now c.in_ok-place.place c.utf8.text c.in_ok-place.ensures.found c.part_text-old.ensures c.args.value.now c.in_err-end.field-0.0 c.in_err-end.ensures.refused)
 
 pub returns-in_err-check_entry-clause-refused : goal.returns-in_err-check_entry-clause-refused
 returns-in_err-check_entry-clause-refused c =
@@ -48,7 +50,7 @@ returns-in_err-check_entry-clause-refused c =
 pub returns-in_err-new-clause-refused : goal.returns-in_err-new-clause-refused
 returns-in_err-new-clause-refused c =
     let (y, is, from) = err_from_is_err_and c.from_residual-in_err-new.result c.from_residual-in_err-new.ensures.1 in
-    rw (is, from) (array_push c.args.text.now c.part_text-old.result.now c.args.path.now c.in_ok-place.place c.utf8.text c.in_ok-place.ensures.found c.part_text-old.ensures c.args.value.now c.in_err-new.field-0.0 c.in_err-new.ensures.refused)
+    rw (is, from) tt
 
 pub returns-clause-pushed : goal.returns-clause-pushed
 returns-clause-pushed c = ok_then c.splice.result (λ made k. changed_within (Grows kind.Array c.args.value.now) (Gains kind.Array [] c.args.value.now) c.args.text.now c.part_text-old.result.now c.as_str.result.now (string_bytes c.in_ok-new.new) (string_bytes made) c.args.path.now c.in_ok-place.place c.utf8.text c.as_str.utf8 c.as_str.ensures.value c.in_ok-place.ensures.found c.part_text-old.ensures (rw c.limit_of-room.ensures at c.in_ok-new.ensures.pushed) k) c.splice.ensures.spliced

@@ -1,14 +1,14 @@
-use Rattle.std.proofs.Common.{refl, string_bytes}
-use Rattle.json5_edit.specs.Changes.{GainsAt, StaysPlainQuoted}
-use Rattle.json5_edit.specs.Pieces.{Grows}
-use Rattle.json5_read.specs.declared.brackets.BracketKind.TheVariants as kind
-use Rattle.json5_edit.proofs.StepsSurveyed.{kept, same_then}
+use Rattle.std.proofs.Common.{refl, subst}
+use Rattle.std.specs.Str.{chars}
+use Rattle.json5_edit.specs.Changes.{ChangesBy, GainsAt, StaysPlainQuoted}
+use Rattle.json5_edit.specs.Places.{IsValue}
 use Rattle.json5_edit_style.specs.declared.habits.Names.TheVariants as layout_names
-use Rattle.json5_edit.proofs.Placed.{ok_then}
 use Rattle.json5_edit.proofs.changing.put_in_by_lines.Goals as goal
 
-pub returns-in-Ok-clause-added : goal.returns-in-Ok-clause-added
-returns-in-Ok-clause-added c = kept string_bytes (Grows kind.Array c.args.value.now) (GainsAt c.args.index c.args.value.now) c.args.room c.args.old.now (string_bytes c.in_ok-new.new) c.as_str.result.now c.fitting_as_plain.result c.as_str.ensures.value c.in-Ok.ensures c.in_ok-new.ensures.grows c.fitting_as_plain.ensures.same c.fitting_as_plain.ensures.value
+pub returns-clause-added : goal.returns-clause-added
+returns-clause-added c =
+    let is = c.as_str-text.ensures.value in
+    (subst (ChangesBy (GainsAt c.args.index c.args.value.now) c.args.old.now) is c.in_ok-check_put_in.ensures, c.in_ok-new.ensures, subst (λ x. IsValue c.args.room (chars x)) is c.in_ok-check_fits.ensures)
 
-pub returns-in-Ok-clause-plain : goal.returns-in-Ok-clause-plain
-returns-in-Ok-clause-plain c = ok_then c.fitting_as_plain.result (λ made k. k refl) (same_then string_bytes (StaysPlainQuoted layout_names.Quoted c.args.collection.now.document.now c.args.value.now) (string_bytes c.in_ok-new.new) c.fitting_as_plain.result c.fitting_as_plain.ensures.same c.fitting_as_plain.ensures.plain)
+pub returns-clause-plain : goal.returns-clause-plain
+returns-clause-plain c = subst (StaysPlainQuoted layout_names.Quoted c.args.collection.now.document.now c.args.value.now) c.as_str-text.ensures.value c.in_ok-check_as_plain.ensures refl

@@ -37,11 +37,11 @@ returns-in_err-found-clause-refused c =
 pub returns-in_err-new-clause-refused : goal.returns-in_err-new-clause-refused
 returns-in_err-new-clause-refused c =
     let (y, is, from) = err_from_is_err_and c.from_residual-in_err-new.result c.from_residual-in_err-new.ensures.1 in
-    rw (is, from, c.in_err-new.ensures.full) tt
+    rw (is, from) tt
 
 pub returns-clause-removed : goal.returns-clause-removed
 returns-clause-removed c = ok_then c.splice.result (λ made k.
-    let m = rw c.limit_of-room.ensures at c.in_ok-new.ensures.removed in
+    let m = rw c.limit_of-room.ensures at c.in_ok-new.ensures in
     let q = changed_within (CutsWith c.args.leads) (IsWithout c.in-Some.step.now) c.args.text.now c.part_text-old.result.now c.as_str.result.now (string_bytes c.in_ok-new.new) (string_bytes made) c.in-Some.outer.now c.in_ok-place.place c.utf8.text c.as_str.utf8 c.as_str.ensures.value c.in_ok-place.ensures.found c.part_text-old.ensures (m.0, m.1, m.2) k in (
       (c.in-Some.outer.now, c.in-Some.step.now, c.in-Some.ensures.cases.0, q.0, q.1),
       keeps_within c.args.text.now c.part_text-old.result.now c.as_str.result.now (string_bytes c.in_ok-new.new) (string_bytes made) c.in-Some.outer.now c.in_ok-place.place c.utf8.text c.as_str.utf8 c.as_str.ensures.value c.in_ok-place.ensures.found c.part_text-old.ensures m.2 m.3 k,

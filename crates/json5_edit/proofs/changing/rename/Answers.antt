@@ -5,6 +5,7 @@ use Rattle.json5_edit.specs.Pieces.{Respells}
 use Rattle.json5_edit.specs.Refusals.{IsFree, RefusesRename}
 use Rattle.json5_edit.specs.Spots.{HasEntry}
 use Rattle.json5_edit.proofs.Placed.{ok_then}
+use Rattle.json5_edit.proofs.Removed.{found_entry}
 use Rattle.json5_edit.proofs.PlainCuts.{keeps_within}
 use Rattle.json5_edit.proofs.Changed.{has_place, is_small, changed_within}
 use Rattle.json5_edit.proofs.Refused.{no_steps, lacking, path_rename, step_rename, key_rename, value_fits, old_document}
@@ -16,14 +17,14 @@ limit_of-room-requires c = is_small c.in_ok-place.ensures.found
 pub part_text-old-requires : goal.part_text-old-requires
 part_text-old-requires c = has_place c.in_ok-place.ensures.found
 
-pub entry_start-requires : goal.entry_start-requires
-entry_start-requires c = rw c.limit_of-room.ensures (value_fits c.args.text.now c.part_text-old.result.now c.in-Some.outer.now c.in_ok-place.place c.utf8.text c.in_ok-place.ensures.found c.part_text-old.ensures)
+pub entry_found-requires : goal.entry_found-requires
+entry_found-requires c = rw c.limit_of-room.ensures (value_fits c.args.text.now c.part_text-old.result.now c.in-Some.outer.now c.in_ok-place.place c.utf8.text c.in_ok-place.ensures.found c.part_text-old.ensures)
 
 pub check_key-requires : goal.check_key-requires
 check_key-requires c = old_document c.args.text.now c.part_text-old.result.now c.in-Some.outer.now c.in_ok-place.place c.utf8.text c.in_ok-place.ensures.found c.part_text-old.ensures
 
 pub renamed-requires : goal.renamed-requires
-renamed-requires c = (c.in-Key.name, refl, subst (λ s. HasEntry s c.limit_of-room.result c.part_text-old.result.now c.in_ok-start.start) c.in-Key.is c.in_ok-start.ensures.found)
+renamed-requires c = (c.in-Key.name, refl, subst (λ s. HasEntry s c.limit_of-room.result c.part_text-old.result.now c.in_ok-found.found.start) c.in-Key.is (found_entry c.in_ok-found.ensures.found))
 
 pub splice-requires : goal.splice-requires
 splice-requires c = has_place c.in_ok-place.ensures.found
@@ -36,10 +37,10 @@ returns-in_err-place-clause-refused c =
     let (y, is, from) = err_from_is_err_and c.from_residual.result c.from_residual.ensures.1 in
     rw (is, from) (path_rename c.args.text.now c.args.key.now c.args.path.now c.in-Some.outer.now c.in-Some.step.now c.in_err-place.field-0.0 c.in-Some.ensures.cases.0 c.in_err-place.ensures.refused)
 
-pub returns-in_err-start-clause-refused : goal.returns-in_err-start-clause-refused
-returns-in_err-start-clause-refused c =
-    let (y, is, from) = err_from_is_err_and c.from_residual-in_err-start.result c.from_residual-in_err-start.ensures.1 in
-    rw (is, from) (step_rename c.args.text.now c.part_text-old.result.now c.in-Some.outer.now c.in_ok-place.place c.utf8.text c.in_ok-place.ensures.found c.part_text-old.ensures c.args.path.now c.args.key.now c.in-Some.step.now c.in_err-start.field-0.0 c.in-Some.ensures.cases.0 c.in_err-start.ensures.refused)
+pub returns-in_err-found-clause-refused : goal.returns-in_err-found-clause-refused
+returns-in_err-found-clause-refused c =
+    let (y, is, from) = err_from_is_err_and c.from_residual-in_err-found.result c.from_residual-in_err-found.ensures.1 in
+    rw (is, from) (step_rename c.args.text.now c.part_text-old.result.now c.in-Some.outer.now c.in_ok-place.place c.utf8.text c.in_ok-place.ensures.found c.part_text-old.ensures c.args.path.now c.args.key.now c.in-Some.step.now c.in_err-found.field-0.0 c.in-Some.ensures.cases.0 c.in_err-found.ensures.refused)
 
 pub returns-in_err-check_key-clause-refused : goal.returns-in_err-check_key-clause-refused
 returns-in_err-check_key-clause-refused c =
@@ -49,13 +50,13 @@ returns-in_err-check_key-clause-refused c =
 pub returns-in_err-new-clause-refused : goal.returns-in_err-new-clause-refused
 returns-in_err-new-clause-refused c =
     let (y, is, from) = err_from_is_err_and c.from_residual-in_err-new.result c.from_residual-in_err-new.ensures.1 in
-    rw (is, from, c.in_err-new.ensures.full) tt
+    rw (is, from) tt
 
 pub returns-clause-rekeyed : goal.returns-clause-rekeyed
-returns-clause-rekeyed c = ok_then c.splice.result (λ made k. let q = changed_within (λ x y. Respells x y × IsFree c.args.key.now x) (IsRenamed c.in-Key.name.now c.args.key.now) c.args.text.now c.part_text-old.result.now c.as_str.result.now (string_bytes c.in_ok-new.new) (string_bytes made) c.in-Some.outer.now c.in_ok-place.place c.utf8.text c.as_str.utf8 c.as_str.ensures.value c.in_ok-place.ensures.found c.part_text-old.ensures (let m = rw c.limit_of-room.ensures at c.in_ok-new.ensures.renamed in (m.0, (m.1, c.in_ok-check_key.ensures.free), m.2)) k in (c.in-Some.outer.now, c.in-Key.name, c.in-Some.ensures.cases.0 ∙ ap (λ s. c.in-Some.outer.now ++ (s ∷ [])) c.in-Key.is, q.0, q.1.0, q.1.1)) c.splice.ensures.spliced
+returns-clause-rekeyed c = ok_then c.splice.result (λ made k. let q = changed_within (λ x y. Respells x y × IsFree c.args.key.now x) (IsRenamed c.in-Key.name.now c.args.key.now) c.args.text.now c.part_text-old.result.now c.as_str.result.now (string_bytes c.in_ok-new.new) (string_bytes made) c.in-Some.outer.now c.in_ok-place.place c.utf8.text c.as_str.utf8 c.as_str.ensures.value c.in_ok-place.ensures.found c.part_text-old.ensures (let m = rw c.limit_of-room.ensures at c.in_ok-new.ensures in (m.0, (m.1, c.in_ok-check_key.ensures.free), m.2)) k in (c.in-Some.outer.now, c.in-Key.name, c.in-Some.ensures.cases.0 ∙ ap (λ s. c.in-Some.outer.now ++ (s ∷ [])) c.in-Key.is, q.0, q.1.0, q.1.1)) c.splice.ensures.spliced
 
 pub returns-clause-plain : goal.returns-clause-plain
-returns-clause-plain c = ok_then c.splice.result (λ made k. let q = rw c.limit_of-room.ensures at c.in_ok-new.ensures.renamed in keeps_within c.args.text.now c.part_text-old.result.now c.as_str.result.now (string_bytes c.in_ok-new.new) (string_bytes made) c.in-Some.outer.now c.in_ok-place.place c.utf8.text c.as_str.utf8 c.as_str.ensures.value c.in_ok-place.ensures.found c.part_text-old.ensures q.2 q.3 k) c.splice.ensures.spliced
+returns-clause-plain c = ok_then c.splice.result (λ made k. let q = rw c.limit_of-room.ensures at c.in_ok-new.ensures in keeps_within c.args.text.now c.part_text-old.result.now c.as_str.result.now (string_bytes c.in_ok-new.new) (string_bytes made) c.in-Some.outer.now c.in_ok-place.place c.utf8.text c.as_str.utf8 c.as_str.ensures.value c.in_ok-place.ensures.found c.part_text-old.ensures q.2 q.3 k) c.splice.ensures.spliced
 
 pub returns-clause-refused : goal.returns-clause-refused
 returns-clause-refused c = lacking (RefusesRename c.args.text.now c.args.path.now c.args.key.now) c.splice.result tt c.splice.ensures.full

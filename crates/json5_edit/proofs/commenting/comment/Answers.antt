@@ -18,8 +18,8 @@ part_text-old-requires c = has_place c.in_ok-place.ensures.found
 pub splice-requires : goal.splice-requires
 splice-requires c = has_place c.in_ok-place.ensures.found
 
-pub entry_start-requires : goal.entry_start-requires
-entry_start-requires c = rw c.limit_of-room.ensures (value_fits c.args.text.now c.part_text-old.result.now c.in-Some.outer.now c.in_ok-place.place c.utf8.text c.in_ok-place.ensures.found c.part_text-old.ensures)
+pub entry_found-requires : goal.entry_found-requires
+entry_found-requires c = rw c.limit_of-room.ensures (value_fits c.args.text.now c.part_text-old.result.now c.in-Some.outer.now c.in_ok-place.place c.utf8.text c.in_ok-place.ensures.found c.part_text-old.ensures)
 
 pub returns-in_default-clause-refused : goal.returns-in_default-clause-refused
 returns-in_default-clause-refused c = inr (no_steps c.args.path.now (rw c.in_default.is at c.split_last.ensures.cases))
@@ -37,11 +37,11 @@ returns-in_err-start-clause-refused c =
 pub returns-in_err-new-clause-refused : goal.returns-in_err-new-clause-refused
 returns-in_err-new-clause-refused c =
     let (y, is, from) = err_from_is_err_and c.from_residual-in_err-new.result c.from_residual-in_err-new.ensures.1 in
-    rw (is, from) (as_own c.args.text.now c.args.path.now c.in_err-new.field-0.0 c.in_err-new.ensures.own)
+    rw is (as_own c.args.text.now c.args.path.now y from)
 
 pub returns-clause-commented : goal.returns-clause-commented
 returns-clause-commented c = ok_then c.splice.result (λ made k.
-    let m = rw c.limit_of-room.ensures at c.in_ok-new.ensures.commented in
+    let m = rw c.limit_of-room.ensures at c.in_ok-new.ensures in
     let q = changed_within (RecommentsAt c.in-Some.step.now) HaveSameEntries c.args.text.now c.part_text-old.result.now c.as_str.result.now (string_bytes c.in_ok-new.new) (string_bytes made) c.in-Some.outer.now c.in_ok-place.place c.utf8.text c.as_str.utf8 c.as_str.ensures.value c.in_ok-place.ensures.found c.part_text-old.ensures m k in
     (c.in-Some.outer.now, c.in-Some.step.now, c.in-Some.ensures.cases.0, q.0, q.1)) c.splice.ensures.spliced
 

@@ -11,8 +11,8 @@ limit_of-room-requires c = is_small c.in_ok-place.ensures.found
 pub part_text-old-requires : goal.part_text-old-requires
 part_text-old-requires c = has_place c.in_ok-place.ensures.found
 
-pub entry_start-requires : goal.entry_start-requires
-entry_start-requires c = rw c.limit_of-room.ensures (value_fits c.args.text.now c.part_text-old.result.now c.in-Some.outer.now c.in_ok-place.place c.utf8.text c.in_ok-place.ensures.found c.part_text-old.ensures)
+pub entry_found-requires : goal.entry_found-requires
+entry_found-requires c = rw c.limit_of-room.ensures (value_fits c.args.text.now c.part_text-old.result.now c.in-Some.outer.now c.in_ok-place.place c.utf8.text c.in_ok-place.ensures.found c.part_text-old.ensures)
 
 pub returns-in_default : goal.returns-in_default
 returns-in_default c = inr (no_steps c.args.path.now (rw c.in_default.is at c.split_last.ensures.cases))
@@ -30,4 +30,4 @@ returns-in_err-start c =
 pub returns-in_err-from : goal.returns-in_err-from
 returns-in_err-from c =
     let (y, is, from) = err_from_is_err_and c.from_residual-in_err-from.result c.from_residual-in_err-from.ensures.1 in
-    rw (is, from) (as_own c.args.text.now c.args.path.now c.in_err-from.field-0.0 c.in_err-from.ensures)
+    rw is (as_own c.args.text.now c.args.path.now y from)

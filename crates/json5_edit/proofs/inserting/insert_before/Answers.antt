@@ -56,11 +56,11 @@ returns-in_err-start-clause-refused c =
 pub returns-in_err-new-clause-refused : goal.returns-in_err-new-clause-refused
 returns-in_err-new-clause-refused c =
     let (y, is, from) = err_from_is_err_and c.from_residual-in_err-new.result c.from_residual-in_err-new.ensures.1 in
-    rw (is, from, c.in_err-new.ensures.1) (before_refused c.args.before c.args.text.now c.args.key.now c.args.value.now c.args.path.now _ tt)
+    rw (is, from) (before_refused c.args.before c.args.text.now c.args.key.now c.args.value.now c.args.path.now _ tt)
 
 pub returns-clause-inserted : goal.returns-clause-inserted
 returns-clause-inserted c = ok_then c.splice.result (λ made k.
-    let m = rw c.limit_of-room.ensures at c.in_ok-new.ensures.0 in
+    let m = rw c.limit_of-room.ensures at c.in_ok-new.ensures in
     let q = changed_within (λ x y. Grows kind.Object c.args.value.now x y × IsFree c.args.key.now x) (GainsMember c.args.before c.args.key.now c.args.value.now) c.args.text.now c.part_text-old.result.now c.as_str.result.now (string_bytes c.in_ok-new.new) (string_bytes made) c.args.path.now c.in_ok-place.place c.utf8.text c.as_str.utf8 c.as_str.ensures.value c.in_ok-place.ensures.found c.part_text-old.ensures (m.0.0, (m.0.1, c.in_ok-end.ensures.free), m.0.2) k in (
       (q.0, q.1.0, q.1.1),
       λ quoted. plain_within c.args.text.now c.args.value.now c.as_str.result.now (string_bytes c.in_ok-new.new) (string_bytes made) c.args.path.now c.in_ok-place.place c.utf8.text c.as_str.utf8 c.as_str.ensures.value c.in_ok-place.ensures.found m.0.2 (subst (λ z. StaysPlain z c.args.value.now (string_bytes c.in_ok-new.new)) c.collection-collection.ensures.document (m.1 quoted)) k,

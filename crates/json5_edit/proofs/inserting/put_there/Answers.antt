@@ -16,4 +16,4 @@ pub returns-in-None : goal.returns-in-None
 returns-in-None c =
     let (first, none) = rw c.in-None.is at c.requires.1 in
     subst (λ b. PutsThere b c.args.key.now c.args.value.now c.args.room c.args.collection.now c.args.old.now c.inserted.result) (sym first)
-    (first_of_none c.args.room c.args.collection.now c.args.old.now c.args.key.now c.args.value.now c.inserted.result none c.inserted.ensures.inserted c.inserted.ensures.plain c.inserted.ensures.full)
+    (first_of_none c.args.room c.args.collection.now c.args.old.now c.args.key.now c.args.value.now c.inserted.result none c.inserted.ensures.inserted c.inserted.ensures.plain)

@@ -5,9 +5,9 @@ use Rattle.json5_tokens.specs.Outcome.{bytes_in}
 use Rattle.json5_edit.proofs.PiecesJoined.{ok_both, key_there}
 use Rattle.json5_edit.proofs.pieces.split_key.Goals as goal
 
-pub returns-in-Ok-clause-split : goal.returns-in-Ok-clause-split
-returns-in-Ok-clause-split c =
-    let (s, u, e, took, k, is) = c.in-Ok.ensures.taken in
+pub returns : goal.returns
+returns c =
+    let (s, u, e, took, k, is) = c.in_ok-key.ensures.taken in
     let y = c.key.new.self.unread in
     let whole : chars c.args.text.now ≡ s ++ y = sym (ap (λ (z : Cursor). z.unread) c.new-scanner.ensures) ∙ took.split in
     let input : c.key.new.self.input ≡ s ++ y = took.same ∙ ap (λ (z : Cursor). z.input) c.new-scanner.ensures ∙ whole in

@@ -1,4 +1,4 @@
-use Rattle.std.proofs.Common.{◌≤◌, length, refl, ap, subst, ◌∙◌, ◌∷◌}
+use Rattle.std.proofs.Common.{◌≤◌, length, refl, ap, subst, ◌∙◌}
 use Rattle.std.proofs.lemmas.Result.{err_from_is_err_and}
 use Rattle.json5_walk.proofs.Entries.{on_then}
 use Rattle.json5_edit.specs.Seeks.{is_sought}

@@ -1,4 +1,4 @@
-use Rattle.std.proofs.Common.{ℕ, ◌+◌, ◌*◌, length}
+use Rattle.std.proofs.Common.{◌+◌, ◌*◌, length}
 use Rattle.json5_edit.proofs.Seeks.{Passed}
 use Rattle.json5_edit.proofs.places.+seek.Given as goal
 

@@ -10,13 +10,13 @@ pub len_ahead-requires : goal.len_ahead-requires
 len_ahead-requires c = is_ahead c.split_at.result.1.now c.kind.ensures c.utf8.old (found_entry c.requires) c.split_at.ensures.back
 
 pub split_at-requires-2 : goal.split_at-requires-2
-split_at-requires-2 c = whole_boundary c.split_at.result.1.now c.in_ok-len.len (rest_utf8 c.split_at.result.1.now c.utf8.old c.requires.entry.entry.spot c.split_at.ensures.back) c.in_ok-len.ensures.measured
+split_at-requires-2 c = whole_boundary c.split_at.result.1.now c.in_ok-len.len (rest_utf8 c.split_at.result.1.now c.utf8.old c.requires.entry.entry.spot c.split_at.ensures.back) c.in_ok-len.ensures
 
-pub returns-in_default-clause-removed : goal.returns-in_default-clause-removed
-returns-in_default-clause-removed c = ok_then c.join.result (λ made k. removed_here c.args.old.now _ c.split_at.result.0.now c.split_at.result.1.now c.split_at-2.result.0.now c.split_at-2.result.1.now c.in_ok-len.len c.kind.ensures c.requires.small c.utf8.old (found_entry c.requires) c.split_at.ensures.front c.split_at.ensures.back c.in_ok-len.ensures.measured c.split_at-2.ensures.front c.split_at-2.ensures.back (λ e. rw c.in_default.is at c.requires.entry.before) k) c.join.ensures.joined
+pub returns-in_default : goal.returns-in_default
+returns-in_default c = ok_then c.join.result (λ made k. removed_here c.args.old.now _ c.split_at.result.0.now c.split_at.result.1.now c.split_at-2.result.0.now c.split_at-2.result.1.now c.in_ok-len.len c.kind.ensures c.requires.small c.utf8.old (found_entry c.requires) c.split_at.ensures.front c.split_at.ensures.back c.in_ok-len.ensures c.split_at-2.ensures.front c.split_at-2.ensures.back (λ e. rw c.in_default.is at c.requires.entry.before) k) c.join.ensures
 
 pub without_last-requires : goal.without_last-requires
 without_last-requires c = (found_entry c.requires, rw c.in-Some.is at c.requires.entry.before)
 
-pub returns-clause-removed : goal.returns-clause-removed
-returns-clause-removed c = ok_then c.join-2.result (λ made k. removed_here c.args.old.now _ c.split_at.result.0.now c.split_at.result.1.now c.split_at-2.result.0.now c.split_at-2.result.1.now c.in_ok-len.len c.kind.ensures c.requires.small c.utf8.old (found_entry c.requires) c.split_at.ensures.front c.split_at.ensures.back c.in_ok-len.ensures.measured c.split_at-2.ensures.front c.split_at-2.ensures.back (λ e. absurd (c.if-len.false (same_len c.in_ok-len.ensures.measured e))) k) c.join-2.ensures.joined
+pub returns : goal.returns
+returns c = ok_then c.join-2.result (λ made k. removed_here c.args.old.now _ c.split_at.result.0.now c.split_at.result.1.now c.split_at-2.result.0.now c.split_at-2.result.1.now c.in_ok-len.len c.kind.ensures c.requires.small c.utf8.old (found_entry c.requires) c.split_at.ensures.front c.split_at.ensures.back c.in_ok-len.ensures c.split_at-2.ensures.front c.split_at-2.ensures.back (λ e. absurd (c.if-len.false (same_len c.in_ok-len.ensures e))) k) c.join-2.ensures

@@ -7,5 +7,5 @@ split_at-requires c = first_seam c.args.text.now c.in-Ok.span c.utf8.text c.in-O
 pub split_at-requires-in-Ok : goal.split_at-requires-in-Ok
 split_at-requires-in-Ok c = second_seam c.args.text.now c.in-Ok.span c.utf8.text c.in-Ok.ensures.taken
 
-pub returns-in-Ok-clause-taken : goal.returns-in-Ok-clause-taken
-returns-in-Ok-clause-taken c = key_taken c.args.text.now c.in-Ok.span c.utf8.text c.in-Ok.ensures.taken c.split_at.result.0.now c.split_at-in-Ok.result.1.now c.split_at.ensures.front c.split_at-in-Ok.ensures.back
+pub returns-in-Ok : goal.returns-in-Ok
+returns-in-Ok c = key_taken c.args.text.now c.in-Ok.span c.utf8.text c.in-Ok.ensures.taken c.split_at.result.0.now c.split_at-in-Ok.result.1.now c.split_at.ensures.front c.split_at-in-Ok.ensures.back

@@ -1,9 +1,12 @@
-use Rattle.std.proofs.Common.{subst, string_bytes}
+use Rattle.std.proofs.Common.{subst}
+use Rattle.std.specs.Str.{chars}
 use Rattle.json5_edit.specs.Changes.{ChangesBy}
 use Rattle.json5_edit.specs.Comparing.{IsRenamed}
-use Rattle.json5_edit.proofs.Rekeyed.{laid_rekeys}
+use Rattle.json5_edit.specs.Places.{IsValue}
+use Rattle.json5_lexemes.specs.Plain.{KeepsPlain}
 use Rattle.json5_edit.proofs.renaming.renamed_alike.Goals as goal
 
-pub returns-in-Ok : goal.returns-in-Ok
-returns-in-Ok c = laid_rekeys c.args.room c.args.name.now c.args.key.now c.args.old.now (string_bytes c.in_ok-new.new) c.kept_plain.result c.kept_plain.ensures.same c.kept_plain.ensures.value c.kept_plain.ensures.plain
-    (subst (ChangesBy (IsRenamed c.args.name.now c.args.key.now) c.args.old.now) c.as_str.ensures.value c.in-Ok.ensures) c.in_ok-new.ensures.respells
+pub returns : goal.returns
+returns c =
+    let is = c.as_str-text.ensures.value in
+    (subst (ChangesBy (IsRenamed c.args.name.now c.args.key.now) c.args.old.now) is c.in_ok-check_renamed.ensures, c.in_ok-new.ensures, subst (λ x. IsValue c.args.room (chars x)) is c.in_ok-check_fits.ensures, subst (KeepsPlain c.args.old.now) is c.in_ok-check_plain.ensures)

@@ -30,17 +30,17 @@ returns-then-not-begins-clause-refused c = reaches_no c.args.text.now c.part_tex
 pub returns-in_err-new-clause-refused : goal.returns-in_err-new-clause-refused
 returns-in_err-new-clause-refused c =
     let (y, is, from) = err_from_is_err_and c.from_residual-in_err-new.result c.from_residual-in_err-new.ensures.1 in
-    rw (is, from) (own (RefusesSort c.args.text.now c.args.path.now) c.in_err-new.field-0.0 tt tt c.in_err-new.ensures.own)
+    rw is (own (RefusesSort c.args.text.now c.args.path.now) y tt tt from)
 
 pub returns-clause-sorted : goal.returns-clause-sorted
 returns-clause-sorted c = ok_then c.splice.result (λ made k.
-    let m = rw c.limit_of-room.ensures at c.in_ok-new.ensures.sorted in
+    let m = rw c.limit_of-room.ensures at c.in_ok-new.ensures in
     let q = changed_within (λ x y. ⊤) HasMembersSorted c.args.text.now c.part_text-old.result.now c.as_str.result.now (string_bytes c.in_ok-new.new) (string_bytes made) c.args.path.now c.in_ok-place.place c.utf8.text c.as_str.utf8 c.as_str.ensures.value c.in_ok-place.ensures.found c.part_text-old.ensures (m.0, tt, m.1) k in
     q.0) c.splice.ensures.spliced
 
 pub returns-clause-plain : goal.returns-clause-plain
 returns-clause-plain c = ok_then c.splice.result (λ made k.
-    let m = rw c.limit_of-room.ensures at c.in_ok-new.ensures.sorted in
+    let m = rw c.limit_of-room.ensures at c.in_ok-new.ensures in
     keeps_within c.args.text.now c.part_text-old.result.now c.as_str.result.now (string_bytes c.in_ok-new.new) (string_bytes made) c.args.path.now c.in_ok-place.place c.utf8.text c.as_str.utf8 c.as_str.ensures.value c.in_ok-place.ensures.found c.part_text-old.ensures m.1 m.2 k) c.splice.ensures.spliced
 
 pub returns-clause-refused : goal.returns-clause-refused

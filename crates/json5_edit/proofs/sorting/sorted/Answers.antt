@@ -1,6 +1,8 @@
-use Rattle.std.proofs.Common.{string_bytes}
-use Rattle.json5_edit.proofs.MembersSorted.{sorts}
+use Rattle.std.proofs.Common.{subst}
+use Rattle.std.specs.Str.{chars}
+use Rattle.json5_edit.specs.Places.{IsValue}
+use Rattle.json5_lexemes.specs.Plain.{KeepsPlain}
 use Rattle.json5_edit.proofs.sorting.sorted.Goals as goal
 
-pub returns-in-Ok-clause-sorted : goal.returns-in-Ok-clause-sorted
-returns-in-Ok-clause-sorted c = sorts c.args.room c.args.old.now (string_bytes c.in-Ok.new) c.kept_plain.result c.kept_plain.ensures.same c.kept_plain.ensures.value c.kept_plain.ensures.plain c.in-Ok.ensures
+pub returns : goal.returns
+returns c = (c.in_ok-new.ensures, subst (λ x. IsValue c.args.room (chars x)) c.as_str-2.ensures.value c.in_ok-check_fits.ensures, subst (KeepsPlain c.args.old.now) c.as_str.ensures.value c.in_ok-check_plain.ensures)

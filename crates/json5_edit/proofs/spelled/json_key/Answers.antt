@@ -6,6 +6,3 @@ returns-in-Ok-clause-spelled c = json_key_spelled c.args.key.now _ c.utf8.key c.
 
 pub returns-in-Ok-clause-plain : goal.returns-in-Ok-clause-plain
 returns-in-Ok-clause-plain c = json_key_plain c.args.key.now _ c.in-Ok.ensures.spelled
-
-pub returns-in-Err-clause-full : goal.returns-in-Err-clause-full
-returns-in-Err-clause-full c = c.of_made.ensures.memory c.in-Err.ensures.refused

@@ -5,13 +5,13 @@ use Rattle.json5_edit_values.specs.Spelled.{Spells}
 use Rattle.json5_edit_values.proofs.Refused.{put_in_writing, put_in_refused}
 use Rattle.json5_edit_values.proofs.edits.insert_element_value_in.Goals as goal
 
-pub returns-in_err-new-clause-refused : goal.returns-in_err-new-clause-refused
-returns-in_err-new-clause-refused g c =
+pub returns-in_err-new : goal.returns-in_err-new
+returns-in_err-new g c =
     let (y, is, from) = err_from_is_err_and c.from_residual.result c.from_residual.ensures.1 in
     rw (is, from) (put_in_writing (g.T.Serialize.tree c.args.value.now) c.args.text.now c.args.path.now c.args.index c.in_err-new.field-0.0 c.in_err-new.ensures.refused)
 
-pub returns-in-Ok-clause-put_in : goal.returns-in-Ok-clause-put_in
-returns-in-Ok-clause-put_in g c = (c.as_str.result.now, subst (λ z. Spells (g.T.Serialize.tree c.args.value.now) c.args.text.now (chars z)) (sym c.as_str.ensures.value) c.in_ok-new.ensures.value, c.in-Ok.ensures.put_in)
+pub returns-in-Ok : goal.returns-in-Ok
+returns-in-Ok g c = (c.as_str.result.now, subst (λ z. Spells (g.T.Serialize.tree c.args.value.now) c.args.text.now (chars z)) (sym c.as_str.ensures.value) c.in_ok-new.ensures.value, c.in-Ok.ensures.put_in)
 
-pub returns-clause-refused : goal.returns-clause-refused
-returns-clause-refused g c = put_in_refused (g.T.Serialize.tree c.args.value.now) c.args.text.now c.args.path.now c.args.index c.as_str.result.now c.in-Err.error c.placeless.result (subst (λ z. Spells (g.T.Serialize.tree c.args.value.now) c.args.text.now (chars z)) (sym c.as_str.ensures.value) c.in_ok-new.ensures.value) c.in-Err.ensures.refused c.placeless.ensures
+pub returns : goal.returns
+returns g c = put_in_refused (g.T.Serialize.tree c.args.value.now) c.args.text.now c.args.path.now c.args.index c.as_str.result.now c.in-Err.error c.placeless.result (subst (λ z. Spells (g.T.Serialize.tree c.args.value.now) c.args.text.now (chars z)) (sym c.as_str.ensures.value) c.in_ok-new.ensures.value) c.in-Err.ensures.refused c.placeless.ensures

@@ -10,4 +10,4 @@ returns-then-lays_out c = λ v w.
     subst (λ z. Val (chars z) v) c.as_str.ensures.value (subst (λ b. OnTrue b (Val (chars c.as_str.result.now) v)) c.if-lays_out.true (c.lays_out.ensures v w))
 
 pub returns : goal.returns
-returns c = λ v w. ok_then c.owned.result (λ made e. subst (λ z. Val (chars z) v) (sym e) w) c.owned.ensures.same
+returns c = λ v w. ok_then c.owned.result (λ made e. subst (λ z. Val (chars z) v) (sym e) w) c.owned.ensures
