@@ -85,8 +85,8 @@ module _ (members : List Named) (i n : ℕ) (f : Named) (key : Bor (List ℕ)) (
   sees : Sees new (fields_view (drop i members))
   sees = seen_more seen new f (drop n members) (drop i members) key.now here named utf8 saw updated
 
-  pub kept_step : (m : Member) → b ≡ true → m.name.now ≡ string_bytes f.0 → m.value.now ≡ f.1 → (members_view (reverse (found ++ m ∷ [])) ≡ latest (fields_view (drop i members))) × Sees new (fields_view (drop i members))
-  kept_step m yes name value = (one_kept found m f (drop n members) (drop i members) here were name value (has_none b _ _ added before yes), sees)
+  pub kept_step : (more : List Member) (m : Member) → more ≡ found ++ m ∷ [] → b ≡ true → m.name.now ≡ string_bytes f.0 → m.value.now ≡ f.1 → (members_view (reverse more) ≡ latest (fields_view (drop i members))) × Sees new (fields_view (drop i members))
+  kept_step more m pushed yes name value = (ap (λ ms. members_view (reverse ms)) pushed ∙ one_kept found m f (drop n members) (drop i members) here were name value (has_none b _ _ added before yes), sees)
 
   pub passed_step : b ≡ false → (members_view (reverse found) ≡ latest (fields_view (drop i members))) × Sees new (fields_view (drop i members))
   passed_step no = (one_passed found f (drop n members) (drop i members) here were (has_one b _ _ added before no), sees)
