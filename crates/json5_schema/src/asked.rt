@@ -201,7 +201,12 @@ fn is_patterned(
 }
 
 /// Whether one of the patterns that this has schemas for matches the name.
-pub fn is_matched_in(alloc: Global, patterns: &[Pattern], schemas: &Value, name: &str) -> Result<bool>
+pub fn is_matched_in(
+    alloc: Global,
+    patterns: &[Pattern],
+    schemas: &Value,
+    name: &str,
+) -> Result<bool>
     ensures { MatchResult result (λ b. b ≡ is_patterned (Some (value_of schemas.now)) (chars name.now)) LacksMemory }
 {
     match schemas {

@@ -8,7 +8,9 @@ use crate::document_faults::{Fault, Mismatch, Place, Way};
 use crate::found::Found;
 use crate::keyword::{Applicator, Keyword, keyword_named};
 use crate::members::{find, is_named, latest};
-use crate::own_faults::{add_assertion, add_dependents, add_own, choose_branch, other_key, unknown_key};
+use crate::own_faults::{
+    add_assertion, add_dependents, add_own, choose_branch, other_key, unknown_key,
+};
 use crate::patterns::{Pattern, fits};
 use crate::tags::names_member;
 use crate::words::shown;
@@ -121,11 +123,7 @@ fn explain_keyword(
                 alloc, patterns, root, argument, members, &here, depth, found,
             )
         }
-        (
-            Keyword::Applicator(Applicator::UnevaluatedProperties),
-            _,
-            Value::Object(members),
-        ) => {
+        (Keyword::Applicator(Applicator::UnevaluatedProperties), _, Value::Object(members)) => {
             explain_left_members(
                 alloc, patterns, root, keywords, argument, value, members, &here, depth, found,
             )

@@ -260,7 +260,8 @@ fn note_anchor(alloc: Global, text: &str, pointer: &str, seen: &mut Seen) -> Loo
         };
     }
     let place = seen.anchors.len();
-    seen.anchor_places.insert(String::from_str(alloc, name)?, place)?;
+    seen.anchor_places
+        .insert(String::from_str(alloc, name)?, place)?;
     let name = String::from_str(alloc, name)?;
     let pointer = String::from_str(alloc, schema)?;
     seen.anchors.push(Anchor { name, pointer })?;
