@@ -60,7 +60,7 @@ PutsFile Replaces name old new (Err e) = ⊥
 abbrev pub WorksOnTexts : Replacing → FileWork → (name before after : List ℕ) → (old new : Option (List ℕ)) → Result Outcome FileTrouble → Type 0
 WorksOnTexts replaces work.Check name before after old new (Ok outcome.Tidy) = (before ≡ after) × Keeps old new
 WorksOnTexts replaces work.Check name before after old new (Ok outcome.Untidy) = (before ≢ after) × Appends old new (name_line name)
-WorksOnTexts replaces work.Check name before after old new (Err (trouble.Failed failure.Write)) = AppendsFront old new (name_line name)
+WorksOnTexts replaces work.Check name before after old new (Err (trouble.Failed failure.Write)) = (before ≢ after) × AppendsFront old new (name_line name)
 WorksOnTexts replaces work.Diff name before after old new (Ok outcome.Tidy) = (before ≡ after) × Keeps old new
 WorksOnTexts replaces work.Diff name before after old new (Ok outcome.Untidy) = before ≢ after
 WorksOnTexts replaces work.Diff name before after old new (Err (trouble.Failed failure.Write)) = before ≢ after

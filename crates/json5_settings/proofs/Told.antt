@@ -19,7 +19,7 @@ use Rattle.json5_report.specs.Places.{IsOffsetOf, shown_position}
 use Rattle.json5_report.specs.Reports.{IsReportOf, IsReportThere}
 use Rattle.json5_settings.specs.Stacks.{Layer}
 use Rattle.json5_settings.specs.Texts.{layer_of, layers_in}
-use Rattle.json5_settings.specs.Told.{AllLack, HasPathOf, IsNearer, IsTold, IsToldAt, IsToldIn, MayBeAt}
+use Rattle.json5_settings.specs.Told.{AllLack, HasPathOf, IsNearer, IsTold, IsToldAt, IsToldIn}
 use Rattle.json5_settings.specs.declared.layers.Layer.{Layer as Kept}
 
 -- ---- layers, the last first
@@ -49,12 +49,6 @@ nowhere text path l = (l.tree, l.document, l.placed)
 
 pub begins_text : (text : List ℕ) (path : List Step) (p : Place) → IsUtf8 text → Leads text path (Some p) → IsCharBoundary text p.start
 begins_text text path p utf8 l = starts_there utf8 (l.placed.before, l.placed.old, l.placed.after, l.placed.cut)
-
-pub at_value : (at_key : Bool) (n : ℕ) → at_key ≡ false → MayBeAt at_key n n
-at_value at_key n off = subst (λ b. MayBeAt b n n) (sym off) refl
-
-pub at_key_or_value : (at_key : Bool) (n k : ℕ) → at_key ≡ true → k ≤ n → MayBeAt at_key n k
-at_key_or_value at_key n k on low = subst (λ b. MayBeAt b n k) (sym on) low
 
 pub front_of : (text front : List ℕ) (n : ℕ) → front ≡ slice_range text 0 n → front ≡ take n text
 front_of text front n e = e ∙ ap (λ k. take k text) (omega arith)

@@ -1,9 +1,6 @@
 //! Why a setting isn't added.
 
-ghost use Rattle.json5_types.specs.Errors.{LacksMemory};
-
 use json5_edit::PathError;
-use json5_types::ErrorCode;
 use json5_types::error::Error;
 use std::fmt;
 
@@ -59,11 +56,4 @@ impl From<PathError> for SettingError {
     fn from(error: PathError) -> SettingError {
         SettingError::Path(error)
     }
-}
-
-/// No memory, without a position.
-pub(crate) fn out_of_memory() -> Error
-    ensures { LacksMemory result }
-{
-    Error::new(ErrorCode::OutOfMemory)
 }

@@ -17,7 +17,8 @@ use std::alloc::Global;
 /// Returns the text with what a program changed: `old` is the value of its settings as they were read, and `new` as they
 /// are now. A member that is the same in both stays as the text has it, also where that has another value or none. One
 /// that differs becomes as `new` has it, in objects member by member; and one goes that `old` has and `new` lacks. An
-/// array becomes that of `new`, and where elements are the same they stay. Comments and blanks elsewhere stay.
+/// array becomes so element by element where all three have one length, and else that of `new`, of which the elements
+/// that are the same stay. Comments and blanks elsewhere stay.
 ///
 /// The value of a derived type is `json5_serde::to_value`, that of any other `from_str` of what `to_string` writes.
 ///
@@ -27,8 +28,7 @@ use std::alloc::Global;
 /// update(alloc, "{ port: 80 } // web", &old, &to_value(alloc, &settings)?)?    // { port: 8080 } // web
 /// ```
 ///
-/// An object in such an array whose members stand in another order than those of `new` is written anew. It takes time in
-/// the length of the text for each change. If the edits came to another value, all would be written anew.
+/// It takes time in the length of the text for each change. If the edits came to another value, all would be written anew.
 ///
 /// # Errors
 ///

@@ -1,0 +1,8 @@
+-- Lemmas of this crate.
+pub mod SumsRead
+pub mod SumLaws
+pub mod SumsWritten
+pub mod DurationTexts
+pub mod Amounts
+pub mod SizeTexts
+pub mod ReadTypes
