@@ -6,13 +6,23 @@ mod settings;
 
 use anyhow::Result;
 use json5_report::Report;
-use json5_settings::Layers;
+use json5_settings::{Layers, sample, warnings};
 use settings::Settings;
 use std::{env, fs};
+
+/// What a new file says of its members.
+const COMMENTS: [(&str, &str); 2] = [
+    ("host", "The name by which the shop is reached."),
+    ("workers.most", "So many requests are answered at once."),
+];
 
 fn main(rt: HostRuntime) -> Result<()> {
     let mut layers = built_in(&rt)?;
     for word in env::args(&rt)?.skip(1) {
+        if word.as_str() == "--sample" {
+            print!(rt; "{}", sample(rt.alloc(), &layers.merged()?, &COMMENTS)?)?;
+            return Ok(());
+        }
         if word.as_str() == "--" {
             println!(rt; "{}", shown(&rt, &layers)?)?;
             layers = built_in(&rt)?;
@@ -20,10 +30,20 @@ fn main(rt: HostRuntime) -> Result<()> {
         }
         match word.split_once('=') {
             Some((path, value)) => layers.set(&word, path, value)?,
-            None => layers.add(&word, &fs::read_to_string(&rt, &word)?)?,
+            None => add_file(&rt, &mut layers, &word)?,
         }
     }
     println!(rt; "{}", shown(&rt, &layers)?)?;
+    Ok(())
+}
+
+/// Lays a file over the other layers, and warns of what is likely a slip in it.
+fn add_file(rt: &HostRuntime, layers: &mut Layers, name: &str) -> Result<()> {
+    let text = fs::read_to_string(rt, name)?;
+    layers.add(name, &text)?;
+    for warning in &warnings(rt.alloc(), &text)? {
+        println!(rt; "warning: {}", warning.report(rt.alloc(), name, &text)?)?;
+    }
     Ok(())
 }
 

@@ -1,9 +1,11 @@
 -- The layer in which a fault is told.
-use Rattle.std.proofs.Common.{◌≡◌, ◌∙◌, ◌≤◌, ◌++◌, ◌∷◌, [], ℕ, Bool, true, false, List, length, take, refl, ap, sym, subst, inl, inr, arith, append_assoc, IsUtf8}
+use Rattle.std.proofs.Common.{◌≡◌, ◌⊎◌, ◌∙◌, ◌≤◌, ◌<◌, ◌+◌, ◌++◌, ◌∷◌, [], ℕ, Bool, true, false, List, length, take, refl, ap, sym, subst, inl, inr, arith, append_assoc, IsUtf8}
 use Rattle.std.specs.Prelude.{Some, None, codes, slice_range, string_bytes}
 use Rattle.std.specs.Str.{chars, IsCharBoundary}
 use Rattle.std.specs.Str.Pattern.{GetsRange}
-use Rattle.std.proofs.lemmas.List.{map-append}
+use Rattle.std.proofs.Math.Nat.{eq-or-lt_of_le}
+use Rattle.std.proofs.Math.Seq.{take-append_seam}
+use Rattle.std.proofs.lemmas.List.{length-append, map-append, take_all, take-take}
 use Rattle.std.proofs.lemmas.Str.{IsCharBoundary-start}
 use Rattle.json5_grammar.specs.Faults.Positions.{position_after}
 use Rattle.json5_grammar.specs.declared.position.Position.{Position}
@@ -19,7 +21,7 @@ use Rattle.json5_report.specs.Places.{IsOffsetOf, shown_position}
 use Rattle.json5_report.specs.Reports.{IsReportOf, IsReportThere}
 use Rattle.json5_settings.specs.Stacks.{Layer}
 use Rattle.json5_settings.specs.Texts.{layer_of, layers_in}
-use Rattle.json5_settings.specs.Told.{AllLack, HasPathOf, IsNearer, IsTold, IsToldAt, IsToldIn, MayBeAt}
+use Rattle.json5_settings.specs.Told.{AllLack, HasPathOf, IsNearer, IsTold, IsToldAt, IsToldIn, IsToldNear, MayBeAt}
 use Rattle.json5_settings.specs.declared.layers.Layer.{Layer as Kept}
 
 -- ---- layers, the last first
@@ -66,6 +68,41 @@ no_front text n utf8 at none = absurd (none (omega arith) (IsCharBoundary-start 
 pub told_there : (name text : List ℕ) (error : Error) (p : Position) (n : ℕ) (report : Report) → error_position error ≡ Some p → p ≡ position_after (chars (take n text)) → IsReportOf name text error report
     → IsReportThere name text (position_after (chars (take n text))) report
 told_there name text error p n report at is r = subst (λ z. IsReportThere name text z report) (ap (shown_position text) at ∙ is) r
+
+-- ---- the way to a value
+
+-- the way is the first steps of the path, and the path's longer beginnings lead nowhere
+pub record IsWay (text : List ℕ) (path way : List Step) : Type 0 where
+  pub front : way ≡ take (length way) path
+  pub within : length way ≤ length path
+  pub longer : (m : ℕ) → length way < m → m ≤ length path → LeadsNowhere text (take m path)
+
+pub whole_way : (text : List ℕ) (path : List Step) → IsWay text path path
+whole_way text path = record { front = sym (take_all (length path) path (omega arith)); within = omega arith; longer = λ m more less. absurd (omega (arith, more, less)) }
+
+pub way_shorter : (text : List ℕ) (path way outer : List Step) (s : Step) → way ≡ outer ++ (s ∷ []) → LeadsNowhere text way → IsWay text path way → IsWay text path outer
+way_shorter text path way outer s is none w =
+    let size : length way ≡ length outer + 1 = ap length is ∙ length-append outer (s ∷ []) in
+    let within = w.within in
+    let here : outer ≡ take (length outer) way = sym (take-append_seam outer (s ∷ [])) ∙ ap (take (length outer)) (sym is) in
+    let there : take (length outer) (take (length way) path) ≡ take (length outer) path = take-take (length outer) (length way) path (omega (arith, size)) in
+    let last : LeadsNowhere text (take (length way) path) = subst (LeadsNowhere text) w.front none in
+    record {
+      front = here ∙ ap (take (length outer)) w.front ∙ there;
+      within = omega (arith, size, within);
+      longer = λ m more less. by_length m less last w.longer (eq-or-lt_of_le (omega (arith, size, more)));
+    }
+  where
+    by_length : (m : ℕ) → m ≤ length path → LeadsNowhere text (take (length way) path) → ((n : ℕ) → length way < n → n ≤ length path → LeadsNowhere text (take n path)) → (length way ≡ m) ⊎ (length way < m) → LeadsNowhere text (take m path)
+    by_length m less last longer (inl e) = subst (λ n. LeadsNowhere text (take n path)) e last
+    by_length m less last longer (inr more) = longer m more less
+
+pub told_near : (path way : List Step) (name text : List ℕ) (report : Report) → IsWay text path way → IsToldAt way false (name, text) report → IsToldNear path (name, text) report
+told_near path way name text report w told = (length way, subst (λ z. IsToldAt z false (name, text) report) w.front told, w.longer)
+
+pub leads_somewhere : {A : Type 0} (text : List ℕ) (way : List Step) → length way ≡ 0 → LeadsNowhere text way → A
+leads_somewhere text [] none (t, document, nowhere) = absurd (cc)
+leads_somewhere text (s ∷ way) none lacks = absurd (omega (arith, none))
 
 -- ---- the report
 

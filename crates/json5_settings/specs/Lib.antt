@@ -7,3 +7,6 @@ pub mod Members
 pub mod Told
 pub mod Keys
 pub mod MemberTexts
+pub mod Samples
+pub mod Slips
+pub mod Warnings

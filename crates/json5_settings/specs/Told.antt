@@ -1,6 +1,6 @@
 -- In which layer a fault is told.
 -- A promise rests on this.
-use Rattle.std.specs.Prelude.{◌≡◌, ◌≤◌, ◌⊎◌, ◌++◌, ◌∷◌, [], ⊤, ℕ, Bool, true, false, List, Some, None, codes, string_bytes, take}
+use Rattle.std.specs.Prelude.{◌≡◌, ◌≤◌, ◌<◌, ◌⊎◌, ◌++◌, ◌∷◌, [], ⊤, ℕ, Bool, true, false, List, Some, None, codes, length, string_bytes, take}
 use Rattle.std.specs.Str.{chars}
 use Rattle.json5_grammar.specs.Faults.Positions.{position_after}
 use Rattle.json5_types.specs.declared.error.Error.{Error}
@@ -12,7 +12,10 @@ use Rattle.json5_report.specs.declared.report.Report.{Report}
 use Rattle.json5_report.specs.Paths.{IsPathAt}
 use Rattle.json5_report.specs.Places.{IsOffsetOf, shown_position}
 use Rattle.json5_report.specs.Reports.{IsReportOf, IsReportThere}
+use Rattle.json5_edit.specs.Refusals.{RefusesText}
 use Rattle.json5_settings.specs.Stacks.{Layer, IsTextOfAll}
+use Rattle.json5_settings.specs.declared.faults.SettingError.{SettingError}
+use Rattle.json5_settings.specs.declared.faults.SettingError.TheVariants as error
 
 -- where a value begins, or before that, where its key may
 abbrev pub MayBeAt : Bool → (start offset : ℕ) → Type 0
@@ -47,6 +50,16 @@ IsTold text error layers report = IsReportOf (codes "settings") text error repor
 abbrev pub IsToldOfAll : List Layer → Report → Type 0
 IsToldOfAll layers report = (path : List Step) × (IsToldIn path false layers report
     ⊎ (AllLack path layers × ((text : List ℕ) × (error : Error) × IsTextOfAll layers (chars text) × IsCustomAt None error × IsReportOf (codes "settings") text error report)))
+
+-- the report is of the value that the path leads to in the layer, or of the innermost one on the way to it
+abbrev pub IsToldNear : (path : List Step) → Layer → Report → Type 0
+IsToldNear path layer report = (n : ℕ) × IsToldAt (take n path) false layer report × ((m : ℕ) → n < m → m ≤ length path → LeadsNowhere layer.1 (take m path))
+
+-- the path isn't one, the text is no document, or memory ran out
+abbrev pub RefusesFault : (text : List ℕ) → SettingError → Type 0
+RefusesFault text (error.Path e) = ⊤
+RefusesFault text error.NoMember = ⊥
+RefusesFault text (error.Text e) = RefusesText text e
 
 -- ---- private clauses cite this
 

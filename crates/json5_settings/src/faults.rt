@@ -1,9 +1,6 @@
 //! Why a setting isn't added.
 
-ghost use Rattle.json5_types.specs.Errors.{LacksMemory};
-
 use json5_edit::PathError;
-use json5_types::ErrorCode;
 use json5_types::error::Error;
 use std::fmt;
 
@@ -19,7 +16,7 @@ pub type Result<T> = std::result::Result<T, SettingError>;
 pub enum SettingError {
     /// The text of the path isn't one.
     Path(PathError),
-    /// The path has an index, or no step: only a member can be set.
+    /// The path leads to no member: it has no step, or an index where only members are set, or nothing stands there.
     NoMember,
     /// A fault of reading, or no memory.
     Text(Error),
@@ -32,7 +29,7 @@ impl fmt::Display for SettingError {
         match self {
             SettingError::Path(error) => error.fmt(f),
             SettingError::NoMember => f.write_str(
-                "only a member of an object can be set: names with a dot between them",
+                "the path means no member of an object: names with a dot between them",
             ),
             SettingError::Text(error) => error.fmt(f),
         }
@@ -59,11 +56,4 @@ impl From<PathError> for SettingError {
     fn from(error: PathError) -> SettingError {
         SettingError::Path(error)
     }
-}
-
-/// No memory, without a position.
-pub(crate) fn out_of_memory() -> Error
-    ensures { LacksMemory result }
-{
-    Error::new(ErrorCode::OutOfMemory)
 }

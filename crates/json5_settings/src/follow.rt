@@ -1,10 +1,11 @@
 //! A value that is changed as another was.
 
-ghost use Rattle.std.specs.Prelude.{◌≡◌, IfOk, OnOk};
+ghost use Rattle.std.specs.Prelude.{◌≡◌, false, Some, IfOk, OnOk};
 ghost use Rattle.std.specs.Str.{chars};
-ghost use Rattle.json5_types.specs.ValueMeanings.{value_of, fields_view};
+ghost use Rattle.json5_types.specs.ValueMeanings.{value_of, fields_view, items_view};
 ghost use Rattle.json5_types.specs.ValueChanges.{has_key};
-ghost use Rattle.json5_settings.specs.Follows.{followed, member_followed, members_followed, unless_named, value_in, was, with_member, without_gone};
+ghost use Rattle.json5_types.specs.ValueEquality.{datum_eq};
+ghost use Rattle.json5_settings.specs.Follows.{are_as_many, elements_followed, followed, member_followed, members_followed, unless_named, value_in, was, with_member, without_gone};
 
 use json5_types::error::Result;
 use json5_types::value::Value;
@@ -26,13 +27,57 @@ pub(crate) fn followed(
     if old == new {
         return before.clone(alloc);
     }
-    let (Value::Object(olds), Value::Object(news), Value::Object(_)) = (old, new, before) else {
-        return new.clone(alloc);
-    };
-    let mut value = before.clone(alloc)?;
-    follow_members(alloc, old, news.as_slice(), &mut value)?;
-    drop_members(olds.as_slice(), new, &mut value);
-    Ok(value)
+    changed(alloc, old, new, before)
+}
+
+/// The same where the new value isn't as the old one was.
+#[cycle(follow)]
+fn changed(alloc: Global, old: &Value, new: &Value, before: &Value) -> Result<Value>
+    requires { datum_eq (value_of old.now) (value_of new.now) ≡ false }
+    ensures { IfOk result (λ v. value_of v ≡ followed (Some (value_of old.now)) (value_of new.now) (Some (value_of before.now))) }
+{
+    match (old, new, before) {
+        (Value::Object(olds), Value::Object(news), Value::Object(_)) => {
+            let mut value = before.clone(alloc)?;
+            follow_members(alloc, old, news.as_slice(), &mut value)?;
+            drop_members(olds.as_slice(), new, &mut value);
+            Ok(value)
+        }
+        (Value::Array(olds), Value::Array(news), Value::Array(befores)) => {
+            if are_as_many(olds, news, befores) {
+                return Ok(Value::Array(follow_elements(alloc, olds, news, befores)?));
+            }
+            new.clone(alloc)
+        }
+        _ => new.clone(alloc),
+    }
+}
+
+/// Whether each array has as many elements.
+fn are_as_many(olds: &[Value], news: &[Value], befores: &[Value]) -> bool
+    ensures { result ≡ are_as_many (items_view olds.now) (items_view news.now) (items_view befores.now) }
+{
+    olds.len() == news.len() && news.len() == befores.len()
+}
+
+/// Changes each of the new elements.
+#[cycle(follow)]
+fn follow_elements(
+    alloc: Global,
+    olds: &[Value],
+    news: &[Value],
+    befores: &[Value],
+) -> Result<Vec<Value>>
+    ensures { IfOk result (λ v. items_view v.items ≡ elements_followed 0 (items_view olds.now) (items_view news.now) (items_view befores.now)) }
+{
+    let mut values = Vec::new(alloc);
+    let mut rest = news;
+    while let Some((new, behind)) = rest.split_first() {
+        let index = values.len();
+        values.push(followed(alloc, olds.get(index), new, befores.get(index))?)?;
+        rest = behind;
+    }
+    Ok(values)
 }
 
 /// Changes each of the new members.

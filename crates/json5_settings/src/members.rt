@@ -1,6 +1,6 @@
 //! The document that sets one member alone.
 
-ghost use Rattle.std.specs.Prelude.{◌≡◌, ◌↔◌, ◌++◌, [], true, false, IfErr, IfOk, MatchBool, codes, string_bytes};
+ghost use Rattle.std.specs.Prelude.{◌≡◌, ◌↔◌, ◌++◌, [], true, false, IfOk, MatchBool, codes, string_bytes};
 ghost use Rattle.std.specs.Str.{chars};
 ghost use Rattle.std.specs.Str.Iter.{HasSubslice};
 ghost use Rattle.json5_tokens.specs.Cursor.{IsOutOfMemory};
@@ -11,13 +11,12 @@ ghost use Rattle.json5_settings.specs.Stacks.{IsDocument};
 use json5_read::check_document;
 use json5_styles::to_json_string;
 use json5_types::ErrorCode;
-use json5_types::error::{Error, Result};
+use json5_types::error::Error;
 use std::alloc::{AllocError, Global};
 
 /// A document whose only member, at these keys, has this value: JSON5 if it reads as that, else the content of a string.
-pub(crate) fn member_text(alloc: Global, keys: &[String], value: &str) -> Result<String>
-    ensures made { IfOk result (λ s. IsNested (key_texts keys.now) (chars value.now) (chars (string_bytes s))) }
-    ensures refused { IfErr result IsOutOfMemory }
+pub(crate) fn member_text(alloc: Global, keys: &[String], value: &str) -> Result<String, AllocError>
+    ensures { IfOk result (λ s. IsNested (key_texts keys.now) (chars value.now) (chars (string_bytes s))) }
 {
     let mut text = given_text(alloc, value)?;
     let mut left = keys;
@@ -29,19 +28,20 @@ pub(crate) fn member_text(alloc: Global, keys: &[String], value: &str) -> Result
 }
 
 /// The value as JSON5.
-fn given_text(alloc: Global, value: &str) -> Result<String>
-    ensures made { IfOk result (λ s. IsNested [] (chars value.now) (chars (string_bytes s))) }
-    ensures refused { IfErr result IsOutOfMemory }
+fn given_text(alloc: Global, value: &str) -> Result<String, AllocError>
+    ensures { IfOk result (λ s. IsNested [] (chars value.now) (chars (string_bytes s))) }
 {
     if is_document(alloc, value)? {
         return closed(alloc, value);
     }
-    to_json_string(alloc, value)
+    match to_json_string(alloc, value) {
+        Ok(text) => Ok(text),
+        Err(_) => Err(AllocError),
+    }
 }
 
-fn is_document(alloc: Global, text: &str) -> Result<bool>
-    ensures judged { IfOk result (λ is. MatchBool is (IsDocument text.now) (IsNoDocument (chars text.now))) }
-    ensures refused { IfErr result IsOutOfMemory }
+fn is_document(alloc: Global, text: &str) -> Result<bool, AllocError>
+    ensures { IfOk result (λ is. MatchBool is (IsDocument text.now) (IsNoDocument (chars text.now))) }
 {
     match check_document(alloc, text) {
         Ok(()) => Ok(true),
@@ -49,22 +49,20 @@ fn is_document(alloc: Global, text: &str) -> Result<bool>
     }
 }
 
-/// Says no, unless memory ran out.
+/// Says no of a text that was refused, unless memory ran out.
 #[tactic(auto, using(crate::proofs::MembersMade::memory_said))]
-fn is_refused(error: Error) -> Result<bool>
-    ensures no { IfOk result (λ is. (is ≡ false) × (IsOutOfMemory error → ⊥)) }
-    ensures refused { IfErr result IsOutOfMemory }
+pub(crate) fn is_refused(error: Error) -> Result<bool, AllocError>
+    ensures { IfOk result (λ is. (is ≡ false) × (IsOutOfMemory error → ⊥)) }
 {
     match error.code() {
-        Some(ErrorCode::OutOfMemory) => Err(error),
+        Some(ErrorCode::OutOfMemory) => Err(AllocError),
         _ => Ok(false),
     }
 }
 
 /// The text, with a line end if it may end in a `//` comment.
-fn closed(alloc: Global, text: &str) -> Result<String>
-    ensures made { IfOk result (λ s. ClosesText text.now (string_bytes s)) }
-    ensures refused { IfErr result IsOutOfMemory }
+fn closed(alloc: Global, text: &str) -> Result<String, AllocError>
+    ensures { IfOk result (λ s. ClosesText text.now (string_bytes s)) }
 {
     let mut closed = String::from_str(alloc, text)?;
     if !has_slashes(text) {
@@ -81,15 +79,16 @@ fn has_slashes(text: &str) -> bool
 }
 
 /// An object whose only member has this key, and this value.
-fn member_around(alloc: Global, key: &str, value: &str) -> Result<String>
-    ensures made { IfOk result (λ s. chars (string_bytes s) ≡ member_spelled (chars key.now) (chars value.now)) }
-    ensures refused { IfErr result IsOutOfMemory }
+fn member_around(alloc: Global, key: &str, value: &str) -> Result<String, AllocError>
+    ensures { IfOk result (λ s. chars (string_bytes s) ≡ member_spelled (chars key.now) (chars value.now)) }
 {
-    let key = to_json_string(alloc, key)?;
-    Ok(in_braces(alloc, key.as_str(), value)?)
+    match to_json_string(alloc, key) {
+        Ok(key) => in_braces(alloc, key.as_str(), value),
+        Err(_) => Err(AllocError),
+    }
 }
 
-fn in_braces(alloc: Global, key: &str, value: &str) -> std::result::Result<String, AllocError>
+fn in_braces(alloc: Global, key: &str, value: &str) -> Result<String, AllocError>
     ensures { IfOk result (λ s. string_bytes s ≡ codes "{ " ++ (key.now ++ (codes ": " ++ (value.now ++ codes " }")))) }
 {
     format!(in alloc; "{{ {key}: {value} }}")

@@ -1,31 +1,32 @@
 //! Which member is set.
 
-ghost use Rattle.std.specs.Prelude.{◌≡◌, ◌++◌, IfOk, IfErr, OnOk, string_bytes};
+ghost use Rattle.std.specs.Prelude.{◌≡◌, ◌++◌, IfOk, OnOk, string_bytes};
 ghost use Rattle.std.specs.Str.{chars};
-ghost use Rattle.json5_types.specs.Errors.{LacksMemory};
 ghost use Rattle.json5_types.specs.ValueMeanings.{fields_view, value_of};
 ghost use Rattle.json5_settings.specs.Keys.{FindsKey, HasKeys, MeansKeys, SplitsWord, member_in, place_of};
 ghost use Rattle.json5_settings.specs.Words.{is_dropped, key_meant, lower, lowered};
 
-use crate::faults::{Result, SettingError, out_of_memory};
+use crate::faults::{self, SettingError};
 use json5_edit::{Path, Step};
-use json5_types::error::{self, Error};
+use json5_types::ErrorCode;
+use json5_types::error::Error;
 use json5_types::value::Value;
-use std::alloc::Global;
+use std::alloc::{AllocError, Global};
 
 /// The keys of a path, which has one.
-pub(crate) fn keys_of(alloc: Global, path: &Path) -> Result<Vec<String>>
+pub(crate) fn keys_of(alloc: Global, path: &Path) -> faults::Result<Vec<String>>
     ensures { HasKeys result }
 {
     let mut keys = Vec::new(alloc);
     let Ok(steps) = path.steps_in(alloc, "{}") else {
-        return Err(SettingError::Text(out_of_memory()));
+        return Err(SettingError::Text(Error::new(ErrorCode::OutOfMemory)));
     };
     for step in &steps {
         let Step::Key(key) = step else {
             return Err(SettingError::NoMember);
         };
-        keys.push(owned(alloc, key)?).map_err(Error::from)?;
+        let key = String::from_str(alloc, key).map_err(Error::from)?;
+        keys.push(key).map_err(Error::from)?;
     }
     if keys.is_empty() {
         return Err(SettingError::NoMember);
@@ -34,7 +35,11 @@ pub(crate) fn keys_of(alloc: Global, path: &Path) -> Result<Vec<String>>
 }
 
 /// The keys that the words of a variable mean in this value.
-pub(crate) fn variable_keys(alloc: Global, value: &Value, words: &str) -> Result<Vec<String>>
+pub(crate) fn variable_keys(
+    alloc: Global,
+    value: &Value,
+    words: &str,
+) -> faults::Result<Vec<String>>
     ensures { MeansKeys (value_of value.now) words.now result }
 {
     let mut keys = Vec::new(alloc);
@@ -45,7 +50,7 @@ pub(crate) fn variable_keys(alloc: Global, value: &Value, words: &str) -> Result
         if word.is_empty() {
             return Err(SettingError::NoMember);
         }
-        let key = key_meant(alloc, place, word)?;
+        let key = key_meant(alloc, place, word).map_err(Error::from)?;
         place = member_of(place, &key);
         keys.push(key).map_err(Error::from)?;
         left = others;
@@ -71,13 +76,12 @@ fn member_of<'v>(value: Option<&'v Value>, key: &str) -> Option<&'v Value>
 }
 
 /// The key that a word means in a value: that of a member, or the word in lower case where there is none.
-fn key_meant(alloc: Global, value: Option<&Value>, word: &str) -> error::Result<String>
-    ensures meant { IfOk result (λ key. chars (string_bytes key) ≡ key_meant (place_of value.entry) (chars word.now)) }
-    ensures refused { IfErr result LacksMemory }
+fn key_meant(alloc: Global, value: Option<&Value>, word: &str) -> Result<String, AllocError>
+    ensures { IfOk result (λ key. chars (string_bytes key) ≡ key_meant (place_of value.entry) (chars word.now)) }
 {
     if let Some(value) = value {
         if let Some(key) = key_like(alloc, value.entries(), word)? {
-            return owned(alloc, key);
+            return String::from_str(alloc, key);
         }
     }
     lower_case(alloc, word, true)
@@ -88,9 +92,8 @@ fn key_like<'v>(
     alloc: Global,
     members: &'v [(String, Value)],
     word: &str,
-) -> error::Result<Option<&'v str>>
-    ensures found { IfOk result (FindsKey (chars word.now) (fields_view members.now)) }
-    ensures refused { IfErr result LacksMemory }
+) -> Result<Option<&'v str>, AllocError>
+    ensures { IfOk result (FindsKey (chars word.now) (fields_view members.now)) }
 {
     let wanted = lower_case(alloc, word, false)?;
     for (name, _) in members {
@@ -103,9 +106,8 @@ fn key_like<'v>(
 }
 
 /// The name in lower case, with `_` and `-` or without.
-fn lower_case(alloc: Global, name: &str, with_marks: bool) -> error::Result<String>
-    ensures made { IfOk result (λ s. chars (string_bytes s) ≡ lower with_marks (chars name.now)) }
-    ensures refused { IfErr result LacksMemory }
+fn lower_case(alloc: Global, name: &str, with_marks: bool) -> Result<String, AllocError>
+    ensures { IfOk result (λ s. chars (string_bytes s) ≡ lower with_marks (chars name.now)) }
 {
     let mut lower = String::new(alloc);
     for c in name.chars() {
@@ -115,14 +117,13 @@ fn lower_case(alloc: Global, name: &str, with_marks: bool) -> error::Result<Stri
 }
 
 /// Appends the character in lower case, unless it is a mark that is dropped.
-fn push_lower(text: &mut String, c: char, with_marks: bool) -> error::Result<()>
-    ensures put { OnOk result (chars (string_bytes text.new) ≡ chars (string_bytes text.old) ++ lowered with_marks c) }
-    ensures refused { IfErr result LacksMemory }
+fn push_lower(text: &mut String, c: char, with_marks: bool) -> Result<(), AllocError>
+    ensures { OnOk result (chars (string_bytes text.new) ≡ chars (string_bytes text.old) ++ lowered with_marks c) }
 {
     if is_dropped(c, with_marks) {
         return Ok(());
     }
-    Ok(text.push(c.to_ascii_lowercase())?)
+    text.push(c.to_ascii_lowercase())
 }
 
 /// Whether it is `_` or `-`, and these are dropped.
@@ -130,11 +131,4 @@ fn is_dropped(c: char, with_marks: bool) -> bool
     ensures { result ≡ is_dropped with_marks c }
 {
     !with_marks && (c == '_' || c == '-')
-}
-
-pub(crate) fn owned(alloc: Global, text: &str) -> error::Result<String>
-    ensures made { IfOk result (λ s. string_bytes s ≡ text.now) }
-    ensures refused { IfErr result LacksMemory }
-{
-    Ok(String::from_str(alloc, text)?)
 }

@@ -1,21 +1,22 @@
 //! Faults of what layers make together, told where the value came from.
 
-ghost use Rattle.std.specs.Prelude.{◌≡◌, ◌≤◌, IfErr, IfOk, MatchOption, MatchResult, take};
+ghost use Rattle.std.specs.Prelude.{◌≡◌, ◌≤◌, List, IfOk, IsTrue, MatchOption, MatchResult, take};
 ghost use Rattle.std.specs.Str.{IsCharBoundary, chars};
 ghost use Rattle.json5_grammar.specs.Faults.Positions.{position_after};
 ghost use Rattle.json5_types.specs.Errors.{LacksMemory};
 ghost use Rattle.json5_edit.specs.Places.{LeadsNowhere};
-ghost use Rattle.json5_settings.specs.Told.{AllLack, IsNearer, IsTold, IsToldAt, IsToldIn, IsToldOfAll, MayBeAt};
+ghost use Rattle.json5_edit.specs.declared.paths.Step.{Step};
+ghost use Rattle.json5_settings.specs.Told.{AllLack, IsNearer, IsTold, IsToldAt, IsToldIn, IsToldNear, IsToldOfAll, MayBeAt, RefusesFault};
 
 use crate::faults;
-use crate::faults::out_of_memory;
 use crate::layers::Layers;
 use crate::spots::{Spot, key_start, steps_of};
 use json5_edit::{Path, Step, find_place};
+use json5_read::check_document;
 use json5_report::Report;
 use json5_types::error::{Error, Result};
 use json5_types::{ErrorCode, Position};
-use std::alloc::Global;
+use std::alloc::{AllocError, Global};
 
 impl Layers {
     /// The report of an error of reading what the layers make together: it names the last layer that has the value or the
@@ -73,8 +74,7 @@ impl Layers {
 
     /// The report of an error in the last layer that has the value or the key.
     fn report_at(&self, steps: &[Step<'_>], at_key: bool, error: &Error) -> Result<Option<Report>>
-        ensures told { IfOk result (λ r. MatchOption r (AllLack steps.now self.now) (IsToldIn steps.now at_key self.now)) }
-        ensures refused { IfErr result LacksMemory }
+        ensures { MatchResult result (λ r. MatchOption r (AllLack steps.now self.now) (IsToldIn steps.now at_key self.now)) LacksMemory }
     {
         let mut left = self.layers.as_slice();
         while let Some((layer, earlier)) = left.split_last() {
@@ -88,6 +88,58 @@ impl Layers {
     }
 }
 
+/// The report of a fault that reading can't see, in a file without layers: at the value that a path leads to, or at the
+/// innermost one on the way to it, where the file has no such value.
+///
+/// ```text
+/// if settings.least > settings.most {
+///     println!(rt; "{}", fault(alloc, "shop.json5", &text, "workers.least", "more than `workers.most`")?)?;
+/// }
+/// ```
+///
+/// # Errors
+///
+/// - `Path` where the path isn't one.
+/// - `Text` with the fault of reading where the text is no document, or with `OutOfMemory`.
+pub fn fault(
+    alloc: Global,
+    name: &str,
+    text: &str,
+    path: &str,
+    message: &str,
+) -> faults::Result<Report>
+    ensures { MatchResult result (λ r. (path : List Step) × IsToldNear path (name.now, text.now) r) (RefusesFault text.now) }
+{
+    let path = Path::parse(alloc, path)?;
+    check_document(alloc, text)?;
+    let error = Error::custom(alloc, message)?;
+    let steps = steps_of(alloc, &path, text)?;
+    Ok(report_near(alloc, name, text, steps.as_slice(), &error)?)
+}
+
+/// The report of an error at the value that the steps lead to, or at the innermost one on the way to it.
+fn report_near(
+    alloc: Global,
+    name: &str,
+    text: &str,
+    steps: &[Step<'_>],
+    error: &Error,
+) -> Result<Report>
+    ensures { MatchResult result (IsToldNear steps.now (name.now, text.now)) LacksMemory }
+{
+    let mut way = steps;
+    while let Some((_, outer)) = way.split_last() {
+        match report_in(alloc, name, text, way, false, error)? {
+            Some(report) => return Ok(report),
+            None => way = outer,
+        }
+    }
+    match report_in(alloc, name, text, way, false, error)? {
+        Some(report) => Ok(report),
+        None => Report::new(alloc, name, text, error),
+    }
+}
+
 /// The report of an error at the value that the steps lead to, or at its key; None where they lead nowhere.
 fn report_in(
     alloc: Global,
@@ -97,13 +149,12 @@ fn report_in(
     at_key: bool,
     error: &Error,
 ) -> Result<Option<Report>>
-    ensures told { IfOk result (λ r. MatchOption r (LeadsNowhere text.now steps.now) (IsToldAt steps.now at_key (name.now, text.now))) }
-    ensures refused { IfErr result LacksMemory }
+    ensures { MatchResult result (λ r. MatchOption r (LeadsNowhere text.now steps.now) (IsToldAt steps.now at_key (name.now, text.now))) LacksMemory }
 {
     let place = match find_place(alloc, text, steps) {
         Ok(Some(place)) => place,
         Ok(None) => return Ok(None),
-        Err(_) => return Err(out_of_memory()),
+        Err(_) => return Err(Error::new(ErrorCode::OutOfMemory)),
     };
     let offset = told_offset(alloc, text, steps, at_key, place.start)?;
     let error = error.clone(alloc)?.at(position_of(text, offset));
@@ -117,49 +168,30 @@ fn told_offset(
     steps: &[Step<'_>],
     at_key: bool,
     value: usize,
-) -> Result<usize>
+) -> std::result::Result<usize, AllocError>
     requires { IsCharBoundary text.now value }
-    ensures before { IfOk result (λ n. MayBeAt at_key value n × IsCharBoundary text.now n) }
-    ensures refused { IfErr result LacksMemory }
+    ensures { IfOk result (λ n. MayBeAt at_key value n × IsCharBoundary text.now n) }
 {
-    if at_key {
-        return key_offset(alloc, text, steps, value);
+    if !at_key {
+        return Ok(value);
     }
-    Ok(value)
-}
-
-/// Where the key before the value begins, if it is found.
-fn key_offset(alloc: Global, text: &str, steps: &[Step<'_>], value: usize) -> Result<usize>
-    requires { IsCharBoundary text.now value }
-    ensures before { IfOk result (λ n. (n ≤ value) × IsCharBoundary text.now n) }
-    ensures refused { IfErr result LacksMemory }
-{
     match key_start(alloc, text, steps) {
-        Ok(Some(key)) => Ok(key_or_value(text, key, value)),
-        Ok(None) => Ok(value),
-        Err(_) => Err(out_of_memory()),
+        Ok(Some(key)) if is_before(text, key, value) => Ok(key),
+        Ok(_) => Ok(value),
+        Err(_) => Err(AllocError),
     }
 }
 
-/// The key, if it stands before the value.
-fn key_or_value(text: &str, key: usize, value: usize) -> usize
-    requires { IsCharBoundary text.now value }
-    ensures before { result ≤ value }
-    ensures boundary { IsCharBoundary text.now result }
+/// Whether a character begins at the key, and not behind the value.
+fn is_before(text: &str, key: usize, value: usize) -> bool
+    ensures { IsTrue result → (key ≤ value) × IsCharBoundary text.now key }
 {
-    if value < key {
-        return value;
-    }
-    if text.is_char_boundary(key) {
-        return key;
-    }
-    value
+    key <= value && text.is_char_boundary(key)
 }
 
-/// The position of an offset in bytes.
-fn position_of(text: &str, offset: usize) -> Position
-    requires { IsCharBoundary text.now offset }
-    ensures { result ≡ position_after (chars (take offset text.now)) }
+/// The position of an offset in bytes at which a character begins.
+pub(crate) fn position_of(text: &str, offset: usize) -> Position
+    ensures { IsCharBoundary text.now offset → result ≡ position_after (chars (take offset text.now)) }
 {
     match text.get(..offset) {
         Some(front) => Position::after(front),

@@ -1,10 +1,8 @@
 //! Where a fault is, as a way through the document.
 
 ghost use Rattle.std.specs.Prelude.{IfErr};
-ghost use Rattle.json5_types.specs.Errors.{LacksMemory};
 ghost use Rattle.json5_edit.specs.Refusals.{RefusesText};
 
-use crate::names::owned;
 use json5_edit::{EditError, Path, Step, find};
 use json5_read::brackets::BracketKind;
 use json5_types::ErrorCode;
@@ -12,7 +10,7 @@ use json5_types::error::{Error, Result};
 use json5_types::nesting::Limit;
 use json5_walk::entry::EntryKey;
 use json5_walk::walk::Walk;
-use std::alloc::Global;
+use std::alloc::{AllocError, Global};
 
 /// A step that owns its key.
 #[derive(Drop)]
@@ -38,12 +36,15 @@ struct Around {
 
 impl Spot {
     /// The spot of an offset in a document; None in another text.
-    pub(crate) fn of(alloc: Global, text: &str, offset: usize) -> Result<Option<Spot>>
-        ensures { IfErr result LacksMemory }
-    {
+    pub(crate) fn of(
+        alloc: Global,
+        text: &str,
+        offset: usize,
+    ) -> std::result::Result<Option<Spot>, AllocError> {
         match Spot::in_document(alloc, text, offset) {
             Ok(spot) => Ok(Some(spot)),
-            Err(error) => none_of(error),
+            Err(error) if error.code() == Some(ErrorCode::OutOfMemory) => Err(AllocError),
+            Err(_) => Ok(None),
         }
     }
 
@@ -73,9 +74,7 @@ impl Spot {
     }
 
     /// The steps to the value, or to that of the member.
-    pub(crate) fn steps(&self, alloc: Global) -> Result<Vec<Step<'_>>>
-        ensures { IfErr result LacksMemory }
-    {
+    pub(crate) fn steps(&self, alloc: Global) -> std::result::Result<Vec<Step<'_>>, AllocError> {
         let mut steps = Vec::new(alloc);
         for step in &self.steps {
             steps.push(match step {
@@ -84,16 +83,6 @@ impl Spot {
             })?;
         }
         Ok(steps)
-    }
-}
-
-/// None, unless memory ran out.
-fn none_of(error: Error) -> Result<Option<Spot>>
-    ensures { IfErr result LacksMemory }
-{
-    match error.code() {
-        Some(ErrorCode::OutOfMemory) => Err(Error::new(ErrorCode::OutOfMemory)),
-        _ => Ok(None),
     }
 }
 
@@ -146,7 +135,7 @@ fn entry_around(alloc: Global, text: &str, offset: usize) -> Result<Option<Aroun
         walk.skip()?;
         if start <= offset && offset < walk.offset() {
             let step = if is_object {
-                OwnedStep::Key(owned(alloc, key.as_str())?)
+                OwnedStep::Key(String::from_str(alloc, key.as_str())?)
             } else {
                 OwnedStep::Index(index)
             };

@@ -14,7 +14,7 @@ loop-c-init c =
 pub loop-c-preserved : goal.loop-c-preserved
 loop-c-preserved c =
     let l = c.loop-c in
-    lower_more c.args.with_marks c.args.name.now (chars_rest l.c-iterator) (chars_rest c.next.new.self) (string_bytes l.lower) _ c.in-Some.c c.in-Some.ensures.steps.0 c.in_ok-push_lower.ensures.put l.invariant
+    lower_more c.args.with_marks c.args.name.now (chars_rest l.c-iterator) (chars_rest c.next.new.self) (string_bytes l.lower) _ c.in-Some.c c.in-Some.ensures.steps.0 c.in_ok-push_lower.ensures l.invariant
 
-pub returns-clause-made : goal.returns-clause-made
-returns-clause-made c = lower_ended c.args.with_marks c.args.name.now (chars_rest c.loop-c.c-iterator) _ c.in-None.ensures.steps.0.0 c.loop-c.invariant
+pub returns : goal.returns
+returns c = lower_ended c.args.with_marks c.args.name.now (chars_rest c.loop-c.c-iterator) _ c.in-None.ensures.steps.0.0 c.loop-c.invariant

@@ -5,7 +5,7 @@ use Rattle.json5_settings.proofs.Told.{front_of, no_front}
 use Rattle.json5_settings.proofs.origin.position_of.Goals as goal
 
 pub returns-in-Some : goal.returns-in-Some
-returns-in-Some c = c.after.ensures ∙ ap (λ z. position_after (chars z)) (front_of c.args.text.now c.in-Some.front.now c.args.offset c.in-Some.ensures.cases.0)
+returns-in-Some c = λ at. c.after.ensures ∙ ap (λ z. position_after (chars z)) (front_of c.args.text.now c.in-Some.front.now c.args.offset c.in-Some.ensures.cases.0)
 
 pub returns-in-None : goal.returns-in-None
-returns-in-None c = no_front c.args.text.now c.args.offset c.utf8.text c.requires c.in-None.ensures.cases
+returns-in-None c = λ at. no_front c.args.text.now c.args.offset c.utf8.text at c.in-None.ensures.cases
