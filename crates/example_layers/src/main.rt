@@ -6,7 +6,7 @@ mod settings;
 
 use anyhow::Result;
 use json5_report::Report;
-use json5_settings::{Layers, sample, warnings};
+use json5_settings::{Layers, sample};
 use settings::Settings;
 use std::{env, fs};
 
@@ -30,20 +30,10 @@ fn main(rt: HostRuntime) -> Result<()> {
         }
         match word.split_once('=') {
             Some((path, value)) => layers.set(&word, path, value)?,
-            None => add_file(&rt, &mut layers, &word)?,
+            None => layers.add(&word, &fs::read_to_string(&rt, &word)?)?,
         }
     }
     println!(rt; "{}", shown(&rt, &layers)?)?;
-    Ok(())
-}
-
-/// Lays a file over the other layers, and warns of what is likely a slip in it.
-fn add_file(rt: &HostRuntime, layers: &mut Layers, name: &str) -> Result<()> {
-    let text = fs::read_to_string(rt, name)?;
-    layers.add(name, &text)?;
-    for warning in &warnings(rt.alloc(), &text)? {
-        println!(rt; "warning: {}", warning.report(rt.alloc(), name, &text)?)?;
-    }
     Ok(())
 }
 

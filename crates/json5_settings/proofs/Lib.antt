@@ -2,7 +2,5 @@
 pub mod Followed
 pub mod Layered
 pub mod MembersMade
-pub mod SlipsSeen
-pub mod WarningsTold
 pub mod WordsParted
 pub mod Told

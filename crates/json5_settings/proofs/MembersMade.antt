@@ -170,7 +170,7 @@ memory_said e h = go (kind_of e) h
 
 -- ---- whether it is a document
 
-pub judged : (x : List ℕ) (P : Type 0) (e : Error) (r : Result Bool Error) → ((t : Tree) → Doc max_depth x t → IsOutOfMemory e) → IfOk r (λ is. (is ≡ false) × (IsOutOfMemory e → ⊥)) → IfOk r (λ is. MatchBool is P (IsNoDocument x))
+pub judged : {F : Type 0} (x : List ℕ) (P : Type 0) (e : Error) (r : Result Bool F) → ((t : Tree) → Doc max_depth x t → IsOutOfMemory e) → IfOk r (λ is. (is ≡ false) × (IsOutOfMemory e → ⊥)) → IfOk r (λ is. MatchBool is P (IsNoDocument x))
 judged x P e (Ok is) complete (same, lacks) = subst (λ b. MatchBool b P (IsNoDocument x)) (sym same) (λ t d. lacks (complete t d))
 judged x P e (Err f) complete k = tt
 

@@ -8,5 +8,3 @@ pub mod Told
 pub mod Keys
 pub mod MemberTexts
 pub mod Samples
-pub mod Slips
-pub mod Warnings

@@ -24,14 +24,10 @@ mod origin;
 mod rewriting;
 mod samples;
 mod saving;
-mod slips;
 mod spots;
-mod warned;
 
 pub use faults::{Result, SettingError};
 pub use layers::Layers;
 pub use origin::fault;
 pub use samples::sample;
 pub use saving::update;
-pub use slips::Slip;
-pub use warned::{Warning, warnings};

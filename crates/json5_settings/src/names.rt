@@ -123,7 +123,8 @@ fn push_lower(text: &mut String, c: char, with_marks: bool) -> Result<(), AllocE
     if is_dropped(c, with_marks) {
         return Ok(());
     }
-    text.push(c.to_ascii_lowercase())
+    text.push(c.to_ascii_lowercase())?;
+    Ok(())
 }
 
 /// Whether it is `_` or `-`, and these are dropped.

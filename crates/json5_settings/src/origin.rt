@@ -129,10 +129,11 @@ fn report_near(
 {
     let mut way = steps;
     while let Some((_, outer)) = way.split_last() {
-        match report_in(alloc, name, text, way, false, error)? {
-            Some(report) => return Ok(report),
-            None => way = outer,
+        let told = report_in(alloc, name, text, way, false, error)?;
+        if let Some(report) = told {
+            return Ok(report);
         }
+        way = outer;
     }
     match report_in(alloc, name, text, way, false, error)? {
         Some(report) => Ok(report),
@@ -190,7 +191,7 @@ fn is_before(text: &str, key: usize, value: usize) -> bool
 }
 
 /// The position of an offset in bytes at which a character begins.
-pub(crate) fn position_of(text: &str, offset: usize) -> Position
+fn position_of(text: &str, offset: usize) -> Position
     ensures { IsCharBoundary text.now offset → result ≡ position_after (chars (take offset text.now)) }
 {
     match text.get(..offset) {

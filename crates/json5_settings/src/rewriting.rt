@@ -10,8 +10,7 @@ use crate::members::is_refused;
 use json5_edit::EditError;
 use json5_read::read_document;
 use json5_styles::{Layout, to_string_in};
-use json5_types::ErrorCode;
-use json5_types::error::{Error, Result};
+use json5_types::error::Result;
 use json5_types::value::Value;
 use std::alloc::{AllocError, Global};
 
@@ -19,16 +18,27 @@ use std::alloc::{AllocError, Global};
 pub(crate) fn rewritten(alloc: Global, text: &str, before: &Value, wanted: &Value) -> Result<String>
     ensures { IfOk result (λ made. Means (chars (string_bytes made)) (value_of wanted.now)) }
 {
-    match edited(alloc, text, before, wanted) {
-        Ok(made) => {
-            if means(alloc, made.as_str(), wanted)? {
-                return Ok(made);
-            }
-        }
-        Err(EditError::NoMemory) => return Err(Error::new(ErrorCode::OutOfMemory)),
-        Err(_) => {}
+    let Some(made) = by_edits(alloc, text, before, wanted)? else {
+        return to_string_in(alloc, Layout::expanded(), wanted);
+    };
+    if means(alloc, made.as_str(), wanted)? {
+        return Ok(made);
     }
     to_string_in(alloc, Layout::expanded(), wanted)
+}
+
+/// The text that the edits make, if they come to an end.
+fn by_edits(
+    alloc: Global,
+    text: &str,
+    before: &Value,
+    wanted: &Value,
+) -> std::result::Result<Option<String>, AllocError> {
+    match edited(alloc, text, before, wanted) {
+        Ok(made) => Ok(Some(made)),
+        Err(EditError::NoMemory) => Err(AllocError),
+        Err(_error) => Ok(None),
+    }
 }
 
 /// Whether the text is a document that means this value.

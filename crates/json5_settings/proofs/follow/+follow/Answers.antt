@@ -24,7 +24,7 @@ follow_elements-loop-new-preserved t c =
     let i = c.len-index.result in
     let old = element_found c.args.olds.now i c.get.result c.get.ensures.lookup.0 c.get.ensures.lookup.1 in
     let before = element_found c.args.befores.now i c.get-in-Some.result c.get-in-Some.ensures.lookup.0 c.get-in-Some.ensures.lookup.1 in
-    let so = c.in_ok-followed.ensures ∙ ap (λ o. followed o n (value_in c.get-in-Some.result)) old ∙ ap (followed (item_at i os) n) before ∙ ap (λ k. followed (item_at k os) n (item_at k bs)) c.len-index.ensures in
+    let so = c.in_ok-followed.ensures ∙ ap (λ o. followed o n (value_in c.get-in-Some.result)) old ∙ ap (followed (item_at i os) n) before ∙ ap (λ k. followed (item_at k os) n (item_at k bs)) (c.len-index.ensures ∙ c.loop-new.values.ok.0) in
     let inside : items_depth (items_view c.in-Some.behind.now) ≤ items_depth (items_view c.args.news.now) = search rules in
     record {
       whole = one_element l.values.items c.push.new.self.items l.rest.now c.in-Some.behind.now c.in_ok-followed.field-0 c.in-Some.new.now os bs _ c.in_ok-push.ensures.items c.in-Some.ensures.cases.0 so l.invariant.whole;
