@@ -40,9 +40,13 @@ fn blanks_end(bytes: &[u8], from: usize) -> usize
     i
 }
 
-/// How many blanks of JSON are in front.
+/// How many bytes of JSON's blanks are in front: spaces, tabs, LF and CR.
+///
+/// ```text
+/// blanks_len(b"\t\n 80")    // 3
+/// ```
 #[inline(always)]
-pub(crate) fn blanks_len(bytes: &[u8]) -> usize
+pub fn blanks_len(bytes: &[u8]) -> usize
     ensures { result ≡ prefix_len is_json_blank bytes.now }
 {
     let mut i = 0;
