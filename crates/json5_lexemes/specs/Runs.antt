@@ -1,5 +1,5 @@
 -- Runs in front of two texts, which are the same in both, and blanks and commas in front of one.
--- Private.
+-- A promise rests on this.
 use Rattle.std.specs.Prelude.{◌≡◌, ◌≤◌, ℕ, Bool, not, nat_lt, ◌||◌, ◌&&◌, ◌==◌, if◌then◌else◌, List, ◌++◌, length, take}
 use Rattle.std.specs.Simd.Lanes.{zip2}
 use Rattle.json5_grammar.specs.Language.Characters.{Each}

@@ -13,4 +13,5 @@ mod same;
 pub use byte_runs::blanks_len;
 pub use pieces::{Piece, Pieces};
 pub use plain::{is_plain, is_plain_with, keeps_plain};
+pub use runs::Run;
 pub use same::{alike_lexemes, same_lexemes};

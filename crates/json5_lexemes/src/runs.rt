@@ -8,8 +8,12 @@ ghost use Rattle.json5_lexemes.specs.Runs.{IsRun, codes, ends_separators, is_com
 use std::simd::prelude::*;
 
 /// A run of bytes within a lexeme.
+///
+/// ```text
+/// Run::Text.shared_len(left, right)    // how many bytes of strings are the same in both
+/// ```
 #[derive(Clone, Copy, Drop)]
-pub(crate) enum Run {
+pub enum Run {
     /// Parts of a number, a literal or a name.
     Word,
     /// What comes before a quote or a backslash.
@@ -48,9 +52,13 @@ impl Run {
         }
     }
 
-    /// How many bytes of the run are in front of both texts, but for some at the end of a text.
+    /// How many bytes of the run are in front of both texts, but for some of the last sixteen of a text.
+    ///
+    /// ```text
+    /// Run::Word.shared_len(b"12, 1234567890123", b"12 , 1234567890123")    // 2
+    /// ```
     #[inline(always)]
-    pub(crate) fn shared_len(self, left: &[u8], right: &[u8]) -> usize
+    pub fn shared_len(self, left: &[u8], right: &[u8]) -> usize
         ensures { IsRun self left.now right.now result }
     {
         let mut i = 0;
