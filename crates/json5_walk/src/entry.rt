@@ -3,7 +3,8 @@
 ghost use Rattle.std.specs.Prelude.{◌≡◌, true, IfOk, IfErr, OnOk, OnErr};
 ghost use Rattle.json5_grammar.specs.Language.Blanks.{Solid};
 ghost use Rattle.json5_walk.specs.Moves.{TakesEntryComma};
-ghost use Rattle.json5_walk.specs.Walks.{Trail, IsAt, Moved, IsHopeless, NeedsMemory, AwaitsKey, NotParted};
+ghost use Rattle.json5_walk.specs.Nexts.{takes_key};
+ghost use Rattle.json5_walk.specs.Walks.{entry_due, IsShut, AfterRefusal, Trail, IsAt, Moved, IsHopeless, NeedsMemory, AwaitsKey, NotParted};
 ghost use Rattle.json5_walk.specs.Entries.{AwaitsEntry, EntryStands, TakesKey, BeginsOrEnds};
 
 use crate::next::Next;
@@ -45,6 +46,7 @@ impl<'t> Walk<'t> {
     pub fn entry(&mut self) -> Result<Option<EntryKey<'t>>>
         ensures begun { IfOk result (BeginsOrEnds self.old self.new) }
         ensures refused { IfErr result (λ e. AwaitsEntry self.old → NeedsMemory self.old e) }
+        ensures after { IfErr result (AfterRefusal (entry_due self.old) self.old self.new) }
     {
         if !self.awaits_entry() {
             return Err(Error::new(ErrorCode::Failed));
@@ -58,7 +60,8 @@ impl<'t> Walk<'t> {
 
     /// Whether an entry or the closing bracket may come.
     fn awaits_entry(&self) -> bool
-        ensures { AwaitsEntry self.now → result ≡ true }
+        ensures awaits { AwaitsEntry self.now → result ≡ true }
+        ensures due { result ≡ entry_due self.now }
     {
         self.depth() > 0 && self.next().takes_entry()
     }
@@ -69,6 +72,7 @@ impl<'t> Walk<'t> {
         ensures solid { OnOk result (Solid self.new.unread) }
         ensures done { OnOk result (AwaitsEntry self.old → NotParted self.new) }
         ensures refused { OnErr result (AwaitsEntry self.old → IsHopeless self.old) }
+        ensures shut { OnErr result (IsShut self.new) }
     {
         self.gap()?;
         if !self.comma() {
@@ -81,6 +85,7 @@ impl<'t> Walk<'t> {
     fn entry_key(&mut self) -> Result<EntryKey<'t>>
         ensures taken { IfOk result (TakesKey self.old self.new) }
         ensures refused { IfErr result (λ e. EntryStands self.old → NeedsMemory self.old e) }
+        ensures shut { OnErr result (IsShut self.new) }
     {
         match self.next() {
             Next::Element => {
@@ -99,6 +104,7 @@ impl<'t> Walk<'t> {
     fn member_key(&mut self) -> Result<EntryKey<'t>>
         ensures taken { IfOk result (TakesKey self.old self.new) }
         ensures refused { IfErr result (λ e. (s : Trail) → IsAt self.old s → AwaitsKey self.old → NeedsMemory self.old e) }
+        ensures shut { OnErr result (takes_key self.old.next ≡ true → IsShut self.new) }
     {
         let start = self.offset();
         let text = self.key()?;
@@ -113,7 +119,9 @@ impl<'t> Walk<'t> {
 
     /// Another character stands here than one that may come.
     #[cold]
-    fn refuse(&mut self, code: ErrorCode) -> Error {
+    fn refuse(&mut self, code: ErrorCode) -> Error
+        ensures { IsShut self.new }
+    {
         self.give_up();
         self.fault(code)
     }
