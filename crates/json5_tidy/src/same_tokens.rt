@@ -1,6 +1,6 @@
 //! Whether two texts have the same tokens and commas, and blanks alone between them.
 
-ghost use Rattle.std.specs.Prelude.{◌≡◌, ◌<◌, IfSome, IsTrue, length, true};
+ghost use Rattle.std.specs.Prelude.{◌≡◌, IfSome, IsTrue, true};
 ghost use Rattle.std.specs.Str.{chars};
 ghost use Rattle.json5_grammar.specs.Language.Characters.{NotBegun};
 ghost use Rattle.json5_grammar.specs.Language.Strings.{is_quote};
@@ -61,7 +61,7 @@ fn past_same<'x>(left: &'x str, right: &'x str) -> Option<(u8, &'x str, &'x str)
     ensures { PassesSame left.now right.now result }
 {
     let bytes = left.as_bytes();
-    if bytes.is_empty() || bytes[0] >= 128 {
+    if bytes.is_empty() {
         return None;
     }
     let first = bytes[0];
@@ -77,9 +77,11 @@ fn past_same<'x>(left: &'x str, right: &'x str) -> Option<(u8, &'x str, &'x str)
 /// What follows the character of ASCII, if it is in front.
 #[inline(always)]
 fn past_byte(text: &str, byte: u8) -> Option<&str>
-    requires { byte < 128 }
     ensures { IfSome result (λ rest. StartsWith text.now byte rest.now) }
 {
+    if byte >= 128 {
+        return None;
+    }
     let bytes = text.as_bytes();
     if bytes.is_empty() || bytes[0] != byte {
         return None;
@@ -92,16 +94,13 @@ fn past_byte(text: &str, byte: u8) -> Option<&str>
 fn past_token<'x>(first: u8, left: &'x str, right: &'x str) -> Option<(&'x str, &'x str)>
     ensures { PassesToken first left.now right.now result }
 {
-    if is_quote(first) {
-        return past_string(first, left, right);
-    }
     if is_mark(first) {
         return Some((left, right));
     }
     if is_word_byte(first) {
         return past_word(first, left, right);
     }
-    None
+    past_string(first, left, right)
 }
 
 #[inline(always)]
@@ -169,12 +168,14 @@ fn ends_words(byte: u8) -> bool
     is_mark(byte) || matches!(byte, b' ' | b'\t' | b'\n' | b'\r')
 }
 
-/// The same of a string.
+/// The same of a string; None if it was no quote that was passed.
 #[inline(always)]
 fn past_string<'x>(quote: u8, left: &'x str, right: &'x str) -> Option<(&'x str, &'x str)>
-    requires { is_quote quote ≡ true }
     ensures { PassesToken quote left.now right.now result }
 {
+    if !is_quote(quote) {
+        return None;
+    }
     let mut left_rest = left;
     let mut right_rest = right;
     loop {

@@ -1,6 +1,6 @@
 //! Blanks and line ends, as bytes.
 
-ghost use Rattle.std.specs.Prelude.{◌<◌, length};
+ghost use Rattle.std.specs.Prelude.{◌<◌, ◌≤◌, IsTrue, length};
 ghost use Rattle.json5_tidy.specs.Lexemes.{FitsAt};
 
 /// How many bytes the blank character at this index has; 0 if there is none.
@@ -69,21 +69,14 @@ pub(crate) fn line_end_len(bytes: &[u8], at: usize) -> usize
     match bytes[at] {
         b'\n' => 1,
         b'\r' => 1 + usize::from(bytes.len() - at >= 2 && bytes[at + 1] == b'\n'),
-        0xE2 => wide_end_len(bytes, at),
+        0xE2 if is_wide_end(&bytes[at..]) => 3,
         _ => 0,
     }
 }
 
-fn wide_end_len(bytes: &[u8], at: usize) -> usize
-    ensures { FitsAt bytes.now at result }
+/// Whether U+2028 or U+2029 is in front.
+fn is_wide_end(text: &[u8]) -> bool
+    ensures { IsTrue result → 3 ≤ length text.now }
 {
-    if at < bytes.len()
-        && bytes.len() - at >= 3
-        && bytes[at + 1] == 0x80
-        && (bytes[at + 2] == 0xA8 || bytes[at + 2] == 0xA9)
-    {
-        3
-    } else {
-        0
-    }
+    text.len() >= 3 && text[1] == 0x80 && (text[2] == 0xA8 || text[2] == 0xA9)
 }
