@@ -6,3 +6,5 @@ pub mod DurationTexts
 pub mod Amounts
 pub mod SizeTexts
 pub mod ReadTypes
+pub mod AddressTexts
+pub mod TwinsSeen

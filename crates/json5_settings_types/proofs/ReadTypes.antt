@@ -1,18 +1,22 @@
 -- Values that are read, and then accepted or refused.
-use Rattle.std.proofs.Common.{◌≡◌, ◌∙◌, ◌⊎◌, inl, inr, ◌<◌, ◌^◌, ℕ, true, List, [], ◌∷◌, Option, Some, None, length, map, refl, ap, arith}
-use Rattle.std.specs.Prelude.{nat_lt, ℤ, pos, negsuc, neg_ℤ, ◌≤ℤ◌, ◌<ℤ◌}
+use Rattle.std.proofs.Common.{◌≡◌, ◌≢◌, ◌∙◌, ◌⊎◌, inl, inr, ◌<◌, ◌^◌, ℕ, Bool, true, false, List, [], ◌∷◌, Option, Some, None, length, map, refl, sym, ap, arith, ne_eqb, IsUtf8, String, string_bytes}
+use Rattle.std.specs.Prelude.{◌==◌, nat_lt, ℤ, pos, negsuc, neg_ℤ, ◌≤ℤ◌, ◌<ℤ◌}
 use Rattle.std.specs.Int.Signed.{le_z}
-use Rattle.std.specs.List.{All}
+use Rattle.std.specs.List.{All, list_any}
+use Rattle.std.specs.Str.{bytes_eq, chars}
+use Rattle.std.specs.declared.alloc.Global.{Global}
 use Rattle.std.proofs.lemmas.Bool.Decides.{nat_tests}
 use Rattle.std.proofs.lemmas.Int.{ints}
 use Rattle.std.proofs.lemmas.List.Elements.{All-head, All-tail}
+use Rattle.std.proofs.lemmas.List.Folds.{list_any_none}
+use Rattle.std.proofs.lemmas.Str.{encodes-chars}
 use Rattle.json5_grammar.specs.declared.position.Position.{Position}
 use Rattle.json5_grammar.specs.Language.Trees.{Tree}
 use Rattle.json5_types.specs.declared.error.Error.{Error}
 use Rattle.json5_types.specs.Errors.{IsCustomAt, LacksMemory}
 use Rattle.json5_tokens.specs.Cursor.{IsPositionOf}
 use Rattle.json5_grammar.specs.Model.Collections.{array_of, contents}
-use Rattle.json5_de.specs.Convert.{signed_below}
+use Rattle.json5_de.specs.Convert.{signed_below, text_of}
 use Rattle.json5_de.specs.ConvertLists.{if_some}
 use Rattle.json5_de.specs.DeserializeLaw.{TookValue}
 use Rattle.json5_de.specs.Refinement.{NotAccepted, if_more, refined}
@@ -21,8 +25,11 @@ use Rattle.json5_de.specs.Spans.{SpansValue}
 use Rattle.json5_de.specs.State.{State}
 use Rattle.json5_de.proofs.Refinement.{refused_at}
 use Rattle.json5_ser.specs.EscapeFreeMarks.{element_marks, marks}
-use Rattle.json5_ser.specs.WrittenTrees.{Written, array, elements_of, integer}
+use Rattle.json5_ser.specs.WrittenTrees.{Written, array, elements_of, integer, text}
 use Rattle.json5_settings_types.specs.Bounds.{IsOwnFault, if_some_element, if_within}
+use Rattle.json5_settings_types.specs.Paths.{if_path}
+use Rattle.json5_settings_types.specs.Spellings.{if_spelled}
+use Rattle.json5_settings_types.specs.Twins.{if_no_twins, no_twins}
 
 -- what is accepted of values, and of their contents
 pub accepts_map : {A B : Type 0} (f : A → B) (xs : List A) → if_some_element (map f xs) ≡ if_some (map f) (if_some_element xs)
@@ -62,3 +69,44 @@ integer_back low high z above below least most =
     let yes : le_z low z ≡ true = grind (arith, ints, above) in
     let too : le_z z high ≡ true = grind (arith, ints, below) in
     ap (if_more (if_within low high)) (signed_back z least most) ∙ rw (yes, too) refl
+
+-- ---- values with their texts
+
+pub spelled_none : {M : Type 0} (spells : List ℕ → Option M) (bytes : List ℕ) → None ≡ spells bytes → if_spelled spells bytes ≡ None
+spelled_none spells bytes is = ap (if_some (λ m. (m, bytes))) (sym is)
+
+pub spelled_some : {M : Type 0} (spells : List ℕ → Option M) (bytes : List ℕ) (m : M) → Some m ≡ spells bytes → if_spelled spells bytes ≡ Some (m, bytes)
+spelled_some spells bytes m is = ap (if_some (λ m. (m, bytes))) (sym is)
+
+pub spelling_back : {M : Type 0} (spells : List ℕ → Option M) (bytes : List ℕ) (m : M) → IsUtf8 bytes → spells bytes ≡ Some m → refined text_of (if_spelled spells) (marks (text (chars bytes))) ≡ Some (m, bytes)
+spelling_back spells bytes m utf8 is = ap (if_spelled spells) (encodes-chars bytes utf8) ∙ spelled_some spells bytes m (sym is)
+
+-- ---- paths
+
+no_nul : (bytes : List ℕ) → All (λ b. b ≢ 0) bytes → list_any (λ b. b == 0) bytes ≡ false
+no_nul bytes none = list_any_none (λ b. b == 0) bytes (All-map bytes none)
+  where
+    All-map : (bytes : List ℕ) → All (λ b. b ≢ 0) bytes → All (λ b. (b == 0) ≡ false) bytes
+    All-map bytes none i d inside = ne_eqb _ 0 (none i d inside)
+
+pub path_back : (bytes : List ℕ) → IsUtf8 bytes → 0 < length bytes → All (λ b. b ≢ 0) bytes → refined text_of if_path (marks (text (chars bytes))) ≡ Some bytes
+path_back bytes utf8 some none =
+    let long : (length bytes == 0) ≡ false = grind (arith, nat_tests) in
+    ap if_path (encodes-chars bytes utf8) ∙ rw (long, no_nul bytes none) refl
+
+-- ---- lists without twins
+
+pub twins_none : {C : Type 0} (same : C → C → Bool) (cs : List C) → no_twins same cs ≡ false → if_no_twins same cs ≡ None
+twins_none same cs is = rw is refl
+
+pub twins_some : {C : Type 0} (same : C → C → Bool) (cs : List C) → no_twins same cs ≡ true → if_no_twins same cs ≡ Some cs
+twins_some same cs is = rw is refl
+
+-- strings are read back, whatever they are
+texts_back : (tree : String Global → Written) (values : List (String Global)) → ((s : String Global) → text_of (marks (tree s)) ≡ Some (string_bytes s)) → contents text_of (element_marks (elements_of tree values)) ≡ Some (map string_bytes values)
+texts_back tree [] back = refl
+texts_back tree (s ∷ ss) back = let first = back s in let others = texts_back tree ss back in rw (first, others) refl
+
+pub unique_back : (tree : String Global → Written) (values : List (String Global)) → ((s : String Global) → text_of (marks (tree s)) ≡ Some (string_bytes s)) → no_twins bytes_eq (map string_bytes values) ≡ true
+    → refined (array_of (contents text_of)) (if_no_twins bytes_eq) (marks (array (elements_of tree values))) ≡ Some (map string_bytes values)
+unique_back tree values back differ = ap (if_more (if_no_twins bytes_eq)) (texts_back tree values back) ∙ twins_some bytes_eq (map string_bytes values) differ

@@ -1,5 +1,9 @@
 -- Lists the definitions of what each type here is read and written as.
+pub mod Addresses
 pub mod Bounds
 pub mod Durations
+pub mod Paths
 pub mod Sizes
+pub mod Spellings
 pub mod Sums
+pub mod Twins

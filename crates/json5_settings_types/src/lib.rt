@@ -1,4 +1,5 @@
-//! Types ready for the fields of settings: durations, sizes, numbers within bounds, lists that aren't empty.
+//! Types ready for the fields of settings: durations, sizes, addresses, paths, numbers within bounds, lists that aren't empty
+//! or have no twins.
 //!
 //! ```text
 //! let timeout: Duration = json5::from_str(alloc, "'1h30m'")?;    // 5400 seconds
@@ -8,17 +9,23 @@
 //! A value that isn't taken is refused where it stands, with a message that says what is expected.
 #![tactic(auto)]
 
+mod addresses;
 mod durations;
 mod faults;
 mod not_empty;
+mod paths;
 mod sizes;
 mod spelled;
 mod sums;
+mod unique;
 mod units;
 mod within;
 
+pub use addresses::addresses_are_spelled;
 pub use durations::{Duration, durations_read_back};
 pub use not_empty::{NotEmpty, lists_read_back};
+pub use paths::{FilePath, paths_read_back};
 pub use sizes::{Size, sizes_read_back};
-pub use spelled::{Spelled, read_spelled};
+pub use spelled::{AsSpelled, Spelled, read_spelled, spellings_read_back};
+pub use unique::{UniqueTexts, unique_texts_read_back};
 pub use within::{Within, numbers_read_back};

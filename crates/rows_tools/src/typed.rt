@@ -3,9 +3,10 @@
 use crate::outcomes::{Outcome, said};
 use crate::rows::{text_of, wanted_of};
 use json5::{Deserialize, Result, Serialize, from_str, to_string};
-use json5_settings_types::{Duration, NotEmpty, Size, Within};
+use json5_settings_types::{AsSpelled, Duration, FilePath, NotEmpty, Size, UniqueTexts, Within};
 use json5_types::value::Value;
 use std::alloc::Global;
+use std::net::{IpAddr, SocketAddr};
 
 const COLDEST: i64 = -40;
 
@@ -26,6 +27,10 @@ fn written(alloc: Global, name: &str, text: &str) -> Result<String> {
         "size" => again::<Size>(alloc, text),
         "port" => again::<Within<1024, 65535>>(alloc, text),
         "degrees" => again::<Within<{ COLDEST }, 50>>(alloc, text),
+        "address" => again::<AsSpelled<IpAddr>>(alloc, text),
+        "socket" => again::<AsSpelled<SocketAddr>>(alloc, text),
+        "path" => again::<FilePath>(alloc, text),
+        "hosts" => again::<UniqueTexts>(alloc, text),
         _ => again::<NotEmpty<Duration>>(alloc, text),
     }
 }

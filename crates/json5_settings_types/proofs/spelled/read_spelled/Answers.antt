@@ -18,20 +18,20 @@ returns-in-Err g c = record {
 
 pub returns-in_default : goal.returns-in_default
 returns-in_default g c =
-    let none = ap g.T.Spelled.spells (sym c.as_str-found.ensures.value) ∙ sym c.in_default.ensures in
+    let none = ap g.T.Spelled.spells (sym c.as_str.ensures.value) ∙ sym c.in_default.ensures in
     record {
       sound = tt;
       complete = refused_completes text_of g.T.Spelled.spells c.in-Ok.ensures.reads.complete none;
       no_memory = λ t r v live reads shallow converts free. absurd (cc);
-      refused = inr (refused_own text_of g.T.Spelled.spells c.args.de.now c.deserialize.new.de _ _ _ _ c.in-Ok.ensures.reads.sound c.in-Ok.ensures.spans none c.fault_at.ensures);
-      unprompted = λ live. c.fault_at.ensures.unprompted;
+      refused = inr (refused_own text_of g.T.Spelled.spells c.args.de.now c.deserialize.new.de _ _ _ _ c.in-Ok.ensures.reads.sound c.in-Ok.ensures.spans none c.not_spelled.ensures);
+      unprompted = λ live. c.not_spelled.ensures.unprompted;
       same_text = search rules;
     }
 
 pub returns : goal.returns
 returns g c =
     let (t, took, is) = c.in-Ok.ensures.reads.sound in
-    let sound : Gives g.T.Spelled.meaning (refined text_of g.T.Spelled.spells) c.args.de.now c.deserialize.new.de c.in-Some.value = (t, took, ap (if_more g.T.Spelled.spells) is ∙ ap g.T.Spelled.spells (sym c.as_str-found.ensures.value) ∙ sym c.in-Some.ensures) in
+    let sound : Gives g.T.Spelled.meaning (refined text_of g.T.Spelled.spells) c.args.de.now c.deserialize.new.de c.in-Some.value = (t, took, ap (if_more g.T.Spelled.spells) is ∙ ap g.T.Spelled.spells (sym c.as_str.ensures.value) ∙ sym c.in-Some.ensures) in
     record {
       sound = sound;
       complete = reads_content g.T.Spelled.meaning (refined text_of g.T.Spelled.spells) c.args.de.now _ (Ok c.in-Some.value) sound tt;

@@ -1,0 +1,2 @@
+-- Lists the definitions of a file to begin with.
+pub mod Samples
