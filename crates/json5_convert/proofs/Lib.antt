@@ -6,6 +6,7 @@ pub mod LinesJoined
 pub mod OneComments
 pub mod PlainKept
 pub mod SourcesKept
+pub mod SpelledAlike
 pub mod StreamsRead
 pub mod StreamsRefused
 pub mod StreamsTaken

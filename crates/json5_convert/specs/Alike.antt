@@ -1,6 +1,6 @@
 -- Two walks over documents that mean the same, as far as they were walked.
 -- Private.
-use Rattle.std.specs.Prelude.{◌≡◌, ℕ, Bool, true, List, [], ◌∷◌, Option, Some, None, ⊤}
+use Rattle.std.specs.Prelude.{◌≡◌, ℕ, Bool, true, List, [], ◌∷◌, ◌++◌, Option, Some, None, ⊤}
 use Rattle.std.specs.Str.{chars, encode_utf8_all}
 use Rattle.json5_grammar.specs.Language.Documents.{max_depth}
 use Rattle.json5_grammar.specs.Language.Trees.{Tree, Trees, Members, null, boolean, number, text, array, object, no_more, more, no_member, member}
@@ -105,6 +105,14 @@ pub record TakesText (bytes : List ℕ) (old new : Walked) : Type 0 where
   pub escape_free : Bool
   pub is_text : bytes ≡ encode_utf8_all text_of
   pub moved : Moved (TakesTree (text text_of escape_free)) old new
+
+-- these bytes are what the walk hasn't read
+abbrev pub IsRest : Walked → (bytes : List ℕ) → Type 0
+IsRest v bytes = (s : Trail) → IsAt v s → chars bytes ≡ v.unread
+
+-- the part is what the walk has taken of these bytes
+abbrev pub IsTaken : (bytes part : List ℕ) → Walked → Type 0
+IsTaken bytes part v = (s : Trail) → IsAt v s → (c : List ℕ) → chars bytes ≡ c ++ v.unread → chars part ≡ c
 
 -- this bracket or value was taken
 abbrev pub TakesStart : Start → Walked → Walked → Type 0

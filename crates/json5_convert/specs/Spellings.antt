@@ -21,6 +21,10 @@ as_json = record { strings = quotes.Json; keys = keys.Quoted; numbers = numbers.
 abbrev pub as_json5 : Spelling
 as_json5 = record { strings = quotes.Fewest; keys = keys.Bare; numbers = numbers.Own; last_commas = commas.Own; blanks = blanks.Own; comments = comments.Kept }
 
+-- the same without comments
+abbrev pub uncommented : Spelling → Spelling
+uncommented s = record s { comments = comments.Dropped }
+
 abbrev pub are_json_quotes : Quotes → Bool
 are_json_quotes quotes.Json = true
 are_json_quotes _ = false

@@ -1,6 +1,6 @@
 //! Compares the comments of two texts.
 
-ghost use Rattle.std.specs.Prelude.{◌≡◌, IsTrue, true, IfSome, map};
+ghost use Rattle.std.specs.Prelude.{◌≡◌, ◌+◌, ◌≤◌, length, drop, IsTrue, true, IfSome, map};
 ghost use Rattle.std.specs.List.{prefix_len};
 ghost use Rattle.std.specs.Simd.Lanes.{mask_l};
 ghost use Rattle.std.specs.Str.{chars, IsUtf8};
@@ -13,7 +13,6 @@ ghost use Rattle.json5_convert.specs.CommentSteps.{IsComment, PassesNone, TakesC
 
 use crate::spelling::Spelling;
 use json5_lexemes::{Piece, Pieces};
-use memchr::{memchr2, memchr3};
 use std::simd::prelude::*;
 
 /// Whether the comments stay, or where they are to go, whether there are none.
@@ -123,19 +122,33 @@ fn skip_neither(text: &str) -> &str
     text.split_at(neither_len(text.as_bytes())).1
 }
 
-/// How many bytes in front begin neither. Mostly one of the first sixteen does, and then the call of `memchr3` would take
-/// longer than the search.
+/// How many bytes in front begin neither.
 #[inline(always)]
 fn neither_len(bytes: &[u8]) -> usize
     ensures { result ≡ prefix_len begins_neither bytes.now }
 {
-    if bytes.len() >= 16 {
-        let found = begins_either(u8x16::from_slice(bytes));
+    let mut i = 0;
+    while bytes.len() - i >= 16 {
+        let found = begins_either(u8x16::from_slice(&bytes[i..]));
         if found != 0 {
-            return found.trailing_zeros() as usize;
+            return i + found.trailing_zeros() as usize;
         }
+        i += 16;
     }
-    memchr3(b'"', b'\'', b'/', bytes).unwrap_or(bytes.len())
+    neither_end(bytes, i)
+}
+
+/// The same from this index on.
+#[inline(never)]
+fn neither_end(bytes: &[u8], from: usize) -> usize
+    requires { from ≤ length bytes.now }
+    ensures { result ≡ from + prefix_len begins_neither (drop from bytes.now) }
+{
+    let mut i = from;
+    while i < bytes.len() && bytes[i] != b'"' && bytes[i] != b'\'' && bytes[i] != b'/' {
+        i += 1;
+    }
+    i
 }
 
 /// Which of the bytes begin a string or a comment.
@@ -181,13 +194,28 @@ fn skip_inside(text: &str, quote: char) -> &str
 fn inside_len(bytes: &[u8], quote: u8) -> usize
     ensures { result ≡ prefix_len (is_inside quote) bytes.now }
 {
-    if bytes.len() >= 16 {
-        let found = ends_inside(quote, u8x16::from_slice(bytes));
+    let mut i = 0;
+    while bytes.len() - i >= 16 {
+        let found = ends_inside(quote, u8x16::from_slice(&bytes[i..]));
         if found != 0 {
-            return found.trailing_zeros() as usize;
+            return i + found.trailing_zeros() as usize;
         }
+        i += 16;
     }
-    memchr2(quote, b'\\', bytes).unwrap_or(bytes.len())
+    inside_end(bytes, quote, i)
+}
+
+/// The same from this index on.
+#[inline(never)]
+fn inside_end(bytes: &[u8], quote: u8, from: usize) -> usize
+    requires { from ≤ length bytes.now }
+    ensures { result ≡ from + prefix_len (is_inside quote) (drop from bytes.now) }
+{
+    let mut i = from;
+    while i < bytes.len() && bytes[i] != quote && bytes[i] != b'\\' {
+        i += 1;
+    }
+    i
 }
 
 /// Which of the bytes are this quote or a backslash.

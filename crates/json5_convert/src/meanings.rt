@@ -6,7 +6,7 @@ ghost use Rattle.json5_grammar.specs.Language.Numbers.{decimal};
 ghost use Rattle.json5_styles.specs.JsonTexts.{is_json_number};
 ghost use Rattle.json5_walk.specs.Moves.{Closes, TakesColon};
 ghost use Rattle.json5_walk.specs.Walks.{Moved};
-ghost use Rattle.json5_convert.specs.Alike.{AreSame, AreSameKeys, AreSameNumbers, GoAlike, GoOn, TakesKey, TakesPart, TakesStart};
+ghost use Rattle.json5_convert.specs.Alike.{AreSame, AreSameKeys, AreSameNumbers, GoAlike, GoOn, IsRest, IsTaken, TakesKey, TakesPart, TakesStart, TakesText};
 ghost use Rattle.json5_convert.specs.Respelled.{HasNumbers, MeanTheSame};
 
 use crate::faults::{RespellError, Result};
@@ -46,16 +46,12 @@ fn step_both(are_json: bool, left: &mut Walk<'_>, right: &mut Walk<'_>) -> Resul
 {
     match left.next() {
         Next::Comma => same_part(left, right),
-        Next::Key => check(is_same_key(&take_key(left)?, &take_key(right)?)),
+        Next::Key => same_key(left, right),
         Next::Colon => {
             take_colon(left)?;
             take_colon(right)
         }
-        Next::Value | Next::Element => check(is_same(
-            are_json,
-            &take_start(left)?,
-            &take_start(right)?,
-        )),
+        Next::Value | Next::Element => same_value(are_json, left, right),
         Next::Failed => Err(RespellError::Failed),
     }
 }
@@ -70,6 +66,100 @@ fn check(is_so: bool) -> Result<()>
     } else {
         Err(RespellError::Failed)
     }
+}
+
+/// Takes a key, or the closing brace, if it is the same in both texts.
+#[inline(always)]
+fn same_key(left: &mut Walk<'_>, right: &mut Walk<'_>) -> Result<()>
+    ensures { OnOk result (GoOn left.old right.old left.new right.new) }
+{
+    let Some(key) = left.short_key() else {
+        return same_long_key(left, right);
+    };
+    match right.short_key() {
+        Some(other) => check(key == other),
+        None => check(is_same_key(&Some(CowStr::Borrowed(key)), &take_key(right)?)),
+    }
+}
+
+#[inline(never)]
+fn same_long_key(left: &mut Walk<'_>, right: &mut Walk<'_>) -> Result<()>
+    ensures { OnOk result (GoOn left.old right.old left.new right.new) }
+{
+    check(is_same_key(&take_key(left)?, &take_key(right)?))
+}
+
+/// Takes a value or a bracket, if it is the same in both texts.
+#[inline(always)]
+fn same_value(are_json: bool, left: &mut Walk<'_>, right: &mut Walk<'_>) -> Result<()>
+    ensures { OnOk result (GoAlike are_json left.old right.old left.new right.new) }
+{
+    let Some(text) = left.short_string() else {
+        return same_other(are_json, left, right);
+    };
+    match right.short_string() {
+        Some(other) => check(text == other),
+        None => same_text(text, right),
+    }
+}
+
+/// Takes the string of this text.
+#[inline(never)]
+fn same_text(text: &str, walk: &mut Walk<'_>) -> Result<()>
+    ensures { OnOk result (TakesText text.now walk.old walk.new) }
+{
+    walk.gap()?;
+    check(text == walk.string()?.as_str())
+}
+
+/// The same where mostly no string without an escape is next. Numbers that are spelled alike aren't read.
+#[inline(never)]
+fn same_other(are_json: bool, left: &mut Walk<'_>, right: &mut Walk<'_>) -> Result<()>
+    ensures { OnOk result (GoAlike are_json left.old right.old left.new right.new) }
+{
+    left.gap()?;
+    right.gap()?;
+    if are_json {
+        return same_start(are_json, left, right);
+    }
+    let (text, other) = (rest(left), rest(right));
+    if !left.short_number() {
+        return same_start(are_json, left, right);
+    }
+    if !right.short_number() {
+        return Err(RespellError::Failed);
+    }
+    check(taken(text, left)? == taken(other, right)?)
+}
+
+/// What is unread.
+#[inline(always)]
+fn rest<'t>(walk: &Walk<'t>) -> &'t str
+    ensures { IsRest walk.now result.now }
+{
+    match walk.text().split_at_checked(walk.offset()) {
+        Some((_, rest)) => rest,
+        None => "",
+    }
+}
+
+/// What was taken of this rest.
+#[inline(always)]
+fn taken<'t>(text: &'t str, walk: &Walk<'_>) -> Result<&'t str>
+    ensures { IfOk result (λ part. IsTaken text.now part.now walk.now) }
+{
+    match text.split_at_checked(text.len().saturating_sub(rest(walk).len())) {
+        Some((part, _)) => Ok(part),
+        None => Err(RespellError::Failed),
+    }
+}
+
+/// The same for the next value or bracket, whatever it is.
+#[inline(never)]
+fn same_start(are_json: bool, left: &mut Walk<'_>, right: &mut Walk<'_>) -> Result<()>
+    ensures { OnOk result (GoAlike are_json left.old right.old left.new right.new) }
+{
+    check(is_same(are_json, &take_start(left)?, &take_start(right)?))
 }
 
 /// Takes the comma after a value in both texts, or the closing bracket, before which a comma may stand.

@@ -3,8 +3,10 @@
 //! Plain code: what it makes is read again.
 
 use crate::faults::Result;
+use json5_tokens::scanner::Scanner;
 use json5_types::number::Number;
 use json5_types::whole::Whole;
+use std::alloc::Global;
 use std::fmt::Write;
 
 /// Whether the number in front is spelled as JSON has it: with digits on both sides of a point, no plus in front, and no
@@ -34,7 +36,13 @@ pub(crate) fn is_json_number(text: &str) -> bool {
 
 /// Appends a number that JSON spells otherwise, as JSON has it: with the same digits, but that a hexadecimal one is in decimal
 /// digits. Says whether JSON has it: infinity and not-a-number aren't appended.
-pub(crate) fn push_number(made: &mut String, token: &str, number: &Number) -> Result<bool> {
+pub(crate) fn push_number(alloc: Global, made: &mut String, token: &str) -> Result<bool> {
+    let number = Scanner::new(alloc, token).number()?;
+    push_read(made, token, &number)
+}
+
+/// The same of what was read of it.
+fn push_read(made: &mut String, token: &str, number: &Number) -> Result<bool> {
     let (sign, digits) = parted(token);
     match number {
         Number::Whole(whole) => push_whole(made, sign, digits, *whole)?,

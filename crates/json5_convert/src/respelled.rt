@@ -47,7 +47,8 @@ pub fn respell(alloc: Global, text: &str, spelling: Spelling) -> Result<String>
     }
 }
 
-/// The document spelled anew, if it is as it should be. One that is JSON already stays as it is.
+/// The document spelled anew, if it is as it should be. One that is JSON already stays as it is, and one that stays is only
+/// checked.
 fn made(alloc: Global, spelling: Spelling, text: &str) -> Result<String>
     ensures { IfOk result (λ made. IsMade spelling text.now (string_bytes made)) }
 {
@@ -56,6 +57,10 @@ fn made(alloc: Global, spelling: Spelling, text: &str) -> Result<String>
         return Ok(String::from_str(alloc, text)?);
     }
     let made = spelled(alloc, spelling, text)?;
+    if spelling.has_comments() && !spelling.has_json_numbers() && made.as_str() == text {
+        check_document(alloc, text)?;
+        return Ok(made);
+    }
     check_meaning(alloc, spelling.has_json_numbers(), text, made.as_str())?;
     if keeps_comments(spelling, text, made.as_str()) && is_as_plain(spelling, made.as_str()) {
         return Ok(made);

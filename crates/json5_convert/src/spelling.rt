@@ -1,7 +1,7 @@
 //! What a user may choose.
 
-ghost use Rattle.std.specs.Prelude.{◌≡◌, false};
-ghost use Rattle.json5_convert.specs.Spellings.{asks_json, has_comments, has_json_numbers, as_json, as_json5};
+ghost use Rattle.std.specs.Prelude.{◌≡◌};
+ghost use Rattle.json5_convert.specs.Spellings.{asks_json, has_comments, has_json_numbers, as_json, as_json5, uncommented};
 
 /// How the tokens of a document are to be spelled. Each choice is made alone.
 ///
@@ -119,8 +119,7 @@ impl Spelling {
     /// respell(alloc, "[1] // a", Spelling::json().without_comments())?    // [1]
     /// ```
     pub fn without_comments(self) -> Spelling
-        ensures gone { has_comments result ≡ false }
-        ensures json { asks_json result ≡ asks_json self }
+        ensures { result ≡ uncommented self }
     {
         Spelling {
             comments: Comments::Dropped,

@@ -7,19 +7,43 @@ use crate::spelling::Quotes;
 use json5_lexemes::is_plain_with;
 use json5_styles::json_runs::skip_unescaped_within;
 use json5_styles::to_json_string;
+use json5_tokens::scanner::Scanner;
+use json5_types::cow_str::CowStr;
 use json5_types::nesting::Limit;
 use json5_write::Printer;
 use json5_write::string_writer::StringWriter;
 use std::alloc::Global;
 
-/// Whether a string of this text that is spelled so stays, where these quotes are asked for. It may also say no of one that stays.
+/// Whether a string without an escape that is spelled so stays, where these quotes are asked for. This and the two below may
+/// say no of a string that stays.
 #[inline(always)]
-pub(crate) fn keeps_string(quotes: Quotes, token: &str, text: &str) -> bool {
+pub(crate) fn keeps_short(quotes: Quotes, token: &str) -> bool {
+    // Without an escape no quotes make it shorter.
+    !matches!(quotes, Quotes::Json) || token.starts_with('"') && ends_unescaped(token)
+}
+
+/// The same of a string with escapes.
+#[inline(always)]
+pub(crate) fn keeps_escapes(quotes: Quotes, token: &str) -> bool {
     match quotes {
         Quotes::Own => true,
-        Quotes::Json => token.starts_with('"') && ends_unescaped(token),
-        // Without an escape no quotes make it shorter.
-        Quotes::Fewest => token.len() <= text.len().saturating_add(2),
+        Quotes::Json => false,
+        Quotes::Fewest => lacks_double_quotes(token),
+    }
+}
+
+/// The same of a string of this text.
+pub(crate) fn keeps_string(quotes: Quotes, token: &str, text: &str) -> bool {
+    token.len() <= text.len().saturating_add(2) && keeps_short(quotes, token)
+}
+
+/// Whether a string is in double quotes, and surely has none in its text, escaped or spelled as `\x22` or `\u0022`.
+fn lacks_double_quotes(token: &str) -> bool {
+    match token.strip_prefix('"') {
+        Some(text) => {
+            text.find('"') == Some(text.len().saturating_sub(1)) && !text.contains("22")
+        }
+        None => false,
     }
 }
 
@@ -32,31 +56,31 @@ fn ends_unescaped(token: &str) -> bool {
     }
 }
 
-/// Appends a name between double quotes. Names have no character that JSON escapes.
-pub(crate) fn push_name(made: &mut String, name: &str) -> Result<()> {
-    made.push('"')?;
-    made.push_str(name)?;
-    Ok(made.push('"')?)
-}
-
-/// Appends a string of this text that is spelled so, between these quotes.
+/// Appends a string that is spelled so, between these quotes.
 pub(crate) fn push_string(
     alloc: Global,
     made: &mut String,
     quotes: Quotes,
     token: &str,
-    text: &str,
 ) -> Result<()> {
     match quotes {
         Quotes::Own => Ok(made.push_str(token)?),
         Quotes::Json if is_plain_with(false, token) => Ok(made.push_str(token)?),
-        Quotes::Json => push_json_string(alloc, made, text),
-        Quotes::Fewest => {
-            let other = quoted(alloc, text)?;
-            let is_shorter = other.len() < token.len() && !token.starts_with(first(other.as_str()));
-            Ok(made.push_str(if is_shorter { other.as_str() } else { token })?)
-        }
+        Quotes::Json => push_json_string(alloc, made, text_of(alloc, token)?.as_str()),
+        Quotes::Fewest => push_shorter(alloc, made, token),
     }
+}
+
+/// The text of a string that is spelled so.
+fn text_of(alloc: Global, token: &str) -> Result<CowStr<'_>> {
+    Ok(Scanner::new(alloc, token).string()?)
+}
+
+/// Appends a string that is spelled so in other quotes, if it is shorter then.
+fn push_shorter(alloc: Global, made: &mut String, token: &str) -> Result<()> {
+    let other = quoted(alloc, text_of(alloc, token)?.as_str())?;
+    let is_shorter = other.len() < token.len() && !token.starts_with(first(other.as_str()));
+    Ok(made.push_str(if is_shorter { other.as_str() } else { token })?)
 }
 
 /// Appends a string of this text as JSON has it.

@@ -6,9 +6,9 @@ use crate::faults::{RespellError, Result};
 use crate::gaps::{begins_last_line, has_json_blanks, is_blank_in_json, push_gap};
 use crate::numbers::{is_json_number, push_number};
 use crate::spelling::{Blanks, Comments, Keys, LastCommas, Numbers, Spelling};
-use crate::strings::{is_ascii_name, keeps_string, push_name, push_string};
+use crate::strings::{is_ascii_name, keeps_escapes, keeps_short, keeps_string, push_string};
 use json5_read::brackets::BracketKind;
-use json5_read::kinds::{Literal, ValueKind, kind_at};
+use json5_read::kinds::{ValueKind, kind_at};
 use json5_types::nesting::Limit;
 use json5_walk::next::Next;
 use json5_walk::walk::Walk;
@@ -23,17 +23,31 @@ pub(crate) fn spelled(alloc: Global, spelling: Spelling, text: &str) -> Result<S
         made: String::with_capacity(alloc, text.len())?,
         done: 0,
         end: 0,
+        fault: RespellError::Failed,
     };
     // Each step but the last takes a token.
     for _ in 0..=text.len() {
-        if speller.step()? {
-            speller.copy_to(text.len())?;
-            return Ok(speller.made);
+        match speller.step() {
+            Step::Took => {}
+            Step::Ended => return Ok(speller.made),
+            Step::Refused => return Err(speller.fault),
         }
     }
     Err(RespellError::Failed)
 }
 
+/// What a step came to.
+#[derive(Clone, Copy, Drop)]
+enum Step {
+    /// A token was taken.
+    Took,
+    /// The document has ended.
+    Ended,
+    /// Nothing is made.
+    Refused,
+}
+
+/// Where a call returns false nothing is made: it leaves the fault here, since a frame that holds a fault takes more time.
 #[derive(Drop)]
 struct Speller<'t> {
     alloc: Global,
@@ -44,20 +58,28 @@ struct Speller<'t> {
     done: usize,
     /// Where the last token ends, or the gap behind it if that was spelled.
     end: usize,
+    fault: RespellError,
 }
 
 impl<'t> Speller<'t> {
-    /// Spells the next token and the gap before it. Says whether the document ended.
+    /// Spells the next token and the gap before it.
     #[inline(always)]
-    fn step(&mut self) -> Result<bool> {
-        match self.walk.next() {
+    fn step(&mut self) -> Step {
+        let is_taken = match self.walk.next() {
             Next::Comma => return self.after_value(),
-            Next::Value | Next::Element => self.value()?,
-            Next::Key => self.key()?,
-            Next::Colon => self.colon()?,
-            Next::Failed => return Err(RespellError::Failed),
-        }
-        Ok(false)
+            Next::Value | Next::Element => self.value(),
+            Next::Key => self.key(),
+            Next::Colon => self.colon(),
+            Next::Failed => false,
+        };
+        if is_taken { Step::Took } else { Step::Refused }
+    }
+
+    /// Leaves the fault, and returns false.
+    #[cold]
+    fn refuse(&mut self, fault: RespellError) -> bool {
+        self.fault = fault;
+        false
     }
 
     /// The text between the offsets.
@@ -69,27 +91,47 @@ impl<'t> Speller<'t> {
         }
     }
 
+    /// Appends a text.
+    #[inline(always)]
+    fn push(&mut self, part: &str) -> bool {
+        match self.made.push_str(part) {
+            Ok(()) => true,
+            Err(_) => self.refuse(RespellError::NoMemory),
+        }
+    }
+
     /// Appends what comes before the offset and isn't appended.
-    fn copy_to(&mut self, offset: usize) -> Result<()> {
+    #[inline(always)]
+    fn copy_to(&mut self, offset: usize) -> bool {
         let part = self.part(self.done, offset);
         self.done = offset;
-        Ok(self.made.push_str(part)?)
+        self.push(part)
     }
 
     /// Appends what comes before the token or the gap from `start` to where the walk is told to be, but leaves that out.
-    fn leave_out(&mut self, start: usize) -> Result<()> {
-        self.copy_to(start)?;
+    #[inline(always)]
+    fn leave_out(&mut self, start: usize) -> bool {
+        let is_copied = self.copy_to(start);
         self.done = self.end;
-        Ok(())
+        is_copied
+    }
+
+    /// Takes blanks.
+    #[inline(never)]
+    fn gap(&mut self) -> bool {
+        match self.walk.gap() {
+            Ok(()) => true,
+            Err(error) => self.refuse(RespellError::from(error)),
+        }
     }
 
     /// Spells the gap in front of the token that begins at `start`, which was taken or is next.
     #[inline(always)]
-    fn gap_to(&mut self, start: usize) -> Result<()> {
+    fn gap_to(&mut self, start: usize) -> bool {
         let from = self.end;
         self.end = start;
         if from == start || self.stays(from, start) {
-            return Ok(());
+            return true;
         }
         self.respell_gap(from, start)
     }
@@ -105,143 +147,163 @@ impl<'t> Speller<'t> {
 
     /// Appends the gap as the spelling has it.
     #[inline(never)]
-    fn respell_gap(&mut self, from: usize, to: usize) -> Result<()> {
+    fn respell_gap(&mut self, from: usize, to: usize) -> bool {
         let gap = self.part(from, to);
         if matches!(self.spelling.comments, Comments::Kept) && has_json_blanks(gap) {
-            return Ok(());
+            return true;
         }
         let is_end = to == self.walk.text().len();
-        self.leave_out(from)?;
-        Ok(push_gap(&mut self.made, self.spelling, gap, is_end)?)
+        self.leave_out(from) && self.put_gap(gap, is_end)
     }
 
-    /// Goes past the token of this length that was taken, and spells the gap before it. Returns where the token begins, and
-    /// its spelling.
+    fn put_gap(&mut self, gap: &str, is_end: bool) -> bool {
+        match push_gap(&mut self.made, self.spelling, gap, is_end) {
+            Ok(()) => true,
+            Err(_) => self.refuse(RespellError::NoMemory),
+        }
+    }
+
+    /// Spells the gap before the token that was taken, and goes past both. Of a token of this length it returns where that
+    /// begins.
     #[inline(always)]
-    fn taken(&mut self, len: usize) -> Result<(usize, &'t str)> {
+    fn start_of(&mut self, len: usize) -> Option<usize> {
         let end = self.walk.offset();
         let start = end.saturating_sub(len);
-        self.gap_to(start)?;
+        let is_spelled = self.gap_to(start);
         self.end = end;
-        Ok((start, self.part(start, end)))
+        if is_spelled { Some(start) } else { None }
+    }
+
+    /// The same of a bracket, a comma or a colon.
+    #[inline(always)]
+    fn sign(&mut self) -> bool {
+        self.start_of(1).is_some()
     }
 
     /// A value that is no collection, an opening bracket, or the bracket that closes an array.
     #[inline(always)]
-    fn value(&mut self) -> Result<()> {
-        if let Some(text) = self.walk.short_string() {
-            let (start, token) = self.taken(text.len().saturating_add(2))?;
-            return self.respell_string(start, token, text);
+    fn value(&mut self) -> bool {
+        match self.walk.short_string() {
+            Some(text) => self.short_string(text),
+            None => self.long_value(),
         }
-        self.walk.gap()?;
+    }
+
+    /// Spells the string without an escape that was taken, which has this text.
+    #[inline(always)]
+    fn short_string(&mut self, text: &str) -> bool {
+        let Some(start) = self.start_of(text.len().saturating_add(2)) else {
+            return false;
+        };
+        let token = self.part(start, self.end);
+        keeps_short(self.spelling.strings, token) || self.put_string(start, token)
+    }
+
+    #[inline(never)]
+    fn long_value(&mut self) -> bool {
+        if !self.gap() {
+            return false;
+        }
         match self.walk.peek() {
             Some('[') => self.open(BracketKind::Array),
             Some('{') => self.open(BracketKind::Object),
             Some(']') => self.close(),
             Some(c) => self.scalar(kind_at(c)),
-            None => Err(RespellError::Failed),
+            None => false,
         }
     }
 
     #[inline(always)]
-    fn open(&mut self, kind: BracketKind) -> Result<()> {
-        if !self.walk.open(kind) {
-            return Err(RespellError::Failed);
-        }
-        self.taken(1)?;
-        Ok(())
+    fn open(&mut self, kind: BracketKind) -> bool {
+        self.walk.open(kind) && self.sign()
     }
 
     /// A value that is no collection, which is next.
     #[inline(always)]
-    fn scalar(&mut self, kind: ValueKind) -> Result<()> {
+    fn scalar(&mut self, kind: ValueKind) -> bool {
         let start = self.walk.offset();
-        self.gap_to(start)?;
+        if !self.gap_to(start) {
+            return false;
+        }
         match kind {
-            ValueKind::Literal(literal) => self.literal(literal),
+            ValueKind::Literal(_) => self.skip(),
             ValueKind::String => self.string(start),
             _ => self.number(start),
         }
     }
 
-    fn literal(&mut self, literal: Literal) -> Result<()> {
-        self.walk.literal(literal)?;
-        self.end = self.walk.offset();
-        Ok(())
-    }
-
-    /// The spelling of the token that was taken, which begins at `start`.
-    #[inline(always)]
-    fn token(&mut self, start: usize) -> &'t str {
-        self.end = self.walk.offset();
-        self.part(start, self.end)
-    }
-
-    #[inline(never)]
-    fn string(&mut self, start: usize) -> Result<()> {
-        let text = self.walk.string()?;
-        let token = self.token(start);
-        self.respell_string(start, token, text.as_str())
-    }
-
-    /// Spells the string that was taken, which has this text.
-    #[inline(always)]
-    fn respell_string(&mut self, start: usize, token: &str, text: &str) -> Result<()> {
-        if keeps_string(self.spelling.strings, token, text) {
-            return Ok(());
+    /// Goes past a value that is no collection, which is next.
+    fn skip(&mut self) -> bool {
+        match self.walk.skip() {
+            Ok(()) => {
+                self.end = self.walk.offset();
+                true
+            }
+            Err(error) => self.refuse(RespellError::from(error)),
         }
-        self.put_string(start, token, text)
     }
 
-    /// Appends the string or the key of this text that is spelled so.
+    fn string(&mut self, start: usize) -> bool {
+        if !self.skip() {
+            return false;
+        }
+        let token = self.part(start, self.end);
+        keeps_escapes(self.spelling.strings, token) || self.put_string(start, token)
+    }
+
+    /// Appends the string or the key that is spelled so.
     #[inline(never)]
-    fn put_string(&mut self, start: usize, token: &str, text: &str) -> Result<()> {
-        self.leave_out(start)?;
-        let quotes = self.spelling.strings;
-        push_string(self.alloc, &mut self.made, quotes, token, text)
+    fn put_string(&mut self, start: usize, token: &str) -> bool {
+        if !self.leave_out(start) {
+            return false;
+        }
+        match push_string(self.alloc, &mut self.made, self.spelling.strings, token) {
+            Ok(()) => true,
+            Err(fault) => self.refuse(fault),
+        }
     }
 
-    #[inline(always)]
-    fn number(&mut self, start: usize) -> Result<()> {
-        if self.keeps_next_number() && self.walk.short_number() {
+    fn number(&mut self, start: usize) -> bool {
+        if self.walk.short_number() {
             self.end = self.walk.offset();
-            return Ok(());
+        } else if !self.skip() {
+            return false;
         }
-        self.respell_number(start)
+        let token = self.part(start, self.end);
+        matches!(self.spelling.numbers, Numbers::Own)
+            || is_json_number(token)
+            || self.put_number(start, token)
     }
 
     #[inline(never)]
-    fn respell_number(&mut self, start: usize) -> Result<()> {
-        let number = self.walk.number()?;
-        let token = self.token(start);
-        if self.keeps_number(token) {
-            return Ok(());
+    fn put_number(&mut self, start: usize, token: &str) -> bool {
+        if !self.leave_out(start) {
+            return false;
         }
-        self.leave_out(start)?;
-        if push_number(&mut self.made, token, &number)? {
-            return Ok(());
+        match push_number(self.alloc, &mut self.made, token) {
+            Ok(true) => true,
+            Ok(false) => {
+                let position = self.walk.position_of(start);
+                self.refuse(RespellError::Number(position))
+            }
+            Err(fault) => self.refuse(fault),
         }
-        Err(RespellError::Number(self.walk.position_of(start)))
-    }
-
-    /// Whether the number in front surely stays as it is.
-    #[inline(always)]
-    fn keeps_next_number(&self) -> bool {
-        matches!(self.spelling.numbers, Numbers::Own)
-            || is_json_number(self.part(self.end, self.walk.text().len()))
-    }
-
-    fn keeps_number(&self, token: &str) -> bool {
-        matches!(self.spelling.numbers, Numbers::Own) || is_json_number(token)
     }
 
     /// A key, or the closing brace.
     #[inline(always)]
-    fn key(&mut self) -> Result<()> {
-        if let Some(text) = self.walk.short_key() {
-            return self.short_key(text);
+    fn key(&mut self) -> bool {
+        match self.walk.short_key() {
+            Some(text) => self.short_key(text),
+            None => self.key_or_close(),
         }
-        self.walk.gap()?;
+    }
+
+    #[inline(never)]
+    fn key_or_close(&mut self) -> bool {
+        if !self.gap() {
+            return false;
+        }
         if let Some('}') = self.walk.peek() {
             return self.close();
         }
@@ -252,20 +314,29 @@ impl<'t> Speller<'t> {
     }
 
     /// Spells the key without an escape that was taken, which has this text.
-    fn short_key(&mut self, text: &str) -> Result<()> {
+    #[inline(always)]
+    fn short_key(&mut self, text: &str) -> bool {
         let is_quoted = matches!(self.byte_before(self.walk.offset()), b'"' | b'\'');
         let quotes = if is_quoted { 2 } else { 0 };
-        let (start, token) = self.taken(text.len().saturating_add(quotes))?;
-        self.respell_key(start, token, text)
+        match self.start_of(text.len().saturating_add(quotes)) {
+            Some(start) => self.respell_key(start, is_quoted, text),
+            None => false,
+        }
     }
 
-    #[inline(never)]
-    fn long_key(&mut self) -> Result<()> {
+    fn long_key(&mut self) -> bool {
         let start = self.walk.offset();
-        self.gap_to(start)?;
-        let text = self.walk.key()?;
-        let token = self.token(start);
-        self.respell_key(start, token, text.as_str())
+        if !self.gap_to(start) {
+            return false;
+        }
+        match self.walk.key() {
+            Ok(text) => {
+                self.end = self.walk.offset();
+                let is_quoted = matches!(self.byte_before(self.end), b'"' | b'\'');
+                self.respell_key(start, is_quoted, text.as_str())
+            }
+            Err(error) => self.refuse(RespellError::from(error)),
+        }
     }
 
     /// The last byte before the offset; 0 where there is none.
@@ -279,89 +350,103 @@ impl<'t> Speller<'t> {
 
     /// Spells the key that was taken, which has this text.
     #[inline(always)]
-    fn respell_key(&mut self, start: usize, token: &str, text: &str) -> Result<()> {
-        let is_quoted = token.starts_with('"') || token.starts_with('\'');
-        match self.spelling.keys {
-            Keys::Bare if is_quoted && is_ascii_name(text) => self.put(start, text),
-            Keys::Bare if !is_quoted && token.len() > text.len() && is_ascii_name(text) => self.put(
+    fn respell_key(&mut self, start: usize, is_quoted: bool, text: &str) -> bool {
+        let token = self.part(start, self.end);
+        match (self.spelling.keys, is_quoted) {
+            (Keys::Bare, _) if token.len() > text.len() && is_ascii_name(text) => self.put(
                 start, text,
             ),
-            Keys::Quoted if !is_quoted => {
-                self.leave_out(start)?;
-                push_name(&mut self.made, text)
-            }
-            _ if !is_quoted || keeps_string(self.spelling.strings, token, text) => Ok(()),
-            _ => self.put_string(start, token, text),
+            (Keys::Quoted, false) => self.put_quoted(start, text),
+            (_, false) => true,
+            (_, true) => keeps_string(self.spelling.strings, token, text)
+                || self.put_string(start, token),
         }
     }
 
     /// Appends the text in place of the token that was taken.
-    fn put(&mut self, start: usize, text: &str) -> Result<()> {
-        self.leave_out(start)?;
-        Ok(self.made.push_str(text)?)
+    #[inline(always)]
+    fn put(&mut self, start: usize, text: &str) -> bool {
+        self.leave_out(start) && self.push(text)
+    }
+
+    /// The same between double quotes: a name has no character that JSON escapes.
+    #[inline(never)]
+    fn put_quoted(&mut self, start: usize, name: &str) -> bool {
+        self.leave_out(start) && self.push("\"") && self.push(name) && self.push("\"")
     }
 
     #[inline(always)]
-    fn colon(&mut self) -> Result<()> {
-        if !self.walk.short_colon() {
-            self.walk.gap()?;
-            if !self.walk.colon() {
-                return Err(RespellError::Failed);
+    fn colon(&mut self) -> bool {
+        (self.walk.short_colon() || self.gap() && self.walk.colon()) && self.sign()
+    }
+
+    /// The comma after a value, or the closing bracket, or the end.
+    #[inline(always)]
+    fn after_value(&mut self) -> Step {
+        if !self.walk.short_comma() {
+            return self.end_or_close();
+        }
+        if self.sign() {
+            Step::Took
+        } else {
+            Step::Refused
+        }
+    }
+
+    #[inline(never)]
+    fn end_or_close(&mut self) -> Step {
+        if !self.gap() {
+            return Step::Refused;
+        }
+        if self.walk.depth() == 0 {
+            return self.end();
+        }
+        let is_taken = if self.walk.comma() {
+            self.sign()
+        } else {
+            self.close()
+        };
+        if is_taken { Step::Took } else { Step::Refused }
+    }
+
+    /// The end of the document, and what comes before it and isn't appended.
+    fn end(&mut self) -> Step {
+        let end = self.walk.text().len();
+        match self.walk.finish() {
+            Ok(()) if self.gap_to(end) && self.copy_to(end) => Step::Ended,
+            Ok(()) => Step::Refused,
+            Err(error) => {
+                self.refuse(RespellError::from(error));
+                Step::Refused
             }
         }
-        self.taken(1)?;
-        Ok(())
-    }
-
-    /// The comma after a value, or the closing bracket, or the end. Says whether it is the end.
-    #[inline(always)]
-    fn after_value(&mut self) -> Result<bool> {
-        if self.walk.short_comma() {
-            self.taken(1)?;
-            return Ok(false);
-        }
-        self.walk.gap()?;
-        if self.walk.depth() == 0 {
-            let end = self.walk.offset();
-            self.gap_to(end)?;
-            self.walk.finish()?;
-            return Ok(true);
-        }
-        if self.walk.comma() {
-            self.taken(1)?;
-        } else {
-            self.close()?;
-        }
-        Ok(false)
     }
 
     /// The closing bracket, which is next, and the comma before it: it goes where none is to be last, or comes where one is
     /// asked for.
     #[inline(always)]
-    fn close(&mut self) -> Result<()> {
+    fn close(&mut self) -> bool {
+        self.respell_comma() && self.walk.close().is_some() && self.sign()
+    }
+
+    #[inline(always)]
+    fn respell_comma(&mut self) -> bool {
         match self.spelling.last_commas {
-            LastCommas::Own => {}
-            LastCommas::Never => {
-                if self.byte_before(self.end) == b',' {
-                    self.leave_out(self.end.saturating_sub(1))?;
-                }
-            }
-            LastCommas::Lines => self.put_comma()?,
+            LastCommas::Own => true,
+            LastCommas::Never if self.byte_before(self.end) == b',' => self.leave_out(
+                self.end.saturating_sub(1),
+            ),
+            LastCommas::Never => true,
+            LastCommas::Lines => self.put_comma(),
         }
-        if self.walk.close().is_none() {
-            return Err(RespellError::Failed);
-        }
-        self.taken(1)?;
-        Ok(())
     }
 
     /// Appends a comma, where there is none and the closing bracket, which is next, stands on a line of its own.
-    fn put_comma(&mut self) -> Result<()> {
+    fn put_comma(&mut self) -> bool {
         let gap = self.part(self.end, self.walk.offset());
         if matches!(self.byte_before(self.end), b',' | b'[' | b'{') || !begins_last_line(gap) {
-            return Ok(());
+            return true;
         }
-        self.copy_to(self.end)?;
-        Ok(self.made.push(',')?)
+        self.copy_to(self.end) && self.push(",")
     }
 }

@@ -33,7 +33,7 @@ use Rattle.json5_edit.specs.Sets.{IsSet}
 use Rattle.json5_edit.specs.declared.paths.Step.{Step}
 use Rattle.json5_edit.specs.declared.paths.Step.TheVariants as step
 use Rattle.json5_edit_values.specs.Locations.{AreSteps, Becomes, ChangesAt, IsStep}
-use Rattle.json5_edit_values.specs.News.{AddsKeyed, keyed_joined, keyed_last, keyed_set, AddsNew, Brings, BringsAt, HasCount, IsNew, ReplacesWith, edited}
+use Rattle.json5_edit_values.specs.News.{AddsKeyed, keyed_joined, keyed_last, keyed_set, AddsNew, Brings, BringsAt, HasCount, ReplacesWith, edited}
 use Rattle.json5_edit_values.specs.declared.patch.faults.Trouble.{Trouble}
 use Rattle.json5_edit_values.specs.Spelled.{Spells}
 use Rattle.json5_edit_values.specs.Patches.{as_whole, to_member, as_member, as_element, as_last, AddsTo, Copies, IsAt, IsOf, Joins, Moves, Patches, Performs, RemovesFrom, ReplacesAt, TakesTo, Tests, is_within}
@@ -90,11 +90,9 @@ brings_value n value is bytes (Ok x) (u, w, k) = λ v z. subst (λ m. Brings m v
 brings_value n value is bytes (Err e) k = tt
 
 -- one that is spelled in the text
-pub brings_text : (n : New) (spelled : Bor (List ℕ)) → n ≡ new.Text spelled → IsNew n → (r : Result (String Global) EditError) → ((v : Tree) → Val (chars spelled.now) v → IfOk r (λ made. Val (chars (string_bytes made)) v))
+pub brings_text : (n : New) (spelled : Bor (List ℕ)) → n ≡ new.Text spelled → (r : Result (String Global) EditError) → IfOk r (λ made. (v : Tree) → Val (chars (string_bytes made)) v → Val (chars spelled.now) v)
     → IfOk r (λ made. (v : Tree) → Val (chars (string_bytes made)) v → Brings n v)
-brings_text n spelled is given r k =
-    let (u, w) = subst IsNew is given in
-    ok_then r (λ made z v y. subst (λ m. Brings m v) (sym is) (subst (Val (chars spelled.now)) (one_value (chars (string_bytes made)) u v z y) w)) (k u w)
+brings_text n spelled is r k = ok_then r (λ made z v y. subst (λ m. Brings m v) (sym is) (z v y)) k
 
 -- the text of the value to which the steps lead
 pub part_found : (bytes spelled : List ℕ) (steps : List Step) (p : Place) → IsUtf8 bytes → Leads bytes steps (Some p) → spelled ≡ slice_range bytes p.start p.end → Reaches (Val (chars spelled)) bytes steps

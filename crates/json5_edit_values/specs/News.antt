@@ -31,11 +31,6 @@ abbrev pub Brings : New → Tree → Type 0
 Brings (new.Value value) v = IsOf value.now v
 Brings (new.Text part) v = Val (chars part.now) v
 
--- what is spelled in a text is a value
-abbrev pub IsNew : New → Type 0
-IsNew (new.Value value) = ⊤
-IsNew (new.Text part) = (v : Tree) × Val (chars part.now) v
-
 -- it comes to the value to which the steps lead
 abbrev pub BringsAt : New → (Tree → Tree → Tree → Type 0) → List Step → Tree → Tree → Type 0
 BringsAt n How steps t u = (v : Tree) × Brings n v × ChangesAt (How v) steps t u

@@ -8,3 +8,6 @@ mod Remainders
 mod OneVerdict
 mod Parts
 mod PatternsRead
+mod Evaluating
+mod Latest
+mod Distinct

@@ -8,12 +8,15 @@ use Rattle.json5_grammar.specs.Language.Trees.{Tree}
 use Rattle.json5_types.specs.declared.error.Error.{Error}
 use Rattle.json5_lexemes.specs.Plain.{PlainText}
 use Rattle.json5_lexemes.proofs.PlainTokens.{bare_plain}
-use Rattle.json5_lexemes.proofs.SameTrees.{alike_tree, document_alike}
+use Rattle.json5_lexemes.proofs.SameTrees.{alike_tree, document_alike, same_alike}
 use Rattle.json5_tidy.specs.Tidied.{Keeps, IsAlike}
+use Rattle.json5_tidy.proofs.KeptDocuments.{document_kept}
+use Rattle.json5_tidy.proofs.KeptLexemes.{lexemes_kept}
 
 keeps : (move : Bool) (x y : List ℕ) → (t : Tree) × Doc max_depth x t → IsAlike move x y → Keeps move x y
 keeps move x y (t, d) (inl same) = subst (Keeps move x) (sym same) (record { tree = t; before = d; after = d; lexemes = document_alike move max_depth x t d })
-keeps move x y (t, d) (inr laid) =
+keeps move x y (t, d) (inr (inl s)) = record { tree = t; before = d; after = document_kept max_depth x y t d s; lexemes = same_alike move x y (lexemes_kept s) }
+keeps move x y (t, d) (inr (inr laid)) =
     record {
       tree = t;
       before = d;

@@ -1,14 +1,9 @@
 -- Where a lexeme is.
 -- Private.
-use Rattle.std.specs.Prelude.{◌≡◌, ◌+◌, ◌≤◌, ◌<◌, ℕ, Bool, true, false, List, length}
+use Rattle.std.specs.Prelude.{◌≡◌, ◌+◌, ◌-◌, ◌≤◌, ◌<◌, ℕ, min, max, Bool, true, false, List, length}
 use Rattle.json5_tidy.specs.declared.layout.lexemes.Kind.{Kind}
 use Rattle.json5_tidy.specs.declared.layout.lexemes.Kind.TheVariants as kind
 use Rattle.json5_tidy.specs.declared.layout.lexemes.Lexeme.{Lexeme}
-
--- it ends after the offset, within the text
-pub record EndsWithin (bytes : List ℕ) (at end : ℕ) : Type 0 where
-  pub after : at < end
-  pub within : end ≤ length bytes
 
 abbrev pub is_end_kind : Kind → Bool
 is_end_kind kind.End = true
@@ -17,33 +12,26 @@ is_end_kind _ = false
 abbrev pub is_end : Lexeme → Bool
 is_end x = is_end_kind x.kind
 
--- the lexeme is within the text
-pub record IsWithin (bytes : List ℕ) (x : Lexeme) : Type 0 where
-  pub forward : x.start ≤ x.end
-  pub within : x.end ≤ length bytes
-
--- the lexeme is within the text, from the offset on
+-- the lexeme is from the offset on, and unless it is the end, within the text
 pub record IsLexeme (bytes : List ℕ) (at : ℕ) (x : Lexeme) : Type 0 where
   pub from : at ≤ x.start
-  pub place : IsWithin bytes x
   pub progress : is_end x ≡ false → x.start < x.end
-  pub starts : is_end x ≡ false → x.start < length bytes
+  pub within : is_end x ≡ false → x.end ≤ length bytes
 
--- so many bytes from the offset on are within the text
+-- from an offset within the text on, it ends after that, within the text
+abbrev pub EndsWithin : (bytes : List ℕ) (at end : ℕ) → Type 0
+EndsWithin bytes at end = (min (at + 1) (length bytes) ≤ end) × (end ≤ max at (length bytes))
+
+-- so many bytes are in the text from the offset on
 abbrev pub FitsAt : (bytes : List ℕ) (at count : ℕ) → Type 0
-FitsAt bytes at count = at + count ≤ length bytes
+FitsAt bytes at count = count ≤ length bytes - at
 
--- the offset isn't before the other one, within the text
+-- the offset isn't before the other one, and within the text if that is
 abbrev pub IsFurther : (bytes : List ℕ) (from end : ℕ) → Type 0
-IsFurther bytes from end = (from ≤ end) × (end ≤ length bytes)
+IsFurther bytes from end = (from ≤ end) × (end ≤ max from (length bytes))
 
--- the next line, which isn't before the offset, and what follows the blanks in front of it, within the text
+-- the next line, which isn't before the offset, and what follows the blanks in front of it
 pub record IsNextLine (bytes : List ℕ) (from line solid : ℕ) : Type 0 where
   pub forward : from ≤ line
   pub blank : line ≤ solid
-  pub within : solid ≤ length bytes
   pub progress : solid < length bytes → from < solid
-
--- the offset is after the start of the lexeme, within the text
-abbrev pub IsPast : (bytes : List ℕ) (x : Lexeme) (end : ℕ) → Type 0
-IsPast bytes x end = (x.start < end) × (end ≤ length bytes)

@@ -12,6 +12,7 @@ use Rattle.json5_lexemes.specs.AlikeLexemes.{HaveAlikeLexemes}
 use Rattle.json5_lexemes.specs.Plain.{KeepsPlain}
 use Rattle.json5_tidy.specs.declared.style.LastCommas.TheVariants as commas
 use Rattle.json5_tidy.specs.declared.style.Style.{Style}
+use Rattle.json5_tidy.specs.SameTokens.{SameTokens}
 use Rattle.json5_tidy.specs.Styles.{may_move}
 
 -- x and y are documents of one tree, marks included, and they have the same lexemes: tokens as they are spelled, and comments,
@@ -28,9 +29,9 @@ pub record IsLaidOut (move : Bool) (x y : List ℕ) : Type 0 where
   pub document : Doc max_depth y tree
   pub lexemes : HaveAlikeLexemes move x y
 
--- y is x, or a document with the lexemes of x
+-- y is x, or has its tokens, commas and comments and JSON's blanks, or is a document with the lexemes of x
 abbrev pub IsAlike : Bool → List ℕ → List ℕ → Type 0
-IsAlike move x y = (y ≡ x) ⊎ IsLaidOut move x y
+IsAlike move x y = (y ≡ x) ⊎ (SameTokens x y ⊎ IsLaidOut move x y)
 
 -- what is returned keeps what the text has
 abbrev pub KeepsText : Style → (text : List ℕ) → Result (String Global) Error → Type 0

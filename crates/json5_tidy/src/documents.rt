@@ -8,6 +8,7 @@ ghost use Rattle.json5_tidy.specs.Tidied.{IsAlike, IsLaidOut, KeepsJson, TidiesT
 
 use crate::layout::{Spacing, laid_out, leaves_text};
 use crate::plainness::{Plainness, has_last_commas};
+use crate::same_tokens::have_same_tokens;
 use crate::style::{LineEnds, Stars, Style};
 use json5_lexemes::alike_lexemes;
 use json5_read::check_document;
@@ -41,8 +42,8 @@ pub fn tidy(alloc: Global, text: &str) -> Result<String>
 ///
 /// A text with a comment `json5-tidy-ignore-file` before its value is returned as it is.
 ///
-/// What was laid out is read again, unless it is the text: where it weren't such a document, the answer would be a copy
-/// of the text. No test has met that.
+/// What was laid out is compared with the text, and where more than blanks differ it is read again: where it weren't such
+/// a document, the answer would be a copy of the text. No test has met that.
 ///
 /// ```text
 /// let style = Style { last_commas: LastCommas::Always, ..Style::usual() };
@@ -62,6 +63,7 @@ pub fn tidy_with(alloc: Global, style: Style, text: &str) -> Result<String>
 }
 
 /// The document laid out, if it is the same document and as plain, or the text itself.
+#[tactic(auto, using(crate::proofs::KeptLexemes::text_kept))]
 fn laid_out_document(alloc: Global, style: Style, text: &str) -> Result<String>
     ensures laid_out { IfOk result (λ s. IsAlike (may_move style.stars) (chars text.now) (chars (string_bytes s))) }
     ensures plain { KeepsJson style text.now result }
@@ -81,6 +83,9 @@ fn laid_out_document(alloc: Global, style: Style, text: &str) -> Result<String>
     let Ok(tidy) = String::from_utf8(bytes) else {
         return copied(alloc, text);
     };
+    if have_same_tokens(text, tidy.as_str()) {
+        return Ok(tidy);
+    }
     if is_laid_out(alloc, style.stars, text, tidy.as_str()) && plainness.is_kept(tidy.as_str()) {
         return Ok(tidy);
     }

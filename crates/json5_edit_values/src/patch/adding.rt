@@ -8,7 +8,7 @@ ghost use Rattle.json5_edit.specs.Changes.{ChangesBy};
 ghost use Rattle.json5_edit.specs.Comparing.{IsWithAt, IsWithLast};
 ghost use Rattle.json5_edit.specs.Refusals.{IsNo, Reaches, RefusesPath};
 ghost use Rattle.json5_edit_values.specs.Locations.{Becomes};
-ghost use Rattle.json5_edit_values.specs.News.{AddsKeyed, AddsNew, Brings, BringsAt, HasCount, IsNew};
+ghost use Rattle.json5_edit_values.specs.News.{AddsKeyed, AddsNew, Brings, BringsAt, HasCount};
 ghost use Rattle.json5_edit_values.specs.Patches.{Joins};
 ghost use Rattle.json5_read.specs.declared.brackets.BracketKind.TheVariants as kind;
 
@@ -27,7 +27,6 @@ pub(crate) fn added(
     new: New<'_>,
     names: Names,
 ) -> Result<String>
-    requires { IsNew new }
     ensures { IfOk result (λ made. ChangesBy (AddsNew new.entry tokens.now) text.now (string_bytes made)) }
 {
     let steps = steps_in(alloc, text, tokens)?;
@@ -50,7 +49,6 @@ fn add_keyed(
     new: New<'_>,
     names: Names,
 ) -> Result<String>
-    requires { IsNew new }
     ensures { IfOk result (λ made. ChangesBy (AddsKeyed new.entry steps.now outer.now key.now) text.now (string_bytes made)) }
 {
     if key == "-" {
@@ -67,7 +65,6 @@ fn add_keyed(
 
 /// The text with the value in the place of that to which the steps lead.
 pub(crate) fn set_at(alloc: Global, text: &str, steps: &[Step<'_>], new: New<'_>) -> Result<String>
-    requires { IsNew new }
     ensures { IfOk result (λ made. ChangesBy (BringsAt new.entry Becomes steps.now) text.now (string_bytes made)) }
 {
     let value = new_text(alloc, new, text, steps, Goes::Instead)?;
@@ -83,7 +80,6 @@ pub(crate) fn insert_at(
     new: New<'_>,
     names: Names,
 ) -> Result<String>
-    requires { IsNew new }
     ensures { IfOk result (λ made. ChangesBy (BringsAt new.entry (Joins key.now) steps.now) text.now (string_bytes made)) }
 {
     let value = new_text(
@@ -98,7 +94,6 @@ pub(crate) fn insert_at(
 
 /// The text with the value as the last element of the array to which the steps lead.
 fn push_at(alloc: Global, text: &str, steps: &[Step<'_>], new: New<'_>) -> Result<String>
-    requires { IsNew new }
     ensures { IfOk result (λ made. ChangesBy (BringsAt new.entry (IsWithLast kind.Array []) steps.now) text.now (string_bytes made)) }
 {
     let value = new_text(alloc, new, text, steps, Goes::Last(0))?;
@@ -113,7 +108,6 @@ fn add_element(
     index: usize,
     new: New<'_>,
 ) -> Result<String>
-    requires { IsNew new }
     ensures { IfOk result (λ made. ChangesBy (BringsAt new.entry (IsWithAt index) steps.now) text.now (string_bytes made)) }
 {
     let Some(count) = count_at(alloc, text, steps)? else {
@@ -133,7 +127,6 @@ fn put_in_at(
     index: usize,
     new: New<'_>,
 ) -> Result<String>
-    requires { IsNew new }
     ensures { IfOk result (λ made. ChangesBy (BringsAt new.entry (IsWithAt index) steps.now) text.now (string_bytes made)) }
 {
     let value = new_text(alloc, new, text, steps, Goes::Before(index))?;

@@ -3,7 +3,7 @@
 ghost use Rattle.std.specs.Prelude.{◌≡◌, [], IfOk, string_bytes};
 ghost use Rattle.std.specs.Bool.{OnTrue};
 ghost use Rattle.json5_edit.specs.Changes.{ChangesBy};
-ghost use Rattle.json5_edit_values.specs.News.{IsNew, ReplacesWith, edited};
+ghost use Rattle.json5_edit_values.specs.News.{ReplacesWith, edited};
 ghost use Rattle.json5_edit_values.specs.Patches.{Copies, Moves, Patches, Performs, RemovesFrom, TakesTo, Tests, is_within};
 
 use crate::patch::adding::{added, set_at};
@@ -190,7 +190,6 @@ fn removed(alloc: Global, text: &str, tokens: &[String]) -> Result<String>
 
 /// The text with the value in the place of that at the location.
 fn replaced(alloc: Global, text: &str, tokens: &[String], new: New<'_>) -> Result<String>
-    requires { IsNew new }
     ensures { IfOk result (λ made. ChangesBy (ReplacesWith new.entry tokens.now) text.now (string_bytes made)) }
 {
     let steps = steps_in(alloc, text, tokens)?;

@@ -4,7 +4,7 @@ ghost use Rattle.std.specs.Prelude.{◌≡◌, IfOk, string_bytes};
 ghost use Rattle.std.specs.Str.{chars};
 ghost use Rattle.json5_grammar.specs.Language.Trees.{Tree};
 ghost use Rattle.json5_grammar.specs.Language.Values.{Val};
-ghost use Rattle.json5_edit_values.specs.News.{Brings, IsNew};
+ghost use Rattle.json5_edit_values.specs.News.{Brings};
 
 use crate::laid_out::lays_out;
 use crate::seats::{Goes, seat_of};
@@ -29,7 +29,6 @@ pub(crate) fn new_text(
     path: &[Step<'_>],
     goes: Goes,
 ) -> Result<String>
-    requires { IsNew new }
     ensures { IfOk result (λ made. (v : Tree) → Val (chars (string_bytes made)) v → Brings new.entry v) }
 {
     match new {
@@ -40,10 +39,10 @@ pub(crate) fn new_text(
 
 /// The value with its lines indented for where it goes; as it is, if they can't be.
 fn lined(alloc: Global, part: &str, text: &str, path: &[Step<'_>], goes: Goes) -> Result<String>
-    ensures { (v : Tree) → Val (chars part.now) v → IfOk result (λ made. Val (chars (string_bytes made)) v) }
+    ensures { IfOk result (λ made. (v : Tree) → Val (chars (string_bytes made)) v → Val (chars part.now) v) }
 {
     if let Some(made) = relined_at(alloc, part, text, path, goes) {
-        if lays_out(alloc, part, made.as_str()) {
+        if lays_out(alloc, made.as_str(), part) {
             return Ok(made);
         }
     }

@@ -15,7 +15,7 @@ pub fn leaves_text(bytes: &[u8]) -> bool {
         if next.is_end() || !matches!(next.kind, Kind::Line | Kind::Block) {
             return false;
         }
-        if begins_with(&bytes[next.start..next.end], b"json5-tidy-ignore-file") {
+        if begins_with(next.of(bytes), b"json5-tidy-ignore-file") {
             return true;
         }
         at = next.end;

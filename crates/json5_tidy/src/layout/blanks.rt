@@ -1,12 +1,11 @@
 //! Blanks and line ends, as bytes.
 
-ghost use Rattle.std.specs.Prelude.{◌≤◌, ◌<◌, length};
+ghost use Rattle.std.specs.Prelude.{◌<◌, ◌≤◌, IsTrue, length};
 ghost use Rattle.json5_tidy.specs.Lexemes.{FitsAt};
 
 /// How many bytes the blank character at this index has; 0 if there is none.
 #[inline(always)]
 pub(crate) fn blank_len(bytes: &[u8], at: usize) -> usize
-    requires { at ≤ length bytes.now }
     ensures { FitsAt bytes.now at result }
 {
     if at >= bytes.len() {
@@ -30,17 +29,16 @@ pub(crate) fn byte_at(bytes: &[u8], at: usize) -> u8
 /// The same of a character past ASCII: U+00A0, U+1680, U+2000 to U+200A, U+2028, U+2029, U+202F, U+205F, U+3000 and
 /// U+FEFF.
 fn wide_blank_len(bytes: &[u8], at: usize) -> usize
-    requires { at ≤ length bytes.now }
     ensures { FitsAt bytes.now at result }
 {
-    if at + 1 >= bytes.len() {
+    if at >= bytes.len() || bytes.len() - at < 2 {
         return 0;
     }
     let (first, second) = (bytes[at], bytes[at + 1]);
     if first == 0xC2 {
         return if second == 0xA0 { 2 } else { 0 };
     }
-    if at + 2 >= bytes.len() {
+    if bytes.len() - at < 3 {
         return 0;
     }
     if is_wide_blank(first, second, bytes[at + 2]) {
@@ -63,7 +61,6 @@ fn is_wide_blank(first: u8, second: u8, third: u8) -> bool {
 
 /// How many bytes the line end at this index has; 0 if there is none. CR LF is one line end.
 pub(crate) fn line_end_len(bytes: &[u8], at: usize) -> usize
-    requires { at ≤ length bytes.now }
     ensures { FitsAt bytes.now at result }
 {
     if at >= bytes.len() {
@@ -71,33 +68,15 @@ pub(crate) fn line_end_len(bytes: &[u8], at: usize) -> usize
     }
     match bytes[at] {
         b'\n' => 1,
-        b'\r' => cr_len(bytes, at),
-        0xE2 => wide_end_len(bytes, at),
+        b'\r' => 1 + usize::from(bytes.len() - at >= 2 && bytes[at + 1] == b'\n'),
+        0xE2 if is_wide_end(&bytes[at..]) => 3,
         _ => 0,
     }
 }
 
-fn cr_len(bytes: &[u8], at: usize) -> usize
-    requires { at < length bytes.now }
-    ensures { FitsAt bytes.now at result }
+/// Whether U+2028 or U+2029 is in front.
+fn is_wide_end(text: &[u8]) -> bool
+    ensures { IsTrue result → 3 ≤ length text.now }
 {
-    if at + 1 < bytes.len() && bytes[at + 1] == b'\n' {
-        2
-    } else {
-        1
-    }
-}
-
-fn wide_end_len(bytes: &[u8], at: usize) -> usize
-    requires { at ≤ length bytes.now }
-    ensures { FitsAt bytes.now at result }
-{
-    if at + 2 < bytes.len()
-        && bytes[at + 1] == 0x80
-        && (bytes[at + 2] == 0xA8 || bytes[at + 2] == 0xA9)
-    {
-        3
-    } else {
-        0
-    }
+    text.len() >= 3 && text[1] == 0x80 && (text[2] == 0xA8 || text[2] == 0xA9)
 }

@@ -1,14 +1,9 @@
 //! What lies ahead in a collection.
 
-ghost use Rattle.std.specs.Prelude.{◌≤◌, length};
-ghost use Rattle.json5_tidy.specs.Lexemes.{IsFurther};
-
 use crate::layout::lexemes::{Kind, Lexeme, after_blanks, kind_and_end, lexeme_at};
 
 /// Whether an element or a member follows before the closing bracket.
-pub(crate) fn has_entry(bytes: &[u8], from: usize) -> bool
-    requires { from ≤ length bytes.now }
-{
+pub(crate) fn has_entry(bytes: &[u8], from: usize) -> bool {
     let mut at = from;
     loop {
         let (start, _) = after_blanks(bytes, at);
@@ -23,9 +18,7 @@ pub(crate) fn has_entry(bytes: &[u8], from: usize) -> bool
 }
 
 /// Whether no token but a comma follows on the same line.
-pub(crate) fn ends_line(bytes: &[u8], from: usize) -> bool
-    requires { from ≤ length bytes.now }
-{
+pub(crate) fn ends_line(bytes: &[u8], from: usize) -> bool {
     let mut at = from;
     loop {
         let next = lexeme_at(bytes, at);
@@ -58,9 +51,7 @@ struct Words {
 
 /// Whether the array whose bracket ends here is laid out in rows: it holds numbers and nulls alone, or words alone that
 /// were written in rows, of which one has two. Comments aren't counted.
-pub(crate) fn is_in_rows(bytes: &[u8], from: usize) -> bool
-    requires { from ≤ length bytes.now }
-{
+pub(crate) fn is_in_rows(bytes: &[u8], from: usize) -> bool {
     let mut at = from;
     let mut words = Words {
         is_begun: false,
@@ -79,7 +70,7 @@ pub(crate) fn is_in_rows(bytes: &[u8], from: usize) -> bool
             Kind::Close => return words.are_in_rows(),
             Kind::Open | Kind::Colon => return false,
             Kind::Word if next.is_broken => return false,
-            Kind::Word => words.take(next.lines, is_number(&bytes[next.start..next.end])),
+            Kind::Word => words.take(next.lines, is_number(next.of(bytes))),
             _ => words.pass(next),
         }
         at = next.end;
@@ -129,10 +120,7 @@ fn is_number(word: &[u8]) -> bool {
 }
 
 /// Where the element or the member ends that begins here: after its value.
-pub(crate) fn entry_end(bytes: &[u8], from: usize, is_member: bool) -> usize
-    requires { from ≤ length bytes.now }
-    ensures { IsFurther bytes.now from result }
-{
+pub(crate) fn entry_end(bytes: &[u8], from: usize, is_member: bool) -> usize {
     let mut at = from;
     let mut depth: usize = 0;
     let mut is_key = is_member;

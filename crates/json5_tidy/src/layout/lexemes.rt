@@ -1,7 +1,7 @@
 //! The lexemes of a document: its tokens and its comments, one after another.
 
-ghost use Rattle.std.specs.Prelude.{◌≡◌, ◌≤◌, ◌<◌, length};
-ghost use Rattle.json5_tidy.specs.Lexemes.{IsLexeme, IsFurther, EndsWithin, is_end};
+ghost use Rattle.std.specs.Prelude.{◌≡◌, ◌≤◌, ◌-◌, length};
+ghost use Rattle.json5_tidy.specs.Lexemes.{EndsWithin, IsFurther, IsLexeme, is_end};
 
 use crate::layout::blanks::{blank_len, byte_at, line_end_len};
 use crate::layout::runs::Run;
@@ -44,12 +44,25 @@ impl Lexeme {
     {
         matches!(self.kind, Kind::End)
     }
+
+    /// Its text.
+    #[inline(always)]
+    pub(crate) fn of(self, bytes: &[u8]) -> &[u8] {
+        part_of(bytes, self.start, self.end)
+    }
+}
+
+/// The bytes from one offset to another; none where these aren't in the text.
+#[inline(always)]
+pub(crate) fn part_of(bytes: &[u8], start: usize, end: usize) -> &[u8]
+    ensures { length result.now ≤ end - start }
+{
+    bytes.get(start..end).unwrap_or(b"")
 }
 
 /// The lexeme in front, from this offset on.
 #[inline(always)]
 pub(crate) fn lexeme_at(bytes: &[u8], from: usize) -> Lexeme
-    requires { from ≤ length bytes.now }
     ensures { IsLexeme bytes.now from result }
 {
     let (start, lines) = after_blanks(bytes, from);
@@ -75,9 +88,7 @@ pub(crate) fn lexeme_at(bytes: &[u8], from: usize) -> Lexeme
 /// Where the blanks in front end, and how many line ends they hold.
 #[inline(always)]
 pub(crate) fn after_blanks(bytes: &[u8], from: usize) -> (usize, usize)
-    requires { from ≤ length bytes.now }
-    ensures from { from ≤ result.0 }
-    ensures within { result.0 ≤ length bytes.now }
+    ensures { IsFurther bytes.now from result.0 }
 {
     let mut at = from;
     let mut lines: usize = 0;
@@ -111,14 +122,13 @@ pub(crate) fn after_blanks(bytes: &[u8], from: usize) -> (usize, usize)
 /// The kind of the lexeme at this offset, where it ends, and whether an LF or a CR is in it.
 #[inline(always)]
 pub(crate) fn kind_and_end(bytes: &[u8], at: usize) -> (Kind, usize, bool)
-    requires { at < length bytes.now }
     ensures { EndsWithin bytes.now at result.1 }
 {
-    match bytes[at] {
-        b'[' | b'{' => (Kind::Open, at + 1, false),
-        b']' | b'}' => (Kind::Close, at + 1, false),
-        b':' => (Kind::Colon, at + 1, false),
-        b',' => (Kind::Comma, at + 1, false),
+    match byte_at(bytes, at) {
+        b'[' | b'{' => (Kind::Open, past(bytes, at), false),
+        b']' | b'}' => (Kind::Close, past(bytes, at), false),
+        b':' => (Kind::Colon, past(bytes, at), false),
+        b',' => (Kind::Comma, past(bytes, at), false),
         b'"' | b'\'' => string_and_end(bytes, at),
         b'/' => comment_and_end(bytes, at),
         _ => (Kind::Word, word_end(bytes, at), false),
@@ -128,14 +138,13 @@ pub(crate) fn kind_and_end(bytes: &[u8], at: usize) -> (Kind, usize, bool)
 /// The same of a comment. A slash that begins no comment is a word.
 #[inline(always)]
 fn comment_and_end(bytes: &[u8], at: usize) -> (Kind, usize, bool)
-    requires { at < length bytes.now }
     ensures { EndsWithin bytes.now at result.1 }
 {
-    match byte_at(bytes, at + 1) {
+    match byte_at(bytes, past(bytes, at)) {
         b'/' => (Kind::Line, line_comment_end(bytes, at), false),
         b'*' => {
             let end = block_end(bytes, at);
-            (Kind::Block, end, has_break(&bytes[at..end]))
+            (Kind::Block, end, has_break(part_of(bytes, at, end)))
         }
         _ => (Kind::Word, word_end(bytes, at), false),
     }
@@ -154,11 +163,10 @@ fn is_break(byte: u8) -> bool {
 /// The same of a string.
 #[inline(always)]
 fn string_and_end(bytes: &[u8], from: usize) -> (Kind, usize, bool)
-    requires { from < length bytes.now }
     ensures { EndsWithin bytes.now from result.1 }
 {
-    let quote = bytes[from];
-    let mut at = from + 1;
+    let quote = byte_at(bytes, from);
+    let mut at = past(bytes, from);
     let mut is_broken = false;
     while at < bytes.len() {
         at += Run::Quoted(quote).len(&bytes[at..]);
@@ -175,21 +183,19 @@ fn string_and_end(bytes: &[u8], from: usize) -> (Kind, usize, bool)
 /// The next offset, if there is one.
 #[inline(always)]
 fn past(bytes: &[u8], at: usize) -> usize
-    requires { at ≤ length bytes.now }
-    ensures from { at ≤ result }
-    ensures within { result ≤ length bytes.now }
-    ensures progress { at < length bytes.now → at < result }
+    ensures further { IsFurther bytes.now at result }
+    ensures after { EndsWithin bytes.now at result }
 {
     if at < bytes.len() { at + 1 } else { at }
 }
 
 /// Where the `//` comment at this offset ends, without the blanks at its end.
 fn line_comment_end(bytes: &[u8], from: usize) -> usize
-    requires { from < length bytes.now }
     ensures { EndsWithin bytes.now from result }
 {
-    let mut end = line_end_after(bytes, from + 1);
-    while end > from + 1 && matches!(bytes[end - 1], b' ' | 9..=13) {
+    let start = past(bytes, from);
+    let mut end = line_end_after(bytes, start);
+    while end > start && matches!(byte_at(bytes, end - 1), b' ' | 9..=13) {
         end -= 1;
     }
     end
@@ -197,7 +203,6 @@ fn line_comment_end(bytes: &[u8], from: usize) -> usize
 
 /// Where the first line end from this offset on begins.
 pub(crate) fn line_end_after(bytes: &[u8], from: usize) -> usize
-    requires { from ≤ length bytes.now }
     ensures { IsFurther bytes.now from result }
 {
     let mut at = from;
@@ -213,26 +218,24 @@ pub(crate) fn line_end_after(bytes: &[u8], from: usize) -> usize
 
 /// Where the `/* */` comment at this offset ends.
 fn block_end(bytes: &[u8], from: usize) -> usize
-    requires { from < length bytes.now }
     ensures { EndsWithin bytes.now from result }
 {
-    let mut at = past(bytes, from + 1);
-    while let Some(star) = memchr(b'*', &bytes[at..]) {
+    let mut at = past(bytes, past(bytes, from));
+    while let Some(star) = memchr(b'*', part_of(bytes, at, bytes.len())) {
         at += star + 1;
         if byte_at(bytes, at) == b'/' {
             return past(bytes, at);
         }
     }
-    bytes.len()
+    bytes.len().max(from)
 }
 
 /// Where a number, a literal or a name ends: before a blank, a sign of punctuation, a quote or a slash.
 #[inline(always)]
 fn word_end(bytes: &[u8], from: usize) -> usize
-    requires { from < length bytes.now }
     ensures { EndsWithin bytes.now from result }
 {
-    let mut at = from + 1;
+    let mut at = past(bytes, from);
     while at < bytes.len() {
         at += Run::Word.len(&bytes[at..]);
         if byte_at(bytes, at) < 128 || blank_len(bytes, at) > 0 {

@@ -2,7 +2,7 @@
 
 ghost use Rattle.std.specs.Prelude.{◌≤◌, length};
 
-use crate::layout::lexemes::lexeme_at;
+use crate::layout::lexemes::{lexeme_at, part_of};
 use memchr::memchr;
 
 /// Whether the first line end between lexemes is CR LF.
@@ -16,7 +16,7 @@ fn begins_with_crlf(bytes: &[u8]) -> bool {
     loop {
         let lexeme = lexeme_at(bytes, at);
         if lexeme.lines > 0 {
-            return begins_crlf(&bytes[at..lexeme.start]);
+            return begins_crlf(part_of(bytes, at, lexeme.start));
         }
         if lexeme.is_end() {
             return false;

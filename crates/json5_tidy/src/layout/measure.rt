@@ -1,7 +1,7 @@
 //! Whether a collection fits on the rest of a line.
 
 ghost use Rattle.std.specs.Prelude.{◌≡◌, false};
-ghost use Rattle.json5_tidy.specs.Lexemes.{IsWithin, is_end};
+ghost use Rattle.json5_tidy.specs.Lexemes.{is_end};
 
 use crate::layout::columns::columns;
 use crate::layout::lexemes::{Kind, Lexeme};
@@ -101,9 +101,7 @@ impl Measure {
 
     /// Takes the lexeme, which is no comma, and so many columns before it, if there is room for them.
     #[inline(always)]
-    pub(crate) fn takes(&mut self, bytes: &[u8], lexeme: Lexeme, byte: u8, gap: usize) -> bool
-        requires { IsWithin bytes.now lexeme }
-    {
+    pub(crate) fn takes(&mut self, bytes: &[u8], lexeme: Lexeme, byte: u8, gap: usize) -> bool {
         if !matches!(lexeme.kind, Kind::Block) {
             self.is_first = false;
             self.comma_due = false;
@@ -118,13 +116,11 @@ impl Measure {
     }
 
     #[inline(always)]
-    fn width(&self, bytes: &[u8], lexeme: Lexeme) -> usize
-        requires { IsWithin bytes.now lexeme }
-    {
+    fn width(&self, bytes: &[u8], lexeme: Lexeme) -> usize {
         if self.counts_columns {
-            columns(&bytes[lexeme.start..lexeme.end])
+            columns(lexeme.of(bytes))
         } else {
-            lexeme.end - lexeme.start
+            lexeme.end.saturating_sub(lexeme.start)
         }
     }
 

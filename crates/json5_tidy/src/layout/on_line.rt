@@ -1,8 +1,5 @@
 //! Writes a collection on the rest of a line, where it fits.
 
-ghost use Rattle.std.specs.Prelude.{◌≤◌, IfOk, length};
-ghost use Rattle.json5_tidy.specs.Lexemes.{IsWithin};
-
 use crate::layout::asks::is_ignore;
 use crate::layout::entries::has_entry;
 use crate::layout::lexemes::{Kind, Lexeme, lexeme_at};
@@ -20,10 +17,7 @@ pub(crate) fn put_in_line(
     is_object: bool,
     room: usize,
     counts_columns: bool,
-) -> Result<(Fit, usize), AllocError>
-    requires { from ≤ length bytes.now }
-    ensures { IfOk result (λ r. (from ≤ r.1) × (r.1 ≤ length bytes.now)) }
-{
+) -> Result<(Fit, usize), AllocError> {
     let mark = made.mark();
     let mut measure = Measure::new(is_object, room, counts_columns);
     let mut at = from;
@@ -51,9 +45,7 @@ fn put_measured(
     bytes: &[u8],
     measure: &mut Measure,
     lexeme: Lexeme,
-) -> Result<bool, AllocError>
-    requires { IsWithin bytes.now lexeme }
-{
+) -> Result<bool, AllocError> {
     match lexeme.kind {
         Kind::Comma => {
             measure.pass_comma();
@@ -78,8 +70,6 @@ fn put_measured(
 
 /// Whether it is a comment that leaves an entry as it is.
 #[inline(always)]
-fn is_ignore_in_line(bytes: &[u8], lexeme: Lexeme) -> bool
-    requires { IsWithin bytes.now lexeme }
-{
-    matches!(lexeme.kind, Kind::Block) && is_ignore(&bytes[lexeme.start..lexeme.end])
+fn is_ignore_in_line(bytes: &[u8], lexeme: Lexeme) -> bool {
+    matches!(lexeme.kind, Kind::Block) && is_ignore(lexeme.of(bytes))
 }

@@ -1,12 +1,9 @@
 //! Writes the lexemes of a document in the layout.
 
-ghost use Rattle.std.specs.Prelude.{◌≤◌, ◌<◌, IfOk, length};
-ghost use Rattle.json5_tidy.specs.Lexemes.{EndsWithin, IsPast, IsWithin};
-
 use crate::layout::asks::is_ignore;
 use crate::layout::columns::{columns, has_wide};
 use crate::layout::entries::{ends_line, entry_end, has_entry, is_in_rows};
-use crate::layout::lexemes::{Kind, Lexeme, lexeme_at};
+use crate::layout::lexemes::{Kind, Lexeme, lexeme_at, part_of};
 use crate::layout::lines::has_crlf;
 use crate::layout::made::Made;
 use crate::layout::measure::Fit;
@@ -93,7 +90,7 @@ pub fn laid_out(alloc: Global, style: Spacing, bytes: &[u8]) -> Result<Vec<u8>, 
         if lexeme.is_end() {
             return printer.finish(bytes);
         }
-        at = printer.put(bytes, lexeme)?;
+        at = printer.put(bytes, lexeme)?.max(lexeme.end);
     }
 }
 
@@ -139,11 +136,7 @@ impl Printer {
     /// Writes a lexeme, or the whole collection or entry that begins with it, if the first is on one line and the
     /// second left as it is. Returns where what it wrote ends.
     #[inline(always)]
-    fn put(&mut self, bytes: &[u8], lexeme: Lexeme) -> Result<usize, AllocError>
-        requires inside { IsWithin bytes.now lexeme }
-        requires some { lexeme.start < lexeme.end }
-        ensures { IfOk result (IsPast bytes.now lexeme) }
-    {
+    fn put(&mut self, bytes: &[u8], lexeme: Lexeme) -> Result<usize, AllocError> {
         match lexeme.kind {
             Kind::Comma => self.put_comma(bytes, lexeme.lines)?,
             Kind::Colon => self.put_colon(bytes, lexeme)?,
@@ -178,9 +171,7 @@ impl Printer {
         self.part(bytes, close)
     }
 
-    fn put_comment(&mut self, bytes: &[u8], comment: Lexeme) -> Result<(), AllocError>
-        requires { IsWithin bytes.now comment }
-    {
+    fn put_comment(&mut self, bytes: &[u8], comment: Lexeme) -> Result<(), AllocError> {
         let is_followed = self.comma_due && self.is_followed(bytes, comment.end);
         let lines = self.lines_before(bytes, comment.lines, is_followed)?;
         self.before_comment(bytes, comment, lines)?;
@@ -192,21 +183,19 @@ impl Printer {
     }
 
     /// Whether it is a star comment whose lines move with the first. Those behind a long line stay.
-    fn moves(&self, bytes: &[u8], comment: Lexeme) -> bool
-        requires { IsWithin bytes.now comment }
-    {
+    fn moves(&self, bytes: &[u8], comment: Lexeme) -> bool {
         comment.is_broken
             && self.style.moves_stars
             && self.made.column(bytes) <= self.style.width
-            && is_star_comment(&bytes[comment.start..comment.end])
+            && is_star_comment(comment.of(bytes))
     }
 
     /// Writes a star comment, each line at its place relative to the first, as far as there is room to the left.
-    fn put_star_comment(&mut self, bytes: &[u8], comment: Lexeme) -> Result<(), AllocError>
-        requires { IsWithin bytes.now comment }
-    {
-        let text = &bytes[comment.start..comment.end];
-        let was = self.made.columns_of(last_line(&bytes[..comment.start]));
+    fn put_star_comment(&mut self, bytes: &[u8], comment: Lexeme) -> Result<(), AllocError> {
+        let text = comment.of(bytes);
+        let was = self
+            .made
+            .columns_of(last_line(part_of(bytes, 0, comment.start)));
         let is = self.made.column(bytes);
         self.last = comment.kind;
         let mut at = 0;
@@ -220,7 +209,7 @@ impl Printer {
             if solid >= text.len() {
                 return Ok(());
             }
-            let column = self.made.columns_of(&text[line..solid]);
+            let column = self.made.columns_of(part_of(text, line, solid));
             let place = column.saturating_add(is).saturating_sub(was);
             self.made
                 .start_at(bytes, self.style.indent, self.level, place)?;
@@ -230,11 +219,7 @@ impl Printer {
 
     /// Writes a word, or the whole entry that begins with it if that is left as it is. Returns where it ends.
     #[inline(always)]
-    fn put_word(&mut self, bytes: &[u8], word: Lexeme) -> Result<usize, AllocError>
-        requires inside { IsWithin bytes.now word }
-        requires some { word.start < word.end }
-        ensures { IfOk result (IsPast bytes.now word) }
-    {
+    fn put_word(&mut self, bytes: &[u8], word: Lexeme) -> Result<usize, AllocError> {
         let lines = self.lines_before(bytes, word.lines, self.comma_due)?;
         if self.is_ignored {
             return self.put_as_it_is(bytes, word.start, word.end, lines);
@@ -248,11 +233,7 @@ impl Printer {
 
     /// Writes an opening bracket, and the whole collection that begins with it if that is on one line or left as it is.
     /// Returns where what was written ends.
-    fn put_open(&mut self, bytes: &[u8], bracket: Lexeme) -> Result<usize, AllocError>
-        requires inside { IsWithin bytes.now bracket }
-        requires some { bracket.start < bracket.end }
-        ensures { IfOk result (IsPast bytes.now bracket) }
-    {
+    fn put_open(&mut self, bytes: &[u8], bracket: Lexeme) -> Result<usize, AllocError> {
         let lines = self.lines_before(bytes, bracket.lines, self.comma_due)?;
         if self.is_ignored {
             return self.put_as_it_is(bytes, bracket.start, bracket.end, lines);
@@ -305,10 +286,7 @@ impl Printer {
         start: usize,
         first_end: usize,
         lines: usize,
-    ) -> Result<usize, AllocError>
-        requires { EndsWithin bytes.now start first_end }
-        ensures { IfOk result (EndsWithin bytes.now start) }
-    {
+    ) -> Result<usize, AllocError> {
         let end = entry_end(bytes, start, self.frame.is_object).max(first_end);
         let first = Lexeme {
             kind: Kind::Word,
@@ -343,11 +321,7 @@ impl Printer {
 
     /// After an opening bracket: writes what follows up to the closing one, if all is on one line. Returns where what
     /// was written ends.
-    fn open(&mut self, bytes: &[u8], lexeme: Lexeme) -> Result<usize, AllocError>
-        requires inside { IsWithin bytes.now lexeme }
-        requires some { lexeme.start < lexeme.end }
-        ensures { IfOk result (IsPast bytes.now lexeme) }
-    {
+    fn open(&mut self, bytes: &[u8], lexeme: Lexeme) -> Result<usize, AllocError> {
         let is_object = bytes.get(lexeme.start).copied() == Some(b'{');
         let end = self.put_on_line(bytes, lexeme.end, is_object)?;
         if end > lexeme.end {
@@ -366,10 +340,7 @@ impl Printer {
         bytes: &[u8],
         end: usize,
         is_object: bool,
-    ) -> Result<usize, AllocError>
-        requires { end ≤ length bytes.now }
-        ensures { IfOk result (λ after. (end ≤ after) × (after ≤ length bytes.now)) }
-    {
+    ) -> Result<usize, AllocError> {
         let used = if self.has_tabs {
             self.made.column(bytes)
         } else {
@@ -381,7 +352,7 @@ impl Printer {
             return Ok(if matches!(fit, Fit::Fits) { after } else { end });
         }
         let column = self.made.column(bytes);
-        if column == used && !has_wide(&bytes[end..after]) {
+        if column == used && !has_wide(part_of(bytes, end, after)) {
             return Ok(end);
         }
         let (fit, after) = self.put_behind(bytes, end, is_object, column, true)?;
@@ -397,10 +368,7 @@ impl Printer {
         is_object: bool,
         used: usize,
         counts_columns: bool,
-    ) -> Result<(Fit, usize), AllocError>
-        requires { end ≤ length bytes.now }
-        ensures { IfOk result (λ r. (end ≤ r.1) × (r.1 ≤ length bytes.now)) }
-    {
+    ) -> Result<(Fit, usize), AllocError> {
         let used = used.saturating_add(usize::from(!self.frame.is_document));
         if used > self.style.width {
             return Ok((Fit::Wide, end));
@@ -453,9 +421,7 @@ impl Printer {
     }
 
     /// Whether a comma is to follow the value that ended: always, if it isn't the last.
-    fn wants_comma(&mut self, bytes: &[u8], end: usize) -> bool
-        requires { end ≤ length bytes.now }
-    {
+    fn wants_comma(&mut self, bytes: &[u8], end: usize) -> bool {
         if self.frame.is_document {
             return false;
         }
@@ -463,9 +429,7 @@ impl Printer {
     }
 
     /// Whether an entry follows the value that ended. It is sought once.
-    fn is_followed(&mut self, bytes: &[u8], end: usize) -> bool
-        requires { end ≤ length bytes.now }
-    {
+    fn is_followed(&mut self, bytes: &[u8], end: usize) -> bool {
         if matches!(self.next, Next::NotSought) {
             self.next = if has_entry(bytes, end) {
                 Next::Entry
@@ -482,9 +446,7 @@ impl Printer {
         bytes: &[u8],
         comment: Lexeme,
         lines: usize,
-    ) -> Result<(), AllocError>
-        requires { IsWithin bytes.now comment }
-    {
+    ) -> Result<(), AllocError> {
         let is_line = matches!(comment.kind, Kind::Line);
         let starts_line = self.starts_line(lines);
         if matches!(self.place, Place::Key | Place::Value) {
@@ -503,16 +465,14 @@ impl Printer {
     }
 
     /// Notes a comment that asks to leave the next entry as it is: one on a line of its own, or in stars.
-    fn note_ignore(&mut self, bytes: &[u8], comment: Lexeme, starts_line: bool)
-        requires { IsWithin bytes.now comment }
-    {
+    fn note_ignore(&mut self, bytes: &[u8], comment: Lexeme, starts_line: bool) {
         if !starts_line
             && !matches!(self.last, Kind::End | Kind::Open)
             && matches!(comment.kind, Kind::Line)
         {
             return;
         }
-        if is_ignore(&bytes[comment.start..comment.end]) {
+        if is_ignore(comment.of(bytes)) {
             self.is_ignored = matches!(self.place, Place::Entry);
         }
     }
@@ -522,9 +482,7 @@ impl Printer {
         bytes: &[u8],
         comment: Lexeme,
         lines: usize,
-    ) -> Result<(), AllocError>
-        requires { IsWithin bytes.now comment }
-    {
+    ) -> Result<(), AllocError> {
         if matches!(self.last, Kind::End) {
             return Ok(());
         }
@@ -536,9 +494,7 @@ impl Printer {
 
     /// Whether a comment between entries stays on the line that it is on: at its end, behind another comment, or in a
     /// row with the word that follows it.
-    fn stays_on_line(&self, bytes: &[u8], comment: Lexeme) -> bool
-        requires { IsWithin bytes.now comment }
-    {
+    fn stays_on_line(&self, bytes: &[u8], comment: Lexeme) -> bool {
         match (self.last, comment.kind) {
             (Kind::Block, _) | (_, Kind::Line) => true,
             (Kind::Comma, _) if self.frame.is_in_rows && !comment.is_broken => {
@@ -549,12 +505,10 @@ impl Printer {
     }
 
     /// Whether the comment fits on the line, with the word that follows it.
-    fn has_room_for_both(&self, bytes: &[u8], comment: Lexeme) -> bool
-        requires { IsWithin bytes.now comment }
-    {
+    fn has_room_for_both(&self, bytes: &[u8], comment: Lexeme) -> bool {
         let next = lexeme_at(bytes, comment.end);
-        let word = columns(&bytes[next.start..next.end]).saturating_add(1);
-        self.has_room(bytes, &bytes[comment.start..comment.end], word)
+        let word = columns(next.of(bytes)).saturating_add(1);
+        self.has_room(bytes, comment.of(bytes), word)
     }
 
     /// Whether the lexeme after so many line ends begins a line.
@@ -565,9 +519,7 @@ impl Printer {
 
     /// Before an opening bracket, or any token that is no sign of punctuation.
     #[inline(always)]
-    fn before_word(&mut self, bytes: &[u8], word: Lexeme, lines: usize) -> Result<(), AllocError>
-        requires { IsWithin bytes.now word }
-    {
+    fn before_word(&mut self, bytes: &[u8], word: Lexeme, lines: usize) -> Result<(), AllocError> {
         let starts_line = self.starts_line(lines);
         let last = self.last;
         if !matches!(self.place, Place::Entry) {
@@ -584,14 +536,10 @@ impl Printer {
 
     /// Whether the entry that begins with this token goes on the same line.
     #[inline(always)]
-    fn goes_on(&self, bytes: &[u8], last: Kind, word: Lexeme) -> bool
-        requires { IsWithin bytes.now word }
-    {
+    fn goes_on(&self, bytes: &[u8], last: Kind, word: Lexeme) -> bool {
         match last {
             Kind::Block => true,
-            Kind::Comma => {
-                self.frame.is_in_rows && self.has_room(bytes, &bytes[word.start..word.end], 0)
-            }
+            Kind::Comma => { self.frame.is_in_rows && self.has_room(bytes, word.of(bytes), 0) }
             _ => false,
         }
     }

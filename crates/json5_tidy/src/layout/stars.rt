@@ -1,10 +1,10 @@
 //! The lines of star comments: `/* */` comments whose lines but the first all begin with a star, behind spaces and tabs.
 
-ghost use Rattle.std.specs.Prelude.{◌≤◌, ◌<◌, length};
-ghost use Rattle.json5_tidy.specs.Lexemes.{EndsWithin, IsNextLine};
+ghost use Rattle.std.specs.Prelude.{◌≤◌, length};
+ghost use Rattle.json5_tidy.specs.Lexemes.{IsNextLine};
 
 use crate::layout::blanks::line_end_len;
-use crate::layout::lexemes::line_end_after;
+use crate::layout::lexemes::{line_end_after, part_of};
 
 /// Whether it is a star comment.
 pub(crate) fn is_star_comment(comment: &[u8]) -> bool {
@@ -23,24 +23,17 @@ pub(crate) fn is_star_comment(comment: &[u8]) -> bool {
 
 /// Where the next line begins, and where the blanks in front of it end; the comment's end twice if there is none.
 pub(crate) fn next_line(comment: &[u8], from: usize) -> (usize, usize)
-    requires { from ≤ length comment.now }
     ensures { IsNextLine comment.now from result.0 result.1 }
 {
     let end = line_end_after(comment, from);
     if end >= comment.len() {
         return (end, end);
     }
-    let line = line_after(comment, end);
-    (line, line + blanks_in_front(&comment[line..]))
-}
-
-/// Where the line end at this offset ends.
-fn line_after(bytes: &[u8], end: usize) -> usize
-    requires { end < length bytes.now }
-    ensures { EndsWithin bytes.now end result }
-{
-    let len = line_end_len(bytes, end);
-    if len == 0 { end + 1 } else { end + len }
+    let line = end + line_end_len(comment, end).max(1);
+    (
+        line,
+        line + blanks_in_front(part_of(comment, line, comment.len())),
+    )
 }
 
 /// How many spaces and tabs are in front.

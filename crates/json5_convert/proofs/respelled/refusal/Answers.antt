@@ -1,4 +1,4 @@
-use Rattle.json5_convert.proofs.Kept.{failed, lost, unread}
+use Rattle.json5_convert.proofs.Kept.{unread}
 use Rattle.json5_convert.proofs.respelled.refusal.Goals as goal
 
 pub returns-in-Err : goal.returns-in-Err

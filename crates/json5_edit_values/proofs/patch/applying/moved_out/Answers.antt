@@ -5,9 +5,6 @@ use Rattle.json5_edit_values.specs.Locations.{AreSteps}
 use Rattle.json5_edit_values.proofs.PatchesMade.{taken_to}
 use Rattle.json5_edit_values.proofs.patch.applying.moved_out.Goals as goal
 
-pub added-requires : goal.added-requires
-added-requires c = let r = c.in_ok-part.ensures.part in (r.value, r.such)
-
 pub returns : goal.returns
 returns c =
     let are = subst (AreSteps c.args.from.now) (sym c.as_slice.ensures.value) c.in_ok-steps.ensures.steps in

@@ -1,8 +1,5 @@
-use Rattle.std.proofs.Common.{◌-◌, ◌≤◌, length}
+use Rattle.std.proofs.Common.{◌-◌, length}
 use Rattle.json5_tidy.proofs.layout.lines.begins_with_crlf.Given as goal
-
-abbrev pub invariant-loop-lexeme : goal.invariant-loop-lexeme
-invariant-loop-lexeme l = l.at ≤ length l.bytes
 
 abbrev pub decreases-loop-lexeme : goal.decreases-loop-lexeme
 decreases-loop-lexeme l = length l.bytes - l.at

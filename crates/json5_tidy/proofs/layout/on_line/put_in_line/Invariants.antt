@@ -1,8 +1,5 @@
-use Rattle.std.proofs.Common.{◌-◌, ◌≤◌, length}
+use Rattle.std.proofs.Common.{◌-◌, length}
 use Rattle.json5_tidy.proofs.layout.on_line.put_in_line.Given as goal
-
-abbrev pub invariant-loop-measure : goal.invariant-loop-measure
-invariant-loop-measure l = (l.fn.from ≤ l.at) × (l.at ≤ length l.bytes)
 
 abbrev pub decreases-loop-measure : goal.decreases-loop-measure
 decreases-loop-measure l = length l.bytes - l.at

@@ -1,8 +1,5 @@
-use Rattle.std.proofs.Common.{◌-◌, ◌≤◌, length}
+use Rattle.std.proofs.Common.{◌-◌, length}
 use Rattle.json5_tidy.proofs.layout.printer.Printer.put_star_comment.Given as goal
-
-abbrev pub invariant-loop-self : goal.invariant-loop-self
-invariant-loop-self l = l.at ≤ length l.text
 
 abbrev pub decreases-loop-self : goal.decreases-loop-self
 decreases-loop-self l = length l.text - l.at
