@@ -1,2 +1,3 @@
 -- Lemmas of this crate.
-pub mod SamplesMade
+pub mod SlipsSeen
+pub mod WarningsTold

@@ -1,2 +1,4 @@
--- Lists the definitions of a file to begin with.
+-- Lists the definitions of warnings and of a file to begin with.
 pub mod Samples
+pub mod Slips
+pub mod Warnings

@@ -1,4 +1,4 @@
-use Rattle.json5_settings_file.proofs.SamplesMade.{if_ok_then}
+use Rattle.json5_settings_file.proofs.SlipsSeen.{if_ok_then}
 use Rattle.json5_settings_file.proofs.samples.commented.Goals as goal
 
 pub returns : goal.returns
