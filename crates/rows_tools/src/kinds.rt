@@ -5,6 +5,7 @@ use crate::faults::error_of;
 use crate::rows::{count_of, text_of};
 use json5_report::Report;
 use json5_settings::fault;
+use json5_settings_file::warnings;
 use json5_types::error::Error;
 use json5_types::value::Value;
 use std::alloc::{AllocError, Global};
@@ -21,6 +22,9 @@ pub fn shown_of(alloc: Global, row: &Value, text: &str) -> Result<String, Error>
     }
     if row.get("message").is_some() {
         return fault_shown(alloc, row, text);
+    }
+    if row.get("warnings").is_some() {
+        return warnings_shown(alloc, text);
     }
     let Some(error) = error_of(alloc, row, text)? else {
         return Ok(String::from_str(alloc, "it is read")?);
@@ -101,6 +105,23 @@ fn fault_shown(alloc: Global, row: &Value, text: &str) -> Result<String, Error> 
         Ok(report) => Ok(format!(in alloc; "{report}")?),
         Err(error) => Ok(format!(in alloc; "{error}")?),
     }
+}
+
+/// The reports of what is likely a slip, one after another.
+fn warnings_shown(alloc: Global, text: &str) -> Result<String, Error> {
+    let found = match warnings(alloc, text) {
+        Ok(found) => found,
+        Err(error) => return Ok(format!(in alloc; "{error}")?),
+    };
+    let mut shown = String::new(alloc);
+    for warning in &found {
+        if !shown.is_empty() {
+            shown.push('\n')?;
+        }
+        let fault = warning.fault(alloc, text)?;
+        write!(shown, "{}", Report::new(alloc, NAME, text, &fault)?)?;
+    }
+    Ok(shown)
 }
 
 /// What the example says of the text.
