@@ -1,29 +1,58 @@
-//! Reads the settings of a shop from layers: what is built in, files, the variables `SHOP_..`, and words `path=value`.
-//! Prints them, or the report of a fault in the layer that it came from. `--` begins with new layers.
+//! Reads the settings of a shop from layers: what is built in, the variables `SHOP_..`, files, and words `path=value`.
+//! Prints them, or the report of a fault in the layer that it came from. `--sample` prints a file to begin with, and `--`
+//! begins with new layers.
 #![tactic(auto)]
 
 mod settings;
 
-use anyhow::Result;
+use anyhow::{Result, bail};
 use json5_report::Report;
 use json5_settings::Layers;
+use json5_settings_file::{sample, warnings};
 use settings::Settings;
 use std::{env, fs};
+
+/// What a new file says of its members.
+const COMMENTS: [(&str, &str); 2] = [
+    ("host", "The name by which the shop is reached."),
+    ("workers.most", "So many requests are answered at once."),
+];
 
 fn main(rt: HostRuntime) -> Result<()> {
     let mut layers = built_in(&rt)?;
     for word in env::args(&rt)?.skip(1) {
-        if word.as_str() == "--" {
-            println!(rt; "{}", shown(&rt, &layers)?)?;
-            layers = built_in(&rt)?;
-            continue;
-        }
-        match word.split_once('=') {
-            Some((path, value)) => layers.set(&word, path, value)?,
-            None => layers.add(&word, &fs::read_to_string(&rt, &word)?)?,
+        match word.as_str() {
+            "--" => {
+                println!(rt; "{}", shown(&rt, &layers)?)?;
+                layers = built_in(&rt)?;
+            }
+            "--sample" => println!(rt; "{}", sample(rt.alloc(), &layers.merged()?, &COMMENTS)?)?,
+            _ => add(&rt, &mut layers, &word)?,
         }
     }
     println!(rt; "{}", shown(&rt, &layers)?)?;
+    Ok(())
+}
+
+/// Lays a word `path=value`, or a file, over the layers.
+fn add(rt: &HostRuntime, layers: &mut Layers, word: &str) -> Result<()> {
+    match word.split_once('=') {
+        Some((path, value)) => layers.set(word, path, value)?,
+        None => add_file(rt, layers, word)?,
+    }
+    Ok(())
+}
+
+/// Lays a file over the layers, and warns of what is likely a slip in it.
+fn add_file(rt: &HostRuntime, layers: &mut Layers, name: &str) -> Result<()> {
+    let (alloc, text) = (rt.alloc(), fs::read_to_string(rt, name)?);
+    if let Err(error) = layers.add(name, &text) {
+        bail!("{}", Report::new(alloc, name, &text, &error)?);
+    }
+    for warning in &warnings(alloc, &text)? {
+        let fault = warning.fault(alloc, &text)?;
+        println!(rt; "warning: {}", Report::new(alloc, name, &text, &fault)?)?;
+    }
     Ok(())
 }
 
@@ -51,6 +80,7 @@ fn shown(rt: &HostRuntime, layers: &Layers) -> Result<String> {
     let Settings {
         host,
         port,
+        label,
         workers,
     } = settings;
     if workers.least > workers.most {
@@ -59,8 +89,9 @@ fn shown(rt: &HostRuntime, layers: &Layers) -> Result<String> {
             layers.fault("workers.least", "more than `workers.most`")?,
         );
     }
+    let name = label.unwrap_or(host);
     Ok(format!(in alloc;
-        "{host}:{port}, {} to {} workers",
+        "{name}:{port}, {} to {} workers",
         workers.least, workers.most
     )?)
 }
