@@ -8,15 +8,15 @@ use Rattle.json5_types.specs.ValueMeanings.{Datum, value_of, fields_view, Fields
 use Rattle.std.proofs.lemmas.List.{length-map, length-drop, take_all, drop_more}
 use Rattle.json5_schema.specs.declared.asked.Pair.{Pair}
 use Rattle.json5_schema.specs.Views.{pair_view, pairs_view}
-use Rattle.json5_schema.specs.Conformance.{count_conforming, is_within, less, keyword_holds, keywords_hold, schema_holds, unfolded}
+use Rattle.json5_schema.specs.Conformance.{Answers, answers, count_conforming, is_within, less, keyword_holds, keywords_hold, unfolded}
 
 abbrev pub Test : Type 0
 Test = Datum → Datum → Bool
 
 -- the rules, unfolded once more
-pub unfolded_more : (n : ℕ) (v : Test) (root s x : Datum) → unfolded (suc n) v root s x ≡ schema_holds (unfolded n v root) root s x
+pub unfolded_more : (n : ℕ) (v : Answers) (root : Datum) → unfolded (suc n) v root ≡ answers (unfolded n v root) root
 unfolding unfolded
-unfolded_more n v root s x = refl
+unfolded_more n v root = refl
 
 one_more : (b : Bool) (c n : ℕ) → c ≤ n → (if b then suc c else c) ≤ suc n
 one_more true c n h = omega (arith, h)
@@ -71,7 +71,7 @@ pub pair_from : (ps : List Pair) (i : ℕ) (p : Pair) → i < length ps → p �
 pair_from ps i p h is = drop_more ps i p h ∙ ap (λ (q : Pair). q ∷ drop (i + 1) ps) (sym is)
 
 -- the first keyword, and those after it
-pub keywords_first : (w : Test) (root x : Datum) (all : Fields) (f : String Global × Value) (fs xs : List (String Global × Value)) (b : Bool) → xs ≡ f ∷ fs
+pub keywords_first : (w : Answers) (root x : Datum) (all : Fields) (f : String Global × Value) (fs xs : List (String Global × Value)) (b : Bool) → xs ≡ f ∷ fs
     → keyword_holds w root all (chars (string_bytes f.0)) (value_of f.1) (fields_view fs) x ≡ b → keywords_hold w root all (fields_view xs) x ≡ (b && keywords_hold w root all (fields_view fs) x)
 keywords_first w root x all f fs xs b e h = rw e (ap (λ (c : Bool). c && keywords_hold w root all (fields_view fs) x) h)
 

@@ -8,3 +8,5 @@ mod Remainders
 mod OneVerdict
 mod Parts
 mod PatternsRead
+mod Evaluating
+mod Latest

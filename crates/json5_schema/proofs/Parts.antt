@@ -14,10 +14,10 @@ use Rattle.json5_types.proofs.ValuesCompared.{view-String}
 use Rattle.json5_schema.specs.declared.keyword.Keyword.{Keyword}
 use Rattle.json5_schema.specs.declared.kind.Kind.{Kind}
 use Rattle.json5_schema.specs.Keywords.{keyword_named, kind_named}
-use Rattle.json5_schema.specs.Conformance.{is_named, is_patterned, is_of_kind, is_of_named, at_fragment, behind_sign, target_of, same_datum, same_items, items_after, by_index, all_on, dependent_schemas, dependent_on, Asked, choice, asks, satisfied, part_holds, keyword_holds, keywords_hold, schema_holds, unfolded, Conforms}
+use Rattle.json5_schema.specs.Conformance.{is_named, is_patterned, is_of_kind, is_of_named, at_fragment, behind_sign, target_of, same_datum, same_items, items_after, by_index, all_on, dependent_schemas, dependent_on, Asked, choice, asks, Question, conforming, Answers, answers, satisfied, part_holds, keyword_holds, keywords_hold, schema_holds, unfolded, Conforms}
 use Rattle.json5_schema.specs.Patterns.{matches, fits}
 use Rattle.json5_schema.specs.Views.{IsRefusal}
-use Rattle.json5_schema.proofs.Conforming.{Test, unfolded_more}
+use Rattle.json5_schema.proofs.Conforming.{unfolded_more}
 
 -- ---- texts by their bytes
 
@@ -72,11 +72,14 @@ other_length (x ∷ xs) (y ∷ ys) h = rw (other_length xs ys (λ e. h (ap suc e
 
 -- ---- a schema
 
-at_depth : (n : ℕ) (v : Test) (root s x : Datum) → 0 < n → unfolded n v root s x ≡ schema_holds (unfolded (n - 1) v root) root s x
-at_depth zero v root s x h = absurd (omega (arith, h))
-at_depth (suc n) v root s x h = let e : suc n - 1 ≡ n = omega arith in rw e (unfolded_more n v root s x)
+at_depth : (n : ℕ) (v : Answers) (root : Datum) → 0 < n → unfolded n v root ≡ answers (unfolded (n - 1) v root) root
+at_depth zero v root h = absurd (omega (arith, h))
+at_depth (suc n) v root h = let e : suc n - 1 ≡ n = omega arith in rw e (unfolded_more n v root)
 
-boolean_holds : (s : Datum) (w : Test) (root x : Datum) (b : Bool) → boolean_of s ≡ Some b → schema_holds w root s x ≡ b
+pub answered : (n : ℕ) (v : Answers) (root s x : Datum) (q : Question) → 0 < n → unfolded n v root q s x ≡ answers (unfolded (n - 1) v root) root q s x
+answered n v root s x q h = ap (λ (w : Answers). w q s x) (at_depth n v root h)
+
+boolean_holds : (s : Datum) (w : Answers) (root x : Datum) (b : Bool) → boolean_of s ≡ Some b → schema_holds w root s x ≡ b
 boolean_holds (boolean a) w root x b e = cc
 boolean_holds null w root x b e = absurd (cc)
 boolean_holds (number m) w root x b e = absurd (cc)
@@ -84,7 +87,7 @@ boolean_holds (text u) w root x b e = absurd (cc)
 boolean_holds (array ys) w root x b e = absurd (cc)
 boolean_holds (object fs) w root x b e = absurd (cc)
 
-object_holds : (s : Datum) (w : Test) (root x : Datum) (fs : Fields) → fields_in s ≡ Some fs → schema_holds w root s x ≡ keywords_hold w root fs fs x
+object_holds : (s : Datum) (w : Answers) (root x : Datum) (fs : Fields) → fields_in s ≡ Some fs → schema_holds w root s x ≡ keywords_hold w root fs fs x
 object_holds (object gs) w root x fs e = let k : gs ≡ fs = cc in ap (λ (hs : Fields). keywords_hold w root hs hs x) k
 object_holds null w root x fs e = absurd (cc)
 object_holds (boolean b) w root x fs e = absurd (cc)
@@ -92,7 +95,7 @@ object_holds (number m) w root x fs e = absurd (cc)
 object_holds (text u) w root x fs e = absurd (cc)
 object_holds (array ys) w root x fs e = absurd (cc)
 
-other_holds : (s : Datum) (w : Test) (root x : Datum) → boolean_of s ≡ None → fields_in s ≡ None → schema_holds w root s x ≡ true
+other_holds : (s : Datum) (w : Answers) (root x : Datum) → boolean_of s ≡ None → fields_in s ≡ None → schema_holds w root s x ≡ true
 other_holds null w root x h k = refl
 other_holds (boolean b) w root x h k = absurd (cc)
 other_holds (number m) w root x h k = refl
@@ -100,47 +103,47 @@ other_holds (text u) w root x h k = refl
 other_holds (array ys) w root x h k = refl
 other_holds (object fs) w root x h k = absurd (cc)
 
-pub boolean_schema : (n : ℕ) (v : Test) (root s x : Datum) (b : Bool) → 0 < n → boolean_of s ≡ Some b → unfolded n v root s x ≡ b
-boolean_schema n v root s x b h e = at_depth n v root s x h ∙ boolean_holds s (unfolded (n - 1) v root) root x b e
+pub boolean_schema : (n : ℕ) (v : Answers) (root s x : Datum) (b : Bool) → 0 < n → boolean_of s ≡ Some b → unfolded n v root conforming s x ≡ b
+boolean_schema n v root s x b h e = answered n v root s x conforming h ∙ boolean_holds s (unfolded (n - 1) v root) root x b e
 
-pub other_schema : (n : ℕ) (v : Test) (root s x : Datum) → 0 < n → boolean_of s ≡ None → fields_in s ≡ None → unfolded n v root s x ≡ true
-other_schema n v root s x h e k = at_depth n v root s x h ∙ other_holds s (unfolded (n - 1) v root) root x e k
+pub other_schema : (n : ℕ) (v : Answers) (root s x : Datum) → 0 < n → boolean_of s ≡ None → fields_in s ≡ None → unfolded n v root conforming s x ≡ true
+other_schema n v root s x h e k = answered n v root s x conforming h ∙ other_holds s (unfolded (n - 1) v root) root x e k
 
 pub object_schema : (r : Result Bool Error) (n : ℕ) (root s x : Datum) (fs : Fields) → 0 < n → fields_in s ≡ Some fs
-    → MatchResult r (λ b. (v : Test) → keywords_hold (unfolded (n - 1) v root) root fs fs x ≡ b) IsRefusal → MatchResult r (λ b. (v : Test) → unfolded n v root s x ≡ b) IsRefusal
-object_schema (Ok b) n root s x fs h e k = λ v. at_depth n v root s x h ∙ object_holds s (unfolded (n - 1) v root) root x fs e ∙ k v
+    → MatchResult r (λ b. (v : Answers) → keywords_hold (unfolded (n - 1) v root) root fs fs x ≡ b) IsRefusal → MatchResult r (λ b. (v : Answers) → unfolded n v root conforming s x ≡ b) IsRefusal
+object_schema (Ok b) n root s x fs h e k = λ v. answered n v root s x conforming h ∙ object_holds s (unfolded (n - 1) v root) root x fs e ∙ k v
 object_schema (Err f) n root s x fs h e k = k
 
 -- ---- a keyword
 
-keyword_asked : (w : Test) (root a x : Datum) (key bytes : List ℕ) (all rest : Fields) (k : Keyword) (q : Asked) → is_named (chars key) rest ≡ false → IsUtf8 key → key ≡ bytes → k ≡ keyword_named key → q ≡ asks root all k a x
-    → keyword_holds w root all (chars bytes) a rest x ≡ satisfied w q
+keyword_asked : (w : Answers) (root a x : Datum) (key bytes : List ℕ) (all rest : Fields) (k : Keyword) (q : Asked) → is_named (chars key) rest ≡ false → IsUtf8 key → key ≡ bytes → k ≡ keyword_named key → q ≡ asks root all k a x
+    → keyword_holds w root all (chars bytes) a rest x ≡ satisfied w root q
 keyword_asked w root a x key bytes all rest k q h u same named asked =
     let e : keyword_named (encode_utf8_all (chars key)) ≡ k = ap keyword_named (encodes-chars key u) ∙ sym named in
     ap (λ (t : List ℕ). keyword_holds w root all (chars t) a rest x) (sym same)
-    ∙ ap (λ (b : Bool). b || satisfied w (asks root all (keyword_named (encode_utf8_all (chars key))) a x)) h
-    ∙ ap (λ (l : Keyword). satisfied w (asks root all l a x)) e ∙ ap (satisfied w) (sym asked)
+    ∙ ap (λ (b : Bool). b || satisfied w root (asks root all (keyword_named (encode_utf8_all (chars key))) a x)) h
+    ∙ ap (λ (l : Keyword). satisfied w root (asks root all l a x)) e ∙ ap (satisfied w root) (sym asked)
 
 pub asked_keyword : (r : Result Bool Error) (n : ℕ) (root a x : Datum) (key bytes : List ℕ) (all rest : Fields) (k : Keyword) (q : Asked) → is_named (chars key) rest ≡ false → IsUtf8 key → key ≡ bytes → k ≡ keyword_named key → q ≡ asks root all k a x
-    → MatchResult r (λ b. (v : Test) → satisfied (unfolded n v root) q ≡ b) IsRefusal → MatchResult r (λ b. (v : Test) → keyword_holds (unfolded n v root) root all (chars bytes) a rest x ≡ b) IsRefusal
+    → MatchResult r (λ b. (v : Answers) → satisfied (unfolded n v root) root q ≡ b) IsRefusal → MatchResult r (λ b. (v : Answers) → keyword_holds (unfolded n v root) root all (chars bytes) a rest x ≡ b) IsRefusal
 asked_keyword (Ok b) n root a x key bytes all rest k q h u same named asked holds = λ v. keyword_asked (unfolded n v root) root a x key bytes all rest k q h u same named asked ∙ holds v
 asked_keyword (Err f) n root a x key bytes all rest k q h u same named asked holds = holds
 
 -- ---- a choice
 
-pub chosen_then : (r : Result Bool Error) (n : ℕ) (root s x : Datum) (t e : Option Datum) (holds : Bool) → holds ≡ true → ((v : Test) → unfolded n v root s x ≡ holds)
-    → MatchResult r (λ b. (v : Test) → part_holds (unfolded n v root) t x ≡ b) IsRefusal → MatchResult r (λ b. (v : Test) → satisfied (unfolded n v root) (choice s t e x) ≡ b) IsRefusal
-chosen_then (Ok b) n root s x t e holds h k part = λ v. ap (λ (c : Bool). if c then part_holds (unfolded n v root) t x else part_holds (unfolded n v root) e x) (k v ∙ h) ∙ part v
+pub chosen_then : (r : Result Bool Error) (n : ℕ) (root s x : Datum) (t e : Option Datum) (holds : Bool) → holds ≡ true → ((v : Answers) → unfolded n v root conforming s x ≡ holds)
+    → MatchResult r (λ b. (v : Answers) → part_holds (unfolded n v root conforming) t x ≡ b) IsRefusal → MatchResult r (λ b. (v : Answers) → satisfied (unfolded n v root) root (choice s t e x) ≡ b) IsRefusal
+chosen_then (Ok b) n root s x t e holds h k part = λ v. ap (λ (c : Bool). if c then part_holds (unfolded n v root conforming) t x else part_holds (unfolded n v root conforming) e x) (k v ∙ h) ∙ part v
 chosen_then (Err f) n root s x t e holds h k part = part
 
-pub chosen_else : (r : Result Bool Error) (n : ℕ) (root s x : Datum) (t e : Option Datum) (holds : Bool) → holds ≡ false → ((v : Test) → unfolded n v root s x ≡ holds)
-    → MatchResult r (λ b. (v : Test) → part_holds (unfolded n v root) e x ≡ b) IsRefusal → MatchResult r (λ b. (v : Test) → satisfied (unfolded n v root) (choice s t e x) ≡ b) IsRefusal
-chosen_else (Ok b) n root s x t e holds h k part = λ v. ap (λ (c : Bool). if c then part_holds (unfolded n v root) t x else part_holds (unfolded n v root) e x) (k v ∙ h) ∙ part v
+pub chosen_else : (r : Result Bool Error) (n : ℕ) (root s x : Datum) (t e : Option Datum) (holds : Bool) → holds ≡ false → ((v : Answers) → unfolded n v root conforming s x ≡ holds)
+    → MatchResult r (λ b. (v : Answers) → part_holds (unfolded n v root conforming) e x ≡ b) IsRefusal → MatchResult r (λ b. (v : Answers) → satisfied (unfolded n v root) root (choice s t e x) ≡ b) IsRefusal
+chosen_else (Ok b) n root s x t e holds h k part = λ v. ap (λ (c : Bool). if c then part_holds (unfolded n v root conforming) t x else part_holds (unfolded n v root conforming) e x) (k v ∙ h) ∙ part v
 chosen_else (Err f) n root s x t e holds h k part = part
 
 -- ---- the whole
 
-pub whole_schema : (r : Result Bool Error) (n : ℕ) (root x : Datum) → MatchResult r (λ b. (v : Test) → unfolded n v root root x ≡ b) IsRefusal → MatchResult r (λ b. Conforms root x b) IsRefusal
+pub whole_schema : (r : Result Bool Error) (n : ℕ) (root x : Datum) → MatchResult r (λ b. (v : Answers) → unfolded n v root conforming root x ≡ b) IsRefusal → MatchResult r (λ b. Conforms root x b) IsRefusal
 whole_schema (Ok b) n root x h = (n, h)
 whole_schema (Err f) n root x h = h
 

@@ -1,6 +1,6 @@
 -- When a value conforms to a schema: JSON Schema, draft 2020-12, and what draft 7 says in other words. Of equal keys the last counts.
 -- A promise rests on this.
-use Rattle.std.specs.Prelude.{◌≡◌, ℕ, zero, suc, ◌-◌, ◌%◌, ℤ, pos, Bool, true, false, ◌&&◌, ◌||◌, not, nat_eq, nat_le, int_le, if◌then◌else◌, List, [], ◌∷◌, ◌++◌, length, Option, Some, None, is_some, option_and_then, unwrap_or}
+use Rattle.std.specs.Prelude.{◌≡◌, ℕ, zero, suc, ◌-◌, ◌%◌, ℤ, pos, Bool, true, false, ◌&&◌, ◌||◌, not, nat_eq, nat_le, nat_lt, int_le, if◌then◌else◌, List, [], ◌∷◌, ◌++◌, length, Option, Some, None, is_some, option_and_then, unwrap_or}
 use Rattle.std.specs.Bool.{beq}
 use Rattle.std.specs.Int.{int_min}
 use Rattle.std.specs.Cmp.Lexicographic.{pointwise}
@@ -10,9 +10,9 @@ use Rattle.std.specs.declared.cmp.Ordering.{Ordering}
 use Rattle.std.specs.declared.cmp.Ordering.TheVariants.{Less, Equal}
 use Rattle.json5_grammar.specs.Language.Numbers.{Number, whole, decimal, Decimal, infinite, nan, finite}
 use Rattle.json5_types.specs.ValueMeanings.{Datum, null, boolean, number, text, array, object, Items, no_item, item, Fields, no_field, field}
-use Rattle.json5_types.specs.ValueKinds.{items_len}
+use Rattle.json5_types.specs.ValueKinds.{items_len, fields_len}
 use Rattle.json5_types.specs.ValueChanges.{put_named}
-use Rattle.json5_types.specs.ValueLookups.{boolean_of, items_in, last_named, named_of, or_else}
+use Rattle.json5_types.specs.ValueLookups.{boolean_of, items_in, element_of, last_named, named_of, or_else}
 use Rattle.json5_types.specs.ValueEquality.{number_eq}
 use Rattle.json5_types.specs.NumberDecimals.{decimal_eq}
 use Rattle.json5_types.specs.Pointers.{pointed}
@@ -182,13 +182,13 @@ abbrev pub elements_in : Datum → Option ℕ
 elements_in (array xs) = Some (items_len xs)
 elements_in _ = None
 
--- equal names are counted once
-abbrev pub names_len : Fields → ℕ
-names_len no_field = 0
-names_len (field u x fs) = if is_named u fs then names_len fs else suc (names_len fs)
+-- without the members whose name a later one has
+abbrev pub latest : Fields → Fields
+latest no_field = no_field
+latest (field u x fs) = if is_named u fs then latest fs else field u x (latest fs)
 
 abbrev pub names_in : Datum → Option ℕ
-names_in (object fs) = Some (names_len fs)
+names_in (object fs) = Some (fields_len (latest fs))
 names_in _ = None
 
 abbrev pub count : ℕ → Datum
@@ -265,6 +265,8 @@ pub data Asked : Type 0 where
   choice : Datum → Option Datum → Option Datum → Datum → Asked
   -- each name has to conform to the schema
   names : Datum → Fields → Asked
+  -- each member of the value, or each element, that these keywords leave has to conform to the schema
+  left : Datum → Fields → Datum → Asked
 
 abbrev pub all_on : List (Datum × Datum) → Asked
 all_on ps = within (length ps) (length ps) ps
@@ -327,6 +329,15 @@ elements_after s n _ = settled true
 abbrev pub items_on : Datum → Fields → Datum → Asked
 items_on s keywords x = if is_some (items_in s) then prefix_on s x else elements_after s (schemas_in_front (beside (codes "prefixItems") keywords)) x
 
+-- the element with this index is one that `items` applies a schema to
+abbrev pub reaches_item : Datum → Option Datum → ℕ → Bool
+reaches_item s prefix i = if is_some (items_in s) then nat_lt i (schemas_in_front (Some s)) else nat_le (schemas_in_front prefix) i
+
+-- it is behind those that this array of schemas is for
+abbrev pub is_behind : Option Datum → ℕ → Bool
+is_behind (Some (array ss)) i = nat_le (items_len ss) i
+is_behind _ i = false
+
 -- draft 7's word for `items` after such an array
 abbrev pub additional_items_on : Datum → Option Datum → Datum → Asked
 additional_items_on s (Some (array ss)) x = elements_after s (items_len ss) x
@@ -364,17 +375,14 @@ abbrev pub is_patterned : Option Datum → List ℕ → Bool
 is_patterned (Some (object ss)) u = is_matched ss u
 is_patterned _ u = false
 
--- neither shadowed by a later member, nor one that `properties` or `patternProperties` speaks of
-abbrev pub is_additional : Fields → List ℕ → Fields → Bool
-is_additional keywords u fs = not (is_named u fs) && (not (speaks_of (beside (codes "properties") keywords) u) && not (is_patterned (beside (codes "patternProperties") keywords) u))
-
-abbrev pub is_applied : List ℕ → List ℕ → Fields → Bool
-is_applied pattern u fs = not (is_named u fs) && fits pattern u
+-- neither `properties` nor `patternProperties` speaks of it
+abbrev pub is_additional : Fields → List ℕ → Bool
+is_additional keywords u = not (speaks_of (beside (codes "properties") keywords) u) && not (is_patterned (beside (codes "patternProperties") keywords) u)
 
 -- the schema of a pattern, on the members with a name that it matches
 abbrev pub each_matched : List ℕ → Datum → Fields → List (Datum × Datum)
 each_matched pattern s no_field = []
-each_matched pattern s (field u x fs) = if is_applied pattern u fs then (s, x) ∷ each_matched pattern s fs else each_matched pattern s fs
+each_matched pattern s (field u x fs) = if fits pattern u then (s, x) ∷ each_matched pattern s fs else each_matched pattern s fs
 
 abbrev pub of_pattern : List ℕ → Datum → Fields → Fields → List (Datum × Datum)
 of_pattern pattern s ss fs = if is_named pattern ss then [] else each_matched pattern s fs
@@ -385,15 +393,15 @@ by_pattern no_field fs = []
 by_pattern (field pattern s ss) fs = of_pattern pattern s ss fs ++ by_pattern ss fs
 
 abbrev pub patterns_on : Datum → Datum → Asked
-patterns_on (object ss) (object fs) = all_on (by_pattern ss fs)
+patterns_on (object ss) (object fs) = all_on (by_pattern ss (latest fs))
 patterns_on _ _ = settled true
 
 abbrev pub each_additional : Datum → Fields → Fields → List (Datum × Datum)
 each_additional s keywords no_field = []
-each_additional s keywords (field u x fs) = if is_additional keywords u fs then (s, x) ∷ each_additional s keywords fs else each_additional s keywords fs
+each_additional s keywords (field u x fs) = if is_additional keywords u then (s, x) ∷ each_additional s keywords fs else each_additional s keywords fs
 
 abbrev pub additional_on : Datum → Fields → Datum → Asked
-additional_on s keywords (object fs) = all_on (each_additional s keywords fs)
+additional_on s keywords (object fs) = all_on (each_additional s keywords (latest fs))
 additional_on s keywords _ = settled true
 
 abbrev pub names_on : Datum → Datum → Asked
@@ -414,6 +422,14 @@ dependent_on _ _ = settled true
 
 abbrev pub dependencies_on : Datum → Datum → Asked
 dependencies_on ss x = if has_all_dependents ss x then dependent_on ss x else settled false
+
+abbrev pub members_left_on : Datum → Fields → Datum → Asked
+members_left_on s keywords (object fs) = left s keywords (object fs)
+members_left_on s keywords _ = settled true
+
+abbrev pub elements_left_on : Datum → Fields → Datum → Asked
+elements_left_on s keywords (array xs) = left s keywords (array xs)
+elements_left_on s keywords _ = settled true
 
 -- ---- names of schemas: `$anchor`, or draft 7's `$id` of `#` and a name; by their bytes
 
@@ -520,6 +536,8 @@ applies root all applicator.Properties a x = properties_on a x
 applies root all applicator.PatternProperties a x = patterns_on a x
 applies root all applicator.AdditionalProperties a x = additional_on a all x
 applies root all applicator.PropertyNames a x = names_on a x
+applies root all applicator.UnevaluatedProperties a x = members_left_on a all x
+applies root all applicator.UnevaluatedItems a x = elements_left_on a all x
 applies root all applicator.Ref a x = refers_on (target_of root a) x
 
 abbrev pub asks : Datum → Fields → Keyword → Datum → Datum → Asked
@@ -527,7 +545,16 @@ asks root all (keyword.Assertion k) a x = settled (asserts root k a x)
 asks root all (keyword.Applicator k) a x = applies root all k a x
 asks root all keyword.Annotation a x = settled true
 
--- ---- whether it is so, where `v` says which values conform to which schemas
+-- ---- whether it is so, where `v` answers each question of a schema and a value
+
+-- whether the value conforms to the schema; or whether the schema evaluates the member with this name, or the element with this index
+pub data Question : Type 0 where
+  conforming : Question
+  evaluating_name : List ℕ → Question
+  evaluating_index : ℕ → Question
+
+abbrev pub Answers : Type 0
+Answers = Question → Datum → Datum → Bool
 
 abbrev pub count_conforming : (Datum → Datum → Bool) → List (Datum × Datum) → ℕ
 count_conforming v [] = 0
@@ -544,6 +571,112 @@ abbrev pub is_few : Option Datum → ℕ → Bool
 is_few None n = true
 is_few (Some most) n = at_most (count n) most
 
+-- ---- what a schema evaluates (core, sections 10 and 11): what its keywords apply schemas to, and what schemas evaluate that they apply to
+-- the value itself and that it conforms to; `not` has no part in it
+
+-- what a keyword applies a schema to by its name or its index
+abbrev pub reaches : Fields → Applicator → Datum → Question → Bool
+reaches all applicator.Properties a (evaluating_name u) = speaks_of (Some a) u
+reaches all applicator.PatternProperties a (evaluating_name u) = is_patterned (Some a) u
+reaches all applicator.AdditionalProperties a (evaluating_name u) = is_additional all u
+reaches all applicator.PrefixItems a (evaluating_index i) = nat_lt i (schemas_in_front (Some a))
+reaches all applicator.Items a (evaluating_index i) = reaches_item a (beside (codes "prefixItems") all) i
+reaches all applicator.AdditionalItems a (evaluating_index i) = is_behind (beside (codes "items") all) i
+reaches all _ a q = false
+
+-- the element that is asked for
+abbrev pub element_asked : Question → Datum → Option Datum
+element_asked (evaluating_index i) x = element_of i x
+element_asked _ x = None
+
+-- `contains` finds it
+abbrev pub is_contained : Answers → Datum → Datum → Question → Bool
+is_contained v a x q = is_some_and (v conforming a) (element_asked q x)
+
+-- the value conforms to one of these schemas that evaluates it
+abbrev pub pair_evaluates : Answers → Question → Datum × Datum → Bool
+pair_evaluates v q p = v conforming p.0 p.1 && v q p.0 p.1
+
+abbrev pub some_evaluate : Answers → Question → List (Datum × Datum) → Bool
+some_evaluate v q [] = false
+some_evaluate v q (p ∷ ps) = pair_evaluates v q p || some_evaluate v q ps
+
+abbrev pub part_evaluates : Answers → Question → Option Datum → Datum → Bool
+part_evaluates v q None x = false
+part_evaluates v q (Some s) x = v q s x
+
+abbrev pub choice_evaluates : Answers → Question → Datum → Option Datum → Option Datum → Datum → Bool
+choice_evaluates v q s t e x = if v conforming s x then v q s x || part_evaluates v q t x else part_evaluates v q e x
+
+abbrev pub asked_evaluates : Answers → Question → Asked → Bool
+asked_evaluates v q (within least most ps) = some_evaluate v q ps
+asked_evaluates v q (choice s t e x) = choice_evaluates v q s t e x
+asked_evaluates v q _ = false
+
+-- its schemas are applied to the value itself, and count
+abbrev pub is_in_place : Applicator → Bool
+is_in_place applicator.AllOf = true
+is_in_place applicator.AnyOf = true
+is_in_place applicator.OneOf = true
+is_in_place applicator.If = true
+is_in_place applicator.DependentSchemas = true
+is_in_place applicator.Dependencies = true
+is_in_place applicator.Ref = true
+is_in_place _ = false
+
+abbrev pub is_contains : Applicator → Bool
+is_contains applicator.Contains = true
+is_contains _ = false
+
+abbrev pub applicator_evaluates : Answers → Datum → Fields → Applicator → Datum → Datum → Question → Bool
+applicator_evaluates v root all k a x q =
+    if is_in_place k then asked_evaluates v q (applies root all k a x) else
+    if is_contains k then is_contained v a x q else
+    reaches all k a q
+
+abbrev pub evaluates : Answers → Datum → Fields → Keyword → Datum → Datum → Question → Bool
+evaluates v root all (keyword.Applicator k) a x q = applicator_evaluates v root all k a x q
+evaluates v root all _ a x q = false
+
+-- none whose name comes again
+abbrev pub keyword_evaluates : Answers → Datum → Fields → List ℕ → Datum → Fields → Datum → Question → Bool
+keyword_evaluates v root all name a rest x q = not (is_named name rest) && evaluates v root all (keyword_named (encode_utf8_all name)) a x q
+
+-- one of the keywords does, but for those of what is left
+abbrev pub keywords_evaluate : Answers → Datum → Fields → Fields → Datum → Question → Bool
+keywords_evaluate v root all no_field x q = false
+keywords_evaluate v root all (field name a rest) x q = keyword_evaluates v root all name a rest x q || keywords_evaluate v root all rest x q
+
+-- what is left is evaluated, too
+abbrev pub takes_rest : Fields → Question → Bool
+takes_rest keywords (evaluating_name u) = is_named (chars (codes "unevaluatedProperties")) keywords
+takes_rest keywords (evaluating_index i) = is_named (chars (codes "unevaluatedItems")) keywords
+takes_rest keywords conforming = false
+
+abbrev pub schema_evaluates : Answers → Datum → Datum → Datum → Question → Bool
+schema_evaluates v root (object keywords) x q = takes_rest keywords q || keywords_evaluate v root keywords keywords x q
+schema_evaluates v root _ x q = false
+
+-- ---- what is left
+
+-- the keywords evaluate this child of x, or it conforms
+abbrev pub child_left_holds : Answers → Datum → Datum → Fields → Datum → Question → Datum → Bool
+child_left_holds v root s all x q y = keywords_evaluate v root all all x q || v conforming s y
+
+abbrev pub members_left_hold : Answers → Datum → Datum → Fields → Datum → Fields → Bool
+members_left_hold v root s all x no_field = true
+members_left_hold v root s all x (field u y fs) = child_left_holds v root s all x (evaluating_name u) y && members_left_hold v root s all x fs
+
+-- from an index on
+abbrev pub elements_left_hold : Answers → Datum → Datum → Fields → Datum → ℕ → Items → Bool
+elements_left_hold v root s all x i no_item = true
+elements_left_hold v root s all x i (item y ys) = child_left_holds v root s all x (evaluating_index i) y && elements_left_hold v root s all x (suc i) ys
+
+abbrev pub left_holds : Answers → Datum → Datum → Fields → Datum → Bool
+left_holds v root s all (object fs) = members_left_hold v root s all (object fs) (latest fs)
+left_holds v root s all (array xs) = elements_left_hold v root s all (array xs) 0 xs
+left_holds v root s all x = true
+
 -- the schema, if there is one
 abbrev pub part_holds : (Datum → Datum → Bool) → Option Datum → Datum → Bool
 part_holds v None x = true
@@ -553,23 +686,24 @@ abbrev pub names_hold : (Datum → Datum → Bool) → Datum → Fields → Bool
 names_hold v s no_field = true
 names_hold v s (field u x fs) = v s (text u) && names_hold v s fs
 
-abbrev pub satisfied : (Datum → Datum → Bool) → Asked → Bool
-satisfied v (settled b) = b
-satisfied v (within least most ps) = is_within v least most ps
-satisfied v (counted least most ps) = is_enough least (count_conforming v ps) && is_few most (count_conforming v ps)
-satisfied v (choice s t e x) = if v s x then part_holds v t x else part_holds v e x
-satisfied v (names s fs) = names_hold v s fs
+abbrev pub satisfied : Answers → Datum → Asked → Bool
+satisfied v root (settled b) = b
+satisfied v root (within least most ps) = is_within (v conforming) least most ps
+satisfied v root (counted least most ps) = is_enough least (count_conforming (v conforming) ps) && is_few most (count_conforming (v conforming) ps)
+satisfied v root (choice s t e x) = if v conforming s x then part_holds (v conforming) t x else part_holds (v conforming) e x
+satisfied v root (names s fs) = names_hold (v conforming) s fs
+satisfied v root (left s all x) = left_holds v root s all x
 
 -- a keyword whose name comes again is passed over
-abbrev pub keyword_holds : (Datum → Datum → Bool) → Datum → Fields → List ℕ → Datum → Fields → Datum → Bool
-keyword_holds v root all name a rest x = is_named name rest || satisfied v (asks root all (keyword_named (encode_utf8_all name)) a x)
+abbrev pub keyword_holds : Answers → Datum → Fields → List ℕ → Datum → Fields → Datum → Bool
+keyword_holds v root all name a rest x = is_named name rest || satisfied v root (asks root all (keyword_named (encode_utf8_all name)) a x)
 
-abbrev pub keywords_hold : (Datum → Datum → Bool) → Datum → Fields → Fields → Datum → Bool
+abbrev pub keywords_hold : Answers → Datum → Fields → Fields → Datum → Bool
 keywords_hold v root all no_field x = true
 keywords_hold v root all (field name a rest) x = keyword_holds v root all name a rest x && keywords_hold v root all rest x
 
 -- a schema is a boolean or an object of keywords
-abbrev pub schema_holds : (Datum → Datum → Bool) → Datum → Datum → Datum → Bool
+abbrev pub schema_holds : Answers → Datum → Datum → Datum → Bool
 schema_holds v root (boolean b) x = b
 schema_holds v root (object keywords) x = keywords_hold v root keywords keywords x
 schema_holds v root _ x = true
@@ -580,15 +714,20 @@ less b n = if b then n - 1 else n
 
 -- ---- conforming
 
--- the rules, unfolded so many times; beyond that `v` decides
-unfoldable pub unfolded : ℕ → (Datum → Datum → Bool) → Datum → Datum → Datum → Bool
-unfolded zero v root s x = v s x
-unfolded (suc n) v root s x = schema_holds (unfolded n v root) root s x
+-- what the rules answer, where `v` answers further questions
+abbrev pub answers : Answers → Datum → Answers
+answers v root conforming s x = schema_holds v root s x
+answers v root q s x = schema_evaluates v root s x q
+
+-- the rules, unfolded so many times; beyond that `v` answers
+unfoldable pub unfolded : ℕ → Answers → Datum → Answers
+unfolded zero v root = v
+unfolded (suc n) v root = answers (unfolded n v root) root
 
 -- after some number of unfoldings it is so, whatever is thought of the schemas beyond
 abbrev pub Conforms : Datum → Datum → Bool → Type 0
-Conforms root x b = (n : ℕ) × ((v : Datum → Datum → Bool) → unfolded n v root root x ≡ b)
+Conforms root x b = (n : ℕ) × ((v : Answers) → unfolded n v root conforming root x ≡ b)
 
--- says of each schema and each value what the rules say
-abbrev pub Obeys : (Datum → Datum → Bool) → Datum → Type 0
-Obeys v root = (s x : Datum) → v s x ≡ schema_holds v root s x
+-- answers each question as the rules do
+abbrev pub Obeys : Answers → Datum → Type 0
+Obeys v root = (q : Question) (s x : Datum) → v q s x ≡ answers v root q s x

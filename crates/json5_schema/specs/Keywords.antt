@@ -47,6 +47,8 @@ keyword_named name =
     if pointwise nat_eq name (codes "patternProperties") then keyword.Applicator applicator.PatternProperties else
     if pointwise nat_eq name (codes "additionalProperties") then keyword.Applicator applicator.AdditionalProperties else
     if pointwise nat_eq name (codes "propertyNames") then keyword.Applicator applicator.PropertyNames else
+    if pointwise nat_eq name (codes "unevaluatedProperties") then keyword.Applicator applicator.UnevaluatedProperties else
+    if pointwise nat_eq name (codes "unevaluatedItems") then keyword.Applicator applicator.UnevaluatedItems else
     if pointwise nat_eq name (codes "$ref") then keyword.Applicator applicator.Ref else
     keyword.Annotation
 

@@ -1,6 +1,6 @@
 -- What the code's pairs and questions mean, and why there is no answer.
 -- A promise rests on this.
-use Rattle.std.specs.Prelude.{◌≡◌, ◌⊎◌, ℕ, Bool, String, string_bytes, List, map, Option, None, option_map, Result, MatchResult, Vec}
+use Rattle.std.specs.Prelude.{◌≡◌, ◌⊎◌, ℕ, Bool, String, string_bytes, List, [], ◌∷◌, map, Option, None, option_map, Result, MatchResult, Vec}
 use Rattle.std.specs.declared.alloc.Global.{Global}
 use Rattle.std.specs.Str.{chars}
 use Rattle.std.specs.Borrow.{Bor}
@@ -8,11 +8,14 @@ use Rattle.json5_grammar.specs.declared.error_code.ErrorCode.TheVariants.{Overfl
 use Rattle.json5_types.specs.declared.error.Error.{Error}
 use Rattle.json5_types.specs.declared.value.Value.{Value}
 use Rattle.json5_types.specs.Errors.{code, LacksMemory, SaysAt}
-use Rattle.json5_types.specs.ValueMeanings.{Datum, value_of, fields_view}
-use Rattle.json5_schema.specs.Conformance.{Asked, settled, within, counted, choice, names, keyword_holds, unfolded}
+use Rattle.json5_types.specs.ValueMeanings.{Datum, Fields, no_field, field, value_of, fields_view}
+use Rattle.json5_schema.specs.Conformance.{Asked, settled, within, counted, choice, names, left, Question, evaluating_name, evaluating_index, Answers, keyword_holds, keyword_evaluates, unfolded}
 use Rattle.json5_schema.specs.declared.schemas.Schema.{Schema}
 use Rattle.json5_schema.specs.declared.asked.Pair.{Pair}
+use Rattle.json5_schema.specs.declared.members.Member.{Member}
 use Rattle.json5_schema.specs.declared.asked.Asked as declared
+use Rattle.json5_schema.specs.declared.asked.Child.{Child}
+use Rattle.json5_schema.specs.declared.asked.Child.TheVariants as child
 use Rattle.json5_schema.specs.declared.asked.Asked.TheVariants as asked
 
 abbrev pub pair_view : Pair → Datum × Datum
@@ -20,6 +23,10 @@ pair_view p = (value_of p.schema.now, value_of p.value.now)
 
 abbrev pub pairs_view : List Pair → List (Datum × Datum)
 pairs_view ps = map pair_view ps
+
+abbrev pub members_view : List Member → Fields
+members_view [] = no_field
+members_view (m ∷ ms) = field (chars m.name.now) (value_of m.value.now) (members_view ms)
 
 abbrev pub part_view : Option (Bor Value) → Option Datum
 part_view t = option_map (λ p. value_of p.now) t
@@ -30,6 +37,12 @@ asked_view (asked.Within least most ps) = within least most (pairs_view ps.items
 asked_view (asked.Counted least most ps) = counted (part_view least) (part_view most) (pairs_view ps.items)
 asked_view (asked.Choice s t e x) = choice (value_of s.now) (part_view t) (part_view e) (value_of x.now)
 asked_view (asked.Names s fs) = names (value_of s.now) (fields_view fs.now)
+asked_view (asked.Left s all x) = left (value_of s.now) (fields_view all.now) (value_of x.now)
+
+-- whether the schema evaluates the child
+abbrev pub question_of : Child → Question
+question_of (child.Name u) = evaluating_name (chars u.now)
+question_of (child.Index i) = evaluating_index i
 
 -- memory was refused, more schemas were applied within one another than can be, or a divisor has too many digits
 abbrev pub IsRefusal : Error → Type 0
@@ -44,12 +57,16 @@ abbrev pub PairsFor : List (Datum × Datum) → Result (Vec Pair Global) Error �
 PairsFor pairs result = MatchResult result (λ found. pairs_view found.items ≡ pairs) LacksMemory
 
 -- this is the result, whatever is thought of the schemas beyond so many unfoldings
-abbrev pub Settles : {A : Type 0} → ℕ → Datum → ((Datum → Datum → Bool) → A) → Result A Error → Type 0
-Settles n root asked result = MatchResult result (λ found. (v : Datum → Datum → Bool) → asked (unfolded n v root) ≡ found) IsRefusal
+abbrev pub Settles : {A : Type 0} → ℕ → Datum → (Answers → A) → Result A Error → Type 0
+Settles n root asked result = MatchResult result (λ found. (v : Answers) → asked (unfolded n v root) ≡ found) IsRefusal
 
 -- a keyword as a member has it, with all members beside it and those behind it
-abbrev pub member_holds : (Datum → Datum → Bool) → Datum → List (String Global × Value) → String Global × Value → List (String Global × Value) → Datum → Bool
+abbrev pub member_holds : Answers → Datum → List (String Global × Value) → String Global × Value → List (String Global × Value) → Datum → Bool
 member_holds v root members member after x = keyword_holds v root (fields_view members) (chars (string_bytes member.0)) (value_of member.1) (fields_view after) x
+
+-- the same of whether it evaluates a child
+abbrev pub member_evaluates : Answers → Datum → List (String Global × Value) → String Global × Value → List (String Global × Value) → Datum → Question → Bool
+member_evaluates v root members member after x q = keyword_evaluates v root (fields_view members) (chars (string_bytes member.0)) (value_of member.1) (fields_view after) x q
 
 abbrev pub schema_of : Schema → Datum
 schema_of s = value_of s.root

@@ -5,8 +5,8 @@ ghost use lib.Chars.{codes};
 ghost use Rattle.std.specs.Str.{chars};
 ghost use Rattle.json5_types.specs.Errors.{LacksMemory};
 ghost use Rattle.json5_types.specs.ValueMeanings.{value_of, items_view, fields_view};
-ghost use Rattle.json5_schema.specs.Conformance.{each_schema, each_item, by_name, value_for, by_index, prefix_on, schemas_in_front, items_after, elements_after, items_on, additional_items_on, contains_on, all_of_on, any_of_on, one_of_on, if_on, speaks_of, beside, is_matched, is_patterned, is_additional, is_applied, each_matched, of_pattern, by_pattern, patterns_on, each_additional, additional_on, names_on, properties_on, is_dependent, dependent_schemas, dependent_on, dependencies_on, all_on, some_on, target_of, refers_on, settled, asserts, applies, asks};
-ghost use Rattle.json5_schema.specs.Views.{AsksFor, IsRefusal, PairsFor, pairs_view, part_view, asked_view};
+ghost use Rattle.json5_schema.specs.Conformance.{each_schema, each_item, by_name, value_for, by_index, prefix_on, schemas_in_front, items_after, elements_after, items_on, additional_items_on, contains_on, all_of_on, any_of_on, one_of_on, if_on, members_left_on, elements_left_on, speaks_of, beside, is_matched, is_patterned, is_additional, latest, each_matched, of_pattern, by_pattern, patterns_on, each_additional, additional_on, names_on, properties_on, is_dependent, dependent_schemas, dependent_on, dependencies_on, all_on, some_on, target_of, refers_on, settled, asserts, applies, asks};
+ghost use Rattle.json5_schema.specs.Views.{AsksFor, IsRefusal, PairsFor, members_view, pairs_view, part_view, asked_view};
 
 use crate::anchors::at_fragment;
 use crate::equal::{has_distinct, is_in_enum, same};
@@ -17,7 +17,9 @@ use crate::limits::{
     characters_in, count_at_least, count_at_most, elements_in, elements_len, is_at_most, is_below,
     names_in,
 };
-use crate::members::{find, has_all_dependents, has_required, is_named, unless_named};
+use crate::members::{
+    Member, find, has_all_dependents, has_required, is_named, latest, unless_named,
+};
 use crate::multiples::is_multiple_of;
 use crate::patterns::{Pattern, fits, is_matching};
 use json5_types::error::Result;
@@ -44,6 +46,15 @@ pub enum Asked<'a> {
     Choice(&'a Value, Option<&'a Value>, Option<&'a Value>, &'a Value),
     /// The schema has to hold of each name.
     Names(&'a Value, &'a [(String, Value)]),
+    /// The schema has to hold of each member of the value, or each element, that these keywords leave.
+    Left(&'a Value, &'a [(String, Value)], &'a Value),
+}
+
+/// A member of an object, by its name, or an element of an array, by its index.
+#[derive(Clone, Copy)]
+pub enum Child<'a> {
+    Name(&'a str),
+    Index(usize),
 }
 
 /// Each of the schemas, on the value.
@@ -190,7 +201,12 @@ fn is_patterned(
 }
 
 /// Whether one of the patterns that this has schemas for matches the name.
-fn is_matched_in(alloc: Global, patterns: &[Pattern], schemas: &Value, name: &str) -> Result<bool>
+pub fn is_matched_in(
+    alloc: Global,
+    patterns: &[Pattern],
+    schemas: &Value,
+    name: &str,
+) -> Result<bool>
     ensures { MatchResult result (λ b. b ≡ is_patterned (Some (value_of schemas.now)) (chars name.now)) LacksMemory }
 {
     match schemas {
@@ -199,17 +215,16 @@ fn is_matched_in(alloc: Global, patterns: &[Pattern], schemas: &Value, name: &st
     }
 }
 
-/// Whether neither a later member has the name, nor `properties` or `patternProperties` speaks of it.
+/// Whether neither `properties` nor `patternProperties` speaks of the name.
 pub fn is_additional(
     alloc: Global,
     patterns: &[Pattern],
     keywords: &[(String, Value)],
     name: &str,
-    after: &[(String, Value)],
 ) -> Result<bool>
-    ensures { MatchResult result (λ b. b ≡ is_additional (fields_view keywords.now) (chars name.now) (fields_view after.now)) LacksMemory }
+    ensures { MatchResult result (λ b. b ≡ is_additional (fields_view keywords.now) (chars name.now)) LacksMemory }
 {
-    if is_named(after, name) || speaks_of(keywords, name) {
+    if speaks_of(keywords, name) {
         return Ok(false);
     }
     Ok(!is_patterned(alloc, patterns, keywords, name)?)
@@ -221,18 +236,15 @@ fn each_additional<'a>(
     patterns: &[Pattern],
     schema: &'a Value,
     keywords: &[(String, Value)],
-    members: &'a [(String, Value)],
+    members: &[Member<'a>],
 ) -> Result<Vec<Pair<'a>>>
-    ensures { MatchResult result (λ ps. pairs_view ps.items ≡ each_additional (value_of schema.now) (fields_view keywords.now) (fields_view members.now)) LacksMemory }
+    ensures { MatchResult result (λ ps. pairs_view ps.items ≡ each_additional (value_of schema.now) (fields_view keywords.now) (members_view members.now)) LacksMemory }
 {
     let mut pairs = Vec::new(alloc);
-    for (index, member) in members.iter().enumerate() {
-        let name = member.0.as_str();
-        if is_additional(alloc, patterns, keywords, name, &members[index + 1..])? {
-            pairs.push(Pair {
-                schema,
-                value: &member.1,
-            })?;
+    for member in members {
+        if is_additional(alloc, patterns, keywords, member.name)? {
+            let value = member.value;
+            pairs.push(Pair { schema, value })?;
         }
     }
     Ok(pairs)
@@ -249,27 +261,12 @@ fn additional_on<'a>(
     ensures { MatchResult result (λ a. asked_view a ≡ additional_on (value_of schema.now) (fields_view keywords.now) (value_of value.now)) IsRefusal }
 {
     match value {
-        Value::Object(members) => Ok(all_of(each_additional(
-            alloc, patterns, schema, keywords, members,
-        )?)),
+        Value::Object(members) => {
+            let members = latest(alloc, members)?;
+            Ok(all_of(each_additional(alloc, patterns, schema, keywords, &members)?))
+        }
         _ => Ok(Asked::Settled(true)),
     }
-}
-
-/// Whether a pattern's schema is applied to a member: no later one has its name, and the pattern matches it.
-pub fn is_applied(
-    alloc: Global,
-    patterns: &[Pattern],
-    pattern: &str,
-    name: &str,
-    after: &[(String, Value)],
-) -> Result<bool>
-    ensures { MatchResult result (λ b. b ≡ is_applied (chars pattern.now) (chars name.now) (fields_view after.now)) LacksMemory }
-{
-    if is_named(after, name) {
-        return Ok(false);
-    }
-    fits(alloc, patterns, pattern, name)
 }
 
 /// The schema of a pattern, on the members with a name that it matches.
@@ -278,18 +275,15 @@ fn each_matched<'a>(
     patterns: &[Pattern],
     pattern: &str,
     schema: &'a Value,
-    members: &'a [(String, Value)],
+    members: &[Member<'a>],
 ) -> Result<Vec<Pair<'a>>>
-    ensures { MatchResult result (λ ps. pairs_view ps.items ≡ each_matched (chars pattern.now) (value_of schema.now) (fields_view members.now)) LacksMemory }
+    ensures { MatchResult result (λ ps. pairs_view ps.items ≡ each_matched (chars pattern.now) (value_of schema.now) (members_view members.now)) LacksMemory }
 {
     let mut pairs = Vec::new(alloc);
-    for (index, member) in members.iter().enumerate() {
-        let name = member.0.as_str();
-        if is_applied(alloc, patterns, pattern, name, &members[index + 1..])? {
-            pairs.push(Pair {
-                schema,
-                value: &member.1,
-            })?;
+    for member in members {
+        if fits(alloc, patterns, pattern, member.name)? {
+            let value = member.value;
+            pairs.push(Pair { schema, value })?;
         }
     }
     Ok(pairs)
@@ -301,9 +295,9 @@ fn of_pattern<'a>(
     patterns: &[Pattern],
     pattern: &'a (String, Value),
     after: &[(String, Value)],
-    members: &'a [(String, Value)],
+    members: &[Member<'a>],
 ) -> Result<Vec<Pair<'a>>>
-    ensures { PairsFor (of_pattern (chars (string_bytes pattern.now.0)) (value_of pattern.now.1) (fields_view after.now) (fields_view members.now)) result }
+    ensures { PairsFor (of_pattern (chars (string_bytes pattern.now.0)) (value_of pattern.now.1) (fields_view after.now) (members_view members.now)) result }
 {
     let source = pattern.0.as_str();
     if is_named(after, source) {
@@ -317,9 +311,9 @@ fn by_pattern<'a>(
     alloc: Global,
     patterns: &[Pattern],
     schemas: &'a [(String, Value)],
-    members: &'a [(String, Value)],
+    members: &[Member<'a>],
 ) -> Result<Vec<Pair<'a>>>
-    ensures { MatchResult result (λ ps. pairs_view ps.items ≡ by_pattern (fields_view schemas.now) (fields_view members.now)) LacksMemory }
+    ensures { MatchResult result (λ ps. pairs_view ps.items ≡ by_pattern (fields_view schemas.now) (members_view members.now)) LacksMemory }
 {
     let mut pairs = Vec::new(alloc);
     for (index, schema) in schemas.iter().enumerate() {
@@ -327,6 +321,19 @@ fn by_pattern<'a>(
         pairs.extend_from_slice(&found)?;
     }
     Ok(pairs)
+}
+
+/// The same, on the last member with each name.
+fn matched_on<'a>(
+    alloc: Global,
+    patterns: &[Pattern],
+    schemas: &'a [(String, Value)],
+    members: &'a [(String, Value)],
+) -> Result<Asked<'a>>
+    ensures { AsksFor (all_on (by_pattern (fields_view schemas.now) (latest (fields_view members.now)))) result }
+{
+    let members = latest(alloc, members)?;
+    Ok(all_of(by_pattern(alloc, patterns, schemas, &members)?))
 }
 
 /// What `patternProperties` asks.
@@ -339,9 +346,9 @@ fn patterns_on<'a>(
     ensures { MatchResult result (λ a. asked_view a ≡ patterns_on (value_of schemas.now) (value_of value.now)) IsRefusal }
 {
     match (schemas, value) {
-        (Value::Object(schemas), Value::Object(members)) => Ok(all_of(by_pattern(
-            alloc, patterns, schemas, members,
-        )?)),
+        (Value::Object(schemas), Value::Object(members)) => {
+            matched_on(alloc, patterns, schemas, members)
+        }
         _ => Ok(Asked::Settled(true)),
     }
 }
@@ -506,6 +513,34 @@ fn if_on<'a>(schema: &'a Value, keywords: &'a [(String, Value)], value: &'a Valu
     )
 }
 
+/// What `unevaluatedProperties` asks.
+fn members_left_on<'a>(
+    schema: &'a Value,
+    keywords: &'a [(String, Value)],
+    value: &'a Value,
+) -> Asked<'a>
+    ensures { asked_view result ≡ members_left_on (value_of schema.now) (fields_view keywords.now) (value_of value.now) }
+{
+    match value {
+        Value::Object(_) => Asked::Left(schema, keywords, value),
+        _ => Asked::Settled(true),
+    }
+}
+
+/// What `unevaluatedItems` asks.
+fn elements_left_on<'a>(
+    schema: &'a Value,
+    keywords: &'a [(String, Value)],
+    value: &'a Value,
+) -> Asked<'a>
+    ensures { asked_view result ≡ elements_left_on (value_of schema.now) (fields_view keywords.now) (value_of value.now) }
+{
+    match value {
+        Value::Array(_) => Asked::Left(schema, keywords, value),
+        _ => Asked::Settled(true),
+    }
+}
+
 /// Whether the schema of a name is applied: no later one has the name, there is a member with it, and it is no array of names.
 pub fn is_dependent(
     name: &str,
@@ -617,12 +652,12 @@ fn asserts<'a>(
         Assertion::UniqueItems => Ok(Asked::Settled(has_distinct(alloc, argument, value)?)),
         Assertion::MaxProperties => Ok(Asked::Settled(count_at_most(
             alloc,
-            names_in(value),
+            names_in(alloc, value)?,
             argument,
         )?)),
         Assertion::MinProperties => Ok(Asked::Settled(count_at_least(
             alloc,
-            names_in(value),
+            names_in(alloc, value)?,
             argument,
         )?)),
         Assertion::Required => Ok(Asked::Settled(has_required(argument, value))),
@@ -631,7 +666,7 @@ fn asserts<'a>(
 }
 
 /// Which schemas a keyword applies.
-fn applies<'a>(
+pub fn applies<'a>(
     alloc: Global,
     patterns: &[Pattern],
     root: &'a Value,
@@ -662,6 +697,8 @@ fn applies<'a>(
             alloc, patterns, argument, keywords, value,
         ),
         Applicator::PropertyNames => Ok(names_on(argument, value)),
+        Applicator::UnevaluatedProperties => Ok(members_left_on(argument, keywords, value)),
+        Applicator::UnevaluatedItems => Ok(elements_left_on(argument, keywords, value)),
         Applicator::Ref => refers_on(alloc, target_of(root, argument), value),
     }
 }

@@ -2,15 +2,16 @@
 
 ghost use Rattle.std.specs.Prelude.{◌≡◌, MatchResult, ◌&&◌, nat_eq};
 ghost use Rattle.std.specs.Str.{chars};
-ghost use Rattle.json5_types.specs.ValueMeanings.{object, text, value_of, fields_view};
-ghost use Rattle.json5_schema.specs.Conformance.{schema_holds, satisfied, part_holds, names_hold, count_conforming, is_within, less, Conforms};
-ghost use Rattle.json5_schema.specs.Views.{IsRefusal, Settles, member_holds, pairs_view, part_view, asked_view};
+ghost use Rattle.json5_types.specs.ValueMeanings.{object, text, value_of, items_view, fields_view};
+ghost use Rattle.json5_schema.specs.Conformance.{applicator_evaluates, asked_evaluates, child_left_holds, choice_evaluates, conforming, count_conforming, elements_left_hold, is_contained, is_within, keywords_evaluate, left_holds, less, members_left_hold, names_hold, pair_evaluates, part_evaluates, part_holds, satisfied, schema_evaluates, schema_holds, some_evaluate, Conforms};
+ghost use Rattle.json5_schema.specs.Views.{IsRefusal, Settles, member_evaluates, member_holds, members_view, pair_view, pairs_view, part_view, question_of, asked_view};
 
-use crate::asked::{Asked, Pair, asks};
-use crate::keyword::keyword_named;
+use crate::asked::{Asked, Child, Pair, applies, asks};
+use crate::keyword::{Applicator, Keyword, keyword_named};
 use crate::limits::is_counted;
-use crate::members::is_named;
+use crate::members::{Member, is_named, latest};
 use crate::patterns::Pattern;
+use crate::reaching::{element_at, is_contains, is_in_place, reaches, takes_rest};
 use json5_types::ErrorCode;
 use json5_types::error::{Error, Result};
 use json5_types::value::Value;
@@ -37,7 +38,7 @@ pub fn conforms_within(
     value: &Value,
     depth: usize,
 ) -> Result<bool>
-    ensures { Settles depth (value_of root.now) (λ v. v (value_of schema.now) (value_of value.now)) result }
+    ensures { Settles depth (value_of root.now) (λ v. v conforming (value_of schema.now) (value_of value.now)) result }
 {
     if depth == 0 {
         return Err(Error::new(ErrorCode::TooDeep));
@@ -119,7 +120,7 @@ fn satisfied(
     asked: &Asked<'_>,
     depth: usize,
 ) -> Result<bool>
-    ensures { Settles depth (value_of root.now) (λ v. satisfied v (asked_view asked.now)) result }
+    ensures { Settles depth (value_of root.now) (λ v. satisfied v (value_of root.now) (asked_view asked.now)) result }
 {
     match asked {
         Asked::Settled(holds) => Ok(*holds),
@@ -138,6 +139,9 @@ fn satisfied(
             }
         }
         Asked::Names(schema, members) => names_hold(alloc, patterns, root, schema, members, depth),
+        Asked::Left(schema, keywords, value) => left_holds(
+            alloc, patterns, root, schema, keywords, value, depth,
+        ),
     }
 }
 
@@ -151,7 +155,7 @@ fn part_holds(
     value: &Value,
     depth: usize,
 ) -> Result<bool>
-    ensures { Settles depth (value_of root.now) (λ v. part_holds v (part_view part.entry) (value_of value.now)) result }
+    ensures { Settles depth (value_of root.now) (λ v. part_holds (v conforming) (part_view part.entry) (value_of value.now)) result }
 {
     match part {
         Some(schema) => conforms_within(alloc, patterns, root, schema, value, depth),
@@ -169,7 +173,7 @@ fn names_hold(
     members: &[(String, Value)],
     depth: usize,
 ) -> Result<bool>
-    ensures { Settles depth (value_of root.now) (λ v. names_hold v (value_of schema.now) (fields_view members.now)) result }
+    ensures { Settles depth (value_of root.now) (λ v. names_hold (v conforming) (value_of schema.now) (fields_view members.now)) result }
 {
     for (name, _) in members {
         if !name_holds(alloc, patterns, root, schema, name.as_str(), depth)? {
@@ -189,7 +193,7 @@ fn name_holds(
     name: &str,
     depth: usize,
 ) -> Result<bool>
-    ensures { Settles depth (value_of root.now) (λ v. v (value_of schema.now) (text (chars name.now))) result }
+    ensures { Settles depth (value_of root.now) (λ v. v conforming (value_of schema.now) (text (chars name.now))) result }
 {
     let text = Value::text(alloc, name)?;
     conforms_within(alloc, patterns, root, schema, &text, depth)
@@ -204,7 +208,7 @@ fn count_conforming(
     pairs: &[Pair<'_>],
     depth: usize,
 ) -> Result<usize>
-    ensures { Settles depth (value_of root.now) (λ v. count_conforming v (pairs_view pairs.now)) result }
+    ensures { Settles depth (value_of root.now) (λ v. count_conforming (v conforming) (pairs_view pairs.now)) result }
 {
     let mut count = 0;
     for pair in pairs {
@@ -226,7 +230,7 @@ fn is_within(
     pairs: &[Pair<'_>],
     depth: usize,
 ) -> Result<bool>
-    ensures { Settles depth (value_of root.now) (λ v. is_within v least most (pairs_view pairs.now)) result }
+    ensures { Settles depth (value_of root.now) (λ v. is_within (v conforming) least most (pairs_view pairs.now)) result }
 {
     let mut least = least;
     let mut most = most;
@@ -264,4 +268,367 @@ fn is_full(holds: bool, most: usize) -> bool
     ensures { result ≡ (holds && nat_eq most 0) }
 {
     holds && most == 0
+}
+
+/// Whether the schema holds of each member of the value, or each element, that the keywords leave.
+#[cycle(conforms)]
+fn left_holds(
+    alloc: Global,
+    patterns: &[Pattern],
+    root: &Value,
+    schema: &Value,
+    keywords: &[(String, Value)],
+    value: &Value,
+    depth: usize,
+) -> Result<bool>
+    ensures { Settles depth (value_of root.now) (λ v. left_holds v (value_of root.now) (value_of schema.now) (fields_view keywords.now) (value_of value.now)) result }
+{
+    match value {
+        Value::Object(members) => {
+            let members = latest(alloc, members)?;
+            members_left_hold(
+                alloc, patterns, root, schema, keywords, value, &members, depth,
+            )
+        }
+        Value::Array(items) => elements_left_hold(
+            alloc, patterns, root, schema, keywords, value, items, depth,
+        ),
+        _ => Ok(true),
+    }
+}
+
+/// The same of these members of it.
+#[cycle(conforms)]
+fn members_left_hold(
+    alloc: Global,
+    patterns: &[Pattern],
+    root: &Value,
+    schema: &Value,
+    keywords: &[(String, Value)],
+    value: &Value,
+    members: &[Member<'_>],
+    depth: usize,
+) -> Result<bool>
+    ensures { Settles depth (value_of root.now) (λ v. members_left_hold v (value_of root.now) (value_of schema.now) (fields_view keywords.now) (value_of value.now) (members_view members.now)) result }
+{
+    for member in members {
+        if !child_left_holds(
+            alloc,
+            patterns,
+            root,
+            schema,
+            keywords,
+            value,
+            Child::Name(member.name),
+            member.value,
+            depth,
+        )? {
+            return Ok(false);
+        }
+    }
+    Ok(true)
+}
+
+/// The same of these elements of it, from an index on.
+#[cycle(conforms)]
+fn elements_left_hold(
+    alloc: Global,
+    patterns: &[Pattern],
+    root: &Value,
+    schema: &Value,
+    keywords: &[(String, Value)],
+    value: &Value,
+    items: &[Value],
+    depth: usize,
+) -> Result<bool>
+    ensures { Settles depth (value_of root.now) (λ v. elements_left_hold v (value_of root.now) (value_of schema.now) (fields_view keywords.now) (value_of value.now) 0 (items_view items.now)) result }
+{
+    for (index, item) in items.iter().enumerate() {
+        if !child_left_holds(
+            alloc,
+            patterns,
+            root,
+            schema,
+            keywords,
+            value,
+            Child::Index(index),
+            item,
+            depth,
+        )? {
+            return Ok(false);
+        }
+    }
+    Ok(true)
+}
+
+/// Whether the keywords evaluate the child, or the schema holds of it.
+#[cycle(conforms)]
+pub fn child_left_holds(
+    alloc: Global,
+    patterns: &[Pattern],
+    root: &Value,
+    schema: &Value,
+    keywords: &[(String, Value)],
+    value: &Value,
+    child: Child<'_>,
+    inner: &Value,
+    depth: usize,
+) -> Result<bool>
+    ensures { Settles depth (value_of root.now) (λ v. child_left_holds v (value_of root.now) (value_of schema.now) (fields_view keywords.now) (value_of value.now) (question_of child.entry) (value_of inner.now)) result }
+{
+    if keywords_evaluate(alloc, patterns, root, keywords, value, child, depth)? {
+        return Ok(true);
+    }
+    conforms_within(alloc, patterns, root, schema, inner, depth)
+}
+
+/// Whether one of the keywords evaluates the child, but for those of what is left.
+#[cycle(conforms)]
+fn keywords_evaluate(
+    alloc: Global,
+    patterns: &[Pattern],
+    root: &Value,
+    keywords: &[(String, Value)],
+    value: &Value,
+    child: Child<'_>,
+    depth: usize,
+) -> Result<bool>
+    ensures { Settles depth (value_of root.now) (λ v. keywords_evaluate v (value_of root.now) (fields_view keywords.now) (fields_view keywords.now) (value_of value.now) (question_of child.entry)) result }
+{
+    for (index, member) in keywords.iter().enumerate() {
+        if keyword_evaluates(
+            alloc,
+            patterns,
+            root,
+            keywords,
+            member,
+            &keywords[index + 1..],
+            value,
+            child,
+            depth,
+        )? {
+            return Ok(true);
+        }
+    }
+    Ok(false)
+}
+
+/// Whether this keyword does, unless a later one has the same name.
+#[cycle(conforms)]
+fn keyword_evaluates(
+    alloc: Global,
+    patterns: &[Pattern],
+    root: &Value,
+    keywords: &[(String, Value)],
+    member: &(String, Value),
+    after: &[(String, Value)],
+    value: &Value,
+    child: Child<'_>,
+    depth: usize,
+) -> Result<bool>
+    ensures { Settles depth (value_of root.now) (λ v. member_evaluates v (value_of root.now) keywords.now member.now after.now (value_of value.now) (question_of child.entry)) result }
+{
+    let name = member.0.as_str();
+    if is_named(after, name) {
+        return Ok(false);
+    }
+    match keyword_named(name) {
+        Keyword::Applicator(applicator) => applicator_evaluates(
+            alloc, patterns, root, keywords, applicator, &member.1, value, child, depth,
+        ),
+        Keyword::Assertion(_) => Ok(false),
+        Keyword::Annotation => Ok(false),
+    }
+}
+
+/// Whether a keyword with this argument does.
+#[cycle(conforms)]
+fn applicator_evaluates(
+    alloc: Global,
+    patterns: &[Pattern],
+    root: &Value,
+    keywords: &[(String, Value)],
+    applicator: Applicator,
+    argument: &Value,
+    value: &Value,
+    child: Child<'_>,
+    depth: usize,
+) -> Result<bool>
+    ensures { Settles depth (value_of root.now) (λ v. applicator_evaluates v (value_of root.now) (fields_view keywords.now) applicator (value_of argument.now) (value_of value.now) (question_of child.entry)) result }
+{
+    if is_in_place(applicator) {
+        let asked = applies(alloc, patterns, root, keywords, applicator, argument, value)?;
+        return asked_evaluates(alloc, patterns, root, &asked, child, depth);
+    }
+    if is_contains(applicator) {
+        return is_contained(alloc, patterns, root, argument, value, child, depth);
+    }
+    Ok(reaches(alloc, patterns, keywords, applicator, argument, child)?)
+}
+
+/// Whether the child is an element that the schema of `contains` holds of.
+#[cycle(conforms)]
+fn is_contained(
+    alloc: Global,
+    patterns: &[Pattern],
+    root: &Value,
+    schema: &Value,
+    value: &Value,
+    child: Child<'_>,
+    depth: usize,
+) -> Result<bool>
+    ensures { Settles depth (value_of root.now) (λ v. is_contained v (value_of schema.now) (value_of value.now) (question_of child.entry)) result }
+{
+    match element_at(value, child) {
+        Some(item) => conforms_within(alloc, patterns, root, schema, item, depth),
+        None => Ok(false),
+    }
+}
+
+/// Whether a schema evaluates the child that is asked to hold of the value.
+#[cycle(conforms)]
+fn asked_evaluates(
+    alloc: Global,
+    patterns: &[Pattern],
+    root: &Value,
+    asked: &Asked<'_>,
+    child: Child<'_>,
+    depth: usize,
+) -> Result<bool>
+    ensures { Settles depth (value_of root.now) (λ v. asked_evaluates v (question_of child.entry) (asked_view asked.now)) result }
+{
+    match asked {
+        Asked::Within(_, _, pairs) => some_evaluate(alloc, patterns, root, pairs, child, depth),
+        Asked::Choice(condition, then, other, value) => choice_evaluates(
+            alloc, patterns, root, condition, *then, *other, value, child, depth,
+        ),
+        Asked::Settled(_) => Ok(false),
+        Asked::Counted(_, _, _) => Ok(false),
+        Asked::Names(_, _) => Ok(false),
+        Asked::Left(_, _, _) => Ok(false),
+    }
+}
+
+/// Whether one of the schemas does that hold.
+#[cycle(conforms)]
+fn some_evaluate(
+    alloc: Global,
+    patterns: &[Pattern],
+    root: &Value,
+    pairs: &[Pair<'_>],
+    child: Child<'_>,
+    depth: usize,
+) -> Result<bool>
+    ensures { Settles depth (value_of root.now) (λ v. some_evaluate v (question_of child.entry) (pairs_view pairs.now)) result }
+{
+    for pair in pairs {
+        if pair_evaluates(alloc, patterns, root, pair, child, depth)? {
+            return Ok(true);
+        }
+    }
+    Ok(false)
+}
+
+/// Whether the schema holds, and evaluates the child.
+#[cycle(conforms)]
+fn pair_evaluates(
+    alloc: Global,
+    patterns: &[Pattern],
+    root: &Value,
+    pair: &Pair<'_>,
+    child: Child<'_>,
+    depth: usize,
+) -> Result<bool>
+    ensures { Settles depth (value_of root.now) (λ v. pair_evaluates v (question_of child.entry) (pair_view pair.now)) result }
+{
+    if !conforms_within(alloc, patterns, root, pair.schema, pair.value, depth)? {
+        return Ok(false);
+    }
+    evaluates_within(alloc, patterns, root, pair.schema, pair.value, child, depth)
+}
+
+/// Whether the schema of `if` does where it holds, or that of `then`, and elsewhere that of `else`.
+#[cycle(conforms)]
+fn choice_evaluates(
+    alloc: Global,
+    patterns: &[Pattern],
+    root: &Value,
+    condition: &Value,
+    then: Option<&Value>,
+    other: Option<&Value>,
+    value: &Value,
+    child: Child<'_>,
+    depth: usize,
+) -> Result<bool>
+    ensures { Settles depth (value_of root.now) (λ v. choice_evaluates v (question_of child.entry) (value_of condition.now) (part_view then.entry) (part_view other.entry) (value_of value.now)) result }
+{
+    if !conforms_within(alloc, patterns, root, condition, value, depth)? {
+        return part_evaluates(alloc, patterns, root, other, value, child, depth);
+    }
+    if evaluates_within(alloc, patterns, root, condition, value, child, depth)? {
+        return Ok(true);
+    }
+    part_evaluates(alloc, patterns, root, then, value, child, depth)
+}
+
+/// Whether the schema evaluates the child, if there is one.
+#[cycle(conforms)]
+fn part_evaluates(
+    alloc: Global,
+    patterns: &[Pattern],
+    root: &Value,
+    part: Option<&Value>,
+    value: &Value,
+    child: Child<'_>,
+    depth: usize,
+) -> Result<bool>
+    ensures { Settles depth (value_of root.now) (λ v. part_evaluates v (question_of child.entry) (part_view part.entry) (value_of value.now)) result }
+{
+    match part {
+        Some(schema) => evaluates_within(alloc, patterns, root, schema, value, child, depth),
+        None => Ok(false),
+    }
+}
+
+/// Whether the schema, which is inside of `root`, evaluates a child of the value.
+#[cycle(conforms)]
+fn evaluates_within(
+    alloc: Global,
+    patterns: &[Pattern],
+    root: &Value,
+    schema: &Value,
+    value: &Value,
+    child: Child<'_>,
+    depth: usize,
+) -> Result<bool>
+    ensures { Settles depth (value_of root.now) (λ v. v (question_of child.entry) (value_of schema.now) (value_of value.now)) result }
+{
+    if depth == 0 {
+        return Err(Error::new(ErrorCode::TooDeep));
+    }
+    match schema.as_object() {
+        Some(keywords) => {
+            object_evaluates(alloc, patterns, root, keywords, value, child, depth - 1)
+        }
+        None => Ok(false),
+    }
+}
+
+/// The same of a schema with these keywords.
+#[cycle(conforms)]
+fn object_evaluates(
+    alloc: Global,
+    patterns: &[Pattern],
+    root: &Value,
+    keywords: &[(String, Value)],
+    value: &Value,
+    child: Child<'_>,
+    depth: usize,
+) -> Result<bool>
+    ensures { Settles depth (value_of root.now) (λ v. schema_evaluates v (value_of root.now) (object (fields_view keywords.now)) (value_of value.now) (question_of child.entry)) result }
+{
+    if takes_rest(keywords, child) {
+        return Ok(true);
+    }
+    keywords_evaluate(alloc, patterns, root, keywords, value, child, depth)
 }

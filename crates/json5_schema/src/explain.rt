@@ -2,14 +2,16 @@
 //!
 //! Plain code, of which no promise is made but that it is safe and ends: change it by the rows of schemas, which judge it.
 
-use crate::asked::{is_additional, is_applied, is_dependent, schemas_in_front, target_of};
-use crate::conforms::{conforms_within, keyword_holds};
+use crate::asked::{Child, is_additional, is_dependent, schemas_in_front, target_of};
+use crate::conforms::{child_left_holds, conforms_within, keyword_holds};
 use crate::document_faults::{Fault, Mismatch, Place, Way};
 use crate::found::Found;
 use crate::keyword::{Applicator, Keyword, keyword_named};
-use crate::members::{find, is_named};
-use crate::own_faults::{add_assertion, add_dependents, add_own, choose_branch, unknown_key};
-use crate::patterns::Pattern;
+use crate::members::{find, is_named, latest};
+use crate::own_faults::{
+    add_assertion, add_dependents, add_own, choose_branch, other_key, unknown_key,
+};
+use crate::patterns::{Pattern, fits};
 use crate::tags::names_member;
 use crate::words::shown;
 use json5_types::error::Result;
@@ -119,6 +121,16 @@ fn explain_keyword(
         (Keyword::Applicator(Applicator::PropertyNames), _, Value::Object(members)) => {
             explain_names(
                 alloc, patterns, root, argument, members, &here, depth, found,
+            )
+        }
+        (Keyword::Applicator(Applicator::UnevaluatedProperties), _, Value::Object(members)) => {
+            explain_left_members(
+                alloc, patterns, root, keywords, argument, value, members, &here, depth, found,
+            )
+        }
+        (Keyword::Applicator(Applicator::UnevaluatedItems), _, Value::Array(items)) => {
+            explain_left_items(
+                alloc, patterns, root, keywords, argument, value, items, &here, depth, found,
             )
         }
         (Keyword::Applicator(applicator), _, _) => {
@@ -255,6 +267,63 @@ fn explain_names(
     Ok(())
 }
 
+/// Goes into each member that the keywords leave and that doesn't conform.
+#[cycle(explain)]
+fn explain_left_members(
+    alloc: Global,
+    patterns: &[Pattern],
+    root: &Value,
+    keywords: &[(String, Value)],
+    schema: &Value,
+    value: &Value,
+    members: &[(String, Value)],
+    place: &Place,
+    depth: usize,
+    found: &mut Found,
+) -> Result<()> {
+    for member in &latest(alloc, members)? {
+        let (key, inner) = (member.name, member.value);
+        let child = Child::Name(key);
+        if !child_left_holds(
+            alloc, patterns, root, schema, keywords, value, child, inner, depth,
+        )? {
+            let way = Way::Key(key, member.index);
+            let there = place.copy(alloc)?.entered(alloc, way)?;
+            match schema {
+                Value::Bool(_) => found.add(other_key(alloc, keywords, key, there.of_key())?)?,
+                _ => explain(alloc, patterns, root, schema, inner, &there, depth, found)?,
+            }
+        }
+    }
+    Ok(())
+}
+
+/// Goes into each element that the keywords leave and that doesn't conform.
+#[cycle(explain)]
+fn explain_left_items(
+    alloc: Global,
+    patterns: &[Pattern],
+    root: &Value,
+    keywords: &[(String, Value)],
+    schema: &Value,
+    value: &Value,
+    items: &[Value],
+    place: &Place,
+    depth: usize,
+    found: &mut Found,
+) -> Result<()> {
+    for (index, item) in items.iter().enumerate() {
+        let child = Child::Index(index);
+        if !child_left_holds(
+            alloc, patterns, root, schema, keywords, value, child, item, depth,
+        )? {
+            let there = place.copy(alloc)?.entered(alloc, Way::Index(index))?;
+            explain(alloc, patterns, root, schema, item, &there, depth, found)?;
+        }
+    }
+    Ok(())
+}
+
 /// The schemas that a keyword applies, each with its part of the value, in the order of the document.
 fn parts_of<'a>(
     alloc: Global,
@@ -357,16 +426,12 @@ fn member_schema<'a>(
     applicator: Applicator,
     argument: &'a Value,
     key: &'a str,
-    after: &'a [(String, Value)],
 ) -> Result<Option<(&'a Value, Way<'a>)>> {
     if matches!(applicator, Applicator::AdditionalProperties) {
-        let is_additional = is_additional(alloc, patterns, keywords, key, after)?;
+        let is_additional = is_additional(alloc, patterns, keywords, key)?;
         return Ok(is_additional.then_some((argument, Way::Here)));
     }
-    match find(argument.entries(), key) {
-        Some(schema) if !is_named(after, key) => Ok(Some((schema, Way::Key(key, 0)))),
-        _ => Ok(None),
-    }
+    Ok(find(argument.entries(), key).map(|schema| (schema, Way::Key(key, 0))))
 }
 
 /// The members that a pattern has a schema for.
@@ -377,15 +442,14 @@ fn of_patterns<'a>(
     members: &'a [(String, Value)],
 ) -> Result<Vec<Applied<'a>>> {
     let mut parts = Vec::new(alloc);
-    for (index, member) in members.iter().enumerate() {
-        let (key, after) = (member.0.as_str(), &members[index + 1..]);
+    for member in &latest(alloc, members)? {
         for (pattern, schema) in schemas {
-            if is_applied(alloc, patterns, pattern.as_str(), key, after)? {
+            if fits(alloc, patterns, pattern.as_str(), member.name)? {
                 parts.push(Applied {
                     schema,
-                    value: &member.1,
+                    value: member.value,
                     rule: Way::Key(pattern.as_str(), 0),
-                    at: Way::Key(key, index),
+                    at: Way::Key(member.name, member.index),
                 })?;
             }
         }
@@ -403,15 +467,15 @@ fn of_members<'a>(
     members: &'a [(String, Value)],
 ) -> Result<Vec<Applied<'a>>> {
     let mut parts = Vec::new(alloc);
-    for (index, member) in members.iter().enumerate() {
-        let (key, after) = (member.0.as_str(), &members[index + 1..]);
-        let found = member_schema(alloc, patterns, keywords, applicator, argument, key, after)?;
+    for member in &latest(alloc, members)? {
+        let key = member.name;
+        let found = member_schema(alloc, patterns, keywords, applicator, argument, key)?;
         if let Some((schema, rule)) = found {
             parts.push(Applied {
                 schema,
-                value: &member.1,
+                value: member.value,
                 rule,
-                at: Way::Key(key, index),
+                at: Way::Key(key, member.index),
             })?;
         }
     }

@@ -11,7 +11,7 @@ use std::fmt;
 /// What is wrong at a place of a schema.
 #[derive(Clone, Copy, Debug)]
 pub enum Problem {
-    /// A keyword that this version doesn't decide, such as `unevaluatedItems`.
+    /// A keyword that this version doesn't decide, such as `$dynamicRef`.
     Undecided,
     /// A keyword that is none, and the likeliest one: only strict schemas are refused for it.
     NoKeyword(Option<&'static str>),
@@ -69,8 +69,8 @@ impl fmt::Display for Problem {
 /// Why a value isn't taken as a schema. It prints what is wrong, and the JSON pointer to the place.
 ///
 /// ```text
-/// Schema::new(alloc, &json5::from_str(alloc, "{items: {unevaluatedItems: false}}")?)
-///     // Err: this keyword isn't decided yet at `/items/unevaluatedItems`
+/// Schema::new(alloc, &json5::from_str(alloc, "{items: {$dynamicRef: '#a'}}")?)
+///     // Err: this keyword isn't decided yet at `/items/$dynamicRef`
 /// ```
 #[derive(Debug, Drop)]
 pub enum SchemaFault {

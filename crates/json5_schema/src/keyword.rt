@@ -45,6 +45,8 @@ pub enum Applicator {
     PatternProperties,
     AdditionalProperties,
     PropertyNames,
+    UnevaluatedProperties,
+    UnevaluatedItems,
     Ref,
 }
 
@@ -96,6 +98,8 @@ pub fn keyword_named(name: &str) -> Keyword
         "patternProperties" => Keyword::Applicator(Applicator::PatternProperties),
         "additionalProperties" => Keyword::Applicator(Applicator::AdditionalProperties),
         "propertyNames" => Keyword::Applicator(Applicator::PropertyNames),
+        "unevaluatedProperties" => Keyword::Applicator(Applicator::UnevaluatedProperties),
+        "unevaluatedItems" => Keyword::Applicator(Applicator::UnevaluatedItems),
         "$ref" => Keyword::Applicator(Applicator::Ref),
         _ => Keyword::Annotation,
     }

@@ -3,7 +3,7 @@
 ghost use Rattle.std.specs.Prelude.{◌≡◌, ℕ, Bool, List, Some};
 ghost use Rattle.json5_types.specs.ValueMeanings.{Datum};
 ghost use Rattle.json5_schema.specs.Anchors.{StandsNamed};
-ghost use Rattle.json5_schema.specs.Conformance.{anchored, Conforms, Obeys};
+ghost use Rattle.json5_schema.specs.Conformance.{anchored, Answers, conforming, Conforms, Obeys};
 
 /// Of a value it never says both.
 pub fn one_verdict()
@@ -12,7 +12,7 @@ pub fn one_verdict()
 
 /// Whoever obeys the rules of all schemas says the same.
 pub fn same_as_rules()
-    ensures { (v : Datum → Datum → Bool) (root x : Datum) (b : Bool) → Obeys v root → Conforms root x b → v root x ≡ b }
+    ensures { (v : Answers) (root x : Datum) (b : Bool) → Obeys v root → Conforms root x b → v conforming root x ≡ b }
 {}
 
 /// A name leads to a schema that has it and that stands in the whole.

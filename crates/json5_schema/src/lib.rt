@@ -21,6 +21,7 @@ mod multiples;
 mod near;
 mod own_faults;
 mod patterns;
+mod reaching;
 mod references;
 mod schemas;
 pub mod shape;

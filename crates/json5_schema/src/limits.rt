@@ -3,13 +3,13 @@
 ghost use Rattle.std.specs.Prelude.{◌≡◌, ◌&&◌, MatchResult};
 ghost use Rattle.json5_types.specs.Errors.{LacksMemory};
 ghost use Rattle.json5_types.specs.ValueMeanings.{value_of, items_view, fields_view};
-ghost use Rattle.json5_types.specs.ValueKinds.{items_len};
-ghost use Rattle.json5_schema.specs.Conformance.{is_not_above, at_most, is_below, characters_in, elements_in, names_len, names_in, count_at_most, count_at_least, is_enough, is_few};
+ghost use Rattle.json5_types.specs.ValueKinds.{items_len, fields_len};
+ghost use Rattle.json5_schema.specs.Conformance.{is_not_above, at_most, is_below, characters_in, elements_in, latest, names_in, count_at_most, count_at_least, is_enough, is_few};
 ghost use Rattle.json5_schema.specs.Views.{part_view};
 ghost use Rattle.json5_numbers.specs.Orders.{decimal_cmp};
 
 use crate::equal::same;
-use crate::members::is_named;
+use crate::members::latest;
 use json5_numbers::DecimalExt;
 use json5_types::decimal::Decimal;
 use json5_types::error::Result;
@@ -84,26 +84,21 @@ pub fn elements_in(value: &Value) -> Option<usize>
     }
 }
 
-/// The number of names.
-fn names_len(members: &[(String, Value)]) -> usize
-    ensures { result ≡ names_len (fields_view members.now) }
+/// The number of members of which none later has the name.
+fn names_len(alloc: Global, members: &[(String, Value)]) -> Result<usize>
+    ensures { MatchResult result (λ n. n ≡ fields_len (latest (fields_view members.now))) LacksMemory }
 {
-    let mut count = 0;
-    for (index, member) in members.iter().enumerate() {
-        if !is_named(&members[index + 1..], member.0.as_str()) {
-            count += 1;
-        }
-    }
-    count
+    let members = latest(alloc, members)?;
+    Ok(members.len())
 }
 
 /// The number of names, if it is an object.
-pub fn names_in(value: &Value) -> Option<usize>
-    ensures { result ≡ names_in (value_of value.now) }
+pub fn names_in(alloc: Global, value: &Value) -> Result<Option<usize>>
+    ensures { MatchResult result (λ n. n ≡ names_in (value_of value.now)) LacksMemory }
 {
     match value {
-        Value::Object(members) => Some(names_len(members)),
-        _ => None,
+        Value::Object(members) => Ok(Some(names_len(alloc, members)?)),
+        _ => Ok(None),
     }
 }
 

@@ -1,13 +1,17 @@
 //! The members of objects. Of equal keys the last counts.
 
-ghost use Rattle.std.specs.Prelude.{◌≡◌, if◌then◌else◌, None, option_map, is_some};
+ghost use Rattle.std.specs.Prelude.{◌≡◌, if◌then◌else◌, None, option_map, is_some, reverse, MatchResult};
 ghost use Rattle.std.specs.Str.{chars};
 ghost use Rattle.json5_types.specs.ValueMeanings.{value_of, items_view, fields_view};
 ghost use Rattle.json5_types.specs.ValueLookups.{last_named};
-ghost use Rattle.json5_schema.specs.Conformance.{is_named, has_name, has_names, has_required, has_dependent, has_dependents, has_all_dependents};
-ghost use Rattle.json5_schema.specs.Views.{part_view};
+ghost use Rattle.json5_schema.specs.Conformance.{is_named, has_name, has_names, has_required, has_dependent, has_dependents, has_all_dependents, latest};
+ghost use Rattle.json5_types.specs.Errors.{LacksMemory};
+ghost use Rattle.json5_schema.specs.Views.{members_view, part_view};
 
+use json5_types::error::Result;
 use json5_types::value::Value;
+use std::alloc::Global;
+use std::collections::BTreeSet;
 
 /// The value of the last member with this key.
 pub fn find<'v>(members: &'v [(String, Value)], key: &str) -> Option<&'v Value>
@@ -41,6 +45,44 @@ pub fn unless_named<'a>(
         return None;
     }
     found
+}
+
+/// A member of an object, and how many come before it.
+#[derive(Clone, Copy)]
+pub struct Member<'a> {
+    pub index: usize,
+    pub name: &'a str,
+    pub value: &'a Value,
+}
+
+/// The members without those whose key a later one has.
+pub fn latest<'a>(alloc: Global, members: &'a [(String, Value)]) -> Result<Vec<Member<'a>>>
+    ensures { MatchResult result (λ found. members_view found.items ≡ latest (fields_view members.now)) LacksMemory }
+{
+    let mut found = latest_first(alloc, members)?;
+    found.reverse();
+    Ok(found)
+}
+
+/// The same, the last of them first.
+fn latest_first<'a>(alloc: Global, members: &'a [(String, Value)]) -> Result<Vec<Member<'a>>>
+    ensures { MatchResult result (λ found. members_view (reverse found.items) ≡ latest (fields_view members.now)) LacksMemory }
+{
+    let mut seen = BTreeSet::new(alloc);
+    let mut found = Vec::new(alloc);
+    let mut index = members.len();
+    while index > 0 {
+        index -= 1;
+        let name = members[index].0.as_str();
+        if seen.insert(name)? {
+            found.push(Member {
+                index,
+                name,
+                value: &members[index].1,
+            })?;
+        }
+    }
+    Ok(found)
 }
 
 /// Whether a member has the key that this text is.

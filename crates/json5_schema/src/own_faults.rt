@@ -220,6 +220,26 @@ pub fn unknown_key(
     Ok(fault(alloc, place, expected.as_str(), found)?.or_likely(likeliest))
 }
 
+/// That no schema there speaks of a key, with the likeliest that `properties` has.
+pub fn other_key(
+    alloc: Global,
+    keywords: &[(String, Value)],
+    key: &str,
+    place: Place,
+) -> Result<Fault> {
+    let mut known = Vec::new(alloc);
+    for (name, _) in members_of(keywords, "properties") {
+        known.push(name.as_str())?;
+    }
+    let likeliest = match nearest(alloc, key, &known)? {
+        Some(name) => Some(shown_key(alloc, name)?),
+        None => None,
+    };
+    let expected = "a key that one of the schemas here speaks of";
+    let found = shown_key(alloc, key)?;
+    Ok(fault(alloc, place, expected, found)?.or_likely(likeliest))
+}
+
 /// The rank of a branch for another kind of value, and of those behind it.
 const STRANGE: usize = MAX_STRANGENESS * (MAX_FAULTS + 1);
 

@@ -28,7 +28,7 @@ use std::collections::BTreeMap;
 /// and each reference leads to a schema of the same document, and not back to itself.
 ///
 /// The words are those of draft 2020-12 and of draft 7. Where both have a word it means the same in both; a word that only one has
-/// is taken in either. Not decided yet, and refused: `unevaluatedItems`, `unevaluatedProperties`, dynamic references, and `$id` below the top that is no name, as `#port`. `format`
+/// is taken in either. Not decided yet, and refused: dynamic references, and `$id` below the top that is no name, as `#port`. `format`
 /// asserts nothing but by `with_formats`, or where the root's `$vocabulary` has that of asserted formats (2020-12, validation, section 7.2.2).
 ///
 /// ```text

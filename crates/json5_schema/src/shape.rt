@@ -78,7 +78,7 @@ pub(crate) fn shape_of(name: &str) -> Shape {
     match name {
         "not" | "if" | "then" | "else" => Shape::Schema,
         "additionalProperties" | "propertyNames" | "additionalItems" | "contains" => Shape::Schema,
-        "contentSchema" => Shape::Schema,
+        "unevaluatedItems" | "unevaluatedProperties" | "contentSchema" => Shape::Schema,
         "allOf" | "anyOf" | "oneOf" | "prefixItems" => Shape::Schemas,
         "items" => Shape::SchemaOrSchemas,
         "properties" | "dependentSchemas" | "$defs" | "definitions" => Shape::NamedSchemas,
@@ -96,7 +96,6 @@ pub(crate) fn shape_of(name: &str) -> Shape {
         "multipleOf" => Shape::Divisor,
         "pattern" => Shape::Pattern,
         "patternProperties" => Shape::PatternSchemas,
-        "unevaluatedItems" | "unevaluatedProperties" => Shape::Undecided,
         "$dynamicRef" | "$dynamicAnchor" => Shape::Undecided,
         "$recursiveRef" | "$recursiveAnchor" => Shape::Undecided,
         _ => Shape::Any,

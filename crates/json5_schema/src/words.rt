@@ -144,7 +144,7 @@ pub fn found_by(alloc: Global, assertion: Assertion, value: &Value) -> Result<St
     let count = match assertion {
         Assertion::MaxLength | Assertion::MinLength => characters_in(value),
         Assertion::MaxItems | Assertion::MinItems => elements_in(value),
-        Assertion::MaxProperties | Assertion::MinProperties => names_in(value),
+        Assertion::MaxProperties | Assertion::MinProperties => names_in(alloc, value)?,
         _ => None,
     };
     match count {

@@ -1,21 +1,23 @@
-use Rattle.std.proofs.Common.{List, String, true, false, ◌≡◌, ◌∙◌, ◌<◌, ◌≤◌, ◌+◌, length, drop, arith, sym, ap, Some, None, option_map, string_bytes}
+use Rattle.std.proofs.Common.{List, String, refl, true, false, ◌≡◌, ◌∙◌, ◌<◌, ◌≤◌, ◌+◌, length, drop, arith, sym, ap, Some, None, option_map, string_bytes}
 use Rattle.std.proofs.lemmas.List.{length-drop}
-use Rattle.json5_types.specs.ValueMeanings.{value_of, fields_view}
+use Rattle.json5_types.specs.ValueMeanings.{array, value_of, items_view, fields_view}
 use Rattle.json5_types.specs.ValueLookups.{boolean_of, fields_in}
-use Rattle.json5_schema.specs.Conformance.{keyword_holds, less, unfolded}
-use Rattle.json5_schema.specs.Views.{part_view, asked_view}
+use Rattle.json5_schema.specs.Conformance.{conforming, keyword_holds, less, unfolded}
+use Rattle.json5_schema.specs.Views.{part_view, question_of, asked_view}
 use Rattle.json5_types.proofs.LookedUp.{from_here}
 use Rattle.std.specs.Str.{chars}
 use Rattle.std.specs.declared.alloc.Global.{Global}
 use Rattle.json5_types.specs.declared.value.Value.{Value}
 use Rattle.json5_schema.proofs.Conforming.{rest_is, keywords_first, next, few_left, enough_left, pair_from}
 use Rattle.json5_schema.proofs.Parts.{chosen_then, chosen_else, boolean_schema, object_schema, other_schema, asked_keyword}
+use Rattle.json5_types.proofs.ValuesCompared.{view-Array}
+use Rattle.json5_schema.proofs.Evaluating.{keyword_at, left_elements, named_evaluates, named_other, object_evaluated, other_evaluated}
 use Rattle.json5_schema.proofs.conforms.+conforms.Goals as goal
 
 pub is_within-returns-then-left-least : goal.is_within-returns-then-left-least
 is_within-returns-then-left-least t c = λ v.
     let l = c.loop-index in
-    let w = unfolded c.args.depth v (value_of c.args.root.now) in
+    let w = unfolded c.args.depth v (value_of c.args.root.now) conforming in
     let rest = drop (l.index + 1) c.args.pairs.now in
     let here = pair_from c.args.pairs.now l.index c.index-pairs-index.result (omega arith) c.index-pairs-index.is in
     let step = next w c.index-pairs-index.result rest (drop l.index c.args.pairs.now) l.least l.most c.in_ok-holds.holds here (c.in_ok-holds.ensures v) (sym c.is_full.ensures ∙ c.if-is_full.false) in
@@ -25,7 +27,7 @@ is_within-returns-then-left-least t c = λ v.
 pub is_within-returns-then-left-most : goal.is_within-returns-then-left-most
 is_within-returns-then-left-most t c = λ v.
     let l = c.loop-index in
-    let w = unfolded c.args.depth v (value_of c.args.root.now) in
+    let w = unfolded c.args.depth v (value_of c.args.root.now) conforming in
     let rest = drop (l.index + 1) c.args.pairs.now in
     let here = pair_from c.args.pairs.now l.index c.index-pairs-index.result (omega arith) c.index-pairs-index.is in
     let step = next w c.index-pairs-index.result rest (drop l.index c.args.pairs.now) l.least l.most c.in_ok-holds.holds here (c.in_ok-holds.ensures v) (sym c.is_full.ensures ∙ c.if-is_full.false) in
@@ -87,3 +89,53 @@ pub satisfied-returns-else-branch : goal.satisfied-returns-else-branch
 satisfied-returns-else-branch t c =
     let w = c.in-Choice in
     rw w.is (chosen_else c.part_holds-else-branch.result c.args.depth (value_of c.args.root.now) (value_of w.condition.now) (value_of w.value.now) (part_view w.then) (part_view w.other) c.in_ok-conforms_within-in-Choice.field-0 c.if-branch.false c.in_ok-conforms_within-in-Choice.ensures c.part_holds-else-branch.ensures)
+
+-- ---- what schemas evaluate, and what is left
+
+pub keywords_evaluate-returns-then-branch : goal.keywords_evaluate-returns-then-branch
+keywords_evaluate-returns-then-branch t c = λ v.
+    let l = c.loop-index in
+    let w = unfolded c.args.depth v (value_of c.args.root.now) in
+    sym (l.invariant v)
+    ∙ keyword_at w (value_of c.args.root.now) (value_of c.args.value.now) (fields_view c.args.keywords.now) (question_of c.args.child) c.args.keywords.now l.index c.index-keywords-index.result true (omega arith) c.index-keywords-index.is
+    (c.in_ok-keyword_evaluates.ensures v ∙ c.if-branch.true)
+
+pub keywords_evaluate-loop-index-preserved : goal.keywords_evaluate-loop-index-preserved
+keywords_evaluate-loop-index-preserved t c = λ v.
+    let l = c.loop-index in
+    let w = unfolded c.args.depth v (value_of c.args.root.now) in
+    sym
+    (keyword_at w (value_of c.args.root.now) (value_of c.args.value.now) (fields_view c.args.keywords.now) (question_of c.args.child) c.args.keywords.now l.index c.index-keywords-index.result false (omega arith) c.index-keywords-index.is
+    (c.in_ok-keyword_evaluates.ensures v ∙ c.if-branch.false))
+    ∙ l.invariant v
+
+pub keyword_evaluates-returns-in-Applicator : goal.keyword_evaluates-returns-in-Applicator
+keyword_evaluates-returns-in-Applicator t c =
+    named_evaluates c.applicator_evaluates.result c.args.depth (value_of c.args.root.now) (value_of c.args.member.now.1) (value_of c.args.value.now) c.as_str-name.result.now (string_bytes c.args.member.now.0) (fields_view c.args.keywords.now) (fields_view c.args.after.now)
+    c.keyword_named.result (question_of c.args.child) (sym c.is_named.ensures ∙ c.if-is_named.false) c.as_str-name.utf8 c.as_str-name.ensures.value c.keyword_named.ensures (rw c.in-Applicator.is c.applicator_evaluates.ensures)
+
+pub evaluates_within-returns-in-Some : goal.evaluates_within-returns-in-Some
+evaluates_within-returns-in-Some t c =
+    let keywords = fields_view c.in-Some.keywords.now in
+    let known : fields_in (value_of c.args.schema.now) ≡ Some keywords = sym c.as_object.ensures ∙ ap (λ o. option_map (λ fields. fields_view fields.now) o) c.in-Some.is in
+    object_evaluated c.object_evaluates.result c.args.depth (value_of c.args.root.now) (value_of c.args.schema.now) (value_of c.args.value.now) c.args.child keywords (omega arith) known c.object_evaluates.ensures
+
+pub evaluates_within-returns-in-None : goal.evaluates_within-returns-in-None
+evaluates_within-returns-in-None t c = λ v.
+    let none : fields_in (value_of c.args.schema.now) ≡ None = sym c.as_object.ensures ∙ ap (λ o. option_map (λ fields. fields_view fields.now) o) c.in-None.is in
+    other_evaluated c.args.depth v (value_of c.args.root.now) (value_of c.args.schema.now) (value_of c.args.value.now) c.args.child (omega arith) none
+
+pub keyword_evaluates-returns-in-Assertion : goal.keyword_evaluates-returns-in-Assertion
+keyword_evaluates-returns-in-Assertion t c = λ v.
+    named_other c.args.depth v (value_of c.args.root.now) (value_of c.args.member.now.1) (value_of c.args.value.now) c.as_str-name.result.now (string_bytes c.args.member.now.0) (fields_view c.args.keywords.now) (fields_view c.args.after.now) c.keyword_named.result
+    (question_of c.args.child) (sym c.is_named.ensures ∙ c.if-is_named.false) c.as_str-name.utf8 c.as_str-name.ensures.value c.keyword_named.ensures (λ w. rw c.in-Assertion.is refl)
+
+pub keyword_evaluates-returns-in-Annotation : goal.keyword_evaluates-returns-in-Annotation
+keyword_evaluates-returns-in-Annotation t c = λ v.
+    named_other c.args.depth v (value_of c.args.root.now) (value_of c.args.member.now.1) (value_of c.args.value.now) c.as_str-name.result.now (string_bytes c.args.member.now.0) (fields_view c.args.keywords.now) (fields_view c.args.after.now) c.keyword_named.result
+    (question_of c.args.child) (sym c.is_named.ensures ∙ c.if-is_named.false) c.as_str-name.utf8 c.as_str-name.ensures.value c.keyword_named.ensures (λ w. rw c.in-Annotation.is refl)
+
+pub left_holds-returns-in-Array : goal.left_holds-returns-in-Array
+left_holds-returns-in-Array t c =
+    let is = ap value_of c.in-Array.is ∙ view-Array c.in-Array.items ∙ ap (λ (ys : List Value). array (items_view ys)) (sym c.deref-in-Array.ensures.value) in
+    left_elements c.elements_left_hold.result c.args.depth (value_of c.args.root.now) (value_of c.args.schema.now) (value_of c.args.value.now) (fields_view c.args.keywords.now) _ is c.elements_left_hold.ensures

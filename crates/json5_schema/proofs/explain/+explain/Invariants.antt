@@ -17,6 +17,12 @@ decreases-explain_branches l = 4 * l.depth + 1
 abbrev pub decreases-explain_names : goal.decreases-explain_names
 decreases-explain_names l = 4 * l.depth + 1
 
+abbrev pub decreases-explain_left_members : goal.decreases-explain_left_members
+decreases-explain_left_members l = 4 * l.depth + 1
+
+abbrev pub decreases-explain_left_items : goal.decreases-explain_left_items
+decreases-explain_left_items l = 4 * l.depth + 1
+
 abbrev pub decreases-explain_keyword : goal.decreases-explain_keyword
 decreases-explain_keyword l = 4 * l.depth + 2
 
