@@ -1,5 +1,5 @@
 -- From the keywords of a schema to those of all schemas in it.
-use Rattle.std.proofs.Common.{◌≡◌, ◌≤◌, ◌<◌, ◌+◌, ◌∙◌, ℕ, zero, suc, true, List, [], ◌∷◌, length, drop, get_or, None, Result, Ok, Err, IfOk, String, inl, inr, refl, sym, ap, arith, string_bytes}
+use Rattle.std.proofs.Common.{◌≡◌, ◌≤◌, ◌<◌, ◌+◌, ◌∙◌, ℕ, zero, suc, true, List, [], ◌∷◌, length, drop, get_or, None, Result, Ok, Err, MatchResult, String, inl, inr, refl, sym, ap, arith, string_bytes}
 use Rattle.std.specs.declared.alloc.Global.{Global}
 use Rattle.std.specs.Str.{chars, IsUtf8, encode_utf8_all}
 use Rattle.std.proofs.lemmas.Str.{encodes-chars}
@@ -12,7 +12,7 @@ use Rattle.json5_schema.specs.Subschemas.{is_known, takes_schema, takes_schemas,
 abbrev pub AllKnown : Fields → Type 0
 AllKnown fs = (u : List ℕ) (a : Datum) → IsMember u a fs → IsKnownThrough (encode_utf8_all u) a
 
-pub map_ok : {T E P Q : Type 0} (r : Result T E) → (P → Q) → IfOk r (λ _. P) → IfOk r (λ _. Q)
+pub map_ok : {T E P Q : Type 0} {R : E → Type 0} (r : Result T E) → (P → Q) → MatchResult r (λ _. P) R → MatchResult r (λ _. Q) R
 map_ok (Ok x) f h = f h
 map_ok (Err e) f h = h
 

@@ -10,3 +10,5 @@ mod Parts
 mod PatternsRead
 mod Evaluating
 mod Latest
+mod Refusing
+mod Distinct

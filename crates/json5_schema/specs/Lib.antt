@@ -2,7 +2,12 @@
 pub mod Keywords
 pub mod Patterns
 pub mod Formats
+pub mod Shapes
 pub mod Subschemas
 pub mod Conformance
 pub mod Views
 pub mod Anchors
+pub mod SeenTexts
+pub mod Divisors
+pub mod Refusals
+pub mod RefusalSteps

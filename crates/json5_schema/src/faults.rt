@@ -2,6 +2,7 @@
 
 ghost use Rattle.std.specs.Prelude.{◌≡◌};
 ghost use Rattle.json5_schema.specs.declared.faults.SchemaFault.TheVariants as faults;
+ghost use Rattle.json5_schema.specs.Refusals.{IsOfMemory};
 
 use crate::shape::Shape;
 use json5_types::error::Error;
@@ -103,12 +104,16 @@ impl From<Error> for SchemaFault {
 }
 
 impl From<AllocError> for SchemaFault {
+    ghost from_gives = { λ _ fault. IsOfMemory fault };
+
     fn from(error: AllocError) -> SchemaFault {
         SchemaFault::Value(Error::from(error))
     }
 }
 
 impl<T: Drop> From<AllocFailed<T>> for SchemaFault {
+    ghost from_gives = { λ _ fault. IsOfMemory fault };
+
     fn from(error: AllocFailed<T>) -> SchemaFault {
         SchemaFault::Value(Error::from(error))
     }

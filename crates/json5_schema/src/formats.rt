@@ -1,9 +1,10 @@
 //! The formats of texts that a schema may assert, each as an expression of the rules of its RFC.
 
-ghost use Rattle.std.specs.Prelude.{◌≡◌, ◌||◌, true, not, option_map, IfOk, MatchResult};
+ghost use Rattle.std.specs.Prelude.{◌≡◌, ◌||◌, true, not, option_map, IfErr, IfOk, MatchResult};
 ghost use Rattle.std.specs.Str.{chars};
 ghost use Rattle.json5_types.specs.Errors.{LacksMemory};
 ghost use Rattle.json5_types.specs.ValueMeanings.{boolean, object, no_field, field, value_of};
+ghost use Rattle.json5_schema.specs.Refusals.{IsCopyRefusal};
 ghost use Rattle.json5_schema.specs.Formats.{entirely, mailbox, ipv6_address, uri_text, expression_named, has_format};
 ghost use Rattle.json5_schema.specs.Conformance.{format_vocabulary, asserts_formats, is_in_format, with_formats};
 
@@ -224,7 +225,8 @@ pub fn asserts_formats(root: &Value) -> bool
 /// The schema with the vocabulary of asserted formats in place of its own.
 #[tactic(auto, using(crate::proofs::FormatsKnown::vocabulary_put, crate::proofs::FormatsKnown::nothing_put))]
 pub fn with_formats(alloc: Global, schema: &Value) -> Result<Value>
-    ensures { IfOk result (λ asserting. value_of asserting ≡ with_formats (value_of schema.now)) }
+    ensures taken { IfOk result (λ asserting. value_of asserting ≡ with_formats (value_of schema.now)) }
+    ensures refused { IfErr result IsCopyRefusal }
 {
     let mut asserting = schema.clone(alloc)?;
     if !asserting.is_object() {

@@ -1,10 +1,12 @@
 //! Schemas that have no keyword but known ones.
 
-ghost use Rattle.std.specs.Prelude.{◌≡◌, true, nat_eq, OnOk};
+ghost use Rattle.std.specs.Prelude.{◌≡◌, true, nat_eq, MatchResult};
 ghost use Rattle.std.specs.Cmp.Lexicographic.{pointwise};
 ghost use Rattle.std.specs.List.{list_any};
 ghost use Rattle.json5_types.specs.ValueMeanings.{array, object, value_of, items_view, fields_view};
 ghost use Rattle.json5_schema.specs.Subschemas.{is_known, takes_schema, takes_schemas, takes_named, HasOnlyKeywords, IsKnownThrough, AllKnownAmong, AllKnownNamed};
+ghost use Rattle.json5_schema.specs.Refusals.{IsFor};
+ghost use Rattle.json5_schema.specs.RefusalSteps.{IsNoKeyword};
 
 use crate::faults::{Problem, SchemaFault};
 use crate::looking::{Looked, behind, fault};
@@ -163,7 +165,9 @@ pub fn takes_named(name: &str) -> bool
 }
 
 /// The fault of a name that is no keyword.
-fn no_keyword(alloc: Global, name: &str, pointer: &str) -> SchemaFault {
+fn no_keyword(alloc: Global, name: &str, pointer: &str) -> SchemaFault
+    ensures { IsFor IsNoKeyword result }
+{
     match nearest(alloc, name, &KEYWORDS) {
         Ok(likeliest) => fault(alloc, pointer, Problem::NoKeyword(likeliest)),
         Err(error) => SchemaFault::from(error),
@@ -173,7 +177,7 @@ fn no_keyword(alloc: Global, name: &str, pointer: &str) -> SchemaFault {
 /// Refuses a schema in which a keyword isn't known.
 #[cycle(known)]
 pub fn check_schema(alloc: Global, schema: &Value, pointer: &str) -> Looked<()>
-    ensures { OnOk result (HasOnlyKeywords (value_of schema.now)) }
+    ensures { MatchResult result (λ _. HasOnlyKeywords (value_of schema.now)) (IsFor IsNoKeyword) }
 {
     match schema {
         Value::Object(keywords) => check_keywords(alloc, keywords, pointer),
@@ -184,7 +188,7 @@ pub fn check_schema(alloc: Global, schema: &Value, pointer: &str) -> Looked<()>
 /// The same of an object with these keywords.
 #[cycle(known)]
 fn check_keywords(alloc: Global, keywords: &[(String, Value)], pointer: &str) -> Looked<()>
-    ensures { OnOk result (HasOnlyKeywords (object (fields_view keywords.now))) }
+    ensures { MatchResult result (λ _. HasOnlyKeywords (object (fields_view keywords.now))) (IsFor IsNoKeyword) }
 {
     for (name, argument) in keywords {
         check_keyword(alloc, name.as_str(), argument, pointer)?;
@@ -195,7 +199,7 @@ fn check_keywords(alloc: Global, keywords: &[(String, Value)], pointer: &str) ->
 /// The same of a keyword with this name and this argument.
 #[cycle(known)]
 fn check_keyword(alloc: Global, name: &str, argument: &Value, pointer: &str) -> Looked<()>
-    ensures { OnOk result (IsKnownThrough name.now (value_of argument.now)) }
+    ensures { MatchResult result (λ _. IsKnownThrough name.now (value_of argument.now)) (IsFor IsNoKeyword) }
 {
     let place = behind(alloc, pointer, name)?;
     if !is_known(name) {
@@ -209,7 +213,7 @@ fn check_keyword(alloc: Global, name: &str, argument: &Value, pointer: &str) -> 
 /// The same of the argument, if it is a schema.
 #[cycle(known)]
 fn check_alone(alloc: Global, name: &str, argument: &Value, pointer: &str) -> Looked<()>
-    ensures { OnOk result (takes_schema name.now ≡ true → HasOnlyKeywords (value_of argument.now)) }
+    ensures { MatchResult result (λ _. takes_schema name.now ≡ true → HasOnlyKeywords (value_of argument.now)) (IsFor IsNoKeyword) }
 {
     if !takes_schema(name) {
         return Ok(());
@@ -220,7 +224,7 @@ fn check_alone(alloc: Global, name: &str, argument: &Value, pointer: &str) -> Lo
 /// The same of its elements, if they are schemas.
 #[cycle(known)]
 fn check_elements(alloc: Global, name: &str, argument: &Value, pointer: &str) -> Looked<()>
-    ensures { OnOk result (takes_schemas name.now ≡ true → AllKnownAmong (value_of argument.now)) }
+    ensures { MatchResult result (λ _. takes_schemas name.now ≡ true → AllKnownAmong (value_of argument.now)) (IsFor IsNoKeyword) }
 {
     if !takes_schemas(name) {
         return Ok(());
@@ -234,7 +238,7 @@ fn check_elements(alloc: Global, name: &str, argument: &Value, pointer: &str) ->
 /// The same of its members, if they are schemas.
 #[cycle(known)]
 fn check_members(alloc: Global, name: &str, argument: &Value, pointer: &str) -> Looked<()>
-    ensures { OnOk result (takes_named name.now ≡ true → AllKnownNamed (value_of argument.now)) }
+    ensures { MatchResult result (λ _. takes_named name.now ≡ true → AllKnownNamed (value_of argument.now)) (IsFor IsNoKeyword) }
 {
     if !takes_named(name) {
         return Ok(());
@@ -248,7 +252,7 @@ fn check_members(alloc: Global, name: &str, argument: &Value, pointer: &str) -> 
 /// The same of each schema of an array.
 #[cycle(known)]
 fn check_each(alloc: Global, schemas: &[Value], pointer: &str) -> Looked<()>
-    ensures { OnOk result (AllKnownAmong (array (items_view schemas.now))) }
+    ensures { MatchResult result (λ _. AllKnownAmong (array (items_view schemas.now))) (IsFor IsNoKeyword) }
 {
     for (index, schema) in schemas.iter().enumerate() {
         let place = format!(in alloc; "{pointer}/{index}")?;
@@ -260,7 +264,7 @@ fn check_each(alloc: Global, schemas: &[Value], pointer: &str) -> Looked<()>
 /// The same of each schema of an object.
 #[cycle(known)]
 fn check_named(alloc: Global, schemas: &[(String, Value)], pointer: &str) -> Looked<()>
-    ensures { OnOk result (AllKnownNamed (object (fields_view schemas.now))) }
+    ensures { MatchResult result (λ _. AllKnownNamed (object (fields_view schemas.now))) (IsFor IsNoKeyword) }
 {
     for (name, schema) in schemas {
         let place = behind(alloc, pointer, name.as_str())?;

@@ -1,11 +1,12 @@
 //! Multiples of a number, by decimal digits, so that no digit is rounded.
 
-ghost use Rattle.std.specs.Prelude.{◌≡◌, ◌<◌, ◌<ℤ◌, ◌+ℤ◌, ◌^◌, ◌*◌, ◌%◌, pos, Some, IfSome, MatchOption, MatchResult};
+ghost use Rattle.std.specs.Prelude.{◌≡◌, ◌<◌, ◌≤◌, ◌<ℤ◌, ◌+ℤ◌, ◌^◌, ◌*◌, ◌%◌, pos, Some, IfNone, IfSome, MatchOption, MatchResult};
 ghost use Rattle.std.specs.Str.Parse.{digits_value};
 ghost use Rattle.json5_grammar.specs.Language.Characters.{is_digit, Each};
 ghost use Rattle.json5_grammar.specs.Written.NumberText.{IsNormal};
 ghost use Rattle.json5_types.specs.ValueMeanings.{value_of};
 ghost use Rattle.json5_schema.specs.Conformance.{digits_divide, is_multiple, is_multiple_of};
+ghost use Rattle.json5_schema.specs.Divisors.{IsSmallDivisor};
 ghost use Rattle.json5_schema.specs.Views.{IsRefusal};
 
 use json5_numbers::DecimalExt;
@@ -18,8 +19,7 @@ use std::alloc::Global;
 /// What digits leave when they are divided by a number.
 fn remainder(digits: &str, divisor: u128) -> u128
     requires digits { Each is_digit digits.now }
-    requires above { 0 < divisor }
-    requires small { divisor < 2 ^ 64 }
+    requires divisor { IsSmallDivisor divisor }
     ensures { result ≡ digits_value 10 digits.now % divisor }
 {
     let mut rest = 0;
@@ -50,8 +50,9 @@ fn zeros_over(exponent: i16, other: i16) -> Option<u32>
 }
 
 /// The number that the digits spell, if it is below 2^64.
-fn spelled(digits: &str) -> Option<u128>
+pub fn spelled(digits: &str) -> Option<u128>
     requires { Each is_digit digits.now }
+    ensures none { IfNone result (2 ^ 64 ≤ digits_value 10 digits.now) }
     ensures value { IfSome result (λ number. number ≡ digits_value 10 digits.now) }
     ensures small { IfSome result (λ number. number < 2 ^ 64) }
 {

@@ -1,9 +1,16 @@
 //! The references of a schema: each has a target, and none leads back to itself without a step into the value.
 
+ghost use Rattle.std.specs.Prelude.{◌≡◌, IfErr};
+ghost use Rattle.std.specs.Str.{chars};
+ghost use Rattle.json5_types.specs.Errors.{LacksMemory};
+ghost use Rattle.json5_types.specs.ValueMeanings.{value_of, items_view, fields_view};
+ghost use Rattle.json5_schema.specs.Refusals.{is_reference, is_referred, is_referred_among, is_referred_in, IsUntaken, RefusedFor};
+
 use crate::anchors::at_fragment;
+use crate::asked::target_by;
 use crate::faults::Problem;
 use crate::known::check_schema;
-use crate::looking::{Anchor, Looked, Seen, behind, fault, look};
+use crate::looking::{Anchor, Looked, Reference, Rules, Seen, behind, fault, look};
 use crate::patterns::Pattern;
 use json5_types::error;
 use json5_types::value::Value;
@@ -29,7 +36,9 @@ impl<'v> Parts<'v> {
     }
 
     /// What a reference means.
-    fn target(&mut self, alloc: Global, reference: &str) -> error::Result<Option<&'v Value>> {
+    fn target(&mut self, alloc: Global, reference: &str) -> error::Result<Option<&'v Value>>
+        ensures { IfErr result LacksMemory }
+    {
         match reference.strip_prefix('#') {
             Some(pointer) if pointer.is_empty() || pointer.starts_with('/') => {
                 self.at(alloc, pointer)
@@ -40,7 +49,9 @@ impl<'v> Parts<'v> {
     }
 
     /// What is at a pointer.
-    fn at(&mut self, alloc: Global, pointer: &str) -> error::Result<Option<&'v Value>> {
+    fn at(&mut self, alloc: Global, pointer: &str) -> error::Result<Option<&'v Value>>
+        ensures { IfErr result LacksMemory }
+    {
         let mut path = String::new(alloc);
         let mut value = self.root;
         for step in pointer.split('/').skip(1) {
@@ -56,7 +67,9 @@ impl<'v> Parts<'v> {
     }
 
     /// Takes in what stands right in the value at this pointer, unless it was taken in before.
-    fn open(&mut self, alloc: Global, pointer: &str, value: &'v Value) -> error::Result<()> {
+    fn open(&mut self, alloc: Global, pointer: &str, value: &'v Value) -> error::Result<()>
+        ensures { IfErr result LacksMemory }
+    {
         if self.opened.contains(pointer) {
             return Ok(());
         }
@@ -74,21 +87,25 @@ impl<'v> Parts<'v> {
 }
 
 /// Looks at what the references mean, and that they come to an end. Gives the patterns that were compiled, and the names.
-pub fn follow(alloc: Global, root: &Value, seen: Seen) -> Looked<(Vec<Pattern>, Vec<Anchor>)> {
+pub fn follow(
+    alloc: Global,
+    rules: Rules,
+    root: &Value,
+    seen: Seen,
+) -> Looked<(Vec<Pattern>, Vec<Anchor>)>
+    ensures { RefusedFor (IsUntaken rules (value_of root.now)) result }
+{
     let mut seen = seen;
     let mut parts = Parts::new(alloc, root);
     let mut links = Vec::new(alloc);
     for index in 0..usize::MAX {
-        match link_at(alloc, index, &mut parts, &mut seen)? {
+        match link_at(alloc, rules, root, index, &mut parts, &mut seen)? {
             Some(nexts) => links.push(nexts)?,
             None => break,
         }
     }
-    check_ends(alloc, &seen, &links)?;
+    check_ends(alloc, rules, root, &seen, &links)?;
     let Seen {
-        counts_siblings: _,
-        is_strict: _,
-        asserts_formats: _,
         references: _,
         places: _,
         patterns,
@@ -102,31 +119,122 @@ pub fn follow(alloc: Global, root: &Value, seen: Seen) -> Looked<(Vec<Pattern>, 
 /// same value.
 fn link_at<'v>(
     alloc: Global,
+    rules: Rules,
+    root: &'v Value,
     index: usize,
     parts: &mut Parts<'v>,
     seen: &mut Seen,
-) -> Looked<Option<Vec<&'v str>>> {
+) -> Looked<Option<Vec<&'v str>>>
+    ensures { RefusedFor (IsUntaken rules (value_of root.now)) result }
+{
     let Some(reference) = seen.references.get(index) else {
         return Ok(None);
     };
-    let Some(schema) = parts.target(alloc, reference.text.as_str())? else {
-        return Err(fault(alloc, reference.pointer.as_str(), Problem::NoTarget));
-    };
-    if !reference.is_name() {
-        let pointer = String::from_str(alloc, reference.text.as_str())?;
-        if seen.is_strict {
-            check_schema(alloc, schema, pointer.as_str())?;
-        }
-        look(alloc, schema, pointer.as_str(), seen)?;
-    }
+    let text = String::from_str(alloc, reference.text.as_str())?;
     let mut nexts = Vec::new(alloc);
-    gather(schema, &mut nexts)?;
+    match parts.target(alloc, text.as_str())? {
+        Some(schema) => {
+            if !reference.means_known() {
+                look_at_target(alloc, rules, root, schema, text.as_str(), seen)?;
+            }
+            gather(schema, &mut nexts)?;
+        }
+        None => check_target(alloc, rules, root, reference)?,
+    }
     Ok(Some(nexts))
+}
+
+/// Looks at a schema that a reference means. A fault of it is made sure of by the way that `accepts` goes.
+fn look_at_target(
+    alloc: Global,
+    rules: Rules,
+    root: &Value,
+    schema: &Value,
+    text: &str,
+    seen: &mut Seen,
+) -> Looked<()>
+    ensures { RefusedFor (IsUntaken rules (value_of root.now)) result }
+{
+    if rules.is_strict {
+        check_schema(alloc, schema, text)?;
+    }
+    if look(alloc, rules, false, schema, text, seen).is_ok() {
+        return Ok(());
+    }
+    match target_by(root, text) {
+        Some(schema) if is_referred(root, text) => look(alloc, rules, false, schema, text, seen),
+        _ => Ok(()),
+    }
+}
+
+/// Refuses a reference that leads nowhere.
+fn check_target(alloc: Global, rules: Rules, root: &Value, reference: &Reference) -> Looked<()>
+    ensures { RefusedFor (IsUntaken rules (value_of root.now)) result }
+{
+    let text = reference.text.as_str();
+    match target_by(root, text) {
+        None if is_referred(root, text) => Err(fault(
+            alloc,
+            reference.pointer.as_str(),
+            Problem::NoTarget,
+        )),
+        _ => Ok(()),
+    }
+}
+
+/// Whether a `$ref` somewhere in the value has this text.
+#[cycle(is_referred)]
+fn is_referred(value: &Value, text: &str) -> bool
+    ensures { result ≡ is_referred text.now (value_of value.now) }
+{
+    match value {
+        Value::Array(items) => is_referred_among(items, text),
+        Value::Object(members) => is_referred_in(members, text),
+        _ => false,
+    }
+}
+
+/// The same of these elements.
+#[cycle(is_referred)]
+fn is_referred_among(items: &[Value], text: &str) -> bool
+    ensures { result ≡ is_referred_among text.now (items_view items.now) }
+{
+    for item in items {
+        if is_referred(item, text) {
+            return true;
+        }
+    }
+    false
+}
+
+/// The same of these members.
+#[cycle(is_referred)]
+fn is_referred_in(members: &[(String, Value)], text: &str) -> bool
+    ensures { result ≡ is_referred_in text.now (fields_view members.now) }
+{
+    for (name, value) in members {
+        if is_reference(name.as_str(), value, text) || is_referred(value, text) {
+            return true;
+        }
+    }
+    false
+}
+
+/// Whether a member is a `$ref` with this text.
+fn is_reference(name: &str, value: &Value, text: &str) -> bool
+    ensures { result ≡ is_reference text.now (chars name.now) (value_of value.now) }
+{
+    match value {
+        Value::String(found) => name == "$ref" && found.as_str() == text,
+        _ => false,
+    }
 }
 
 /// Gathers the references that a schema applies to the same value.
 #[cycle(gather)]
-fn gather<'v>(schema: &'v Value, nexts: &mut Vec<&'v str>) -> error::Result<()> {
+fn gather<'v>(schema: &'v Value, nexts: &mut Vec<&'v str>) -> error::Result<()>
+    ensures { IfErr result LacksMemory }
+{
     match schema {
         Value::Object(keywords) => gather_keywords(keywords, nexts),
         _ => Ok(()),
@@ -138,7 +246,9 @@ fn gather<'v>(schema: &'v Value, nexts: &mut Vec<&'v str>) -> error::Result<()> 
 fn gather_keywords<'v>(
     keywords: &'v [(String, Value)],
     nexts: &mut Vec<&'v str>,
-) -> error::Result<()> {
+) -> error::Result<()>
+    ensures { IfErr result LacksMemory }
+{
     for (name, argument) in keywords {
         gather_keyword(name.as_str(), argument, nexts)?;
     }
@@ -151,7 +261,9 @@ fn gather_keyword<'v>(
     name: &str,
     argument: &'v Value,
     nexts: &mut Vec<&'v str>,
-) -> error::Result<()> {
+) -> error::Result<()>
+    ensures { IfErr result LacksMemory }
+{
     match (name, argument) {
         ("$ref", Value::String(text)) => {
             nexts.push(text.as_str())?;
@@ -168,7 +280,9 @@ fn gather_keyword<'v>(
 
 /// Gathers those of each schema of an array.
 #[cycle(gather)]
-fn gather_each<'v>(schemas: &'v [Value], nexts: &mut Vec<&'v str>) -> error::Result<()> {
+fn gather_each<'v>(schemas: &'v [Value], nexts: &mut Vec<&'v str>) -> error::Result<()>
+    ensures { IfErr result LacksMemory }
+{
     for schema in schemas {
         gather(schema, nexts)?;
     }
@@ -177,7 +291,9 @@ fn gather_each<'v>(schemas: &'v [Value], nexts: &mut Vec<&'v str>) -> error::Res
 
 /// Gathers those of each schema of an object.
 #[cycle(gather)]
-fn gather_named<'v>(schemas: &'v [(String, Value)], nexts: &mut Vec<&'v str>) -> error::Result<()> {
+fn gather_named<'v>(schemas: &'v [(String, Value)], nexts: &mut Vec<&'v str>) -> error::Result<()>
+    ensures { IfErr result LacksMemory }
+{
     for (_, schema) in schemas {
         gather(schema, nexts)?;
     }
@@ -185,7 +301,28 @@ fn gather_named<'v>(schemas: &'v [(String, Value)], nexts: &mut Vec<&'v str>) ->
 }
 
 /// Refuses a reference that never comes to an end: one ends once all those have that its target applies to the same value.
-fn check_ends(alloc: Global, seen: &Seen, links: &[Vec<&str>]) -> Looked<()> {
+fn check_ends(
+    alloc: Global,
+    rules: Rules,
+    root: &Value,
+    seen: &Seen,
+    links: &[Vec<&str>],
+) -> Looked<()>
+    ensures { RefusedFor (IsUntaken rules (value_of root.now)) result }
+{
+    let left = left_of(alloc, seen, links)?;
+    for (reference, left) in seen.references.iter().zip(&left) {
+        if *left > 0 && is_referred(root, reference.text.as_str()) {
+            return Err(fault(alloc, reference.pointer.as_str(), Problem::Endless));
+        }
+    }
+    Ok(())
+}
+
+/// For how many others each reference waits that never comes to an end.
+fn left_of(alloc: Global, seen: &Seen, links: &[Vec<&str>]) -> error::Result<Vec<usize>>
+    ensures { IfErr result LacksMemory }
+{
     let waiters = waiters_of(alloc, seen, links)?;
     let (mut left, mut ended) = counts_of(alloc, links)?;
     for turn in 0..links.len() {
@@ -198,16 +335,13 @@ fn check_ends(alloc: Global, seen: &Seen, links: &[Vec<&str>]) -> Looked<()> {
             }
         }
     }
-    for (reference, left) in seen.references.iter().zip(&left) {
-        if *left > 0 {
-            return Err(fault(alloc, reference.pointer.as_str(), Problem::Endless));
-        }
-    }
-    Ok(())
+    Ok(left)
 }
 
 /// For how many others each reference waits, and those that wait for none.
-fn counts_of(alloc: Global, links: &[Vec<&str>]) -> error::Result<(Vec<usize>, Vec<usize>)> {
+fn counts_of(alloc: Global, links: &[Vec<&str>]) -> error::Result<(Vec<usize>, Vec<usize>)>
+    ensures { IfErr result LacksMemory }
+{
     let mut counts = Vec::new(alloc);
     let mut ended = Vec::new(alloc);
     for (place, nexts) in links.iter().enumerate() {
@@ -220,7 +354,9 @@ fn counts_of(alloc: Global, links: &[Vec<&str>]) -> error::Result<(Vec<usize>, V
 }
 
 /// Which references wait for each.
-fn waiters_of(alloc: Global, seen: &Seen, links: &[Vec<&str>]) -> error::Result<Vec<Vec<usize>>> {
+fn waiters_of(alloc: Global, seen: &Seen, links: &[Vec<&str>]) -> error::Result<Vec<Vec<usize>>>
+    ensures { IfErr result LacksMemory }
+{
     let mut waiters: Vec<Vec<usize>> = Vec::new(alloc);
     for _ in links {
         waiters.push(Vec::new(alloc))?;

@@ -1,10 +1,12 @@
 //! Schemas, looked at once, and whether documents conform to them.
 
-ghost use Rattle.std.specs.Prelude.{◌≡◌, ◌==◌, true, false, vec_len, IfOk, MatchResult, OnOk};
+ghost use Rattle.std.specs.Prelude.{◌≡◌, ◌==◌, true, false, vec_len, IfErr, IfOk, MatchResult, OnOk};
 ghost use Rattle.json5_types.specs.Errors.{LacksMemory};
 ghost use Rattle.json5_types.specs.ValueMeanings.{value_of};
 ghost use Rattle.json5_schema.specs.Conformance.{Conforms, with_formats};
 ghost use Rattle.json5_schema.specs.Subschemas.{HasOnlyKeywords};
+ghost use Rattle.json5_schema.specs.Refusals.{IsFor, IsRefused, IsRefusedBy, IsRuled, IsUntaken, RefusedFor};
+ghost use Rattle.json5_schema.specs.RefusalSteps.{IsOfOldDraft, IsUnknown};
 ghost use Rattle.json5_schema.specs.Views.{IsRefusal, schema_of};
 
 use crate::conforms::{MAX_DEPTH, conforms};
@@ -14,7 +16,7 @@ use crate::faults::{Problem, SchemaFault};
 use crate::formats::{asserts_formats, with_formats};
 use crate::found::Found;
 use crate::known::check_schema;
-use crate::looking::{Anchor, Seen, fault, look};
+use crate::looking::{Anchor, Rules, Seen, fault, look};
 use crate::patterns::Pattern;
 use crate::references::follow;
 use crate::words::shown;
@@ -51,7 +53,8 @@ impl Schema {
     /// - `At`, with a JSON pointer to the place and what is wrong there.
     /// - `Value`, where a request for memory was refused, or where more than 128 brackets are open at once in the value.
     pub fn new(alloc: Global, value: &Value) -> Result<Schema, SchemaFault>
-        ensures { IfOk result (λ schema. schema_of schema ≡ value_of value.now) }
+        ensures taken { IfOk result (λ schema. schema_of schema ≡ value_of value.now) }
+        ensures refused { IfErr result (IsRefused false (value_of value.now)) }
     {
         Schema::of(alloc, value.clone(alloc)?, false)
     }
@@ -72,7 +75,8 @@ impl Schema {
     /// - `NoKeyword` at a keyword that is none.
     /// - `NoFormat` at a format that isn't asserted, where the schema's `$vocabulary` asserts formats.
     pub fn strict(alloc: Global, value: &Value) -> Result<Schema, SchemaFault>
-        ensures { IfOk result (λ schema. (schema_of schema ≡ value_of value.now) × HasOnlyKeywords (schema_of schema)) }
+        ensures taken { IfOk result (λ schema. (schema_of schema ≡ value_of value.now) × HasOnlyKeywords (schema_of schema)) }
+        ensures refused { IfErr result (IsRefused true (value_of value.now)) }
     {
         Schema::of(alloc, value.clone(alloc)?, true)
     }
@@ -93,7 +97,8 @@ impl Schema {
     ///
     /// As `new`.
     pub fn with_formats(alloc: Global, value: &Value) -> Result<Schema, SchemaFault>
-        ensures { IfOk result (λ schema. schema_of schema ≡ with_formats (value_of value.now)) }
+        ensures taken { IfOk result (λ schema. schema_of schema ≡ with_formats (value_of value.now)) }
+        ensures refused { IfErr result (IsRefused false (with_formats (value_of value.now))) }
     {
         Schema::of(alloc, with_formats(alloc, value)?, false)
     }
@@ -109,7 +114,8 @@ impl Schema {
     ///
     /// As `strict`.
     pub fn strict_with_formats(alloc: Global, value: &Value) -> Result<Schema, SchemaFault>
-        ensures { IfOk result (λ schema. (schema_of schema ≡ with_formats (value_of value.now)) × HasOnlyKeywords (schema_of schema)) }
+        ensures taken { IfOk result (λ schema. (schema_of schema ≡ with_formats (value_of value.now)) × HasOnlyKeywords (schema_of schema)) }
+        ensures refused { IfErr result (IsRefused true (with_formats (value_of value.now))) }
     {
         Schema::of(alloc, with_formats(alloc, value)?, true)
     }
@@ -118,10 +124,11 @@ impl Schema {
     fn of(alloc: Global, root: Value, is_strict: bool) -> Result<Schema, SchemaFault>
         ensures same { IfOk result (λ schema. schema_of schema ≡ value_of root) }
         ensures known { is_strict ≡ true → IfOk result (λ schema. HasOnlyKeywords (schema_of schema)) }
+        ensures refused { RefusedFor (IsRefusedBy is_strict (value_of root)) result }
     {
-        let seen = nothing_seen(alloc, &root, is_strict)?;
+        let rules = rules_of(alloc, &root, is_strict)?;
         check_keywords_of(alloc, &root, is_strict)?;
-        let (patterns, anchors) = look_at_all(alloc, &root, seen)?;
+        let (patterns, anchors) = look_at_all(alloc, rules, &root)?;
         Ok(Schema {
             root,
             patterns,
@@ -242,7 +249,9 @@ fn whole_fault(alloc: Global, value: &Value) -> error::Result<Fault> {
 }
 
 /// Whether a draft is named in which keywords beside `$ref` count: drafts 6 and 7 pass over them.
-fn counts_siblings(alloc: Global, root: &Value) -> Result<bool, SchemaFault> {
+fn counts_siblings(alloc: Global, root: &Value) -> Result<bool, SchemaFault>
+    ensures { RefusedFor (IsOfOldDraft (value_of root.now)) result }
+{
     let Some(draft) = root.get("$schema").and_then(|name| name.as_str()) else {
         return Ok(false);
     };
@@ -252,23 +261,21 @@ fn counts_siblings(alloc: Global, root: &Value) -> Result<bool, SchemaFault> {
     Ok(draft.contains("2019-09") || draft.contains("2020-12"))
 }
 
-/// What is known of a schema before it is looked at.
-fn nothing_seen(alloc: Global, root: &Value, is_strict: bool) -> Result<Seen, SchemaFault> {
-    Ok(Seen {
+/// How a schema is looked at.
+fn rules_of(alloc: Global, root: &Value, is_strict: bool) -> Result<Rules, SchemaFault>
+    ensures { MatchResult result (IsRuled is_strict (value_of root.now)) (IsFor (IsOfOldDraft (value_of root.now))) }
+{
+    Ok(Rules {
         counts_siblings: counts_siblings(alloc, root)?,
         is_strict,
         asserts_formats: asserts_formats(root),
-        references: Vec::new(alloc),
-        places: BTreeMap::new(alloc),
-        patterns: Vec::new(alloc),
-        anchors: Vec::new(alloc),
-        anchor_places: BTreeMap::new(alloc),
     })
 }
 
 /// Refuses a strict schema in which a keyword isn't known.
 fn check_keywords_of(alloc: Global, root: &Value, is_strict: bool) -> Result<(), SchemaFault>
-    ensures { OnOk result (is_strict ≡ true → HasOnlyKeywords (value_of root.now)) }
+    ensures known { OnOk result (is_strict ≡ true → HasOnlyKeywords (value_of root.now)) }
+    ensures refused { RefusedFor (IsUnknown is_strict) result }
 {
     if !is_strict {
         return Ok(());
@@ -279,10 +286,18 @@ fn check_keywords_of(alloc: Global, root: &Value, is_strict: bool) -> Result<(),
 /// Looks at a schema, and at all that its references mean.
 fn look_at_all(
     alloc: Global,
+    rules: Rules,
     root: &Value,
-    seen: Seen,
-) -> Result<(Vec<Pattern>, Vec<Anchor>), SchemaFault> {
-    let mut seen = seen;
-    look(alloc, root, "", &mut seen)?;
-    follow(alloc, root, seen)
+) -> Result<(Vec<Pattern>, Vec<Anchor>), SchemaFault>
+    ensures { RefusedFor (IsUntaken rules (value_of root.now)) result }
+{
+    let mut seen = Seen {
+        references: Vec::new(alloc),
+        places: BTreeMap::new(alloc),
+        patterns: Vec::new(alloc),
+        anchors: Vec::new(alloc),
+        anchor_places: BTreeMap::new(alloc),
+    };
+    look(alloc, rules, true, root, "", &mut seen)?;
+    follow(alloc, rules, root, seen)
 }

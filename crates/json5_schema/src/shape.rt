@@ -1,7 +1,15 @@
 //! What the argument of a keyword has to be.
 
+ghost use Rattle.std.specs.Prelude.{◌≡◌, ◌^◌, ◌&&◌, pos, int_le, int_lt};
+ghost use Rattle.json5_grammar.specs.Language.Numbers.{decimal};
+ghost use Rattle.json5_types.specs.ValueMeanings.{number, value_of, items_view, fields_view};
+ghost use Rattle.json5_schema.specs.Shapes.{shape_named, are_texts, is_names, are_named_names, is_named_names, is_known_kind, is_kind, are_kinds, is_kinds, is_count, is_divisor, is_schema, has_item, has_shape};
+
 use crate::kind::{Kind, is_integral, kind_named};
+use crate::multiples::spelled;
+use json5_types::decimal::Decimal;
 use json5_types::value::Value;
+use json5_types::whole::Whole;
 
 /// What the argument of a keyword has to be.
 #[derive(Clone, Copy, Debug)]
@@ -74,94 +82,226 @@ impl Shape {
 }
 
 /// What the argument of the keyword with this name has to be.
-pub(crate) fn shape_of(name: &str) -> Shape {
+pub(crate) fn shape_of(name: &str) -> Shape
+    ensures { result ≡ shape_named name.now }
+{
     match name {
-        "not" | "if" | "then" | "else" => Shape::Schema,
-        "additionalProperties" | "propertyNames" | "additionalItems" | "contains" => Shape::Schema,
-        "unevaluatedItems" | "unevaluatedProperties" | "contentSchema" => Shape::Schema,
-        "allOf" | "anyOf" | "oneOf" | "prefixItems" => Shape::Schemas,
+        "not" => Shape::Schema,
+        "if" => Shape::Schema,
+        "then" => Shape::Schema,
+        "else" => Shape::Schema,
+        "additionalProperties" => Shape::Schema,
+        "propertyNames" => Shape::Schema,
+        "additionalItems" => Shape::Schema,
+        "contains" => Shape::Schema,
+        "unevaluatedItems" => Shape::Schema,
+        "unevaluatedProperties" => Shape::Schema,
+        "contentSchema" => Shape::Schema,
+        "allOf" => Shape::Schemas,
+        "anyOf" => Shape::Schemas,
+        "oneOf" => Shape::Schemas,
+        "prefixItems" => Shape::Schemas,
         "items" => Shape::SchemaOrSchemas,
-        "properties" | "dependentSchemas" | "$defs" | "definitions" => Shape::NamedSchemas,
+        "properties" => Shape::NamedSchemas,
+        "dependentSchemas" => Shape::NamedSchemas,
+        "$defs" => Shape::NamedSchemas,
+        "definitions" => Shape::NamedSchemas,
         "dependencies" => Shape::NamedSchemasOrNames,
         "dependentRequired" => Shape::NamedNames,
         "required" => Shape::Names,
         "type" => Shape::Kinds,
         "enum" => Shape::Array,
         "uniqueItems" => Shape::Boolean,
-        "maximum" | "exclusiveMaximum" | "minimum" | "exclusiveMinimum" => Shape::Number,
-        "maxLength" | "minLength" | "maxItems" | "minItems" => Shape::Count,
-        "maxProperties" | "minProperties" | "maxContains" | "minContains" => Shape::Count,
+        "maximum" => Shape::Number,
+        "exclusiveMaximum" => Shape::Number,
+        "minimum" => Shape::Number,
+        "exclusiveMinimum" => Shape::Number,
+        "maxLength" => Shape::Count,
+        "minLength" => Shape::Count,
+        "maxItems" => Shape::Count,
+        "minItems" => Shape::Count,
+        "maxProperties" => Shape::Count,
+        "minProperties" => Shape::Count,
+        "maxContains" => Shape::Count,
+        "minContains" => Shape::Count,
         "$ref" => Shape::Reference,
         "$anchor" => Shape::Anchor,
         "multipleOf" => Shape::Divisor,
         "pattern" => Shape::Pattern,
         "patternProperties" => Shape::PatternSchemas,
-        "$dynamicRef" | "$dynamicAnchor" => Shape::Undecided,
-        "$recursiveRef" | "$recursiveAnchor" => Shape::Undecided,
+        "$dynamicRef" => Shape::Undecided,
+        "$dynamicAnchor" => Shape::Undecided,
+        "$recursiveRef" => Shape::Undecided,
+        "$recursiveAnchor" => Shape::Undecided,
         _ => Shape::Any,
     }
 }
 
 /// Whether all of these are strings.
-fn are_names(names: &[Value]) -> bool {
-    names.iter().all(|name| name.is_string())
+fn are_names(names: &[Value]) -> bool
+    ensures { result ≡ are_texts (items_view names.now) }
+{
+    for name in names {
+        if !name.is_string() {
+            return false;
+        }
+    }
+    true
 }
 
 /// Whether it is an array of strings.
-pub(crate) fn is_names(argument: &Value) -> bool {
+pub(crate) fn is_names(argument: &Value) -> bool
+    ensures { result ≡ is_names (value_of argument.now) }
+{
     match argument {
         Value::Array(names) => are_names(names),
         _ => false,
     }
 }
 
+/// Whether all of these are arrays of strings.
+fn are_named_names(members: &[(String, Value)]) -> bool
+    ensures { result ≡ are_named_names (fields_view members.now) }
+{
+    for (_, names) in members {
+        if !is_names(names) {
+            return false;
+        }
+    }
+    true
+}
+
 /// Whether it is an object of arrays of strings.
-fn is_named_names(argument: &Value) -> bool {
+fn is_named_names(argument: &Value) -> bool
+    ensures { result ≡ is_named_names (value_of argument.now) }
+{
     match argument {
-        Value::Object(members) => members.iter().all(|member| is_names(&member.1)),
+        Value::Object(members) => are_named_names(members),
         _ => false,
     }
+}
+
+/// Whether it is one of those that `type` can name.
+fn is_known(kind: Kind) -> bool
+    ensures { result ≡ is_known_kind kind }
+{
+    !matches!(kind, Kind::Unknown)
 }
 
 /// Whether it is the name of a kind.
-fn is_kind(name: &Value) -> bool {
+fn is_kind(name: &Value) -> bool
+    ensures { result ≡ is_kind (value_of name.now) }
+{
     match name {
-        Value::String(name) => !matches!(kind_named(name.as_str()), Kind::Unknown),
+        Value::String(name) => is_known(kind_named(name.as_str())),
         _ => false,
     }
 }
 
+/// Whether all of these are names of kinds.
+fn are_kinds(names: &[Value]) -> bool
+    ensures { result ≡ are_kinds (items_view names.now) }
+{
+    for name in names {
+        if !is_kind(name) {
+            return false;
+        }
+    }
+    true
+}
+
 /// Whether it is the name of a kind, or an array of them.
-fn is_kinds(argument: &Value) -> bool {
+fn is_kinds(argument: &Value) -> bool
+    ensures { result ≡ is_kinds (value_of argument.now) }
+{
     match argument {
-        Value::Array(names) => names.iter().all(is_kind),
+        Value::Array(names) => are_kinds(names),
         _ => is_kind(argument),
     }
 }
 
+/// Whether a whole number isn't below zero.
+fn is_whole_count(number: Whole) -> bool
+    ensures { result ≡ int_le (pos 0) number }
+{
+    number.as_u128().is_some()
+}
+
+/// Whether a decimal has no fraction and isn't below zero.
+fn is_decimal_count(given: &Decimal) -> bool
+    ensures { result ≡ is_count (number (decimal given.now)) }
+{
+    is_integral(given) && (!given.is_negative() || given.digits().is_empty())
+}
+
 /// Whether it is a number without a fraction and not below zero.
-fn is_count(argument: &Value) -> bool {
+fn is_count(argument: &Value) -> bool
+    ensures { result ≡ is_count (value_of argument.now) }
+{
     match argument {
-        Value::Whole(number) => number.as_u128().is_some(),
-        Value::Decimal(number) => {
-            is_integral(number) && (!number.is_negative() || number.digits().is_empty())
-        }
+        Value::Whole(number) => is_whole_count(*number),
+        Value::Decimal(number) => is_decimal_count(number),
         _ => false,
     }
+}
+
+/// Whether a whole number is above zero and below 2^64.
+fn is_whole_divisor(number: Whole) -> bool
+    ensures { result ≡ (int_lt (pos 0) number && int_lt number (pos (2 ^ 64))) }
+{
+    match number.as_u128() {
+        Some(number) => 0 < number && number <= 0xFFFF_FFFF_FFFF_FFFF,
+        None => false,
+    }
+}
+
+/// Whether a decimal is above zero, with digits below 2^64.
+fn is_decimal_divisor(given: &Decimal) -> bool
+    ensures { result ≡ is_divisor (number (decimal given.now)) }
+{
+    let digits = given.digits();
+    !given.is_negative() && !digits.is_empty() && spelled(digits).is_some()
 }
 
 /// Whether it is a number above zero, whose digits are below 2^64.
-fn is_divisor(argument: &Value) -> bool {
+fn is_divisor(argument: &Value) -> bool
+    ensures { result ≡ is_divisor (value_of argument.now) }
+{
     match argument {
-        Value::Whole(number) => matches!(number.as_u128(), Some(1..=0xFFFF_FFFF_FFFF_FFFF)),
-        Value::Decimal(number) => !number.is_negative() && number.digits().parse::<u64>().is_ok(),
+        Value::Whole(number) => is_whole_divisor(*number),
+        Value::Decimal(number) => is_decimal_divisor(number),
         _ => false,
     }
 }
 
-/// Whether the argument has the shape, as far as it holds no schemas.
-pub(crate) fn is_of_shape(shape: Shape, argument: &Value) -> bool {
+/// Whether it is a schema: an object, or a boolean.
+pub(crate) fn is_schema(argument: &Value) -> bool
+    ensures { result ≡ is_schema (value_of argument.now) }
+{
+    argument.is_boolean() || argument.is_object()
+}
+
+/// Whether it is an array of one element at least.
+fn has_item(argument: &Value) -> bool
+    ensures { result ≡ has_item (value_of argument.now) }
+{
+    match argument {
+        Value::Array(items) => !items.is_empty(),
+        _ => false,
+    }
+}
+
+/// Whether the argument has the shape, apart from what is in an array or an object of schemas.
+pub(crate) fn is_of_shape(shape: Shape, argument: &Value) -> bool
+    ensures { result ≡ has_shape shape (value_of argument.now) }
+{
     match shape {
+        Shape::Schema => is_schema(argument),
+        Shape::Schemas => has_item(argument),
+        Shape::SchemaOrSchemas => is_schema(argument) || argument.is_array(),
+        Shape::NamedSchemas => argument.is_object(),
+        Shape::NamedSchemasOrNames => argument.is_object(),
+        Shape::PatternSchemas => argument.is_object(),
         Shape::NamedNames => is_named_names(argument),
         Shape::Names => is_names(argument),
         Shape::Kinds => is_kinds(argument),
@@ -170,7 +310,11 @@ pub(crate) fn is_of_shape(shape: Shape, argument: &Value) -> bool {
         Shape::Number => argument.is_number(),
         Shape::Count => is_count(argument),
         Shape::Divisor => is_divisor(argument),
+        Shape::Reference => argument.is_string(),
+        Shape::Anchor => argument.is_string(),
+        Shape::Pattern => argument.is_string(),
         Shape::Format => argument.is_string(),
-        _ => true,
+        Shape::Undecided => true,
+        Shape::Any => true,
     }
 }
