@@ -1,6 +1,6 @@
 //! A schema is looked through once, with all schemas in it.
 
-ghost use Rattle.std.specs.Prelude.{◌≡◌, IfErr};
+ghost use Rattle.std.specs.Prelude.{◌≡◌, ◌&&◌, not, IfErr};
 ghost use Rattle.json5_types.specs.Errors.{LacksMemory};
 ghost use Rattle.json5_types.specs.ValueMeanings.{array, object, value_of, items_view, fields_view};
 ghost use Rattle.json5_schema.specs.Refusals.{asks_beside, begins_with_sign, has_percent, id_shape, is_followed, is_signed, shape_in, IsFaulty, IsFaultyAmong, IsFaultyIn, IsFor, RefusedFor};
@@ -166,10 +166,17 @@ fn look_at_keyword(
 {
     let place = behind(alloc, pointer, name)?;
     let shape = shape_at(rules, is_top, name, argument);
-    if refers && !rules.counts_siblings && asks_beside(name, shape) {
+    if is_passed_over(rules, refers, name, shape) {
         return Err(fault(alloc, place.as_str(), Problem::BesideReference));
     }
     look_at(alloc, rules, shape, argument, place.as_str(), seen)
+}
+
+/// Whether the keyword stands beside `$ref` and asks something, where drafts differ in whether it counts.
+fn is_passed_over(rules: Rules, refers: bool, name: &str, shape: Shape) -> bool
+    ensures { result ≡ (refers && (not rules.counts_siblings && asks_beside name.now shape)) }
+{
+    refers && !rules.counts_siblings && asks_beside(name, shape)
 }
 
 /// What the argument of a keyword has to be, in the whole or further in.
