@@ -86,10 +86,10 @@ module _ (members : List Named) (i n : ℕ) (f : Named) (key : Bor (List ℕ)) (
   sees = seen_more seen new f (drop n members) (drop i members) key.now here named utf8 saw updated
 
   pub kept_step : (more : List Member) (m : Member) → more ≡ found ++ m ∷ [] → b ≡ true → m.name.now ≡ string_bytes f.0 → m.value.now ≡ f.1 → (members_view (reverse more) ≡ latest (fields_view (drop i members))) × Sees new (fields_view (drop i members))
-  kept_step more m pushed yes name value = (ap (λ ms. members_view (reverse ms)) pushed ∙ one_kept found m f (drop n members) (drop i members) here were name value (has_none b _ _ added before yes), sees)
+  kept_step more m pushed is_new name value = (ap (λ ms. members_view (reverse ms)) pushed ∙ one_kept found m f (drop n members) (drop i members) here were name value (has_none b _ _ added before is_new), sees)
 
   pub passed_step : b ≡ false → (members_view (reverse found) ≡ latest (fields_view (drop i members))) × Sees new (fields_view (drop i members))
-  passed_step no = (one_passed found f (drop n members) (drop i members) here were (has_one b _ _ added before no), sees)
+  passed_step is_old = (one_passed found f (drop n members) (drop i members) here were (has_one b _ _ added before is_old), sees)
 
 pub members_counted : (ms : List Member) → fields_len (members_view ms) ≡ length ms
 members_counted [] = refl

@@ -50,10 +50,9 @@ pub struct Reference {
 }
 
 impl Reference {
-    /// Whether it is by the name of a schema, which was looked at where it stands.
-    pub fn is_name(&self) -> bool {
-        let text = self.text.as_str();
-        text != "#" && !text.starts_with("#/")
+    /// Whether it means the whole, or a schema by its name, which are looked at where they stand.
+    pub fn means_known(&self) -> bool {
+        !self.text.as_str().starts_with("#/")
     }
 }
 

@@ -112,7 +112,7 @@ fn link_at<'v>(
     let Some(schema) = parts.target(alloc, reference.text.as_str())? else {
         return Err(fault(alloc, reference.pointer.as_str(), Problem::NoTarget));
     };
-    if !reference.is_name() {
+    if !reference.means_known() {
         let pointer = String::from_str(alloc, reference.text.as_str())?;
         if seen.is_strict {
             check_schema(alloc, schema, pointer.as_str())?;
