@@ -1,5 +1,5 @@
 -- What schemas evaluate, and what is left: steps that answers cite.
-use Rattle.std.proofs.Common.{if◌then◌else◌, ◌≡◌, ◌∙◌, ◌<◌, ◌-◌, ◌+◌, drop, take, get_or, length, ℕ, suc, Bool, true, false, not, ◌&&◌, ◌||◌, List, [], ◌∷◌, Option, Some, None, Result, Ok, Err, MatchResult, ap, sym, refl, arith, String, string_bytes}
+use Rattle.std.proofs.Common.{if◌then◌else◌, ◌≡◌, ◌∙◌, ◌<◌, ◌-◌, ◌+◌, drop, take, get_or, length, ℕ, suc, Bool, true, false, not, ◌&&◌, ◌||◌, List, ◌∷◌, Some, None, Result, Ok, Err, MatchResult, ap, sym, refl, arith, String, string_bytes}
 use Rattle.std.specs.declared.alloc.Global.{Global}
 use Rattle.std.specs.Str.{chars, IsUtf8, encode_utf8_all}
 use Rattle.std.proofs.lemmas.Str.{encodes-chars}
@@ -13,7 +13,7 @@ use Rattle.json5_schema.specs.declared.asked.Pair.{Pair}
 use Rattle.json5_schema.specs.declared.keyword.Applicator.{Applicator}
 use Rattle.json5_schema.specs.declared.keyword.Keyword.{Keyword}
 use Rattle.json5_schema.specs.Keywords.{keyword_named}
-use Rattle.json5_schema.specs.Conformance.{is_named, Question, conforming, evaluating_index, Answers, answers, schema_evaluates, Asked, is_in_place, is_contains, is_contained, reaches, applies, applicator_evaluates, asked_evaluates, evaluates, keyword_evaluates, keywords_evaluate, child_left_holds, elements_left_hold, left_holds, pair_evaluates, some_evaluate, unfolded}
+use Rattle.json5_schema.specs.Conformance.{is_named, Question, evaluating_index, Answers, answers, schema_evaluates, Asked, is_in_place, is_contains, is_contained, reaches, applies, applicator_evaluates, asked_evaluates, evaluates, keyword_evaluates, keywords_evaluate, child_left_holds, elements_left_hold, left_holds, pair_evaluates, some_evaluate, unfolded}
 use Rattle.json5_schema.specs.Views.{IsRefusal, question_of, pair_view, pairs_view}
 use Rattle.std.proofs.lemmas.List.{drop_more}
 use Rattle.json5_types.proofs.LookedUp.{from_here}

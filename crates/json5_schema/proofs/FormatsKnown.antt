@@ -1,5 +1,5 @@
 -- Steps that answers about formats cite.
-use Rattle.std.proofs.Common.{◌≡◌, ◌∙◌, ℕ, Bool, true, false, List, Option, Some, None, is_some, Result, Ok, Err, MatchResult, refl, sym, ap}
+use Rattle.std.proofs.Common.{◌≡◌, ℕ, Bool, true, false, List, Some, None, is_some, Result, Ok, Err, MatchResult, refl, sym}
 use Rattle.std.specs.Str.{chars, IsUtf8}
 use lib.Chars.{codes}
 use Rattle.std.proofs.lemmas.Str.{encodes-chars}
@@ -9,7 +9,7 @@ use Rattle.json5_types.specs.ValueMeanings.{Datum, null, boolean, number, text, 
 use Rattle.json5_types.specs.ValueLookups.{fields_in}
 use Rattle.json5_types.specs.ValueChanges.{inserted}
 use Rattle.json5_schema.specs.Patterns.{matches}
-use Rattle.json5_schema.specs.Formats.{expression_named, is_spelled, has_format}
+use Rattle.json5_schema.specs.Formats.{expression_named, has_format}
 use Rattle.json5_schema.specs.Conformance.{format_vocabulary, vocabulary_key, with_formats}
 
 pub known_format : (r : Result Bool Error) (name t e : List ℕ) → IsUtf8 name → IsUtf8 t → Some e ≡ expression_named name → MatchResult r (λ b. b ≡ matches e t) LacksMemory → MatchResult r (λ b. b ≡ has_format (chars name) (chars t)) LacksMemory

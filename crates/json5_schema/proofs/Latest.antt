@@ -1,5 +1,5 @@
 -- The members of which none later has the name, and those that were seen from the last one on.
-use Rattle.std.proofs.Common.{◌≡◌, ◌∙◌, ◌<◌, ◌+◌, get_or, if◌then◌else◌, drop, length, zero, suc, arith, ℕ, Bool, true, false, nat_eq, not, List, [], ◌∷◌, ◌++◌, Option, Some, None, is_some, refl, sym, ap, subst, String, string_bytes}
+use Rattle.std.proofs.Common.{◌≡◌, ◌∙◌, ◌<◌, ◌+◌, get_or, if◌then◌else◌, drop, length, zero, suc, arith, ℕ, Bool, true, false, nat_eq, not, List, [], ◌∷◌, ◌++◌, Option, Some, None, is_some, refl, sym, ap, String, string_bytes}
 use Rattle.std.specs.Prelude.{cond, reverse}
 use Rattle.std.specs.Borrow.{Bor}
 use Rattle.std.specs.BTreeSet.{BTreeSet, contains_by}

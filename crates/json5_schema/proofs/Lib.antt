@@ -10,3 +10,4 @@ mod Parts
 mod PatternsRead
 mod Evaluating
 mod Latest
+mod Distinct

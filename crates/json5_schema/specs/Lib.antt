@@ -6,3 +6,5 @@ pub mod Subschemas
 pub mod Conformance
 pub mod Views
 pub mod Anchors
+pub mod SeenTexts
+pub mod Divisors

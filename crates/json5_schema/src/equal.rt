@@ -1,10 +1,11 @@
 //! Values that are equal for a schema: 1 is 1.0, and the order of members is of no matter.
 
-ghost use Rattle.std.specs.Prelude.{◌≡◌, MatchResult, string_bytes};
+ghost use Rattle.std.specs.Prelude.{◌≡◌, not, MatchResult, OnOk, string_bytes};
 ghost use Rattle.std.specs.Str.{chars};
 ghost use Rattle.json5_grammar.specs.Language.Numbers.{decimal, whole};
 ghost use Rattle.json5_types.specs.Errors.{LacksMemory};
-ghost use Rattle.json5_types.specs.ValueMeanings.{value_of, items_view, fields_view};
+ghost use Rattle.json5_types.specs.ValueMeanings.{item, value_of, items_view, fields_view};
+ghost use Rattle.json5_schema.specs.SeenTexts.{SeesTexts};
 ghost use Rattle.json5_schema.specs.Conformance.{same_decimals, same_number, same_datum, same_items, same_fields, has_field, has_fields, names_within, is_among, is_in_enum, are_distinct, has_distinct};
 
 use crate::members::{find, is_named};
@@ -15,6 +16,7 @@ use json5_types::value::Value;
 use json5_types::whole::Whole;
 use std::alloc::Global;
 use std::cmp::Ordering;
+use std::collections::BTreeSet;
 
 /// Whether two numbers are equal; -0 is 0, and not-a-number is itself.
 fn same_decimals(number: &Decimal, other: &Decimal) -> bool
@@ -158,16 +160,36 @@ pub fn is_in_enum(alloc: Global, values: &Value, value: &Value) -> Result<bool>
     }
 }
 
-/// Whether no two of the elements are equal.
+/// Whether no two of the elements are equal. Texts are looked up among those behind them, and others are compared with each.
 fn are_distinct(alloc: Global, items: &[Value]) -> Result<bool>
     ensures { MatchResult result (λ b. b ≡ are_distinct (items_view items.now)) LacksMemory }
 {
-    for (index, item) in items.iter().enumerate() {
-        if is_among(alloc, item, &items[index + 1..])? {
+    let mut seen = BTreeSet::new(alloc);
+    let mut index = items.len();
+    while index > 0 {
+        index -= 1;
+        if !is_new(alloc, &items[index], &items[index + 1..], &mut seen)? {
             return Ok(false);
         }
     }
     Ok(true)
+}
+
+/// Whether none of the elements behind it is equal, of which the texts were seen. It is seen from then on.
+fn is_new<'a>(
+    alloc: Global,
+    value: &'a Value,
+    after: &[Value],
+    seen: &mut BTreeSet<&'a str>,
+) -> Result<bool>
+    requires { SeesTexts seen.old (items_view after.now) }
+    ensures value { MatchResult result (λ b. b ≡ not (is_among (value_of value.now) (items_view after.now))) LacksMemory }
+    ensures seen { OnOk result (SeesTexts seen.new (item (value_of value.now) (items_view after.now))) }
+{
+    match value {
+        Value::String(text) => Ok(seen.insert(text.as_str())?),
+        _ => Ok(!is_among(alloc, value, after)?),
+    }
 }
 
 /// What `uniqueItems` asserts.

@@ -6,6 +6,7 @@ ghost use Rattle.json5_grammar.specs.Language.Characters.{is_digit, Each};
 ghost use Rattle.json5_grammar.specs.Written.NumberText.{IsNormal};
 ghost use Rattle.json5_types.specs.ValueMeanings.{value_of};
 ghost use Rattle.json5_schema.specs.Conformance.{digits_divide, is_multiple, is_multiple_of};
+ghost use Rattle.json5_schema.specs.Divisors.{IsSmallDivisor};
 ghost use Rattle.json5_schema.specs.Views.{IsRefusal};
 
 use json5_numbers::DecimalExt;
@@ -18,8 +19,7 @@ use std::alloc::Global;
 /// What digits leave when they are divided by a number.
 fn remainder(digits: &str, divisor: u128) -> u128
     requires digits { Each is_digit digits.now }
-    requires above { 0 < divisor }
-    requires small { divisor < 2 ^ 64 }
+    requires divisor { IsSmallDivisor divisor }
     ensures { result ≡ digits_value 10 digits.now % divisor }
 {
     let mut rest = 0;

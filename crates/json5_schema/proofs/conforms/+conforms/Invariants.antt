@@ -1,4 +1,4 @@
-use Rattle.std.proofs.Common.{◌≡◌, ◌≤◌, ◌+◌, ◌*◌, Bool, drop}
+use Rattle.std.proofs.Common.{◌≡◌, ◌≤◌, ◌+◌, ◌*◌, drop}
 use Rattle.json5_types.specs.ValueMeanings.{value_of, items_view, fields_view}
 use Rattle.json5_schema.specs.Conformance.{Answers, conforming, keywords_hold, names_hold, count_conforming, is_within, members_left_hold, elements_left_hold, keywords_evaluate, some_evaluate, unfolded}
 use Rattle.json5_schema.specs.Views.{members_view, pairs_view, question_of}

@@ -11,5 +11,5 @@ loop-digit-preserved c =
     let l = c.loop-digit in
     let bytes = c.as_bytes-digit-items in (
       remainder_step c.args.digits.now bytes.result.now l.digit-index l.rest c.from.result c.args.divisor bytes.ensures.value c.requires.digits (omega (arith, c.loop-digit-test.true)) l.invariant.0 c.from.ensures,
-      mod_below (l.rest * 10 + c.from.result) c.args.divisor c.requires.above,
+      mod_below (l.rest * 10 + c.from.result) c.args.divisor c.requires.divisor.0,
     )
