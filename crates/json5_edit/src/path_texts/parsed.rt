@@ -1,6 +1,7 @@
 //! Paths that own their keys.
 
-ghost use Rattle.std.specs.Prelude.{IfErr, []};
+ghost use Rattle.std.specs.Prelude.{◌≡◌, IfErr, IfOk, [], length};
+ghost use Rattle.json5_edit.specs.PathTexts.{SpellsPath};
 ghost use Rattle.json5_edit.specs.Refusals.{RefusesPath};
 
 use crate::path_texts::dotted::read_dotted;
@@ -43,13 +44,19 @@ impl Path {
     ///
     /// - `At` with what is expected, and how many bytes of the text come before it.
     /// - `NoMemory` where there is no memory for the steps.
-    pub fn parse(alloc: Global, text: &str) -> Result<Path, PathError> {
-        let written = if text.starts_with("/") {
-            read_pointer(alloc, text)?
-        } else {
-            read_dotted(alloc, text)?
-        };
-        Ok(Path { written })
+    pub fn parse(alloc: Global, text: &str) -> Result<Path, PathError>
+        ensures { IfOk result (λ path. SpellsPath path text.now) }
+    {
+        match text.strip_prefix('/') {
+            Some(rest) => {
+                let written = read_pointer(alloc, text.len(), rest)?;
+                Ok(Path { written })
+            }
+            None => {
+                let written = read_dotted(alloc, text)?;
+                Ok(Path { written })
+            }
+        }
     }
 
     /// Returns how many steps there are.
@@ -57,7 +64,9 @@ impl Path {
     /// ```text
     /// Path::parse(alloc, "server.ports[0]")?.len()    // 3
     /// ```
-    pub fn len(&self) -> usize {
+    pub fn len(&self) -> usize
+        ensures { result ≡ length self.now.written.items }
+    {
         self.written.len()
     }
 
@@ -110,11 +119,4 @@ fn is_array(alloc: Global, text: &str, steps: &[Step<'_>]) -> crate::Result<bool
 /// The fault of another text than one that is expected before `rest`, which ends the path's text.
 pub(crate) fn expected(text: &str, rest: &str, expected: Expected) -> PathError {
     PathError::At(text.len().saturating_sub(rest.len()), expected)
-}
-
-pub(crate) fn owned(alloc: Global, text: &str) -> Result<String, PathError> {
-    match String::from_str(alloc, text) {
-        Ok(text) => Ok(text),
-        Err(_) => Err(PathError::NoMemory),
-    }
 }
