@@ -45,9 +45,10 @@ front_all p [] = refl
 front_all p (c ∷ x) = one_more p c x (p c) refl (front_all p x)
 
 pub name_split : (text front back : List ℕ) (n : ℕ) → n ≡ prefix_len is_in_name text → front ≡ take n text → back ≡ drop n text → SplitsName text front back
-name_split text front back n is f b =
-    (sym (take-append-drop n text) ∙ ap (λ z. z ++ drop n text) (sym f) ∙ ap (λ z. front ++ z) (sym b),
-    ap (list_all is_in_name) (f ∙ ap (λ z. take z text) is) ∙ front_all is_in_name text)
+name_split text front back n is f b = (
+  sym (take-append-drop n text) ∙ ap (λ z. z ++ drop n text) (sym f) ∙ ap (λ z. front ++ z) (sym b),
+  ap (list_all is_in_name) (f ∙ ap (λ z. take z text) is) ∙ front_all is_in_name text,
+)
 
 -- ---- a step
 
@@ -210,9 +211,11 @@ unescapes part rest plain escape after key joined ended c so_far cut lacks is pu
     let (all, none) = so_far no_slash in
     let none_cut = subst (Lacks slash_sign) cut none in
     let same = plain_key plain lacks (lacks_front slash_sign plain (tilde ∷ escape) none_cut) in
-    let (whole, left) = by is (lacks_back slash_sign plain (tilde ∷ escape) none_cut) in
-    (ap (λ z. escaped_key z ++ after) (ended_so ∙ ap (λ z. z ++ encode_utf8 c) pushed) ∙ ap (λ z. z ++ after) (escaped_append (key ++ plain) (encode_utf8 c) ∙ ap (λ z. z ++ escaped_key (encode_utf8 c)) (escaped_append key plain ∙ ap (λ z. escaped_key key ++ z) same))
-    ∙ append_assoc (escaped_key key ++ plain) (escaped_key (encode_utf8 c)) after ∙ append_assoc (escaped_key key) plain (escaped_key (encode_utf8 c) ++ after) ∙ ap (λ z. escaped_key key ++ (plain ++ z)) whole ∙ ap (λ z. escaped_key key ++ z) (sym cut) ∙ all, left)
+    let (whole, left) = by is (lacks_back slash_sign plain (tilde ∷ escape) none_cut) in (
+      ap (λ z. escaped_key z ++ after) (ended_so ∙ ap (λ z. z ++ encode_utf8 c) pushed) ∙ ap (λ z. z ++ after) (escaped_append (key ++ plain) (encode_utf8 c) ∙ ap (λ z. z ++ escaped_key (encode_utf8 c)) (escaped_append key plain ∙ ap (λ z. escaped_key key ++ z) same))
+          ∙ append_assoc (escaped_key key ++ plain) (escaped_key (encode_utf8 c)) after ∙ append_assoc (escaped_key key) plain (escaped_key (encode_utf8 c) ++ after) ∙ ap (λ z. escaped_key key ++ (plain ++ z)) whole ∙ ap (λ z. escaped_key key ++ z) (sym cut) ∙ all,
+      left,
+    )
   where
     by : IsEscape escape c after → Lacks slash_sign (tilde ∷ escape) → (escaped_key (encode_utf8 c) ++ after ≡ tilde ∷ escape) × Lacks slash_sign after
     by (inl (e, f)) none = (ap (λ z. escaped_key (encode_utf8 z) ++ after) e ∙ ap (λ z. tilde ∷ z) (sym f), λ i less. subst (Lacks slash_sign) (ap (λ z. tilde ∷ z) f) none (suc (suc i)) (omega (arith, less)))

@@ -3,10 +3,17 @@
 use Rattle.std.specs.Prelude.{◌≡◌, ◌≢◌, ◌⊎◌, ◌<◌, ◌==◌, ◌||◌, not, ℕ, Bool, true, false, List, [], ◌∷◌, ◌++◌, length, Some, None, ⊤, get_or, String, string_bytes}
 use Rattle.std.specs.List.{list_all}
 use Rattle.std.specs.declared.alloc.Global.{Global}
+use Rattle.std.specs.Str.{chars}
 use Rattle.std.specs.Str.Parse.{digits_value}
 use Rattle.json5_grammar.specs.Language.Characters.{digit_one, digit_zero, is_digit, left_bracket, point_sign, right_bracket, slash_sign}
+use Rattle.json5_grammar.specs.Language.Documents.{Doc, max_depth}
 use Rattle.json5_grammar.specs.Language.Strings.{is_quote}
+use Rattle.json5_grammar.specs.Language.Trees.{Tree, Trees, array}
+use Rattle.json5_tokens.specs.Outcome.{bytes_in}
 use Rattle.json5_types.specs.Pointers.{escaped_key, index_in, parts_of, tilde}
+use Rattle.json5_edit.specs.Parts.{part, positions_of}
+use Rattle.json5_edit.specs.declared.paths.Step.{Step}
+use Rattle.json5_edit.specs.declared.paths.Step.TheVariants as step
 use Rattle.json5_edit.specs.declared.path_texts.parsed.Path.{Path}
 use Rattle.json5_edit.specs.declared.path_texts.parsed.Written.{Written}
 use Rattle.json5_edit.specs.declared.path_texts.parsed.Written.TheVariants as written
@@ -68,7 +75,32 @@ SpellsWritten ws text = ((rest : List ℕ) × (text ≡ slash_sign ∷ rest) × 
 abbrev pub SpellsPath : Path → List ℕ → Type 0
 SpellsPath path text = SpellsWritten path.written.items text
 
+-- ---- the steps in a text
+
+-- the text is a document in which the path leads to an array, or to none
+abbrev pub LeadsToArrayIf : (text : List ℕ) → List Step → Bool → Type 0
+LeadsToArrayIf text path true = (t : Tree) × Doc max_depth (chars text) t × ((positions : List ℕ) × (ts : Trees) × (positions_of path t ≡ Some positions) × (part positions t ≡ Some (array ts)))
+LeadsToArrayIf text path false = (t : Tree) × Doc max_depth (chars text) t × ((positions : List ℕ) (ts : Trees) → positions_of path t ≡ Some positions → part positions t ≡ Some (array ts) → ⊥)
+
+-- the step is what was written: an index or a key; digits are an index where the steps before lead to an array
+abbrev pub IsStepOf : (text : List ℕ) → (before : List Step) → Written → Step → Type 0
+IsStepOf text before (written.Key key) (step.Key k) = k.now ≡ string_bytes key
+IsStepOf text before (written.Index n) (step.Index m) = m ≡ n
+IsStepOf text before (written.Digits key n) (step.Key k) = (k.now ≡ string_bytes key) × LeadsToArrayIf text before false
+IsStepOf text before (written.Digits key n) (step.Index m) = (m ≡ n) × LeadsToArrayIf text before true
+IsStepOf text before (written.Key key) (step.Index m) = ⊥
+IsStepOf text before (written.Index n) (step.Key k) = ⊥
+
+-- one after another
+pub data AreStepsOf (text : List ℕ) : List Written → List Step → Type 0 where
+  no_step : AreStepsOf text [] []
+  one_more : {ws : List Written} {ss : List Step} (w : Written) (s : Step) → AreStepsOf text ws ss → IsStepOf text ss w s → AreStepsOf text (ws ++ w ∷ []) (ss ++ s ∷ [])
+
 -- ---- private clauses cite these
+
+abbrev pub starts_array : List ℕ → Bool
+starts_array [] = false
+starts_array (c ∷ x) = c == left_bracket
 
 -- a name is in front
 abbrev pub SplitsName : (whole name after : List ℕ) → Type 0
@@ -102,3 +134,7 @@ UnescapesTo part key = Lacks slash_sign part → escaped_key (string_bytes key) 
 
 abbrev pub SpellsPartOf : (part : List ℕ) → Written → Type 0
 SpellsPartOf part w = Lacks slash_sign part → SpellsPart w part
+
+-- the value at this offset is an array, or it is none
+abbrev pub BeginsArrayIf : (text : List ℕ) → ℕ → Bool → Type 0
+BeginsArrayIf text start is = (before x : List ℕ) → chars text ≡ before ++ x → start ≡ bytes_in before → is ≡ starts_array x
