@@ -1,20 +1,23 @@
 -- Where a path leads to an array.
-use Rattle.std.proofs.Common.{◌≡◌, ◌≢◌, ◌∙◌, ◌||◌, ◌<◌, ◌+◌, get_or, ℕ, Bool, true, false, List, [], ◌∷◌, ◌++◌, length, take, drop, refl, sym, ap, subst, arith, Some, None, Option, ne_eqb, inl, inr, ◌⊎◌}
+use Rattle.std.proofs.Common.{◌≡◌, ◌≢◌, ◌∙◌, ◌||◌, ◌<◌, ◌≤◌, ◌+◌, get_or, ℕ, Bool, true, false, List, [], ◌∷◌, ◌++◌, length, take, drop, refl, sym, ap, subst, arith, Some, None, Option, ne_eqb, inl, inr, ◌⊎◌}
 use Rattle.std.specs.Prelude.{◌==◌, ◌-◌, MatchOption, is_some}
 use Rattle.std.specs.Borrow.{Bor}
 use Rattle.std.specs.Char.{encode_utf8}
-use Rattle.std.specs.Str.{IsUtf8, IsCharBoundary, chars, encode_utf8_all}
+use Rattle.std.specs.Str.{IsUtf8, IsCharBoundary, all_scalars, chars, encode_utf8_all}
 use Rattle.std.proofs.lemmas.Bool.Decides.{nat_tests}
-use Rattle.std.proofs.lemmas.List.{take_more}
-use Rattle.std.proofs.lemmas.Str.{encodes-chars}
-use Rattle.json5_grammar.specs.Language.Characters.{begins_number, is_sign, left_bracket}
+use Rattle.std.proofs.lemmas.List.{take_all, take_more}
+use Rattle.std.proofs.Math.Seq.{drop-append_seam}
+use Rattle.std.proofs.lemmas.Str.{encodes-append, encodes-chars, scalars-chars}
+use Rattle.json5_grammar.specs.Faults.Tokens.{begins_number, is_sign}
+use Rattle.json5_grammar.specs.Language.Characters.{left_bracket}
 use Rattle.json5_grammar.specs.Language.Documents.{Doc, max_depth}
 use Rattle.json5_grammar.specs.Language.Strings.{is_quote, quoted}
 use Rattle.json5_grammar.specs.Language.Trees.{Tree, Trees, array}
 use Rattle.json5_grammar.specs.Language.Values.{Val, is_null, is_true, is_false, is_number, is_text, is_empty_array, is_array, is_empty_object, is_object}
 use Rattle.json5_grammar.proofs.ValueHeads.{number_head}
 use Rattle.json5_tokens.specs.Outcome.{bytes_in}
-use Rattle.json5_tokens.proofs.TextCuts.{Halves, begins_char, cut_half, drop_half, offset_at}
+use Rattle.json5_tokens.proofs.TextCuts.{Halves, begins_char, bytes_append, cut_half, drop_half, scalar_halves}
+use Rattle.json5_walk.proofs.Calls.{utf8_len}
 use Rattle.json5_edit.specs.Parts.{part, positions_of}
 use Rattle.json5_edit.specs.Places.{IsPart, IsPlace, Leads, LeadsTo, span_of}
 use Rattle.json5_edit.specs.PathTexts.{AreStepsOf, BeginsArrayIf, IsStepOf, LeadsToArrayIf, no_step, one_more, starts_array}
@@ -47,15 +50,15 @@ array_if r (is_object ps) = λ ts h. absurd (cc)
 
 -- ---- the value that a path leads to
 
-same_positions : {path : List Step} {w : Tree} {ps qs : List ℕ} {t : Tree} {ts : Trees} → positions_of path w ≡ Some ps → part ps w ≡ Some t → positions_of path w ≡ Some qs → part qs w ≡ Some (array ts) → t ≡ array ts
-same_positions {path = path} {w = w} {ps = ps} {qs = qs} led there other at =
+same_positions : (path : List Step) (w : Tree) (ps qs : List ℕ) (t : Tree) (ts : Trees) → positions_of path w ≡ Some ps → part ps w ≡ Some t → positions_of path w ≡ Some qs → part qs w ≡ Some (array ts) → t ≡ array ts
+same_positions path w ps qs t ts led there other at =
     let same : ps ≡ qs = cc in
     let both : part ps w ≡ part qs w = ap (λ z. part z w) same in
     cc
 
 led_if : (text : List ℕ) (path : List Step) (w t : Tree) (positions : List ℕ) (is : Bool) → Doc max_depth (chars text) w → positions_of path w ≡ Some positions → part positions w ≡ Some t → IsArrayIf is t → LeadsToArrayIf text path is
 led_if text path w t positions true d led there (ts, e) = (w, d, (positions, ts, led, there ∙ ap Some e))
-led_if text path w t positions false d led there other = (w, d, λ qs ts l k. other ts (same_positions led there l k))
+led_if text path w t positions false d led there other = (w, d, λ qs ts l k. other ts (same_positions path w positions qs t ts led there l k))
 
 pub span_led : (text : List ℕ) (path : List Step) (span : ValueSpan) (is : Bool) → LeadsTo text path (Some span) → BeginsArrayIf text span.start is → LeadsToArrayIf text path is
 span_led text path span is (None, leads, e) starts = absurd (cc)
@@ -75,19 +78,29 @@ none_led text path (Some p, leads, e) = absurd (cc)
 halves : {text before x : List ℕ} → IsUtf8 text → chars text ≡ before ++ x → Halves text before x
 halves utf8 whole = record { is_text = utf8; split = whole }
 
+offset_is : (text before x : List ℕ) → IsUtf8 text → chars text ≡ before ++ x → length text - bytes_in x ≡ bytes_in before
+offset_is text before x utf8 whole = let n = utf8_len text utf8 ∙ ap bytes_in whole ∙ bytes_append before x in omega (arith, n)
+
 begins_if : (rest x : List ℕ) (r : Option (Bor (List ℕ))) → IsUtf8 rest → chars rest ≡ x → MatchOption r ((y : List ℕ) → rest ≢ left_bracket ∷ y) (λ y. rest ≡ left_bracket ∷ y.now) → is_some r ≡ starts_array x
 unfolding encode_utf8
 begins_if rest x (Some y) utf8 is k = let h = (begins_char rest y.now left_bracket utf8 k).chars in subst (λ z. true ≡ starts_array z) (sym h ∙ is) refl
 begins_if rest [] None utf8 is k = refl
 begins_if rest (c ∷ x) None utf8 is k = sym (ne_eqb c left_bracket (λ e. k (encode_utf8_all x) (sym (encodes-chars rest utf8) ∙ ap encode_utf8_all is ∙ ap (λ z. encode_utf8 z ++ encode_utf8_all x) e)))
 
-pub begins_so : (text rest : List ℕ) (start : ℕ) (r : Option (Bor (List ℕ))) → IsUtf8 text → IsUtf8 rest → rest ≡ drop start text → MatchOption r ((y : List ℕ) → rest ≢ left_bracket ∷ y) (λ y. rest ≡ left_bracket ∷ y.now) → BeginsArrayIf text start (is_some r)
-begins_so text rest start r utf8 utf8_rest is k = λ before x whole at.
+-- what follows a boundary is text
+rest_text : (text before x : List ℕ) → IsUtf8 text → chars text ≡ before ++ x → IsUtf8 (drop (bytes_in before) text)
+rest_text text before x utf8 whole =
+    let parts = scalar_halves before x (subst (λ z. all_scalars z ≡ true) whole (scalars-chars text utf8)) in
+    let split : text ≡ encode_utf8_all before ++ encode_utf8_all x = sym (encodes-chars text utf8) ∙ ap encode_utf8_all whole ∙ encodes-append before x in
+    subst IsUtf8 (sym (ap (drop (bytes_in before)) split ∙ drop-append_seam (encode_utf8_all before) (encode_utf8_all x))) (x, (parts.1, refl))
+
+pub begins_so : (text rest : List ℕ) (start : ℕ) (r : Option (Bor (List ℕ))) → IsUtf8 text → rest ≡ drop start text → MatchOption r ((y : List ℕ) → rest ≢ left_bracket ∷ y) (λ y. rest ≡ left_bracket ∷ y.now) → BeginsArrayIf text start (is_some r)
+begins_so text rest start r utf8 is k = λ before x whole at.
     let h = halves utf8 whole in
-    begins_if rest x r utf8_rest (ap chars (is ∙ ap (λ n. drop n text) (at ∙ sym (offset_at h))) ∙ drop_half h) k
+    begins_if rest x r (subst IsUtf8 (sym (is ∙ ap (λ n. drop n text) at)) (rest_text text before x utf8 whole)) (ap chars (is ∙ ap (λ n. drop n text) (at ∙ sym (offset_is text before x utf8 whole))) ∙ drop_half h) k
 
 pub begins_none : (text : List ℕ) (start : ℕ) → IsUtf8 text → (IsCharBoundary text start → ⊥) → BeginsArrayIf text start false
-begins_none text start utf8 none = λ before x whole at. let h = halves utf8 whole in absurd (none (subst (IsCharBoundary text) (offset_at h ∙ sym at) (cut_half h)))
+begins_none text start utf8 none = λ before x whole at. let h = halves utf8 whole in absurd (none (subst (IsCharBoundary text) (offset_is text before x utf8 whole ∙ sym at) (cut_half h)))
 
 -- ---- one step more
 
@@ -95,3 +108,6 @@ pub steps_more : {text : List ℕ} (i : ℕ) (ws : List Written) (w : Written) (
 steps_more {text = text} i ws w ss ns s inside is so_far step pushed =
     let more = take_more ws i w inside ∙ ap (λ z. take i ws ++ z ∷ []) (sym is) in
     subst (λ z. AreStepsOf text z ns) (sym more) (subst (AreStepsOf text (take i ws ++ w ∷ [])) (sym pushed) (one_more w s so_far step))
+
+pub all_steps : {text : List ℕ} (i : ℕ) (ws : List Written) (ss : List Step) → length ws ≤ i → AreStepsOf text (take i ws) ss → AreStepsOf text ws ss
+all_steps {text = text} i ws ss end so_far = subst (λ z. AreStepsOf text z ss) (take_all i ws end) so_far
