@@ -15,7 +15,7 @@ pub returns-in-Err-clause-refused : goal.returns-in-Err-clause-refused
 returns-in-Err-clause-refused g c = inl c.in-Err.ensures.reads.refused
 
 pub returns-in-Err-first_twin-clause-complete : goal.returns-in-Err-first_twin-clause-complete
-returns-in-Err-first_twin-clause-complete g c = record { memory = λ t r v live here small is. c.in-Err-first_twin.ensures }
+returns-in-Err-first_twin-clause-complete g c = record { memory = λ t r v live here small is. c.in-Err-first_twin.ensures.kind }
 
 pub returns-in-Err-first_twin-clause-refused : goal.returns-in-Err-first_twin-clause-refused
 returns-in-Err-first_twin-clause-refused g c = inr (inl c.in-Err-first_twin.ensures)
