@@ -7,8 +7,7 @@ mod settings;
 
 use anyhow::{Result, bail};
 use json5_report::Report;
-use json5_settings::Layers;
-use json5_settings_file::{sample, warnings};
+use json5_settings::{Layers, sample, warnings};
 use settings::Settings;
 use std::{env, fs};
 

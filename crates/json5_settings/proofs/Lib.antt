@@ -1,6 +1,8 @@
--- Lists the lemmas about layers.
+-- Lists the lemmas about layers, warnings and a file to begin with.
 pub mod Followed
 pub mod Layered
 pub mod MembersMade
 pub mod WordsParted
 pub mod Told
+pub mod SlipsSeen
+pub mod WarningsTold
