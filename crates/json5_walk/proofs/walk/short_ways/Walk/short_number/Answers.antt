@@ -1,6 +1,6 @@
 use Rattle.std.proofs.Common.{sym}
 use Rattle.json5_walk.proofs.Calls.{keeps, live_takes, took_spaced_number}
-use Rattle.json5_walk.proofs.walk.Walk.short_number.Goals as goal
+use Rattle.json5_walk.proofs.walk.short_ways.Walk.short_number.Goals as goal
 
 pub invariant_of-self : goal.invariant_of-self
 invariant_of-self c = rw c.if-not-short_number.ensures c.self.invariant
