@@ -5,4 +5,7 @@ pub mod MembersMade
 pub mod WordsParted
 pub mod Told
 pub mod SlipsSeen
+pub mod KeysSeen
+pub mod Blanked
+pub mod Failures
 pub mod WarningsTold

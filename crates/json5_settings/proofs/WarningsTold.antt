@@ -1,8 +1,8 @@
 -- How what is likely a slip is found.
-use Rattle.std.proofs.Common.{◌≡◌, ◌⊎◌, ◌∙◌, ℕ, suc, ◌+◌, ◌-◌, ◌≤◌, Bool, true, false, List, [], ◌∷◌, ◌++◌, length, refl, ap, sym, subst, inl, inr, arith, append_assoc, append-nil, Option, Some, None, nat_eq, ◌||◌, IsUtf8}
-use Rattle.std.specs.Prelude.{cond, map, slice_range, ◌==◌}
-use Rattle.std.specs.BTreeSet.{BTreeSet, IsEmpty, contains_by}
-use Rattle.std.specs.Cmp.Lexicographic.{pointwise, slice_cmp, texts_ties}
+use Rattle.std.proofs.Common.{◌≡◌, ◌⊎◌, ◌∙◌, ℕ, suc, ◌+◌, ◌-◌, ◌≤◌, Bool, true, false, List, [], ◌∷◌, ◌++◌, length, refl, ap, sym, subst, inl, inr, arith, append_assoc, append-nil, Option, Some, None, IsUtf8}
+use Rattle.std.specs.Prelude.{map, slice_range, ◌==◌}
+use Rattle.std.specs.BTreeSet.{BTreeSet, IsEmpty}
+use Rattle.std.specs.Cmp.Lexicographic.{slice_cmp}
 use Rattle.std.specs.List.{list_any}
 use Rattle.std.specs.Ordering.{is_eq, nat_cmp}
 use Rattle.std.specs.Str.{chars, all_scalars, encode_utf8_all}
@@ -236,29 +236,6 @@ looked_more {first = first} {now = now} {mid = mid} seen saw e p entry notes q =
           λ r object. subst (λ z. IsRepeated first.limit z e.start) p.text (subst (λ n. IsRepeated n now.text e.start) p.limit (key_warned e entry g object r)) in
           value_looked first seen saw e due k keys h notes stands (front.text ∙ p.text) (front.limit ∙ p.limit) q tells;
     }
-
--- ---- keys that were seen
-
-later : (other same before after : Bool) → cond same true before ≡ after → cond same true (other || before) ≡ (other || after)
-later true true before after e = refl
-later true false before after e = refl
-later false same before after e = e
-
-last_among : (q key : List ℕ) (known : List (List ℕ)) → cond (pointwise nat_eq key q) true (is_among q known) ≡ is_among q (known ++ key ∷ [])
-last_among q key [] = only (pointwise nat_eq key q)
-  where
-    only : (same : Bool) → cond same true false ≡ (same || false)
-    only true = refl
-    only false = refl
-last_among q key (k ∷ ks) = later (pointwise nat_eq k q) (pointwise nat_eq key q) (is_among q ks) (is_among q (ks ++ key ∷ [])) (last_among q key ks)
-
--- the set that got this key has it, too
-pub key_seen : (s n : BTreeSet CowStr) (key : CowStr)
-    → ((q : CowStr) → contains_by (λ k. slice_cmp nat_cmp (cow_bytes q) (cow_bytes k)) n ≡ cond (is_eq (slice_cmp nat_cmp (cow_bytes key) (cow_bytes q))) true (contains_by (λ k. slice_cmp nat_cmp (cow_bytes q) (cow_bytes k)) s))
-    → (known : List (List ℕ)) → HasKeys s known → HasKeys n (known ++ cow_bytes key ∷ [])
-key_seen s n key added known were = λ q.
-    let has = λ (b : Bool). cond b true (contains_by (λ (k : CowStr). slice_cmp nat_cmp (cow_bytes q) (cow_bytes k)) s) in
-    added q ∙ ap has (sym (texts_ties (cow_bytes key) (cow_bytes q))) ∙ ap (cond (pointwise nat_eq (cow_bytes key) (cow_bytes q)) true) (were q) ∙ last_among (cow_bytes q) (cow_bytes key) known
 
 -- ---- a spelling
 

@@ -10,3 +10,4 @@ pub mod MemberTexts
 pub mod Samples
 pub mod Slips
 pub mod Warnings
+pub mod AllFaults

@@ -14,6 +14,8 @@
 //! ```
 #![tactic(auto)]
 
+mod all_faults;
+mod blanks;
 mod edits;
 mod faults;
 mod follow;
@@ -22,6 +24,7 @@ mod members;
 mod names;
 mod origin;
 mod positions;
+mod remains;
 mod rewriting;
 mod samples;
 mod saving;
@@ -29,6 +32,7 @@ mod slips;
 mod spots;
 mod warned;
 
+pub use all_faults::faults_of;
 pub use faults::{Result, SettingError};
 pub use layers::Layers;
 pub use origin::fault;

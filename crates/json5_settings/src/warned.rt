@@ -134,14 +134,16 @@ fn note_key<'t>(
     keys: &mut BTreeSet<CowStr<'t>>,
     found: &mut Vec<Warning>,
 ) -> std::result::Result<(), AllocError>
-    ensures { OnOk result (NotesKey kind key keys.old keys.new found.old.items found.new.items) }
+    ensures { OnOk result (NotesKey kind key.entry keys.old keys.new found.old.items found.new.items) }
 {
-    if matches!(kind, BracketKind::Array) {
-        return Ok(());
+    match kind {
+        BracketKind::Array => Ok(()),
+        BracketKind::Object => {
+            let EntryKey { text, start, .. } = key;
+            let is_new = keys.insert(text)?;
+            warn_if(!is_new, start, found)
+        }
     }
-    let EntryKey { text, start, .. } = key;
-    let is_new = keys.insert(text)?;
-    warn_if(!is_new, start, found)
 }
 
 /// Adds a warning of the key at this offset, if it is a repeated one.
