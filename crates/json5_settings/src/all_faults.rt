@@ -9,9 +9,9 @@ use crate::remains::Remains;
 use json5_types::error::{Error, Result};
 use std::alloc::Global;
 
-/// Returns the faults for which `read` refuses the text, in the order in which reading comes to them; none, if it reads it.
-/// The first is the one that it tells. The entry that a fault is in, a member or an element, is then passed over, and so
-/// on with what is left. A fault that comes of that is not told, as of a missing field that is there.
+/// Returns the faults for which `read` refuses the text, in the order in which reading comes to them; none, if it reads
+/// it. The first is the one that it tells. The entry that a fault is in, a member or an element, is then passed over,
+/// and so on with what is left. A fault that comes of that is not told, as of a missing field that is there.
 ///
 /// ```text
 /// // of `{ host: 5, prot: 80 }`: an integer where a string is expected, and an unknown field
@@ -20,8 +20,8 @@ use std::alloc::Global;
 /// }
 /// ```
 ///
-/// A text that is no document gives one fault. Of the fields that an object lacks the first is told. It takes some
-/// readings of the text for each fault.
+/// A text that is no document gives one fault. Of the fields that an object lacks the first is told, and nothing after
+/// a fault in a member whose key comes again. It takes some readings of the text for each fault.
 ///
 /// # Errors
 ///

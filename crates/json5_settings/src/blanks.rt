@@ -62,9 +62,11 @@ fn blanked(
 ) -> Result<Option<String>, AllocError>
     ensures { IfOk result (λ made. IfSome made (λ s. IsBlanked text.now from till (string_bytes s))) }
 {
-    let (Some(front), Some(part), Some(rest)) =
-        (text.get(..from), text.get(from..till), text.get(till..))
-    else {
+    let (Some(front), Some(part), Some(rest)) = (
+        text.get(..from),
+        text.get(from..till),
+        text.get(till..),
+    ) else {
         return Ok(None);
     };
     let mut made = String::from_str(alloc, front)?;

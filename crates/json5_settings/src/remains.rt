@@ -102,11 +102,7 @@ impl Remains {
 }
 
 /// The entry that the fault is in; the text where it is in none.
-fn spot_of(
-    alloc: Global,
-    text: &str,
-    fault: &Error,
-) -> std::result::Result<Spot, AllocError> {
+fn spot_of(alloc: Global, text: &str, fault: &Error) -> std::result::Result<Spot, AllocError> {
     let Some(position) = fault.position() else {
         return Ok(Spot::whole(alloc, text));
     };
