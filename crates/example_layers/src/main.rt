@@ -7,9 +7,9 @@ mod settings;
 
 use anyhow::{Result, bail};
 use json5_report::Report;
-use json5_settings::Layers;
-use json5_settings_file::{sample, warnings};
+use json5_settings::{Layers, faults_of, sample, warnings};
 use settings::Settings;
+use std::alloc::Global;
 use std::{env, fs};
 
 /// What a new file says of its members.
@@ -75,7 +75,7 @@ fn shown(rt: &HostRuntime, layers: &Layers) -> Result<String> {
     let text = layers.text()?;
     let settings = match json5::from_str::<Settings>(alloc, &text) {
         Ok(settings) => settings,
-        Err(error) => return lines(alloc, layers.report(&text, &error)?),
+        Err(_) => return all_faults(alloc, layers, &text),
     };
     let Settings {
         host,
@@ -96,6 +96,18 @@ fn shown(rt: &HostRuntime, layers: &Layers) -> Result<String> {
     )?)
 }
 
-fn lines(alloc: std::alloc::Global, report: Report) -> Result<String> {
+/// What is wrong with the settings, each fault in the layer that it came from.
+fn all_faults(alloc: Global, layers: &Layers, text: &str) -> Result<String> {
+    let mut shown = String::new(alloc);
+    for fault in &faults_of(alloc, text, |text| json5::from_str::<Settings>(alloc, text))? {
+        if !shown.is_empty() {
+            shown.push('\n')?;
+        }
+        write!(shown, "{}", layers.report(text, fault)?)?;
+    }
+    Ok(shown)
+}
+
+fn lines(alloc: Global, report: Report) -> Result<String> {
     Ok(format!(in alloc; "{report}")?)
 }

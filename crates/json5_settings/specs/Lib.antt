@@ -1,4 +1,4 @@
--- Lists the definitions of layers.
+-- Lists the definitions of layers, warnings and a file to begin with.
 pub mod Follows
 pub mod Stacks
 pub mod Texts
@@ -7,3 +7,7 @@ pub mod Members
 pub mod Told
 pub mod Keys
 pub mod MemberTexts
+pub mod Samples
+pub mod Slips
+pub mod Warnings
+pub mod AllFaults

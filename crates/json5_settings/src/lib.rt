@@ -1,5 +1,5 @@
 //! Settings from several places, the later over the earlier, faults told where the value came from, and what a program
-//! changed put back into a file.
+//! changed put back into a file; warnings of what is likely a slip in a file, and a file to begin with.
 //!
 //! ```text
 //! let mut layers = Layers::new(alloc);
@@ -14,6 +14,8 @@
 //! ```
 #![tactic(auto)]
 
+mod all_faults;
+mod blanks;
 mod edits;
 mod faults;
 mod follow;
@@ -21,11 +23,20 @@ mod layers;
 mod members;
 mod names;
 mod origin;
+mod positions;
+mod remains;
 mod rewriting;
+mod samples;
 mod saving;
+mod slips;
 mod spots;
+mod warned;
 
+pub use all_faults::faults_of;
 pub use faults::{Result, SettingError};
 pub use layers::Layers;
 pub use origin::fault;
+pub use samples::sample;
 pub use saving::update;
+pub use slips::Slip;
+pub use warned::{Warning, warnings};

@@ -1,20 +1,20 @@
 //! Faults of what layers make together, told where the value came from.
 
-ghost use Rattle.std.specs.Prelude.{◌≡◌, ◌≤◌, IfOk, IsTrue, MatchOption, MatchResult, take};
-ghost use Rattle.std.specs.Str.{IsCharBoundary, chars};
-ghost use Rattle.json5_grammar.specs.Faults.Positions.{position_after};
+ghost use Rattle.std.specs.Prelude.{◌≤◌, IfOk, IsTrue, MatchOption, MatchResult};
+ghost use Rattle.std.specs.Str.{IsCharBoundary};
 ghost use Rattle.json5_types.specs.Errors.{LacksMemory};
 ghost use Rattle.json5_edit.specs.Places.{LeadsNowhere};
 ghost use Rattle.json5_settings.specs.Told.{AllLack, IsNearer, IsTold, IsToldAt, IsToldIn, IsToldOfAll, IsToldOfOne, MayBeAt};
 
 use crate::faults;
 use crate::layers::Layers;
+use crate::positions::position_of;
 use crate::spots::{Spot, key_start, steps_of};
 use json5_edit::{Path, Step, find_place};
 use json5_read::check_document;
 use json5_report::Report;
+use json5_types::ErrorCode;
 use json5_types::error::{Error, Result};
-use json5_types::{ErrorCode, Position};
 use std::alloc::{AllocError, Global};
 
 impl Layers {
@@ -166,16 +166,6 @@ fn is_before(text: &str, key: usize, value: usize) -> bool
     ensures { IsTrue result → (key ≤ value) × IsCharBoundary text.now key }
 {
     key <= value && text.is_char_boundary(key)
-}
-
-/// The position of an offset in bytes at which a character begins.
-fn position_of(text: &str, offset: usize) -> Position
-    ensures { IsCharBoundary text.now offset → result ≡ position_after (chars (take offset text.now)) }
-{
-    match text.get(..offset) {
-        Some(front) => Position::after(front),
-        None => Position::after(text),
-    }
 }
 
 /// The report of the layer, if it has the path that the other one has.

@@ -42,7 +42,11 @@ fn by_edits(
 }
 
 /// Whether the text is a document that means this value.
-fn means(alloc: Global, text: &str, value: &Value) -> std::result::Result<bool, AllocError>
+pub(crate) fn means(
+    alloc: Global,
+    text: &str,
+    value: &Value,
+) -> std::result::Result<bool, AllocError>
     ensures { IfOk result (λ is. IsTrue is → Means (chars text.now) (value_of value.now)) }
 {
     match read_document(alloc, text) {

@@ -22,19 +22,34 @@ pub(crate) enum OwnedStep {
 /// The innermost value that a fault is in, or the member at whose key it is.
 #[derive(Drop)]
 pub(crate) struct Spot {
-    steps: Vec<OwnedStep>,
+    pub(crate) steps: Vec<OwnedStep>,
     pub(crate) at_key: bool,
+    /// Where its entry begins, and where that ends with its comma; those of the text where it is in no entry.
+    pub(crate) from: usize,
+    pub(crate) till: usize,
 }
 
-/// An entry around an offset, and where its value stands.
+/// An entry around an offset, where its value stands, and where its comma ends.
 #[derive(Drop)]
 struct Around {
     step: OwnedStep,
+    start: usize,
     value: usize,
     end: usize,
+    till: usize,
 }
 
 impl Spot {
+    /// The text itself, in no entry.
+    pub(crate) fn whole(alloc: Global, text: &str) -> Spot {
+        Spot {
+            steps: Vec::new(alloc),
+            at_key: false,
+            from: 0,
+            till: text.len(),
+        }
+    }
+
     /// The spot of an offset in a document; None in another text.
     pub(crate) fn of(
         alloc: Global,
@@ -49,28 +64,25 @@ impl Spot {
     }
 
     fn in_document(alloc: Global, text: &str, offset: usize) -> Result<Spot> {
-        let mut steps = Vec::new(alloc);
-        let mut from = 0usize;
-        let mut to = text.len();
+        let mut spot = Spot::whole(alloc, text);
+        let mut value = 0usize;
+        let mut end = text.len();
         for _ in 0..128 {
-            let part = text.get(from..to).unwrap_or("");
-            let Some(around) = entry_around(alloc, part, offset.saturating_sub(from))? else {
+            let part = text.get(value..end).unwrap_or("");
+            let Some(around) = entry_around(alloc, part, offset.saturating_sub(value))? else {
                 break;
             };
-            to = from.saturating_add(around.end);
-            from = from.saturating_add(around.value);
-            steps.push(around.step)?;
-            if offset < from {
-                return Ok(Spot {
-                    steps,
-                    at_key: true,
-                });
+            spot.from = value.saturating_add(around.start);
+            spot.till = value.saturating_add(around.till);
+            end = value.saturating_add(around.end);
+            value = value.saturating_add(around.value);
+            spot.steps.push(around.step)?;
+            if offset < value {
+                spot.at_key = true;
+                break;
             }
         }
-        Ok(Spot {
-            steps,
-            at_key: false,
-        })
+        Ok(spot)
     }
 
     /// The steps to the value, or to that of the member.
@@ -133,7 +145,8 @@ fn entry_around(alloc: Global, text: &str, offset: usize) -> Result<Option<Aroun
         };
         let value = walk.offset();
         walk.skip()?;
-        if start <= offset && offset < walk.offset() {
+        let end = walk.offset();
+        if start <= offset && offset < end {
             let step = if is_object {
                 OwnedStep::Key(String::from_str(alloc, key.as_str())?)
             } else {
@@ -141,12 +154,23 @@ fn entry_around(alloc: Global, text: &str, offset: usize) -> Result<Option<Aroun
             };
             return Ok(Some(Around {
                 step,
+                start,
                 value,
-                end: walk.offset(),
+                end,
+                till: comma_end(&mut walk, end)?,
             }));
         }
     }
     Ok(None)
+}
+
+/// Where the comma after an entry ends, or the entry if none follows.
+fn comma_end(walk: &mut Walk<'_>, end: usize) -> Result<usize> {
+    walk.gap()?;
+    if walk.comma() {
+        return Ok(walk.offset());
+    }
+    Ok(end)
 }
 
 /// Where the last member with a key begins in an object.

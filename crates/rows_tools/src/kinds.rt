@@ -4,13 +4,15 @@ use crate::example::read_ports;
 use crate::faults::error_of;
 use crate::rows::{count_of, text_of};
 use json5_report::Report;
-use json5_settings::fault;
-use json5_settings_file::warnings;
+use json5_settings::{fault, faults_of, warnings};
 use json5_types::error::Error;
 use json5_types::value::Value;
 use std::alloc::{AllocError, Global};
+use std::collections::BTreeMap;
 
 const NAME: &str = "a.json5";
+
+type Lists = BTreeMap<String, Vec<u8>>;
 
 /// What is printed of the row, whose text this is.
 pub fn shown_of(alloc: Global, row: &Value, text: &str) -> Result<String, Error> {
@@ -25,6 +27,9 @@ pub fn shown_of(alloc: Global, row: &Value, text: &str) -> Result<String, Error>
     }
     if row.get("warnings").is_some() {
         return warnings_shown(alloc, text);
+    }
+    if row.get("faults").is_some() {
+        return faults_shown(alloc, text);
     }
     let Some(error) = error_of(alloc, row, text)? else {
         return Ok(String::from_str(alloc, "it is read")?);
@@ -113,13 +118,27 @@ fn warnings_shown(alloc: Global, text: &str) -> Result<String, Error> {
         Ok(found) => found,
         Err(error) => return Ok(format!(in alloc; "{error}")?),
     };
-    let mut shown = String::new(alloc);
+    let mut faults = Vec::new(alloc);
     for warning in &found {
+        faults.push(warning.fault(alloc, text)?)?;
+    }
+    each_shown(alloc, text, &faults)
+}
+
+/// The reports of all faults of reading lists of bytes by their names, one after another.
+fn faults_shown(alloc: Global, text: &str) -> Result<String, Error> {
+    let faults = faults_of(alloc, text, |text| json5::from_str::<Lists>(alloc, text))?;
+    each_shown(alloc, text, &faults)
+}
+
+/// The reports of the faults, one after another.
+fn each_shown(alloc: Global, text: &str, faults: &[Error]) -> Result<String, Error> {
+    let mut shown = String::new(alloc);
+    for fault in faults {
         if !shown.is_empty() {
             shown.push('\n')?;
         }
-        let fault = warning.fault(alloc, text)?;
-        write!(shown, "{}", Report::new(alloc, NAME, text, &fault)?)?;
+        write!(shown, "{}", Report::new(alloc, NAME, text, fault)?)?;
     }
     Ok(shown)
 }

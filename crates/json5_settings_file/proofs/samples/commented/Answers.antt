@@ -1,5 +1,0 @@
-use Rattle.json5_settings_file.proofs.SlipsSeen.{if_ok_then}
-use Rattle.json5_settings_file.proofs.samples.commented.Goals as goal
-
-pub returns : goal.returns
-returns c = if_ok_then c.comment.result c.comment.ensures.commented (λ made is. (_, is))
