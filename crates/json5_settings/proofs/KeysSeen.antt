@@ -1,8 +1,9 @@
 -- Keys that were seen.
 use Rattle.std.proofs.Common.{◌≡◌, ◌∙◌, ℕ, Bool, true, false, List, [], ◌∷◌, ◌++◌, refl, ap, sym, nat_eq, ◌||◌, not}
 use Rattle.std.specs.Prelude.{cond}
-use Rattle.std.specs.BTreeSet.{BTreeSet, contains_by}
+use Rattle.std.specs.BTreeSet.{BTreeSet, IsEmpty, contains_by}
 use Rattle.std.specs.Cmp.Lexicographic.{pointwise, slice_cmp, texts_ties}
+use Rattle.std.specs.List.{list_any}
 use Rattle.std.specs.Ordering.{is_eq, nat_cmp}
 use Rattle.json5_types.specs.Cows.{cow_bytes}
 use Rattle.json5_types.specs.declared.cow_str.CowStr.{CowStr}
@@ -36,3 +37,7 @@ key_told s key is_new known e were = ap not e ∙ twice (contains_by (λ k. slic
     twice : (b : Bool) → not (not b) ≡ b
     twice true = refl
     twice false = refl
+
+-- a set without keys has none
+pub has_none : (s : BTreeSet CowStr) → IsEmpty s → HasKeys s []
+has_none s none = λ q. ap (list_any (λ (k : CowStr). is_eq (slice_cmp nat_cmp (cow_bytes q) (cow_bytes k)))) none

@@ -2,9 +2,6 @@
 use Rattle.std.proofs.Common.{◌≡◌, ◌⊎◌, ◌∙◌, ℕ, suc, ◌+◌, ◌-◌, ◌≤◌, Bool, true, false, List, [], ◌∷◌, ◌++◌, length, refl, ap, sym, subst, inl, inr, arith, append_assoc, append-nil, Option, Some, None, IsUtf8}
 use Rattle.std.specs.Prelude.{map, slice_range, ◌==◌}
 use Rattle.std.specs.BTreeSet.{BTreeSet, IsEmpty}
-use Rattle.std.specs.Cmp.Lexicographic.{slice_cmp}
-use Rattle.std.specs.List.{list_any}
-use Rattle.std.specs.Ordering.{is_eq, nat_cmp}
 use Rattle.std.specs.Str.{chars, all_scalars, encode_utf8_all}
 use Rattle.std.proofs.lemmas.List.{map-append}
 use Rattle.std.proofs.lemmas.List.Elements.{All-append, All-cons}
@@ -33,6 +30,7 @@ use Rattle.json5_edit.proofs.EntriesPassed.{members_snoc}
 use Rattle.json5_edit.proofs.Fronts.{value_taken, opened_at, still_read, Fronted, element, member as member_due, fronted, ended_at}
 use Rattle.json5_edit.proofs.Placed.{same_tree, scalars_left, scalars_right, slice_there}
 use Rattle.json5_edit.proofs.Seeks.{array_begins, object_begins}
+use Rattle.json5_settings.proofs.KeysSeen.{has_none}
 use Rattle.json5_settings.specs.Slips.{HasSlip}
 use Rattle.json5_settings.specs.Warnings.{AreWarnings, HasSlipAt, IsRepeated, IsSpelledSo, IsThere, IsWarning, HasKeys, Looks, LooksAt, LooksInto, NotesKey, Tells, is_among, is_repeat, names, one_if, repeats, repeats_after, repeats_in, repeats_told, told_if}
 use Rattle.json5_settings.specs.declared.slips.Slip.{Slip}
@@ -147,9 +145,6 @@ pub record Looked (k : Kind) (first now : Walked) (found after : List Warning) (
   pub text : now.text ≡ first.text
   pub limit : now.limit ≡ first.limit
   pub leads : (o : List Frame) (m : Option (List Frame)) → IsAt first (record { now = opened k o; marked = m }) → (a : At) × IsAt now (record { now = a; marked = m }) × (around a ≡ o) × (kind_of (read_in a) ≡ Some k) × HasKeys seen (keys_in (read_in a)) × Tells first.limit first.text (repeats (read_in a)) found after
-
-has_none : (s : BTreeSet CowStr) → IsEmpty s → HasKeys s []
-has_none s none = λ q. ap (list_any (λ (k : CowStr). is_eq (slice_cmp nat_cmp (cow_bytes q) (cow_bytes k)))) none
 
 pub looked_none : (k : Kind) (v : Walked) (found : List Warning) (s : BTreeSet CowStr) → IsEmpty s → Looked k v v found found s
 looked_none kind.Array v found s none = record { text = refl; limit = refl; leads = λ o m f. (at_element no_more o, f, refl, refl, has_none s none, tells_none found found refl) }
