@@ -31,12 +31,12 @@ use Rattle.json5_walk.specs.Moves.{Stays, stays, TakesTree, takes_tree, Opens, o
 use Rattle.json5_walk.specs.Walks.{Walked, at_start, Trail, IsAt, Moved, Ends, TakesSign, TookSpacedString, TookString, tree_of}
 use Rattle.json5_walk.proofs.Calls.{starts_at}
 use Rattle.json5_walk.proofs.Entries.{after_gap, then, named_so}
-use Rattle.json5_convert.specs.Alike.{meaning_of, meanings_of, member_meanings, AlikeTrees, AlikeElements, AlikeMembers, AlikeFrames, AlikeAt, AreSame, AreSameKeys, StandAlike, GoAlike, GoOn, TakesKey, TakesPart, TakesStart, TakesText}
+use Rattle.json5_convert.specs.Alike.{meaning_of, meanings_of, member_meanings, AlikeTrees, AlikeElements, AlikeMembers, AlikeFrames, AlikeAt, AreSame, AreSameKeys, StandAlike, GoAlike, GoOn, TakesKey, TakesPart, TakesScalar, TakesText}
 use Rattle.json5_convert.specs.Respelled.{MeanTheSame, HasNumbers}
 use Rattle.json5_convert.specs.declared.meanings.Part.{Part}
 use Rattle.json5_convert.specs.declared.meanings.Part.TheVariants as part
-use Rattle.json5_convert.specs.declared.meanings.Start.{Start}
-use Rattle.json5_convert.specs.declared.meanings.Start.TheVariants as start
+use Rattle.json5_convert.specs.declared.meanings.Scalar.{Scalar}
+use Rattle.json5_convert.specs.declared.meanings.Scalar.TheVariants as scalar
 
 -- ---- a document's tree means what the bytes of its texts say
 
@@ -312,7 +312,7 @@ same_numbers json m n e is p q = same_trees json (number m) (number n) (ap datum
 pub stays_on : {v w left right : Walked} → Moved Stays v left → Moved Stays w right → GoOn v w left right
 stays_on p q json = both_go json Stays Stays (stays_together json) p q
 
-literal_json : (l : Literal) → is_json (meaning_of (tree_of l)) ≡ true
+pub literal_json : (l : Literal) → is_json (meaning_of (tree_of l)) ≡ true
 literal_json literal.Null = refl
 literal_json literal.True = refl
 literal_json literal.False = refl
@@ -326,32 +326,11 @@ same_keys (Some k) (Some m) is p q = keys (cow_bytes m) (key_so (cow_bytes k) (c
 same_keys None (Some m) is p q = absurd is
 same_keys (Some k) None is p q = absurd is
 
-pub same_starts : {v w left right : Walked} (json : Bool) (a b : Start) → AreSame json a b → TakesStart a v left → TakesStart b w right → GoAlike json v w left right
-same_starts {w = w} {right = right} json (start.Open k) (start.Open m) is p q = opens k p (subst (λ z. Moved (Opens z) w right) is q) json
-same_starts json start.Close start.Close is p q = ends p q json
-same_starts {w = w} {right = right} json (start.Literal l) (start.Literal m) is p q = same_literals (tree_of l) (literal_json l) p (subst (λ z. Moved (TakesTree (tree_of z)) w right) is q) json
-same_starts {v = v} {left = left} json (start.Text t) (start.Text u) is p q = same_texts (cow_bytes u) (subst (λ z. TakesText z v left) is p) q json
-same_starts json (start.Number m) (start.Number n) (same, is) p q = same_numbers json (number_of m) (number_of n) same is p q
-same_starts json (start.Open k) start.Close is p q = absurd is
-same_starts json (start.Open k) (start.Literal m) is p q = absurd is
-same_starts json (start.Open k) (start.Text m) is p q = absurd is
-same_starts json (start.Open k) (start.Number m) is p q = absurd is
-same_starts json start.Close (start.Open m) is p q = absurd is
-same_starts json start.Close (start.Literal m) is p q = absurd is
-same_starts json start.Close (start.Text m) is p q = absurd is
-same_starts json start.Close (start.Number m) is p q = absurd is
-same_starts json (start.Literal k) (start.Open m) is p q = absurd is
-same_starts json (start.Literal k) start.Close is p q = absurd is
-same_starts json (start.Literal k) (start.Text m) is p q = absurd is
-same_starts json (start.Literal k) (start.Number m) is p q = absurd is
-same_starts json (start.Text k) (start.Open m) is p q = absurd is
-same_starts json (start.Text k) start.Close is p q = absurd is
-same_starts json (start.Text k) (start.Literal m) is p q = absurd is
-same_starts json (start.Text k) (start.Number m) is p q = absurd is
-same_starts json (start.Number k) (start.Open m) is p q = absurd is
-same_starts json (start.Number k) start.Close is p q = absurd is
-same_starts json (start.Number k) (start.Literal m) is p q = absurd is
-same_starts json (start.Number k) (start.Text m) is p q = absurd is
+pub same_scalars : {v w left right : Walked} (json : Bool) (a b : Scalar) → AreSame json a b → TakesScalar a v left → TakesScalar b w right → GoAlike json v w left right
+same_scalars {v = v} {left = left} json (scalar.Text t) (scalar.Text u) is p q = same_texts (cow_bytes u) (subst (λ z. TakesText z v left) is p) q json
+same_scalars json (scalar.Number m) (scalar.Number n) (same, is) p q = same_numbers json (number_of m) (number_of n) same is p q
+same_scalars json (scalar.Text t) (scalar.Number n) is p q = absurd is
+same_scalars json (scalar.Number m) (scalar.Text t) is p q = absurd is
 
 -- ---- what a call's answer says
 

@@ -12,12 +12,12 @@ use Rattle.json5_types.specs.declared.cow_str.CowStr.{CowStr}
 use Rattle.json5_types.specs.declared.number.Number.{Number}
 use Rattle.json5_types.specs.Cows.{cow_bytes}
 use Rattle.json5_types.specs.NumberMeanings.{number_of}
-use Rattle.json5_walk.specs.Moves.{Opens, TakesComma, TakesKeyOf, TakesTree, EndsEntries}
-use Rattle.json5_walk.specs.Walks.{Walked, Trail, IsAt, Moved, tree_of}
+use Rattle.json5_walk.specs.Moves.{TakesComma, TakesKeyOf, TakesTree, EndsEntries}
+use Rattle.json5_walk.specs.Walks.{Walked, Trail, IsAt, Moved}
 use Rattle.json5_convert.specs.declared.meanings.Part.{Part}
 use Rattle.json5_convert.specs.declared.meanings.Part.TheVariants as part
-use Rattle.json5_convert.specs.declared.meanings.Start.{Start}
-use Rattle.json5_convert.specs.declared.meanings.Start.TheVariants as start
+use Rattle.json5_convert.specs.declared.meanings.Scalar.{Scalar}
+use Rattle.json5_convert.specs.declared.meanings.Scalar.TheVariants as scalar
 
 -- what a tree means, as the bytes of its texts say it
 abbrev mutual
@@ -114,23 +114,17 @@ IsRest v bytes = (s : Trail) → IsAt v s → chars bytes ≡ v.unread
 abbrev pub IsTaken : (bytes part : List ℕ) → Walked → Type 0
 IsTaken bytes part v = (s : Trail) → IsAt v s → (c : List ℕ) → chars bytes ≡ c ++ v.unread → chars part ≡ c
 
--- this bracket or value was taken
-abbrev pub TakesStart : Start → Walked → Walked → Type 0
-TakesStart (start.Open kind) old new = Moved (Opens kind) old new
-TakesStart start.Close old new = Moved EndsEntries old new
-TakesStart (start.Literal literal) old new = Moved (TakesTree (tree_of literal)) old new
-TakesStart (start.Text t) old new = TakesText (cow_bytes t) old new
-TakesStart (start.Number n) old new = Moved (TakesTree (number (number_of n))) old new
+-- this string or number was taken
+abbrev pub TakesScalar : Scalar → Walked → Walked → Type 0
+TakesScalar (scalar.Text t) old new = TakesText (cow_bytes t) old new
+TakesScalar (scalar.Number n) old new = Moved (TakesTree (number (number_of n))) old new
 
 -- both numbers are the same, which JSON has if it has to
 abbrev pub AreSameNumbers : (json : Bool) → Number → Number → Type 0
 AreSameNumbers json m n = (number_of n ≡ number_of m) × (json ≡ true → is_json_number (number_of m) ≡ true)
 
--- both are the same bracket, or values that mean the same
-abbrev pub AreSame : (json : Bool) → Start → Start → Type 0
-AreSame json (start.Open kind) (start.Open other) = other ≡ kind
-AreSame json start.Close start.Close = ⊤
-AreSame json (start.Literal literal) (start.Literal other) = other ≡ literal
-AreSame json (start.Text t) (start.Text other) = cow_bytes t ≡ cow_bytes other
-AreSame json (start.Number m) (start.Number n) = AreSameNumbers json m n
+-- both are strings of one text, or the same number
+abbrev pub AreSame : (json : Bool) → Scalar → Scalar → Type 0
+AreSame json (scalar.Text t) (scalar.Text other) = cow_bytes t ≡ cow_bytes other
+AreSame json (scalar.Number m) (scalar.Number n) = AreSameNumbers json m n
 AreSame json _ _ = ⊥

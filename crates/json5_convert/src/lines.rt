@@ -2,7 +2,7 @@
 
 ghost use Rattle.std.specs.Prelude.{◌≡◌, true, false, IfOk, IfErr, string_bytes};
 ghost use Rattle.json5_read.specs.ModelSteps.{IsUnprompted};
-ghost use Rattle.json5_convert.specs.Lines.{lines_of};
+ghost use Rattle.json5_convert.specs.Lines.{RefusesLines, lines_of};
 ghost use Rattle.json5_convert.specs.Streams.{Fails, IsAtStart, RefusesNext, TakesNext, TakesValue};
 
 use json5_read::read::read_value;
@@ -101,9 +101,10 @@ pub(crate) fn next_value<I: Input>(scanner: &mut Scanner<I>) -> Result<Option<Va
 ///
 /// # Errors
 ///
-/// As `json5_styles::to_json_compact`.
+/// As `json5_styles::to_json_compact`, of the first value that it refuses.
 pub fn to_lines(alloc: Global, values: &[Value]) -> Result<String>
-    ensures { IfOk result (λ made. string_bytes made ≡ lines_of values.now) }
+    ensures lines { IfOk result (λ made. string_bytes made ≡ lines_of values.now) }
+    ensures refused { IfErr result (RefusesLines values.now) }
 {
     let mut made = String::new(alloc);
     for value in values {

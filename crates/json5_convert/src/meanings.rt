@@ -6,7 +6,7 @@ ghost use Rattle.json5_grammar.specs.Language.Numbers.{decimal};
 ghost use Rattle.json5_styles.specs.JsonTexts.{is_json_number};
 ghost use Rattle.json5_walk.specs.Moves.{Closes, TakesColon};
 ghost use Rattle.json5_walk.specs.Walks.{Moved};
-ghost use Rattle.json5_convert.specs.Alike.{AreSame, AreSameKeys, AreSameNumbers, GoAlike, GoOn, IsRest, IsTaken, TakesKey, TakesPart, TakesStart, TakesText};
+ghost use Rattle.json5_convert.specs.Alike.{AreSame, AreSameKeys, AreSameNumbers, GoAlike, GoOn, IsRest, IsTaken, TakesKey, TakesPart, TakesScalar, TakesText};
 ghost use Rattle.json5_convert.specs.Respelled.{HasNumbers, MeanTheSame};
 
 use crate::faults::{RespellError, Result};
@@ -112,19 +112,60 @@ fn same_text(text: &str, walk: &mut Walk<'_>) -> Result<()>
     check(text == walk.string()?.as_str())
 }
 
-/// The same where mostly no string without an escape is next. Numbers that are spelled alike aren't read.
+/// The same where mostly no string without an escape is next.
 #[inline(never)]
 fn same_other(are_json: bool, left: &mut Walk<'_>, right: &mut Walk<'_>) -> Result<()>
     ensures { OnOk result (GoAlike are_json left.old right.old left.new right.new) }
 {
     left.gap()?;
     right.gap()?;
+    match begun(left.peek()) {
+        Front::Open(kind) => same_open(kind, left, right),
+        Front::Close => same_close(left, right),
+        Front::Value(ValueKind::Literal(literal)) => same_literal(literal, left, right),
+        Front::Value(_) => same_number(are_json, left, right),
+    }
+}
+
+/// Takes the opening bracket of this kind in both texts.
+#[inline(always)]
+fn same_open(kind: BracketKind, left: &mut Walk<'_>, right: &mut Walk<'_>) -> Result<()>
+    ensures { OnOk result (GoOn left.old right.old left.new right.new) }
+{
+    check(left.open(kind))?;
+    check(right.open(kind))
+}
+
+/// Takes the closing bracket in both texts.
+#[inline(always)]
+fn same_close(left: &mut Walk<'_>, right: &mut Walk<'_>) -> Result<()>
+    ensures { OnOk result (GoOn left.old right.old left.new right.new) }
+{
+    take_close(left)?;
+    take_close(right)
+}
+
+/// Takes the literal in both texts.
+#[inline(always)]
+fn same_literal(literal: Literal, left: &mut Walk<'_>, right: &mut Walk<'_>) -> Result<()>
+    ensures { OnOk result (GoOn left.old right.old left.new right.new) }
+{
+    left.literal(literal)?;
+    right.literal(literal)?;
+    Ok(())
+}
+
+/// Takes the number, if it is the same in both texts, or another value. Numbers that are spelled alike aren't read.
+#[inline(always)]
+fn same_number(are_json: bool, left: &mut Walk<'_>, right: &mut Walk<'_>) -> Result<()>
+    ensures { OnOk result (GoAlike are_json left.old right.old left.new right.new) }
+{
     if are_json {
-        return same_start(are_json, left, right);
+        return same_scalar(are_json, left, right);
     }
     let (text, other) = (rest(left), rest(right));
     if !left.short_number() {
-        return same_start(are_json, left, right);
+        return same_scalar(are_json, left, right);
     }
     if !right.short_number() {
         return Err(RespellError::Failed);
@@ -154,12 +195,12 @@ fn taken<'t>(text: &'t str, walk: &Walk<'_>) -> Result<&'t str>
     }
 }
 
-/// The same for the next value or bracket, whatever it is.
+/// Takes a string or a number, if it is the same in both texts.
 #[inline(never)]
-fn same_start(are_json: bool, left: &mut Walk<'_>, right: &mut Walk<'_>) -> Result<()>
+fn same_scalar(are_json: bool, left: &mut Walk<'_>, right: &mut Walk<'_>) -> Result<()>
     ensures { OnOk result (GoAlike are_json left.old right.old left.new right.new) }
 {
-    check(is_same(are_json, &take_start(left)?, &take_start(right)?))
+    check(is_same(are_json, &take_scalar(left)?, &take_scalar(right)?))
 }
 
 /// Takes the comma after a value in both texts, or the closing bracket, before which a comma may stand.
@@ -249,40 +290,25 @@ fn take_colon(walk: &mut Walk<'_>) -> Result<()>
     check(walk.colon())
 }
 
-/// A value that is no collection, the bracket that opens one, or the one that closes an empty array.
+/// A string or a number.
 #[derive(Drop)]
-enum Start<'t> {
-    Open(BracketKind),
-    Close,
-    Literal(Literal),
+enum Scalar<'t> {
     Text(CowStr<'t>),
     Number(Number),
 }
 
-/// Takes a value or a bracket.
+/// Takes a string or a number.
 #[inline(always)]
-fn take_start<'t>(walk: &mut Walk<'t>) -> Result<Start<'t>>
-    ensures { IfOk result (λ start. TakesStart start walk.old walk.new) }
+fn take_scalar<'t>(walk: &mut Walk<'t>) -> Result<Scalar<'t>>
+    ensures { IfOk result (λ scalar. TakesScalar scalar walk.old walk.new) }
 {
     if let Some(text) = walk.short_string() {
-        return Ok(Start::Text(CowStr::Borrowed(text)));
+        return Ok(Scalar::Text(CowStr::Borrowed(text)));
     }
     walk.gap()?;
-    match begun(walk.peek()) {
-        Front::Open(kind) => {
-            check(walk.open(kind))?;
-            Ok(Start::Open(kind))
-        }
-        Front::Close => {
-            take_close(walk)?;
-            Ok(Start::Close)
-        }
-        Front::Value(ValueKind::Literal(literal)) => {
-            walk.literal(literal)?;
-            Ok(Start::Literal(literal))
-        }
-        Front::Value(ValueKind::String) => Ok(Start::Text(walk.string()?)),
-        Front::Value(_) => Ok(Start::Number(walk.number()?)),
+    match walk.peek() {
+        Some('"' | '\'') => Ok(Scalar::Text(walk.string()?)),
+        _ => Ok(Scalar::Number(walk.number()?)),
     }
 }
 
@@ -305,37 +331,15 @@ fn begun(next: Option<char>) -> Front {
     }
 }
 
-/// Whether both begin the same value, and a number may stand here.
+/// Whether both are the same string, or the same number, which may stand here.
 #[inline(always)]
-fn is_same(are_json: bool, start: &Start<'_>, other: &Start<'_>) -> bool
-    ensures { IsTrue result → AreSame are_json start.now other.now }
+fn is_same(are_json: bool, scalar: &Scalar<'_>, other: &Scalar<'_>) -> bool
+    ensures { IsTrue result → AreSame are_json scalar.now other.now }
 {
-    match (start, other) {
-        (Start::Open(kind), Start::Open(other)) => is_same_kind(*kind, *other),
-        (Start::Close, Start::Close) => true,
-        (Start::Literal(literal), Start::Literal(other)) => is_same_literal(*literal, *other),
-        (Start::Text(text), Start::Text(other)) => text == other,
-        (Start::Number(number), Start::Number(other)) => is_number(are_json, number, other),
+    match (scalar, other) {
+        (Scalar::Text(text), Scalar::Text(other)) => text == other,
+        (Scalar::Number(number), Scalar::Number(other)) => is_number(are_json, number, other),
         _ => false,
-    }
-}
-
-fn is_same_kind(kind: BracketKind, other: BracketKind) -> bool
-    ensures { IsTrue result → other ≡ kind }
-{
-    match kind {
-        BracketKind::Array => matches!(other, BracketKind::Array),
-        BracketKind::Object => matches!(other, BracketKind::Object),
-    }
-}
-
-fn is_same_literal(literal: Literal, other: Literal) -> bool
-    ensures { IsTrue result → other ≡ literal }
-{
-    match literal {
-        Literal::Null => matches!(other, Literal::Null),
-        Literal::True => matches!(other, Literal::True),
-        Literal::False => matches!(other, Literal::False),
     }
 }
 

@@ -1,11 +1,16 @@
 -- Twins in a list that is gone through.
 use Rattle.std.proofs.Common.{◌≡◌, ◌∙◌, ◌+◌, ◌<◌, ◌&&◌, ◌||◌, ℕ, Bool, true, false, List, [], ◌∷◌, ◌++◌, length, map, take, drop, refl, sym, ap, get_or, take-append-drop}
-use Rattle.std.specs.Prelude.{not}
+use Rattle.std.specs.Prelude.{cond, not}
+use Rattle.std.specs.Borrow.{Bor}
+use Rattle.std.specs.BTreeSet.{BTreeSet, contains_by}
+use Rattle.std.specs.Cmp.Lexicographic.{slice_cmp, texts_ties}
+use Rattle.std.specs.Ordering.{is_eq, nat_cmp}
+use Rattle.std.specs.Str.{bytes_eq}
 use Rattle.std.specs.List.{list_any}
 use Rattle.std.proofs.lemmas.Bool.{false≢true}
 use Rattle.std.proofs.lemmas.List.{map-append, take_more}
 use Rattle.std.proofs.lemmas.List.Folds.{list_any-append}
-use Rattle.json5_settings_types.specs.Twins.{is_like_one, no_twins}
+use Rattle.json5_settings_types.specs.Twins.{HasTexts, is_like_one, no_twins}
 
 parted : (a s n l : Bool) → (not (a || (s || false)) && (n && not l)) ≡ ((not a && n) && not (s || l))
 parted true s n l = refl
@@ -36,7 +41,7 @@ module _ {C : Type 0} (same : C → C → Bool) where
           none false = refl
 
   module _ {V : Type 0} (content : V → C) (vs : List V) (i : ℕ) (v : V) (inside : i < length vs) (is : v ≡ get_or vs i v) where
-    one_more : map content (take (i + 1) vs) ≡ map content (take i vs) ++ content v ∷ []
+    pub one_more : map content (take (i + 1) vs) ≡ map content (take i vs) ++ content v ∷ []
     one_more = ap (map content) (take_more vs i v inside) ∙ map-append content (take i vs) (get_or vs i v ∷ []) ∙ ap (λ w. map content (take i vs) ++ content w ∷ []) (sym is)
 
     tested : (b : Bool) → b ≡ is_like_one same (map content (take i vs)) (content v) → no_twins same (map content (take i vs)) ≡ true → no_twins same (map content (take (i + 1) vs)) ≡ not b
@@ -49,3 +54,18 @@ module _ {C : Type 0} (same : C → C → Bool) where
     twin_found b like alike none =
         let front = tested b like none ∙ ap not alike in
         ap (λ ws. no_twins same (map content ws)) (sym (take-append-drop (i + 1) vs)) ∙ ap (no_twins same) (map-append content (take (i + 1) vs) (drop (i + 1) vs)) ∙ in_front (map content (take (i + 1) vs)) (map content (drop (i + 1) vs)) front
+
+-- ---- the texts that were seen
+
+or_cond : (a l : Bool) → cond a true l ≡ (l || (a || false))
+or_cond true true = refl
+or_cond true false = refl
+or_cond false true = refl
+or_cond false false = refl
+
+-- the set that got this text has it, too
+pub text_seen : (s n : BTreeSet (Bor (List ℕ))) (texts : List (List ℕ)) (k : List ℕ) → HasTexts s texts
+    → ((q : Bor (List ℕ)) → contains_by (λ y. slice_cmp nat_cmp q.now y.now) n ≡ cond (is_eq (slice_cmp nat_cmp k q.now)) true (contains_by (λ y. slice_cmp nat_cmp q.now y.now) s)) → HasTexts n (texts ++ k ∷ [])
+text_seen s n texts k were added = λ q.
+    added q ∙ ap (λ b. cond b true (contains_by (λ y. slice_cmp nat_cmp q.now y.now) s)) (sym (texts_ties k q.now)) ∙ ap (cond (bytes_eq k q.now) true) (were q)
+    ∙ or_cond (bytes_eq k q.now) (is_like_one bytes_eq texts q.now) ∙ sym (list_any-append (λ d. bytes_eq d q.now) texts (k ∷ []))

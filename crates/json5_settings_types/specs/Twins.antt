@@ -1,7 +1,11 @@
 -- Lists of texts that differ.
 -- A promise rests on this.
-use Rattle.std.specs.Prelude.{◌≡◌, ◌&&◌, not, ℕ, Bool, true, if◌then◌else◌, List, [], ◌∷◌, map, Option, Some, None, String, string_bytes}
+use Rattle.std.specs.Prelude.{◌≡◌, ◌&&◌, not, ℕ, Bool, true, false, if◌then◌else◌, List, [], ◌∷◌, map, Option, Some, None, String, string_bytes}
 use Rattle.std.specs.declared.alloc.Global.{Global}
+use Rattle.std.specs.Borrow.{Bor}
+use Rattle.std.specs.BTreeSet.{BTreeSet, contains_by}
+use Rattle.std.specs.Cmp.Lexicographic.{slice_cmp}
+use Rattle.std.specs.Ordering.{nat_cmp}
 use Rattle.std.specs.List.{list_any}
 use Rattle.std.specs.Str.{bytes_eq}
 use Rattle.json5_grammar.specs.Model.Collections.{array_of, contents}
@@ -30,6 +34,15 @@ texts_in values = map string_bytes values
 
 abbrev pub unique_texts : UniqueTexts → List (List ℕ)
 unique_texts u = texts_in u.values.items
+
+-- the place of a text that is equal to another, where there is one
+abbrev pub HasTwin : List (List ℕ) → Option ℕ → Type 0
+HasTwin texts None = no_twins bytes_eq texts ≡ true
+HasTwin texts (Some place) = no_twins bytes_eq texts ≡ false
+
+-- the set has these texts
+abbrev pub HasTexts : BTreeSet (Bor (List ℕ)) → List (List ℕ) → Type 0
+HasTexts s texts = (q : Bor (List ℕ)) → contains_by (λ k. slice_cmp nat_cmp q.now k.now) s ≡ is_like_one bytes_eq texts q.now
 
 -- what is written of texts that differ is read as the same
 abbrev pub TextsReadBack : (String Global → Written) → Type 0

@@ -1,19 +1,22 @@
 //! Lists of texts that differ.
 
-ghost use Rattle.std.specs.Prelude.{◌≡◌, List, ℕ, map, string_bytes, true, false, MatchOption};
+ghost use Rattle.std.specs.Prelude.{◌≡◌, List, ℕ, MatchResult};
 ghost use Rattle.std.specs.Str.{bytes_eq};
 ghost use Rattle.json5_grammar.specs.Model.Collections.{array_of, contents};
 ghost use Rattle.json5_de.specs.Convert.{text_of};
 ghost use Rattle.json5_de.specs.ConvertLists.{if_some};
 ghost use Rattle.json5_de.specs.Refinement.{refined, RefusesOwn};
+ghost use Rattle.json5_types.specs.Errors.{LacksMemory};
 ghost use Rattle.json5_ser.specs.WrittenTrees.{array, elements_of};
-ghost use Rattle.json5_settings_types.specs.Twins.{TextsReadBack, if_no_twins, is_like_one, no_twins, texts_in, unique_texts};
+ghost use Rattle.json5_settings_types.specs.Twins.{HasTwin, TextsReadBack, if_no_twins, texts_in, unique_texts};
 
 use crate::faults::fault_at;
 use json5_de::{Deserialize, Deserializer, Spanned};
 use json5_ser::{Serialize, Serializer};
 use json5_tokens::input::Input;
 use json5_types::error::Result;
+use std::alloc::Global;
+use std::collections::BTreeSet;
 use std::io::Write;
 
 /// A list of texts no two of which are equal.
@@ -23,50 +26,42 @@ pub struct UniqueTexts {
     pub values: Vec<String>,
 }
 
-/// Whether the text is one of these.
-fn is_like_one(values: &[String], text: &str) -> bool
-    ensures { result ≡ is_like_one bytes_eq (texts_in values.now) text.now }
-{
-    let mut rest = values;
-    while let Some((first, others)) = rest.split_first() {
-        if first.as_str() == text {
-            return true;
-        }
-        rest = others;
-    }
-    false
-}
-
 /// The index of the first text that is equal to one before it.
-fn first_twin(values: &[String]) -> Option<usize>
-    ensures { MatchOption result (no_twins bytes_eq (texts_in values.now) ≡ true) (λ _. no_twins bytes_eq (texts_in values.now) ≡ false) }
+fn first_twin(alloc: Global, values: &[String]) -> Result<Option<usize>>
+    ensures { MatchResult result (HasTwin (texts_in values.now)) LacksMemory }
 {
+    let mut seen = BTreeSet::new(alloc);
     for index in 0..values.len() {
-        if is_like_one(&values[..index], values[index].as_str()) {
-            return Some(index);
+        if !seen.insert(values[index].as_str())? {
+            return Ok(Some(index));
         }
     }
-    None
+    Ok(None)
 }
 
 impl UniqueTexts {
     /// The list, if no two of its texts are equal.
     ///
     /// ```text
-    /// let hosts = UniqueTexts::new(hosts).unwrap();
+    /// let hosts = UniqueTexts::new(hosts)?.unwrap();
     /// ```
-    pub fn new(values: Vec<String>) -> Option<Self>
-        ensures { if_some unique_texts result ≡ if_no_twins bytes_eq (texts_in values.items) }
+    ///
+    /// # Errors
+    ///
+    /// `OutOfMemory` where a request for memory was refused. It has no position.
+    pub fn new(values: Vec<String>) -> Result<Option<Self>>
+        ensures { MatchResult result (λ made. if_some unique_texts made ≡ if_no_twins bytes_eq (texts_in values.items)) LacksMemory }
     {
-        if first_twin(values.as_slice()).is_some() {
-            return None;
+        let alloc = *values.allocator();
+        match first_twin(alloc, values.as_slice())? {
+            Some(_) => Ok(None),
+            None => Ok(Some(UniqueTexts { values })),
         }
-        Some(UniqueTexts { values })
     }
 }
 
 /// A list of strings; one with twins is refused at its bracket: `expected texts that differ, found the one at index 2
-/// twice`. It takes time in the square of the number of texts.
+/// twice`.
 impl<I: Input> Deserialize<I> for UniqueTexts {
     ghost Content = { List (List ℕ) };
 
@@ -81,7 +76,11 @@ impl<I: Input> Deserialize<I> for UniqueTexts {
             Ok(list) => list,
             Err(e) => return Err(e),
         };
-        if let Some(index) = first_twin(list.value.as_slice()) {
+        let twin = match first_twin(de.allocator(), list.value.as_slice()) {
+            Ok(twin) => twin,
+            Err(e) => return Err(e),
+        };
+        if let Some(index) = twin {
             let message = format_args!(
                 "expected texts that differ, found the one at index {index} twice"
             );

@@ -13,7 +13,7 @@ use Rattle.json5_read.specs.declared.brackets.BracketKind.{BracketKind as Kind}
 use Rattle.json5_read.specs.declared.brackets.BracketKind.TheVariants as kind
 use Rattle.json5_read.specs.declared.brackets.BracketPair.{BracketPair}
 use Rattle.json5_read.specs.declared.brackets.OpenBracket.{OpenBracket}
-use Rattle.json5_walk.specs.Walks.{Walked, IsShut, SaysFailed, AfterRefusal, RefusesAs, FaultsHere, IsInnerOf, IsInnermost, kinds_in, kinds_onto, offset_in}
+use Rattle.json5_walk.specs.Walks.{Walked, IsShut, SaysFailed, AfterRefusal, RefusesAs, RefusesToken, RefusesOrLacks, FaultsHere, IsInnerOf, IsInnermost, kinds_in, kinds_onto, offset_in}
 
 abbrev pub Faults : Type 1
 Faults = List ℕ → Option ErrorCode → Option (List ℕ) → Type 0
@@ -24,12 +24,18 @@ stays_so other says = record { says = λ h. says; kept = λ h. refl; shut = λ h
 pub shuts_so : {due : Bool} {old new : Walked} {e : Error} → due ≡ true → IsShut new → AfterRefusal due old new e
 shuts_so here shut = record { says = λ h. absurd (cc); kept = λ h. absurd (cc); shut = λ h. shut }
 
-pub misplaced_so : {due : Bool} {IsFault : Faults} {v : Walked} {e : Error} → due ≡ false → SaysFailed e → RefusesAs due IsFault v v e
-misplaced_so other says = record { fault = λ h. absurd (cc); after = stays_so other says }
+pub misplaced_so : {due : Bool} {IsCause : Error → Type 0} {v : Walked} {e : Error} → due ≡ false → SaysFailed e → RefusesAs due IsCause v v e
+misplaced_so other says = record { cause = λ h. absurd (cc); after = stays_so other says }
 
-pub token_so : {due : Bool} {IsFault : Faults} {old new : Walked} {e : Error} {s : Cursor} → due ≡ true → s.unread ≡ old.unread → LacksMemory e ⊎ Refused IsFault s e → IsShut new → RefusesAs due IsFault old new e
-token_so here same (inl lacks) shut = record { fault = λ h. inl lacks; after = shuts_so here shut }
-token_so here same (inr r) shut = record { fault = λ h. inr (record { reason = r.reason; place = r.place; fault = rw (sym same) r.fault; says = r.says }); after = shuts_so here shut }
+told : {IsFault : Faults} {v : Walked} {e : Error} {s : Cursor} → s.unread ≡ v.unread → Refused IsFault s e → RefusesToken IsFault v e
+told same r = record { reason = r.reason; place = r.place; fault = rw (sym same) r.fault; says = r.says }
+
+pub word_so : {due : Bool} {IsFault : Faults} {old new : Walked} {e : Error} {s : Cursor} → due ≡ true → s.unread ≡ old.unread → Refused IsFault s e → IsShut new → RefusesAs due (RefusesToken IsFault old) old new e
+word_so here same r shut = record { cause = λ h. told same r; after = shuts_so here shut }
+
+pub token_so : {due : Bool} {IsFault : Faults} {old new : Walked} {e : Error} {s : Cursor} → due ≡ true → s.unread ≡ old.unread → LacksMemory e ⊎ Refused IsFault s e → IsShut new → RefusesAs due (RefusesOrLacks IsFault old) old new e
+token_so here same (inl lacks) shut = record { cause = λ h. inl lacks; after = shuts_so here shut }
+token_so here same (inr r) shut = record { cause = λ h. inr (told same r); after = shuts_so here shut }
 
 pub inner_of : (i : Option OpenBracket) (bs : List OpenBracket) → IsInnermost i bs → IsInnerOf (kinds_in i bs) i
 inner_of None bs h = rw h refl

@@ -1,18 +1,15 @@
-use Rattle.std.proofs.Common.{sym, ◌∙◌}
-use lib.Pointwise.{bytes_decides}
 use Rattle.json5_walk.proofs.Entries.{on_then}
-use Rattle.json5_convert.proofs.SpelledAlike.{after_gaps, alike_kept, few_digits, no_digits, numbers_alike}
+use Rattle.json5_convert.proofs.SpelledAlike.{after_gaps}
 use Rattle.json5_convert.proofs.meanings.same_other.Goals as goal
 
-pub returns-then-are_json : goal.returns-then-are_json
-returns-then-are_json c = on_then c.same_start.result c.same_start.ensures (λ h. after_gaps c.args.are_json c.in_ok-gap.ensures.taken c.in_ok-gap-2.ensures.taken h)
+pub returns-in-Open : goal.returns-in-Open
+returns-in-Open c = on_then c.same_open-in-Open.result c.same_open-in-Open.ensures (λ h. after_gaps c.args.are_json c.in_ok-gap.ensures.taken c.in_ok-gap-2.ensures.taken (h c.args.are_json))
 
-pub returns-then-not-short_number : goal.returns-then-not-short_number
-returns-then-not-short_number c =
-    on_then c.same_start-then-not-short_number.result c.same_start-then-not-short_number.ensures (λ h. after_gaps c.args.are_json c.in_ok-gap.ensures.taken c.in_ok-gap-2.ensures.taken (alike_kept c.args.are_json (no_digits c.short_number.result c.short_number.ensures c.if-not-short_number.true) h))
+pub returns-in-Close : goal.returns-in-Close
+returns-in-Close c = on_then c.same_close-in-Close.result c.same_close-in-Close.ensures (λ h. after_gaps c.args.are_json c.in_ok-gap.ensures.taken c.in_ok-gap-2.ensures.taken (h c.args.are_json))
 
-pub returns : goal.returns
-returns c =
-    let left = few_digits c.short_number.result c.short_number.ensures c.if-not-short_number.false in
-    let right = few_digits c.short_number-2.result c.short_number-2.ensures c.if-not-short_number-2.false in
-    on_then c.check.result c.check.ensures (λ h. after_gaps c.args.are_json c.in_ok-gap.ensures.taken c.in_ok-gap-2.ensures.taken (numbers_alike c.args.are_json c.rest-text.result.now c.rest-other.result.now c.in_ok-taken.field-0.now c.in_ok-taken-2.field-0.now c.if-are_json.false c.rest-text.ensures c.rest-other.ensures left right c.in_ok-taken.ensures c.in_ok-taken-2.ensures ((bytes_decides c.in_ok-taken.field-0.now c.in_ok-taken-2.field-0.now).0 (sym c.eq.ensures ∙ h))))
+pub returns-in-Value-Literal : goal.returns-in-Value-Literal
+returns-in-Value-Literal c = on_then c.same_literal-in-Value-Literal.result c.same_literal-in-Value-Literal.ensures (λ h. after_gaps c.args.are_json c.in_ok-gap.ensures.taken c.in_ok-gap-2.ensures.taken (h c.args.are_json))
+
+pub returns-in-Value : goal.returns-in-Value
+returns-in-Value c = on_then c.same_number-in-Value.result c.same_number-in-Value.ensures (λ h. after_gaps c.args.are_json c.in_ok-gap.ensures.taken c.in_ok-gap-2.ensures.taken h)

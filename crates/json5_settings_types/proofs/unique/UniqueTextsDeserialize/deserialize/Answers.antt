@@ -14,6 +14,12 @@ returns-in-Err-clause-complete g c = accepted_completes (if_no_twins bytes_eq) c
 pub returns-in-Err-clause-refused : goal.returns-in-Err-clause-refused
 returns-in-Err-clause-refused g c = inl c.in-Err.ensures.reads.refused
 
+pub returns-in-Err-first_twin-clause-complete : goal.returns-in-Err-first_twin-clause-complete
+returns-in-Err-first_twin-clause-complete g c = λ t r v live here small is. c.in-Err-first_twin.ensures
+
+pub returns-in-Err-first_twin-clause-refused : goal.returns-in-Err-first_twin-clause-refused
+returns-in-Err-first_twin-clause-refused g c = inr (inl c.in-Err-first_twin.ensures)
+
 pub returns-in-Some-clause-complete : goal.returns-in-Some-clause-complete
 returns-in-Some-clause-complete g c =
     let none = twins_none bytes_eq (texts_in c.in-Ok.list.value.items) (rw c.as_slice.ensures.value at c.in-Some.ensures) in
