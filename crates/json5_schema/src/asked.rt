@@ -5,8 +5,8 @@ ghost use lib.Chars.{codes};
 ghost use Rattle.std.specs.Str.{chars};
 ghost use Rattle.json5_types.specs.Errors.{LacksMemory};
 ghost use Rattle.json5_types.specs.ValueMeanings.{value_of, items_view, fields_view};
-ghost use Rattle.json5_schema.specs.Conformance.{each_schema, each_item, by_name, value_for, by_index, prefix_on, schemas_in_front, items_after, elements_after, items_on, additional_items_on, contains_on, all_of_on, any_of_on, one_of_on, if_on, members_left_on, elements_left_on, speaks_of, beside, is_matched, is_patterned, is_additional, latest, each_matched, of_pattern, by_pattern, patterns_on, each_additional, additional_on, names_on, properties_on, is_dependent, dependent_schemas, dependent_on, dependencies_on, all_on, some_on, target_of, refers_on, settled, asserts, applies, asks};
-ghost use Rattle.json5_schema.specs.Views.{AsksFor, PairsFor, members_view, pairs_view, part_view, asked_view};
+ghost use Rattle.json5_schema.specs.Conformance.{each_schema, each_item, by_name, value_for, by_index, prefix_on, schemas_in_front, items_after, elements_after, items_on, additional_items_on, contains_on, all_of_on, any_of_on, one_of_on, if_on, members_left_on, elements_left_on, speaks_of, beside, is_matched, is_patterned, is_additional, latest, each_matched, of_pattern, by_pattern, patterns_on, each_additional, additional_on, names_on, properties_on, is_dependent, dependent_schemas, dependent_on, dependencies_on, all_on, some_on, target_of, refers_on, asserts, applies, asks};
+ghost use Rattle.json5_schema.specs.Views.{AsksFor, IsRefusal, PairsFor, members_view, pairs_view, part_view, asked_view};
 
 use crate::anchors::at_fragment;
 use crate::equal::{has_distinct, is_in_enum};
@@ -606,62 +606,36 @@ fn refers_on<'a>(alloc: Global, target: Option<&'a Value>, value: &'a Value) -> 
 }
 
 /// What a keyword says by itself.
-fn asserts<'a>(
+fn asserts(
     alloc: Global,
     patterns: &[Pattern],
     root: &Value,
     assertion: Assertion,
     argument: &Value,
     value: &Value,
-) -> Result<Asked<'a>>
-    ensures { AsksFor (settled (asserts (value_of root.now) assertion (value_of argument.now) (value_of value.now))) result }
+) -> Result<bool>
+    ensures { MatchResult result (λ b. b ≡ asserts (value_of root.now) assertion (value_of argument.now) (value_of value.now)) IsRefusal }
 {
     match assertion {
-        Assertion::Type => Ok(Asked::Settled(is_of_type(argument, value))),
-        Assertion::Enum => Ok(Asked::Settled(is_in_enum(alloc, argument, value)?)),
-        Assertion::Const => Ok(Asked::Settled(same(alloc, argument, value)?)),
-        Assertion::MultipleOf => Ok(Asked::Settled(is_multiple_of(alloc, argument, value)?)),
-        Assertion::Maximum => Ok(Asked::Settled(is_at_most(alloc, value, argument)?)),
-        Assertion::ExclusiveMaximum => Ok(Asked::Settled(is_below(alloc, value, argument)?)),
-        Assertion::Minimum => Ok(Asked::Settled(is_at_most(alloc, argument, value)?)),
-        Assertion::ExclusiveMinimum => Ok(Asked::Settled(is_below(alloc, argument, value)?)),
-        Assertion::MaxLength => Ok(Asked::Settled(count_at_most(
-            alloc,
-            characters_in(value),
-            argument,
-        )?)),
-        Assertion::MinLength => Ok(Asked::Settled(count_at_least(
-            alloc,
-            characters_in(value),
-            argument,
-        )?)),
-        Assertion::Pattern => Ok(Asked::Settled(is_matching(alloc, patterns, argument, value)?)),
-        Assertion::Format => Ok(Asked::Settled(format_holds(
-            alloc, patterns, root, argument, value,
-        )?)),
-        Assertion::MaxItems => Ok(Asked::Settled(count_at_most(
-            alloc,
-            elements_in(value),
-            argument,
-        )?)),
-        Assertion::MinItems => Ok(Asked::Settled(count_at_least(
-            alloc,
-            elements_in(value),
-            argument,
-        )?)),
-        Assertion::UniqueItems => Ok(Asked::Settled(has_distinct(alloc, argument, value)?)),
-        Assertion::MaxProperties => Ok(Asked::Settled(count_at_most(
-            alloc,
-            names_in(alloc, value)?,
-            argument,
-        )?)),
-        Assertion::MinProperties => Ok(Asked::Settled(count_at_least(
-            alloc,
-            names_in(alloc, value)?,
-            argument,
-        )?)),
-        Assertion::Required => Ok(Asked::Settled(has_required(argument, value))),
-        Assertion::DependentRequired => Ok(Asked::Settled(has_all_dependents(argument, value))),
+        Assertion::Type => Ok(is_of_type(argument, value)),
+        Assertion::Enum => Ok(is_in_enum(alloc, argument, value)?),
+        Assertion::Const => Ok(same(alloc, argument, value)?),
+        Assertion::MultipleOf => is_multiple_of(alloc, argument, value),
+        Assertion::Maximum => Ok(is_at_most(alloc, value, argument)?),
+        Assertion::ExclusiveMaximum => Ok(is_below(alloc, value, argument)?),
+        Assertion::Minimum => Ok(is_at_most(alloc, argument, value)?),
+        Assertion::ExclusiveMinimum => Ok(is_below(alloc, argument, value)?),
+        Assertion::MaxLength => Ok(count_at_most(alloc, characters_in(value), argument)?),
+        Assertion::MinLength => Ok(count_at_least(alloc, characters_in(value), argument)?),
+        Assertion::Pattern => Ok(is_matching(alloc, patterns, argument, value)?),
+        Assertion::Format => Ok(format_holds(alloc, patterns, root, argument, value)?),
+        Assertion::MaxItems => Ok(count_at_most(alloc, elements_in(value), argument)?),
+        Assertion::MinItems => Ok(count_at_least(alloc, elements_in(value), argument)?),
+        Assertion::UniqueItems => Ok(has_distinct(alloc, argument, value)?),
+        Assertion::MaxProperties => Ok(count_at_most(alloc, names_in(alloc, value)?, argument)?),
+        Assertion::MinProperties => Ok(count_at_least(alloc, names_in(alloc, value)?, argument)?),
+        Assertion::Required => Ok(has_required(argument, value)),
+        Assertion::DependentRequired => Ok(has_all_dependents(argument, value)),
     }
 }
 
@@ -716,7 +690,9 @@ pub fn asks<'a>(
     ensures { AsksFor (asks (value_of root.now) (fields_view keywords.now) keyword (value_of argument.now) (value_of value.now)) result }
 {
     match keyword {
-        Keyword::Assertion(assertion) => asserts(alloc, patterns, root, assertion, argument, value),
+        Keyword::Assertion(assertion) => Ok(Asked::Settled(asserts(
+            alloc, patterns, root, assertion, argument, value,
+        )?)),
         Keyword::Applicator(applicator) => {
             applies(alloc, patterns, root, keywords, applicator, argument, value)
         }
