@@ -18,6 +18,7 @@ use Rattle.cli_edit.specs.declared.requests.EditRequest.TheVariants as requests
 use Rattle.cli_edit.specs.Answers.{Answers, helps, tells_version, does, says_usage}
 use Rattle.cli_edit.specs.Requests.{AsksNothing}
 use Rattle.cli_edit.specs.Troubles.{edit_status, operation_status, read_status, trouble_status}
+use Rattle.json5_edit.specs.declared.path_texts.parsed.Path.{Path}
 use Rattle.cli_edit.specs.Works.{Does, DoesAt, DoesWith, does_with, not_begun, reads, reads_none, worked, stopped, no_steps}
 
 edit_small : (e : EditError) → edit_status e ≤ 3
@@ -56,17 +57,17 @@ read_small failure.Write = omega arith
 wider : {n : ℕ} → n ≤ 2 → n ≤ 3
 wider p = omega (arith, p)
 
-at_small : {known : Known} {t : Task} {given text : List ℕ} {output errors written said : Option (List ℕ)} {status : ℕ} → DoesAt known t given text output errors written said status → status ≤ 3
-at_small (worked steps value m w) = omega arith
-at_small (stopped steps value x m n) = trouble_small x
+at_small : {known : Known} {path : Path} {t : Task} {given text : List ℕ} {output errors written said : Option (List ℕ)} {status : ℕ} → DoesAt known path t given text output errors written said status → status ≤ 3
+at_small (worked steps value l m w) = omega arith
+at_small (stopped steps value x l m n) = trouble_small x
 at_small (no_steps e r k) = edit_small e
 
-with_small : {known : Known} {t : Task} {given : List ℕ} {input output errors written said : Option (List ℕ)} {status : ℕ} → DoesWith known t given input output errors written said status → status ≤ 3
+with_small : {known : Known} {path : Path} {t : Task} {given : List ℕ} {input output errors written said : Option (List ℕ)} {status : ℕ} → DoesWith known path t given input output errors written said status → status ≤ 3
 with_small (reads text h d) = at_small d
 with_small (reads_none f h k) = read_small f
 
 does_small : {known : Known} {t : Task} {input output errors written said : Option (List ℕ)} {status : ℕ} → Does known t input output errors written said status → status ≤ 3
-does_small (does_with given g d) = with_small d
+does_small (does_with path given l g d) = with_small d
 does_small (not_begun k) = omega arith
 
 pub small : {known : Known} {words : List (String Global)} {input output errors written said : Option (List ℕ)} {status : ℕ} → Answers known words input output errors written said status → status ≤ 3

@@ -128,6 +128,15 @@ is_shown (work.Show v) = true
 is_shown work.ShowComment = true
 is_shown _ = false
 
+-- a path is asked for, but where a patch is made
+abbrev pub route_in : Command → (path : List ℕ) → List ℕ
+route_in work.Apply path = []
+route_in work.Merge path = []
+route_in _ path = path
+
+abbrev pub route_of : Task → List ℕ
+route_of t = route_in t.work t.path.now
+
 abbrev pub AsksTask : List (List ℕ) → Task → Type 0
 AsksTask words t = (rest : List (List ℕ)) × SplitsDry t.is_dry rest words × Follows t.work t.given rest
 

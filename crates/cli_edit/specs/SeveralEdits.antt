@@ -3,9 +3,11 @@
 use Rattle.std.specs.declared.alloc.Global.{Global}
 use Rattle.std.specs.Prelude.{⊤, ◌≡◌, ◌⊎◌, ℕ, List, [], ◌∷◌, ◌++◌, length, IfSome, None, Option, Some, String, string_bytes}
 use Rattle.cli_files.specs.Stores.{Known}
+use Rattle.json5_edit.specs.PathTexts.{AreStepsOf}
 use Rattle.json5_edit.specs.Refusals.{RefusesPath}
 use Rattle.json5_edit.specs.declared.faults.EditError.{EditError}
 use Rattle.json5_edit.specs.declared.faults.EditError.TheVariants as error
+use Rattle.json5_edit.specs.declared.path_texts.parsed.Path.{Path}
 use Rattle.json5_edit.specs.declared.paths.Step.{Step}
 use Rattle.cli_edit.specs.declared.requests.Command.{Command}
 use Rattle.cli_edit.specs.declared.requests.Command.TheVariants as work
@@ -19,7 +21,7 @@ use Rattle.cli_edit.specs.declared.trouble.TextTrouble.{TextTrouble}
 use Rattle.cli_edit.specs.declared.trouble.TextTrouble.TheVariants as trouble
 use Rattle.cli_edit.specs.Makes.{MakesLaid, RefusesWork}
 use Rattle.cli_edit.specs.Values.{Means, MeansGiven}
-use Rattle.cli_edit.specs.Works.{FileHolds, FileHoldsNone}
+use Rattle.cli_edit.specs.Works.{FileHolds, FileHoldsNone, StepsSpelled}
 
 -- ---- one edit
 
@@ -69,12 +71,12 @@ given_of _ = []
 
 -- it is made of the text, as the program does it
 abbrev pub EditsTo : Edit → (text made : List ℕ) → Type 0
-EditsTo e text made = (steps : List Step) × (value : List ℕ) × MeansGiven (work_of e) (given_of e) value × MakesLaid (work_of e) text steps value made
+EditsTo e text made = (steps : List Step) × (value : List ℕ) × StepsSpelled (path_of e) text steps × MeansGiven (work_of e) (given_of e) value × MakesLaid (work_of e) text steps value made
 
 -- why it isn't: its path isn't spelled as one, the text is no document, or the program refuses it
 abbrev pub RefusesTo : Edit → (text : List ℕ) → TextTrouble → Type 0
 RefusesTo e text (trouble.NoPath p) = ⊤
-RefusesTo e text x = ((why : EditError) × (x ≡ trouble.Edit why) × RefusesPath text [] why) ⊎ ((steps : List Step) × (value : List ℕ) × MeansGiven (work_of e) (given_of e) value × RefusesWork (work_of e) text steps value x)
+RefusesTo e text x = ((why : EditError) × (x ≡ trouble.Edit why) × RefusesPath text [] why) ⊎ ((steps : List Step) × (value : List ℕ) × StepsSpelled (path_of e) text steps × MeansGiven (work_of e) (given_of e) value × RefusesWork (work_of e) text steps value x)
 
 -- ---- all of them
 
@@ -112,8 +114,10 @@ RefusesFile known file es (file_error.Unwritten why) = (old : List ℕ) × (new 
 
 -- ---- a task. Private clauses cite these.
 
-abbrev pub DoesTask : Task → (given text made : List ℕ) → Type 0
-DoesTask t given text made = (steps : List Step) × (value : List ℕ) × Means t given value × MakesLaid t.work text steps value made
+abbrev pub DoesTask : Path → Task → (given text made : List ℕ) → Type 0
+DoesTask path t given text made = (steps : List Step) × (value : List ℕ) × AreStepsOf text path.written.items steps × Means t given value × MakesLaid t.work text steps value made
 
-abbrev pub RefusesTask : Task → (given text : List ℕ) → TextTrouble → Type 0
-RefusesTask t given text x = ((why : EditError) × (x ≡ trouble.Edit why) × RefusesPath text [] why) ⊎ ((steps : List Step) × (value : List ℕ) × Means t given value × RefusesWork t.work text steps value x)
+abbrev pub RefusesTask : Path → Task → (given text : List ℕ) → TextTrouble → Type 0
+RefusesTask path t given text x =
+    ((why : EditError) × (x ≡ trouble.Edit why) × RefusesPath text [] why)
+    ⊎ ((steps : List Step) × (value : List ℕ) × AreStepsOf text path.written.items steps × Means t given value × RefusesWork t.work text steps value x)

@@ -8,9 +8,11 @@ use Rattle.cli_files.specs.declared.failure.Failure.{Failure}
 use Rattle.cli_files.specs.declared.failure.Failure.TheVariants as failure
 use Rattle.cli_files.specs.Inputs.{NoText}
 use Rattle.cli_files.specs.Stores.{Known}
+use Rattle.json5_edit.specs.PathTexts.{AreStepsOf, SpellsPath}
 use Rattle.json5_edit.specs.Refusals.{RefusesPath}
 use Rattle.json5_edit.specs.declared.faults.EditError.{EditError}
 use Rattle.json5_edit.specs.declared.faults.EditError.TheVariants as error
+use Rattle.json5_edit.specs.declared.path_texts.parsed.Path.{Path}
 use Rattle.json5_edit.specs.declared.paths.Step.{Step}
 use Rattle.cli_edit.specs.declared.requests.Source.{Source}
 use Rattle.cli_edit.specs.declared.requests.Source.TheVariants as source
@@ -18,7 +20,7 @@ use Rattle.cli_edit.specs.declared.requests.Task.{Task}
 use Rattle.cli_edit.specs.declared.trouble.TextTrouble.{TextTrouble}
 use Rattle.cli_edit.specs.declared.trouble.TextTrouble.TheVariants as trouble
 use Rattle.cli_edit.specs.Makes.{MakesLaid, RefusesWork}
-use Rattle.cli_edit.specs.Requests.{IsSourceOf, is_shown}
+use Rattle.cli_edit.specs.Requests.{IsSourceOf, is_shown, route_of}
 use Rattle.cli_edit.specs.Troubles.{edit_status, read_status, trouble_status}
 use Rattle.cli_edit.specs.Values.{Means}
 
@@ -98,6 +100,10 @@ PutsNot known t old new output written x = PutsNotBy (is_tried t) known t old ne
 
 -- ---- a task
 
+-- the steps in the text that a path means which is spelled so
+abbrev pub StepsSpelled : (route text : List ℕ) → List Step → Type 0
+StepsSpelled route text steps = (path : Path) × SpellsPath path route × AreStepsOf text path.written.items steps
+
 -- what was asked for was made of the text, with this value, and put where it goes
 abbrev pub Works : Known → Task → List ℕ → List Step → List ℕ → Option (List ℕ) → Option (List ℕ) → Type 0
 Works known t text steps value output written = (made : List ℕ) × MakesLaid t.work text steps value made × Puts known t text made output written
@@ -108,19 +114,19 @@ WorksNot known t text steps value output written x =
     (RefusesWork t.work text steps value x × Keeps output written) ⊎ ((made : List ℕ) × MakesLaid t.work text steps value made × PutsNot known t text made output written x)
 
 -- with what is given for VALUE, and the text that was read: what output and errors held before and after, and the status
-pub data DoesAt (known : Known) (t : Task) (given text : List ℕ) (output errors written : Option (List ℕ)) : Option (List ℕ) → ℕ → Type 0 where
+pub data DoesAt (known : Known) (path : Path) (t : Task) (given text : List ℕ) (output errors written : Option (List ℕ)) : Option (List ℕ) → ℕ → Type 0 where
   -- nothing was said
-  worked : (steps : List Step) (value : List ℕ) → Means t given value → Works known t text steps value output written → DoesAt known t given text output errors written errors 0
-  stopped : {said : Option (List ℕ)} (steps : List Step) (value : List ℕ) (x : TextTrouble) → Means t given value → WorksNot known t text steps value output written x
-      → DoesAt known t given text output errors written said (trouble_status x)
+  worked : (steps : List Step) (value : List ℕ) → AreStepsOf text path.written.items steps → Means t given value → Works known t text steps value output written → DoesAt known path t given text output errors written errors 0
+  stopped : {said : Option (List ℕ)} (steps : List Step) (value : List ℕ) (x : TextTrouble) → AreStepsOf text path.written.items steps → Means t given value
+      → WorksNot known t text steps value output written x → DoesAt known path t given text output errors written said (trouble_status x)
   -- the steps of the path aren't known, since the text is no document; or memory ran out
-  no_steps : {said : Option (List ℕ)} (e : EditError) → RefusesPath text [] e → Keeps output written → DoesAt known t given text output errors written said (edit_status e)
+  no_steps : {said : Option (List ℕ)} (e : EditError) → RefusesPath text [] e → Keeps output written → DoesAt known path t given text output errors written said (edit_status e)
 
-pub data DoesWith (known : Known) (t : Task) (given : List ℕ) (input output errors written said : Option (List ℕ)) : ℕ → Type 0 where
-  reads : {status : ℕ} (text : List ℕ) → Holds known t.file.now input text → DoesAt known t given text output errors written said status → DoesWith known t given input output errors written said status
-  reads_none : (f : Failure) → HoldsNone known t.file.now input f → Keeps output written → DoesWith known t given input output errors written said (read_status f)
+pub data DoesWith (known : Known) (path : Path) (t : Task) (given : List ℕ) (input output errors written said : Option (List ℕ)) : ℕ → Type 0 where
+  reads : {status : ℕ} (text : List ℕ) → Holds known t.file.now input text → DoesAt known path t given text output errors written said status → DoesWith known path t given input output errors written said status
+  reads_none : (f : Failure) → HoldsNone known t.file.now input f → Keeps output written → DoesWith known path t given input output errors written said (read_status f)
 
 pub data Does (known : Known) (t : Task) (input output errors written said : Option (List ℕ)) : ℕ → Type 0 where
-  does_with : {status : ℕ} (given : List ℕ) → IsGivenFor known t input given → DoesWith known t given input output errors written said status → Does known t input output errors written said status
+  does_with : {status : ℕ} (path : Path) (given : List ℕ) → SpellsPath path (route_of t) → IsGivenFor known t input given → DoesWith known path t given input output errors written said status → Does known t input output errors written said status
   -- the path isn't spelled as one, VALUE can't be read, or memory ran out
   not_begun : Keeps output written → Does known t input output errors written said 2

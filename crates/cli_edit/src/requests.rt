@@ -7,7 +7,7 @@ ghost use Rattle.cli_edit.specs.declared.requests.Source.{Source};
 ghost use Rattle.cli_edit.specs.declared.requests.Choice.{Choice};
 ghost use Rattle.cli_edit.specs.declared.requests.Choice.TheVariants as choices;
 ghost use Rattle.cli_edit.specs.declared.requests.Command.{Command};
-ghost use Rattle.cli_edit.specs.Requests.{Asks, AsksNothing, AsksNoWork, AsksWork, Begins, FindsWork, GivesKey, IsNamed, IsSourceOf, SplitsDry, is_shown};
+ghost use Rattle.cli_edit.specs.Requests.{Asks, AsksNothing, AsksNoWork, AsksWork, Begins, FindsWork, GivesKey, IsNamed, IsSourceOf, SplitsDry, is_shown, route_of};
 ghost use Rattle.cli_edit.specs.Choices.{FindsTail, FindsWorkOf, words_of};
 ghost use Rattle.cli_files.specs.NameLists.{names_of};
 
@@ -127,7 +127,9 @@ impl<'w> Task<'w> {
     /// ```text
     /// task.route()    // `port` of `set app.json5 port 80`
     /// ```
-    pub fn route(&self) -> &'w str {
+    pub fn route(&self) -> &'w str
+        ensures { result.now ≡ route_of self.now }
+    {
         match self.work {
             Command::Apply | Command::Merge => "",
             _ => self.path,

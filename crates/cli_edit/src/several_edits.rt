@@ -232,8 +232,8 @@ fn done(
     given: &str,
     text: &str,
 ) -> Result<String, TextTrouble>
-    ensures done { IfOk result (λ made. DoesTask task.now given.now text.now (string_bytes made)) }
-    ensures refused { IfErr result (RefusesTask task.now given.now text.now) }
+    ensures done { IfOk result (λ made. DoesTask path.now task.now given.now text.now (string_bytes made)) }
+    ensures refused { IfErr result (RefusesTask path.now task.now given.now text.now) }
 {
     let steps = match path.steps_in(alloc, text) {
         Ok(steps) => steps,

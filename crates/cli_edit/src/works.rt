@@ -54,7 +54,8 @@ fn do_with<S: Store, R: Read, W: Write, E: Write>(
     w: &mut W,
     e: &mut E,
 ) -> u8
-    ensures { DoesWith (S.known store.now) task.now value.now (R.remaining r.old) (W.contents w.old) (E.contents e.old) (W.contents w.new) (E.contents e.new) result }
+    ensures { DoesWith (S.known store.now) path.now task.now value.now (R.remaining r.old) (W.contents w.old) (E.contents e.old)
+        (W.contents w.new) (E.contents e.new) result }
 {
     match text_of(store, alloc, task.file, r) {
         Ok(text) => do_at(store, alloc, task, path, value, text.as_str(), w, e),
@@ -73,7 +74,8 @@ fn do_at<S: Store, W: Write, E: Write>(
     w: &mut W,
     e: &mut E,
 ) -> u8
-    ensures { DoesAt (S.known store.now) task.now value.now text.now (W.contents w.old) (E.contents e.old) (W.contents w.new) (E.contents e.new) result }
+    ensures { DoesAt (S.known store.now) path.now task.now value.now text.now (W.contents w.old) (E.contents e.old)
+        (W.contents w.new) (E.contents e.new) result }
 {
     let steps = match path.steps_in(alloc, text) {
         Ok(steps) => steps,

@@ -4,6 +4,7 @@ use Rattle.std.proofs.lemmas.List.{append-nil}
 use Rattle.json5_grammar.specs.Language.Characters.{line_feed}
 use Rattle.json5_styles.specs.JsonTexts.{is_json}
 use Rattle.json5_styles.specs.WholeTexts.{RefusesText}
+use Rattle.json5_types.specs.Errors.{LacksMemory}
 use Rattle.json5_types.specs.ValueLookups.{fits}
 use Rattle.json5_types.specs.ValueMeanings.{value_of}
 use Rattle.json5_types.specs.declared.error.Error.{Error}
@@ -33,6 +34,10 @@ front (suc i) (x ∷ vs) v h is = front i vs v (omega (arith, h)) is
 -- the value at i is refused
 pub refuses_here : (i : ℕ) (vs : List Value) (v : Value) (e : Error) → i < length vs → v ≡ get_or vs i v → RefusesText (fits (value_of v)) (is_json (value_of v)) e → RefusesLines (drop i vs) e
 refuses_here i vs v e h is r = subst (λ z. RefusesLines z e) (sym (front i vs v h is)) (here v (drop (suc i) vs) e r)
+
+-- memory ran out before it was
+pub lacks_here : (i : ℕ) (vs : List Value) (v : Value) (e : Error) → i < length vs → v ≡ get_or vs i v → fits (value_of v) ≡ true → is_json (value_of v) ≡ true → LacksMemory e → RefusesLines (drop i vs) e
+lacks_here i vs v e h is deep json lacks = refuses_here i vs v e h is (rw (deep, json) lacks)
 
 -- it isn't, and one behind it is
 pub refuses_later : (i : ℕ) (vs : List Value) (v : Value) (e : Error) → i < length vs → v ≡ get_or vs i v → fits (value_of v) ≡ true → is_json (value_of v) ≡ true → RefusesLines (drop (i + 1) vs) e → RefusesLines (drop i vs) e

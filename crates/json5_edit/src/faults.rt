@@ -10,7 +10,7 @@ ghost use Rattle.json5_edit.specs.declared.paths.Step.{Step};
 
 use json5_types::ErrorCode;
 use json5_types::error::Error;
-use std::alloc::AllocError;
+use std::alloc::{AllocError, AllocFailed};
 use std::fmt;
 
 /// Why an edit isn't made. Nothing is changed then.
@@ -93,6 +93,14 @@ impl From<AllocError> for EditError {
     ghost from_gives = { λ _ e. e ≡ errors.NoMemory };
 
     fn from(_error: AllocError) -> EditError {
+        EditError::NoMemory
+    }
+}
+
+impl<T: Drop> From<AllocFailed<T>> for EditError {
+    ghost from_gives = { λ _ e. e ≡ errors.NoMemory };
+
+    fn from(_error: AllocFailed<T>) -> EditError {
         EditError::NoMemory
     }
 }

@@ -29,7 +29,7 @@ use Rattle.json5_ser.specs.WrittenTrees.{Written, array, elements_of, integer, t
 use Rattle.json5_settings_types.specs.Bounds.{IsOwnFault, if_some_element, if_within}
 use Rattle.json5_settings_types.specs.Paths.{if_path}
 use Rattle.json5_settings_types.specs.Spellings.{if_spelled}
-use Rattle.json5_settings_types.specs.Twins.{if_no_twins, no_twins}
+use Rattle.json5_settings_types.specs.Twins.{HasTwin, if_no_twins, no_twins}
 
 -- what is accepted of values, and of their contents
 pub accepts_map : {A B : Type 0} (f : A → B) (xs : List A) → if_some_element (map f xs) ≡ if_some (map f) (if_some_element xs)
@@ -101,6 +101,10 @@ twins_none same cs is = rw is refl
 
 pub twins_some : {C : Type 0} (same : C → C → Bool) (cs : List C) → no_twins same cs ≡ true → if_no_twins same cs ≡ Some cs
 twins_some same cs is = rw is refl
+
+pub twin_missed : (texts : List (List ℕ)) (twin : Option ℕ) → HasTwin texts twin → ((place : ℕ) → twin ≡ Some place → ⊥) → no_twins bytes_eq texts ≡ true
+twin_missed texts None is none = is
+twin_missed texts (Some place) is none = absurd (none place refl)
 
 -- strings are read back, whatever they are
 texts_back : (tree : String Global → Written) (values : List (String Global)) → ((s : String Global) → text_of (marks (tree s)) ≡ Some (string_bytes s)) → contents text_of (element_marks (elements_of tree values)) ≡ Some (map string_bytes values)

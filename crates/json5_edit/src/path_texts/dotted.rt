@@ -1,21 +1,23 @@
 //! Names with dots between them, indices and keys between brackets.
 
+ghost use Rattle.std.specs.Prelude.{◌≡◌, ◌++◌, true, IfOk};
+ghost use Rattle.std.specs.List.{prefix_len};
+ghost use Rattle.json5_edit.specs.PathTexts.{ReadsBetween, ReadsInside, ReadsQuoted, ReadsStep, SpellsDotted, SplitsName, dot_unless, is_in_name};
+
 use crate::path_texts::faults::{Expected, PathError};
-use crate::path_texts::parsed::{Written, expected, owned};
+use crate::path_texts::parsed::{Written, expected};
+use json5_types::digit_runs::split_digits;
 use std::alloc::Global;
 
 /// Reads a path's steps.
-pub(crate) fn read_dotted(alloc: Global, text: &str) -> Result<Vec<Written>, PathError> {
+pub(crate) fn read_dotted(alloc: Global, text: &str) -> Result<Vec<Written>, PathError>
+    ensures { IfOk result (λ steps. SpellsDotted true steps.items text.now) }
+{
     let mut steps = Vec::new(alloc);
     let mut rest = text;
-    for count in 0..text.len() {
-        if rest.is_empty() {
-            return Ok(steps);
-        }
-        let (step, after) = read_step(alloc, text, rest, count == 0)?;
-        if steps.push(step).is_err() {
-            return Err(PathError::NoMemory);
-        }
+    'steps: while !rest.is_empty() {
+        let (step, after) = read_step(alloc, text, rest, steps.is_empty())?;
+        steps.push(step)?;
         rest = after;
     }
     Ok(steps)
@@ -27,20 +29,44 @@ fn read_step<'t>(
     text: &str,
     rest: &'t str,
     is_first: bool,
-) -> Result<(Written, &'t str), PathError> {
-    if let Some(inner) = rest.strip_prefix("[") {
-        return read_bracketed(alloc, text, inner);
+) -> Result<(Written, &'t str), PathError>
+    ensures { IfOk result (λ p. ReadsStep is_first rest.now p.0 p.1.now) }
+{
+    match rest.strip_prefix('[') {
+        Some(inner) => read_bracketed(alloc, text, inner),
+        None => read_name(alloc, text, rest, is_first),
     }
-    let name = match rest.strip_prefix(".") {
-        Some(name) if !is_first => name,
-        _ if is_first => rest,
-        _ => return Err(expected(text, rest, Expected::DotOrBracket)),
-    };
-    let (name, after) = split_name(name);
+}
+
+/// The name in front, behind a dot but at the start of the path, and what follows it.
+fn read_name<'t>(
+    alloc: Global,
+    text: &str,
+    rest: &'t str,
+    is_first: bool,
+) -> Result<(Written, &'t str), PathError>
+    ensures { IfOk result (λ p. ReadsStep is_first rest.now p.0 p.1.now) }
+{
+    let begun = skip_dot(text, rest, is_first)?;
+    let (name, after) = split_name(begun);
     if name.is_empty() {
         return Err(expected(text, after, Expected::Name));
     }
-    Ok((Written::Key(owned(alloc, name)?), after))
+    let key = String::from_str(alloc, name)?;
+    Ok((Written::Key(key), after))
+}
+
+/// What follows the dot before a name; at the start of the path there is none.
+fn skip_dot<'t>(text: &str, rest: &'t str, is_first: bool) -> Result<&'t str, PathError>
+    ensures { IfOk result (λ begun. rest.now ≡ dot_unless is_first ++ begun.now) }
+{
+    if is_first {
+        return Ok(rest);
+    }
+    match rest.strip_prefix('.') {
+        Some(begun) => Ok(begun),
+        None => Err(expected(text, rest, Expected::DotOrBracket)),
+    }
 }
 
 /// The index or key after an opening bracket, and what follows the closing one.
@@ -48,37 +74,53 @@ fn read_bracketed<'t>(
     alloc: Global,
     text: &str,
     inner: &'t str,
-) -> Result<(Written, &'t str), PathError> {
-    let (step, after) = match inner.chars().next() {
-        Some('"') => read_quoted(alloc, text, inner, '"')?,
-        Some('\'') => read_quoted(alloc, text, inner, '\'')?,
-        _ => read_index(text, inner)?,
-    };
-    match after.strip_prefix("]") {
+) -> Result<(Written, &'t str), PathError>
+    ensures { IfOk result (λ p. ReadsBetween inner.now p.0 p.1.now) }
+{
+    let (step, after) = read_inside(alloc, text, inner)?;
+    match after.strip_prefix(']') {
         Some(rest) => Ok((step, rest)),
         None => Err(expected(text, after, Expected::ClosingBracket)),
     }
 }
 
-/// The key between quotes in front, and what follows it.
-fn read_quoted<'t>(
+/// The index or key in front, and what follows it.
+fn read_inside<'t>(
     alloc: Global,
     text: &str,
     inner: &'t str,
-    quote: char,
-) -> Result<(Written, &'t str), PathError> {
-    let begun = match inner.strip_prefix(quote) {
-        Some(begun) => begun,
-        None => inner,
-    };
-    match begun.split_once(quote) {
-        Some((key, rest)) => Ok((Written::Key(owned(alloc, key)?), rest)),
-        None => Err(expected(text, "", Expected::Quote)),
+) -> Result<(Written, &'t str), PathError>
+    ensures { IfOk result (λ p. ReadsInside inner.now p.0 p.1.now) }
+{
+    if let Some(begun) = inner.strip_prefix('"') {
+        return read_quoted(alloc, text, begun, '"');
     }
+    if let Some(begun) = inner.strip_prefix('\'') {
+        return read_quoted(alloc, text, begun, '\'');
+    }
+    read_index(text, inner)
+}
+
+/// The key after a quote, and what follows the next one.
+fn read_quoted<'t>(
+    alloc: Global,
+    text: &str,
+    begun: &'t str,
+    quote: char,
+) -> Result<(Written, &'t str), PathError>
+    ensures { IfOk result (λ p. ReadsQuoted quote begun.now p.0 p.1.now) }
+{
+    let Some((name, rest)) = begun.split_once(quote) else {
+        return Err(expected(text, "", Expected::Quote));
+    };
+    let key = String::from_str(alloc, name)?;
+    Ok((Written::Key(key), rest))
 }
 
 /// The index in front, and what follows it.
-fn read_index<'t>(text: &str, inner: &'t str) -> Result<(Written, &'t str), PathError> {
+fn read_index<'t>(text: &str, inner: &'t str) -> Result<(Written, &'t str), PathError>
+    ensures { IfOk result (λ p. ReadsInside inner.now p.0 p.1.now) }
+{
     let (digits, after) = split_digits(inner);
     if digits.is_empty() {
         return Err(expected(text, after, Expected::IndexOrKey));
@@ -90,28 +132,26 @@ fn read_index<'t>(text: &str, inner: &'t str) -> Result<(Written, &'t str), Path
 }
 
 /// The name in front, up to a dot or a bracket, and what follows it.
-fn split_name(text: &str) -> (&str, &str) {
-    for (offset, c) in text.char_indices() {
-        if matches!(c, '.' | '[' | ']') {
-            return split(text, offset);
-        }
-    }
-    (text, "")
+fn split_name(text: &str) -> (&str, &str)
+    ensures { SplitsName text.now result.0.now result.1.now }
+{
+    text.split_at(name_len(text.as_bytes()))
 }
 
-/// The digits in front, and what follows them.
-fn split_digits(text: &str) -> (&str, &str) {
-    for (offset, c) in text.char_indices() {
-        if !c.is_ascii_digit() {
-            return split(text, offset);
-        }
+/// How many bytes in front are no dot and no bracket.
+fn name_len(bytes: &[u8]) -> usize
+    ensures { result ≡ prefix_len is_in_name bytes.now }
+{
+    let mut i = 0;
+    while i < bytes.len() && is_in_name(bytes[i]) {
+        i += 1;
     }
-    (text, "")
+    i
 }
 
-fn split(text: &str, offset: usize) -> (&str, &str) {
-    match text.split_at_checked(offset) {
-        Some(parts) => parts,
-        None => (text, ""),
-    }
+/// Whether a name may have the byte.
+fn is_in_name(byte: u8) -> bool
+    ensures { result ≡ is_in_name byte }
+{
+    !matches!(byte, b'.' | b'[' | b']')
 }

@@ -1,5 +1,9 @@
 //! What is wrong with the text of a path.
 
+ghost use Rattle.std.specs.Prelude.{◌≡◌};
+ghost use Rattle.json5_edit.specs.declared.path_texts.faults.PathError.TheVariants as errors;
+
+use std::alloc::{AllocError, AllocFailed};
 use std::fmt;
 
 /// What a path's text should go on with.
@@ -44,6 +48,22 @@ impl Expected {
             Expected::ClosingBracket => "`]`",
             Expected::ZeroOrOne => "0 or 1 after `~`",
         }
+    }
+}
+
+impl From<AllocError> for PathError {
+    ghost from_gives = { λ _ e. e ≡ errors.NoMemory };
+
+    fn from(_error: AllocError) -> PathError {
+        PathError::NoMemory
+    }
+}
+
+impl<T: Drop> From<AllocFailed<T>> for PathError {
+    ghost from_gives = { λ _ e. e ≡ errors.NoMemory };
+
+    fn from(_error: AllocFailed<T>) -> PathError {
+        PathError::NoMemory
     }
 }
 

@@ -1,6 +1,7 @@
 //! Paths that own their keys.
 
-ghost use Rattle.std.specs.Prelude.{IfErr, []};
+ghost use Rattle.std.specs.Prelude.{◌≡◌, IfErr, IfOk, [], length};
+ghost use Rattle.json5_edit.specs.PathTexts.{AreStepsOf, BeginsArrayIf, IsStepOf, LeadsToArrayIf, SpellsPath};
 ghost use Rattle.json5_edit.specs.Refusals.{RefusesPath};
 
 use crate::path_texts::dotted::read_dotted;
@@ -43,13 +44,19 @@ impl Path {
     ///
     /// - `At` with what is expected, and how many bytes of the text come before it.
     /// - `NoMemory` where there is no memory for the steps.
-    pub fn parse(alloc: Global, text: &str) -> Result<Path, PathError> {
-        let written = if text.starts_with("/") {
-            read_pointer(alloc, text)?
-        } else {
-            read_dotted(alloc, text)?
-        };
-        Ok(Path { written })
+    pub fn parse(alloc: Global, text: &str) -> Result<Path, PathError>
+        ensures { IfOk result (λ path. SpellsPath path text.now) }
+    {
+        match text.strip_prefix('/') {
+            Some(rest) => {
+                let written = read_pointer(alloc, text.len(), rest)?;
+                Ok(Path { written })
+            }
+            None => {
+                let written = read_dotted(alloc, text)?;
+                Ok(Path { written })
+            }
+        }
     }
 
     /// Returns how many steps there are.
@@ -57,7 +64,9 @@ impl Path {
     /// ```text
     /// Path::parse(alloc, "server.ports[0]")?.len()    // 3
     /// ```
-    pub fn len(&self) -> usize {
+    pub fn len(&self) -> usize
+        ensures { result ≡ length self.now.written.items }
+    {
         self.written.len()
     }
 
@@ -73,48 +82,63 @@ impl Path {
     /// - `Text` with the fault of reading, if there are digits and the text is no document.
     /// - `NoMemory` where there is no memory for the steps.
     pub fn steps_in(&self, alloc: Global, text: &str) -> crate::Result<Vec<Step<'_>>>
-        ensures { IfErr result (RefusesPath text.now []) }
+        ensures steps { IfOk result (λ steps. AreStepsOf text.now self.now.written.items steps.items) }
+        ensures refused { IfErr result (RefusesPath text.now []) }
     {
         let mut steps = Vec::new(alloc);
         for written in &self.written {
-            let step = match written {
-                Written::Key(key) => Step::Key(key.as_str()),
-                Written::Index(index) => Step::Index(*index),
-                Written::Digits(key, index) => {
-                    if is_array(alloc, text, steps.as_slice())? {
-                        Step::Index(*index)
-                    } else {
-                        Step::Key(key.as_str())
-                    }
-                }
-            };
-            if steps.push(step).is_err() {
-                return Err(EditError::NoMemory);
-            }
+            let step = step_of(alloc, text, steps.as_slice(), written)?;
+            steps.push(step)?;
         }
         Ok(steps)
     }
 }
 
+/// The step that was written, behind these in a text.
+fn step_of<'p>(
+    alloc: Global,
+    text: &str,
+    before: &[Step<'_>],
+    written: &'p Written,
+) -> crate::Result<Step<'p>>
+    ensures taken { IfOk result (IsStepOf text.now before.now written.now) }
+    ensures refused { IfErr result (RefusesPath text.now []) }
+{
+    match written {
+        Written::Key(key) => Ok(Step::Key(key.as_str())),
+        Written::Index(index) => Ok(Step::Index(*index)),
+        Written::Digits(key, index) => {
+            if is_array(alloc, text, before)? {
+                return Ok(Step::Index(*index));
+            }
+            Ok(Step::Key(key.as_str()))
+        }
+    }
+}
+
 /// Whether the steps lead to an array.
 fn is_array(alloc: Global, text: &str, steps: &[Step<'_>]) -> crate::Result<bool>
-    ensures { IfErr result (RefusesPath text.now []) }
+    ensures said { IfOk result (LeadsToArrayIf text.now steps.now) }
+    ensures refused { IfErr result (RefusesPath text.now []) }
 {
     match find(alloc, text, steps) {
-        Ok(Some(span)) => Ok(text.as_bytes().get(span.start) == Some(&b'[')),
+        Ok(Some(span)) => Ok(begins_array(text, span.start)),
         Ok(None) => Ok(false),
         Err(error) => Err(EditError::of_text(error)),
+    }
+}
+
+/// Whether the value that begins at this offset is an array.
+fn begins_array(text: &str, start: usize) -> bool
+    ensures { BeginsArrayIf text.now start result }
+{
+    match text.split_at_checked(start) {
+        Some((_, rest)) => rest.strip_prefix('[').is_some(),
+        None => false,
     }
 }
 
 /// The fault of another text than one that is expected before `rest`, which ends the path's text.
 pub(crate) fn expected(text: &str, rest: &str, expected: Expected) -> PathError {
     PathError::At(text.len().saturating_sub(rest.len()), expected)
-}
-
-pub(crate) fn owned(alloc: Global, text: &str) -> Result<String, PathError> {
-    match String::from_str(alloc, text) {
-        Ok(text) => Ok(text),
-        Err(_) => Err(PathError::NoMemory),
-    }
 }

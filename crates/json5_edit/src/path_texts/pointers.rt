@@ -1,82 +1,87 @@
 //! Pointers as of RFC 6901.
 
+ghost use Rattle.std.specs.Prelude.{◌≡◌, IfOk, IfSome};
+ghost use Rattle.json5_types.specs.Pointers.{begins_index, index_in, parts_of};
+ghost use Rattle.json5_edit.specs.PathTexts.{IsEscape, SpellsParts, SpellsPartOf, UnescapesTo};
+
 use crate::path_texts::faults::{Expected, PathError};
-use crate::path_texts::parsed::{Written, expected, owned};
+use crate::path_texts::parsed::Written;
 use std::alloc::Global;
 
-/// Reads the steps of a pointer, which begins with a slash.
-pub(crate) fn read_pointer(alloc: Global, text: &str) -> Result<Vec<Written>, PathError> {
+/// Reads the steps of a pointer of this length, of which `rest` follows the first slash.
+pub(crate) fn read_pointer(alloc: Global, len: usize, rest: &str) -> Result<Vec<Written>, PathError>
+    ensures { IfOk result (λ steps. SpellsParts steps.items (parts_of rest.now)) }
+{
     let mut steps = Vec::new(alloc);
-    let mut rest = text;
-    for _ in 0..text.len() {
-        let Some(after) = rest.strip_prefix('/') else {
-            return Ok(steps);
-        };
-        let (token, left) = split_token(after);
-        let step = match index_of(token) {
-            Some(index) => Written::Digits(owned(alloc, token)?, index),
-            None => Written::Key(unescaped(alloc, text, token, left)?),
-        };
-        if steps.push(step).is_err() {
-            return Err(PathError::NoMemory);
-        }
-        rest = left;
+    let mut left = rest;
+    'parts: while let Some((part, more)) = left.split_once('/') {
+        let end = len.saturating_sub(more.len()).saturating_sub(1);
+        steps.push(read_part(alloc, end, part)?)?;
+        left = more;
     }
+    steps.push(read_part(alloc, len, left)?)?;
     Ok(steps)
 }
 
-/// The key that a token spells, which ends before `left`.
-fn unescaped(alloc: Global, text: &str, token: &str, left: &str) -> Result<String, PathError> {
+/// The step that a part spells, which ends at this offset in the pointer.
+fn read_part(alloc: Global, end: usize, part: &str) -> Result<Written, PathError>
+    ensures { IfOk result (SpellsPartOf part.now) }
+{
+    match index_of(part) {
+        Some(index) => Ok(Written::Digits(String::from_str(alloc, part)?, index)),
+        None => Ok(Written::Key(unescaped(alloc, end, part)?)),
+    }
+}
+
+/// The key that a part spells, which ends at this offset in the pointer.
+fn unescaped(alloc: Global, end: usize, part: &str) -> Result<String, PathError>
+    ensures { IfOk result (UnescapesTo part.now) }
+{
     let mut key = String::new(alloc);
-    let mut is_escape = false;
-    let begin = text
-        .len()
-        .saturating_sub(left.len())
-        .saturating_sub(token.len());
-    for (offset, c) in token.char_indices() {
-        let pushed = match (is_escape, c) {
-            (false, '~') => Ok(()),
-            (false, _) => key.push(c),
-            (true, '0') => key.push('~'),
-            (true, '1') => key.push('/'),
-            (true, _) => return Err(PathError::At(
-                begin.saturating_add(offset),
-                Expected::ZeroOrOne,
-            )),
+    let mut rest = part;
+    'escapes: while let Some((plain, escape)) = rest.split_once('~') {
+        let Some((c, after)) = unescaped_front(escape) else {
+            let place = end.saturating_sub(escape.len());
+            return Err(PathError::At(place, Expected::ZeroOrOne));
         };
-        if pushed.is_err() {
-            return Err(PathError::NoMemory);
-        }
-        is_escape = !is_escape && c == '~';
+        key.push_str(plain)?;
+        key.push(c)?;
+        rest = after;
     }
-    if is_escape {
-        return Err(expected(text, left, Expected::ZeroOrOne));
-    }
+    key.push_str(rest)?;
     Ok(key)
 }
 
-/// The token in front, up to a slash, and what follows it.
-fn split_token(text: &str) -> (&str, &str) {
-    for (offset, c) in text.char_indices() {
-        if c == '/' {
-            return match text.split_at_checked(offset) {
-                Some(parts) => parts,
-                None => (text, ""),
-            };
-        }
+/// The character that is escaped, of what follows a tilde, and the rest.
+fn unescaped_front(escape: &str) -> Option<(char, &str)>
+    ensures { IfSome result (λ p. IsEscape escape.now p.0 p.1.now) }
+{
+    if let Some(after) = escape.strip_prefix('0') {
+        return Some(('~', after));
     }
-    (text, "")
+    match escape.strip_prefix('1') {
+        Some(after) => Some(('/', after)),
+        None => None,
+    }
 }
 
-/// The index that a token of digits stands for: `0`, or one that doesn't begin with it.
-fn index_of(token: &str) -> Option<usize> {
-    if token.len() > 1 && token.starts_with("0") {
+/// The index that a part is.
+fn index_of(part: &str) -> Option<usize>
+    ensures { result ≡ index_in part.now }
+{
+    if !begins_index(part.as_bytes()) {
         return None;
     }
-    for c in token.chars() {
-        if !c.is_ascii_digit() {
-            return None;
-        }
+    part.parse().ok()
+}
+
+/// Whether it is `0` alone, or begins with a digit from 1 to 9.
+fn begins_index(part: &[u8]) -> bool
+    ensures { result ≡ begins_index part.now }
+{
+    match part.first() {
+        Some(b'0') => part.len() == 1,
+        Some(first) => matches!(first, b'1'..=b'9'),
+        None => false,
     }
-    token.parse::<usize>().ok()
 }

@@ -1,0 +1,10 @@
+use Rattle.std.proofs.Common.{◌≡◌, ◌+◌, ◌-◌, ◌≤◌, length, drop}
+use Rattle.std.specs.List.{prefix_len}
+use Rattle.json5_edit.specs.PathTexts.{is_in_name}
+use Rattle.json5_edit.proofs.path_texts.dotted.name_len.Given as goal
+
+abbrev pub invariant-loop-i : goal.invariant-loop-i
+invariant-loop-i l = (prefix_len is_in_name l.bytes ≡ l.i + prefix_len is_in_name (drop l.i l.bytes)) × (l.i ≤ length l.bytes)
+
+abbrev pub decreases-loop-i : goal.decreases-loop-i
+decreases-loop-i l = length l.bytes - l.i

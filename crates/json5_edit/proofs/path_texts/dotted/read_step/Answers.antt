@@ -1,0 +1,7 @@
+use Rattle.std.proofs.Common.{arith}
+use Rattle.std.proofs.lemmas.Str.Pattern.{strip_prefix_char}
+use Rattle.json5_edit.proofs.PathsRead.{between_ok}
+use Rattle.json5_edit.proofs.path_texts.dotted.read_step.Goals as goal
+
+pub returns-in-Some : goal.returns-in-Some
+returns-in-Some c = between_ok c.args.is_first c.args.rest.now c.in-Some.inner.now (rw c.in-Some.is at (strip_prefix_char 0x5B c.args.rest.now c.strip_prefix.result c.strip_prefix.ensures.cases (omega arith))) c.read_bracketed.result c.read_bracketed.ensures
