@@ -12,7 +12,8 @@ use Rattle.json5_types.specs.ValueLookups.{or_else, items_in, fields_in}
 use Rattle.json5_types.proofs.ValuesCompared.{view-String}
 use Rattle.json5_schema.specs.Subschemas.{takes_schema, takes_named}
 use Rattle.json5_schema.specs.Views.{part_view}
-use Rattle.json5_schema.specs.Conformance.{is_named, is_fragment, is_anchor, is_id, has_anchor, anchored, anchored_in, anchored_through, anchored_named}
+use Rattle.json5_schema.specs.Conformance.{is_fragment, is_anchor, is_id, has_anchor, anchored, anchored_in, anchored_through, anchored_named}
+use Rattle.json5_numbers.specs.Sameness.{is_named}
 
 -- ---- a text by its bytes
 

@@ -11,7 +11,8 @@ use Rattle.std.proofs.lemmas.List.{drop_more, length-drop, take_all}
 use Rattle.json5_types.specs.declared.value.Value.{Value}
 use Rattle.json5_types.specs.ValueMeanings.{Datum, text, Items, item, value_of, items_view}
 use Rattle.json5_types.proofs.ValuesCompared.{bytes_or_characters}
-use Rattle.json5_schema.specs.Conformance.{are_distinct, is_among, same_datum}
+use Rattle.json5_schema.specs.Conformance.{are_distinct, is_among}
+use Rattle.json5_numbers.specs.Sameness.{same_datum}
 use Rattle.json5_schema.specs.SeenTexts.{SeesTexts}
 
 either_way : (a b : ℕ) → nat_eq a b ≡ nat_eq b a

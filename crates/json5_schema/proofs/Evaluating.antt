@@ -13,7 +13,8 @@ use Rattle.json5_schema.specs.declared.asked.Pair.{Pair}
 use Rattle.json5_schema.specs.declared.keyword.Applicator.{Applicator}
 use Rattle.json5_schema.specs.declared.keyword.Keyword.{Keyword}
 use Rattle.json5_schema.specs.Keywords.{keyword_named}
-use Rattle.json5_schema.specs.Conformance.{is_named, Question, evaluating_index, Answers, answers, schema_evaluates, Asked, is_in_place, is_contains, is_contained, reaches, applies, applicator_evaluates, asked_evaluates, evaluates, keyword_evaluates, keywords_evaluate, child_left_holds, elements_left_hold, left_holds, pair_evaluates, some_evaluate, unfolded}
+use Rattle.json5_schema.specs.Conformance.{Question, evaluating_index, Answers, answers, schema_evaluates, Asked, is_in_place, is_contains, is_contained, reaches, applies, applicator_evaluates, asked_evaluates, evaluates, keyword_evaluates, keywords_evaluate, child_left_holds, elements_left_hold, left_holds, pair_evaluates, some_evaluate, unfolded}
+use Rattle.json5_numbers.specs.Sameness.{is_named}
 use Rattle.json5_schema.specs.Views.{IsRefusal, question_of, pair_view, pairs_view}
 use Rattle.std.proofs.lemmas.List.{drop_more}
 use Rattle.json5_types.proofs.LookedUp.{from_here}

@@ -15,7 +15,8 @@ use Rattle.json5_types.specs.ValueLookups.{or_else}
 use Rattle.json5_types.proofs.LookedUp.{from_here}
 use Rattle.json5_types.proofs.ValuesCompared.{bytes_or_characters}
 use Rattle.json5_schema.specs.declared.members.Member.{Member}
-use Rattle.json5_schema.specs.Conformance.{is_named, latest}
+use Rattle.json5_schema.specs.Conformance.{latest}
+use Rattle.json5_numbers.specs.Sameness.{is_named}
 use Rattle.json5_schema.specs.Views.{members_view}
 
 -- the set has the names of these members

@@ -4,7 +4,8 @@ use Rattle.std.specs.Str.{encode_utf8_all}
 use Rattle.json5_types.specs.ValueMeanings.{Datum, null, boolean, number, text, array, object, Items, no_item, item, Fields, no_field, field}
 use Rattle.json5_types.specs.ValueLookups.{or_else}
 use Rattle.json5_schema.specs.Subschemas.{takes_schema, takes_schemas, takes_named, StandsIn, alone, element, member, itself, within, IsElement, IsMember}
-use Rattle.json5_schema.specs.Conformance.{is_named, has_anchor, anchored, anchored_in, anchored_through, anchored_among, anchored_named}
+use Rattle.json5_schema.specs.Conformance.{has_anchor, anchored, anchored_in, anchored_through, anchored_among, anchored_named}
+use Rattle.json5_numbers.specs.Sameness.{is_named}
 use Rattle.json5_schema.specs.Anchors.{StandsNamed}
 
 -- ---- choices

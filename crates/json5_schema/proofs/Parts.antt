@@ -1,5 +1,5 @@
 -- Steps that answers cite: texts by their bytes, references, and results.
-use Rattle.std.proofs.Common.{if◌then◌else◌, ◌≡◌, ◌≢◌, ◌∙◌, ◌<◌, ◌≤◌, ◌-◌, take, drop, ℕ, suc, zero, Bool, true, false, ◌&&◌, ◌||◌, List, [], ◌∷◌, length, Option, Some, None, Result, Ok, Err, MatchResult, ap, ap₂, sym, refl, subst, arith, ne_eqb, String, string_bytes}
+use Rattle.std.proofs.Common.{if◌then◌else◌, ◌≡◌, ◌≢◌, ◌∙◌, ◌<◌, ◌≤◌, ◌-◌, take, drop, ℕ, suc, zero, Bool, true, false, ◌||◌, List, [], ◌∷◌, length, Option, Some, None, Result, Ok, Err, MatchResult, ap, ap₂, sym, refl, subst, arith, ne_eqb, String, string_bytes}
 use Rattle.std.specs.declared.alloc.Global.{Global}
 use Rattle.std.specs.Str.{chars, IsUtf8, encode_utf8_all}
 use Rattle.std.proofs.lemmas.Str.{encodes-chars}
@@ -14,7 +14,8 @@ use Rattle.json5_types.proofs.ValuesCompared.{view-String}
 use Rattle.json5_schema.specs.declared.keyword.Keyword.{Keyword}
 use Rattle.json5_schema.specs.declared.kind.Kind.{Kind}
 use Rattle.json5_schema.specs.Keywords.{keyword_named, kind_named}
-use Rattle.json5_schema.specs.Conformance.{is_named, is_patterned, is_of_kind, is_of_named, at_fragment, behind_sign, target_of, same_datum, same_items, items_after, by_index, all_on, dependent_schemas, dependent_on, Asked, choice, asks, Question, conforming, Answers, answers, satisfied, part_holds, keyword_holds, keywords_hold, schema_holds, unfolded, Conforms}
+use Rattle.json5_schema.specs.Conformance.{is_patterned, is_of_kind, is_of_named, at_fragment, behind_sign, target_of, items_after, by_index, all_on, dependent_schemas, dependent_on, Asked, choice, asks, Question, conforming, Answers, answers, satisfied, part_holds, keyword_holds, keywords_hold, schema_holds, unfolded, Conforms}
+use Rattle.json5_numbers.specs.Sameness.{is_named}
 use Rattle.json5_schema.specs.Patterns.{matches, fits}
 use Rattle.json5_schema.specs.Views.{IsRefusal}
 use Rattle.json5_schema.proofs.Conforming.{unfolded_more}
@@ -57,18 +58,6 @@ no_target n s bs root e b u h = target_text n s bs root e b u ∙ no_sign bs roo
 
 pub target_at : (n : Value) (s : String Global) (bs rest : List ℕ) (root : Datum) → n ≡ value.String s → bs ≡ string_bytes s → IsUtf8 bs → bs ≡ 35 ∷ rest → target_of root (value_of n) ≡ at_fragment rest root
 target_at n s bs rest root e b u h = target_text n s bs root e b u ∙ past_sign bs rest root h
-
--- ---- lists of other lengths
-
-and_false : (a : Bool) → (a && false) ≡ false
-and_false true = refl
-and_false false = refl
-
-pub other_length : (xs ys : List Value) → (length xs ≡ length ys → ⊥) → same_items (items_view xs) (items_view ys) ≡ false
-other_length [] [] h = absurd (h refl)
-other_length [] (y ∷ ys) h = refl
-other_length (x ∷ xs) [] h = refl
-other_length (x ∷ xs) (y ∷ ys) h = rw (other_length xs ys (λ e. h (ap suc e))) (and_false (same_datum (value_of x) (value_of y)))
 
 -- ---- a schema
 

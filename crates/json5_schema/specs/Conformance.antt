@@ -1,7 +1,6 @@
 -- When a value conforms to a schema: JSON Schema, draft 2020-12, and what draft 7 says in other words. Of equal keys the last counts.
 -- A promise rests on this.
 use Rattle.std.specs.Prelude.{◌≡◌, ℕ, zero, suc, ◌-◌, ◌%◌, ℤ, pos, Bool, true, false, ◌&&◌, ◌||◌, not, nat_eq, nat_le, nat_lt, int_le, if◌then◌else◌, List, [], ◌∷◌, ◌++◌, length, Option, Some, None, is_some, option_and_then, unwrap_or}
-use Rattle.std.specs.Bool.{beq}
 use Rattle.std.specs.Int.{int_min}
 use Rattle.std.specs.Cmp.Lexicographic.{pointwise}
 use Rattle.std.specs.Str.{chars, encode_utf8_all}
@@ -13,11 +12,10 @@ use Rattle.json5_types.specs.ValueMeanings.{Datum, null, boolean, number, text, 
 use Rattle.json5_types.specs.ValueKinds.{items_len, fields_len}
 use Rattle.json5_types.specs.ValueChanges.{put_named}
 use Rattle.json5_types.specs.ValueLookups.{boolean_of, items_in, element_of, last_named, named_of, or_else}
-use Rattle.json5_types.specs.ValueEquality.{number_eq}
-use Rattle.json5_types.specs.NumberDecimals.{decimal_eq}
 use Rattle.json5_types.specs.Pointers.{pointed}
 use Rattle.json5_numbers.specs.NumberTexts.{decimal_of}
 use Rattle.json5_numbers.specs.Orders.{size_in, decimal_cmp}
+use Rattle.json5_numbers.specs.Sameness.{is_named, is_some_and, same_datum}
 use Rattle.json5_schema.specs.declared.keyword.Assertion.{Assertion}
 use Rattle.json5_schema.specs.declared.keyword.Assertion.TheVariants as assertion
 use Rattle.json5_schema.specs.declared.keyword.Applicator.{Applicator}
@@ -64,9 +62,6 @@ is_of_type name x = is_of_named name x
 
 -- ---- required (6.5.3)
 
-abbrev pub is_named : List ℕ → Fields → Bool
-is_named name fs = is_some (last_named name fs)
-
 abbrev pub has_name : Datum → Fields → Bool
 has_name (text name) fs = is_named name fs
 has_name _ fs = true
@@ -79,56 +74,7 @@ abbrev pub has_required : Datum → Datum → Bool
 has_required (array names) (object fs) = has_names names fs
 has_required _ _ = true
 
--- ---- enum and const (6.1.2, 6.1.3): equal by the data model of section 4.2.2
-
-abbrev pub is_equal : Option Ordering → Bool
-is_equal (Some Equal) = true
-is_equal _ = false
-
--- with the same value; not-a-number is itself
-abbrev pub same_decimals : Decimal → Decimal → Bool
-same_decimals d f = decimal_eq d f || is_equal (decimal_cmp d f)
-
-abbrev pub same_number : Number → Number → Bool
-same_number (whole z) (whole w) = number_eq (whole z) (whole w)
-same_number (whole z) (decimal f) = same_decimals (decimal_of (whole z)) f
-same_number (decimal d) (whole w) = same_decimals (decimal_of (whole w)) d
-same_number (decimal d) (decimal f) = same_decimals d f
-
-abbrev pub is_some_and : (Datum → Bool) → Option Datum → Bool
-is_some_and p None = false
-is_some_and p (Some x) = p x
-
-abbrev pub names_within : Fields → Fields → Bool
-names_within no_field gs = true
-names_within (field u x fs) gs = is_named u gs && names_within fs gs
-
-abbrev mutual
-  pub same_datum : Datum → Datum → Bool
-  same_datum null null = true
-  same_datum (boolean a) (boolean b) = beq a b
-  same_datum (number m) (number n) = same_number m n
-  same_datum (text u) (text v) = pointwise nat_eq u v
-  same_datum (array xs) (array ys) = same_items xs ys
-  same_datum (object fs) (object gs) = names_within gs fs && has_fields fs gs
-  same_datum _ _ = false
-
-  -- one by one
-  pub same_items : Items → Items → Bool
-  same_items no_item no_item = true
-  same_items (item x xs) (item y ys) = same_datum x y && same_items xs ys
-  same_items _ _ = false
-
-  -- each is among the others, with an equal value; those with equal keys but the last are passed over
-  pub has_fields : Fields → Fields → Bool
-  has_fields no_field gs = true
-  has_fields (field u x fs) gs = (is_named u fs || is_some_and (same_datum x) (last_named u gs)) && has_fields fs gs
-
-abbrev pub has_field : List ℕ → Datum → Fields → Fields → Bool
-has_field u x fs gs = is_named u fs || is_some_and (same_datum x) (last_named u gs)
-
-abbrev pub same_fields : Fields → Fields → Bool
-same_fields fs gs = names_within gs fs && has_fields fs gs
+-- ---- enum and const (6.1.2, 6.1.3): equal by the data model of section 4.2.2, as `same_datum` has it
 
 abbrev pub is_among : Datum → Items → Bool
 is_among x no_item = false
@@ -228,6 +174,9 @@ with_formats s = s
 abbrev pub is_in_format : Datum → Datum → Bool
 is_in_format (text name) (text u) = has_format name u
 is_in_format _ _ = true
+
+abbrev pub format_holds : Datum → Datum → Datum → Bool
+format_holds root name x = not (asserts_formats root) || is_in_format name x
 
 -- ---- uniqueItems (6.4.3)
 
@@ -510,7 +459,7 @@ asserts root assertion.ExclusiveMinimum a x = is_below a x
 asserts root assertion.MaxLength a x = count_at_most (characters_in x) a
 asserts root assertion.MinLength a x = count_at_least (characters_in x) a
 asserts root assertion.Pattern a x = is_matching a x
-asserts root assertion.Format a x = not (asserts_formats root) || is_in_format a x
+asserts root assertion.Format a x = format_holds root a x
 asserts root assertion.MaxItems a x = count_at_most (elements_in x) a
 asserts root assertion.MinItems a x = count_at_least (elements_in x) a
 asserts root assertion.UniqueItems a x = has_distinct a x

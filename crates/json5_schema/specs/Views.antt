@@ -8,8 +8,9 @@ use Rattle.json5_grammar.specs.declared.error_code.ErrorCode.TheVariants.{Overfl
 use Rattle.json5_types.specs.declared.error.Error.{Error}
 use Rattle.json5_types.specs.declared.value.Value.{Value}
 use Rattle.json5_types.specs.Errors.{code, LacksMemory, SaysAt}
-use Rattle.json5_types.specs.ValueMeanings.{Datum, Fields, no_field, field, value_of, fields_view}
-use Rattle.json5_schema.specs.Conformance.{Asked, settled, within, counted, choice, names, left, Question, evaluating_name, evaluating_index, Answers, keyword_holds, keyword_evaluates, unfolded}
+use Rattle.json5_types.specs.ValueMeanings.{Datum, object, Fields, no_field, field, value_of, items_view, fields_view}
+use Rattle.json5_schema.specs.Conformance.{Asked, settled, within, counted, choice, names, left, Question, evaluating_name, evaluating_index, Answers, keyword_holds, left_holds, members_left_hold, elements_left_hold, child_left_holds, reaches, keyword_evaluates, keywords_evaluate, applicator_evaluates, choice_evaluates, schema_evaluates, unfolded}
+use Rattle.json5_schema.specs.declared.keyword.Applicator.{Applicator}
 use Rattle.json5_schema.specs.declared.schemas.Schema.{Schema}
 use Rattle.json5_schema.specs.declared.asked.Pair.{Pair}
 use Rattle.json5_schema.specs.declared.members.Member.{Member}
@@ -60,13 +61,51 @@ PairsFor pairs result = MatchResult result (λ found. pairs_view found.items ≡
 abbrev pub Settles : {A : Type 0} → ℕ → Datum → (Answers → A) → Result A Error → Type 0
 Settles n root asked result = MatchResult result (λ found. (v : Answers) → asked (unfolded n v root) ≡ found) IsRefusal
 
+-- ---- the words of conforming, of the code's values
+
+abbrev pub Members : Type 0
+Members = List (String Global × Value)
+
 -- a keyword as a member has it, with all members beside it and those behind it
-abbrev pub member_holds : Answers → Datum → List (String Global × Value) → String Global × Value → List (String Global × Value) → Datum → Bool
-member_holds v root members member after x = keyword_holds v root (fields_view members) (chars (string_bytes member.0)) (value_of member.1) (fields_view after) x
+abbrev pub member_holds : Answers → Value → Members → String Global × Value → Members → Value → Bool
+member_holds v root keywords member after x =
+    keyword_holds v (value_of root) (fields_view keywords) (chars (string_bytes member.0)) (value_of member.1) (fields_view after) (value_of x)
 
 -- the same of whether it evaluates a child
-abbrev pub member_evaluates : Answers → Datum → List (String Global × Value) → String Global × Value → List (String Global × Value) → Datum → Question → Bool
-member_evaluates v root members member after x q = keyword_evaluates v root (fields_view members) (chars (string_bytes member.0)) (value_of member.1) (fields_view after) x q
+abbrev pub member_evaluates : Answers → Value → Members → String Global × Value → Members → Value → Child → Bool
+member_evaluates v root keywords member after x child =
+    keyword_evaluates v (value_of root) (fields_view keywords) (chars (string_bytes member.0)) (value_of member.1) (fields_view after) (value_of x) (question_of child)
+
+-- by its argument
+abbrev pub argument_evaluates : Answers → Value → Members → Applicator → Value → Value → Child → Bool
+argument_evaluates v root keywords k argument x child = applicator_evaluates v (value_of root) (fields_view keywords) k (value_of argument) (value_of x) (question_of child)
+
+-- one of all keywords, and of what is left too
+abbrev pub one_evaluates : Answers → Value → Members → Value → Child → Bool
+one_evaluates v root keywords x child = keywords_evaluate v (value_of root) (fields_view keywords) (fields_view keywords) (value_of x) (question_of child)
+
+abbrev pub fields_evaluate : Answers → Value → Members → Value → Child → Bool
+fields_evaluate v root keywords x child = schema_evaluates v (value_of root) (object (fields_view keywords)) (value_of x) (question_of child)
+
+abbrev pub either_evaluates : Answers → Child → Value → Option (Bor Value) → Option (Bor Value) → Value → Bool
+either_evaluates v child condition then other x = choice_evaluates v (question_of child) (value_of condition) (part_view then) (part_view other) (value_of x)
+
+-- by a member's name
+abbrev pub reaches_named : Members → Applicator → Value → List ℕ → Bool
+reaches_named keywords k argument name = reaches (fields_view keywords) k (value_of argument) (evaluating_name (chars name))
+
+-- what is left
+abbrev pub value_left : Answers → Value → Value → Members → Value → Bool
+value_left v root schema keywords x = left_holds v (value_of root) (value_of schema) (fields_view keywords) (value_of x)
+
+abbrev pub members_left : Answers → Value → Value → Members → Value → List Member → Bool
+members_left v root schema keywords x members = members_left_hold v (value_of root) (value_of schema) (fields_view keywords) (value_of x) (members_view members)
+
+abbrev pub elements_left : Answers → Value → Value → Members → Value → List Value → Bool
+elements_left v root schema keywords x items = elements_left_hold v (value_of root) (value_of schema) (fields_view keywords) (value_of x) 0 (items_view items)
+
+abbrev pub child_left : Answers → Value → Value → Members → Value → Child → Value → Bool
+child_left v root schema keywords x child inner = child_left_holds v (value_of root) (value_of schema) (fields_view keywords) (value_of x) (question_of child) (value_of inner)
 
 abbrev pub schema_of : Schema → Datum
 schema_of s = value_of s.root

@@ -5,11 +5,11 @@ ghost use lib.Chars.{codes};
 ghost use Rattle.std.specs.Str.{chars};
 ghost use Rattle.json5_types.specs.Errors.{LacksMemory};
 ghost use Rattle.json5_types.specs.ValueMeanings.{value_of, items_view, fields_view};
-ghost use Rattle.json5_schema.specs.Conformance.{each_schema, each_item, by_name, value_for, by_index, prefix_on, schemas_in_front, items_after, elements_after, items_on, additional_items_on, contains_on, all_of_on, any_of_on, one_of_on, if_on, members_left_on, elements_left_on, speaks_of, beside, is_matched, is_patterned, is_additional, latest, each_matched, of_pattern, by_pattern, patterns_on, each_additional, additional_on, names_on, properties_on, is_dependent, dependent_schemas, dependent_on, dependencies_on, all_on, some_on, target_of, refers_on, settled, asserts, applies, asks};
+ghost use Rattle.json5_schema.specs.Conformance.{each_schema, each_item, by_name, value_for, by_index, prefix_on, schemas_in_front, items_after, elements_after, items_on, additional_items_on, contains_on, all_of_on, any_of_on, one_of_on, if_on, members_left_on, elements_left_on, speaks_of, beside, is_matched, is_patterned, is_additional, latest, each_matched, of_pattern, by_pattern, patterns_on, each_additional, additional_on, names_on, properties_on, is_dependent, dependent_schemas, dependent_on, dependencies_on, all_on, some_on, target_of, refers_on, asserts, applies, asks};
 ghost use Rattle.json5_schema.specs.Views.{AsksFor, IsRefusal, PairsFor, members_view, pairs_view, part_view, asked_view};
 
 use crate::anchors::at_fragment;
-use crate::equal::{has_distinct, is_in_enum, same};
+use crate::equal::{has_distinct, is_in_enum};
 use crate::formats::format_holds;
 use crate::keyword::{Applicator, Assertion, Keyword};
 use crate::kind::is_of_type;
@@ -17,11 +17,11 @@ use crate::limits::{
     characters_in, count_at_least, count_at_most, elements_in, elements_len, is_at_most, is_below,
     names_in,
 };
-use crate::members::{
-    Member, find, has_all_dependents, has_required, is_named, latest, unless_named,
-};
+use crate::members::{Member, has_all_dependents, has_required, latest, unless_named};
 use crate::multiples::is_multiple_of;
 use crate::patterns::{Pattern, fits, is_matching};
+use json5_numbers::members::{find, is_named};
+use json5_numbers::same;
 use json5_types::error::Result;
 use json5_types::value::Value;
 use std::alloc::Global;
@@ -59,7 +59,7 @@ pub enum Child<'a> {
 
 /// Each of the schemas, on the value.
 fn each_schema<'a>(alloc: Global, schemas: &'a [Value], value: &'a Value) -> Result<Vec<Pair<'a>>>
-    ensures { MatchResult result (λ ps. pairs_view ps.items ≡ each_schema (items_view schemas.now) (value_of value.now)) LacksMemory }
+    ensures { PairsFor (each_schema (items_view schemas.now) (value_of value.now)) result }
 {
     let mut pairs = Vec::new(alloc);
     for schema in schemas {
@@ -70,7 +70,7 @@ fn each_schema<'a>(alloc: Global, schemas: &'a [Value], value: &'a Value) -> Res
 
 /// The schema, on each of the elements.
 fn each_item<'a>(alloc: Global, schema: &'a Value, items: &'a [Value]) -> Result<Vec<Pair<'a>>>
-    ensures { MatchResult result (λ ps. pairs_view ps.items ≡ each_item (value_of schema.now) (items_view items.now)) LacksMemory }
+    ensures { PairsFor (each_item (value_of schema.now) (items_view items.now)) result }
 {
     let mut pairs = Vec::new(alloc);
     for value in items {
@@ -85,7 +85,7 @@ fn by_name<'a>(
     properties: &'a [(String, Value)],
     members: &'a [(String, Value)],
 ) -> Result<Vec<Pair<'a>>>
-    ensures { MatchResult result (λ ps. pairs_view ps.items ≡ by_name (fields_view properties.now) (fields_view members.now)) LacksMemory }
+    ensures { PairsFor (by_name (fields_view properties.now) (fields_view members.now)) result }
 {
     let mut pairs = Vec::new(alloc);
     for (index, property) in properties.iter().enumerate() {
@@ -139,7 +139,7 @@ pub fn target_of<'a>(root: &'a Value, reference: &Value) -> Option<&'a Value>
 
 /// One pair.
 fn one<'a>(alloc: Global, schema: &'a Value, value: &'a Value) -> Result<Vec<Pair<'a>>>
-    ensures { MatchResult result (λ ps. pairs_view ps.items ≡ (value_of schema.now, value_of value.now) ∷ []) LacksMemory }
+    ensures { PairsFor ((value_of schema.now, value_of value.now) ∷ []) result }
 {
     let mut pairs = Vec::new(alloc);
     pairs.push(Pair { schema, value })?;
@@ -148,7 +148,7 @@ fn one<'a>(alloc: Global, schema: &'a Value, value: &'a Value) -> Result<Vec<Pai
 
 /// What `properties` asks.
 fn properties_on<'a>(alloc: Global, properties: &'a Value, value: &'a Value) -> Result<Asked<'a>>
-    ensures { MatchResult result (λ a. asked_view a ≡ properties_on (value_of properties.now) (value_of value.now)) IsRefusal }
+    ensures { AsksFor (properties_on (value_of properties.now) (value_of value.now)) result }
 {
     match (properties, value) {
         (Value::Object(properties), Value::Object(members)) => Ok(all_of(by_name(
@@ -238,7 +238,7 @@ fn each_additional<'a>(
     keywords: &[(String, Value)],
     members: &[Member<'a>],
 ) -> Result<Vec<Pair<'a>>>
-    ensures { MatchResult result (λ ps. pairs_view ps.items ≡ each_additional (value_of schema.now) (fields_view keywords.now) (members_view members.now)) LacksMemory }
+    ensures { PairsFor (each_additional (value_of schema.now) (fields_view keywords.now) (members_view members.now)) result }
 {
     let mut pairs = Vec::new(alloc);
     for member in members {
@@ -258,7 +258,7 @@ fn additional_on<'a>(
     keywords: &[(String, Value)],
     value: &'a Value,
 ) -> Result<Asked<'a>>
-    ensures { MatchResult result (λ a. asked_view a ≡ additional_on (value_of schema.now) (fields_view keywords.now) (value_of value.now)) IsRefusal }
+    ensures { AsksFor (additional_on (value_of schema.now) (fields_view keywords.now) (value_of value.now)) result }
 {
     match value {
         Value::Object(members) => {
@@ -277,7 +277,7 @@ fn each_matched<'a>(
     schema: &'a Value,
     members: &[Member<'a>],
 ) -> Result<Vec<Pair<'a>>>
-    ensures { MatchResult result (λ ps. pairs_view ps.items ≡ each_matched (chars pattern.now) (value_of schema.now) (members_view members.now)) LacksMemory }
+    ensures { PairsFor (each_matched (chars pattern.now) (value_of schema.now) (members_view members.now)) result }
 {
     let mut pairs = Vec::new(alloc);
     for member in members {
@@ -313,7 +313,7 @@ fn by_pattern<'a>(
     schemas: &'a [(String, Value)],
     members: &[Member<'a>],
 ) -> Result<Vec<Pair<'a>>>
-    ensures { MatchResult result (λ ps. pairs_view ps.items ≡ by_pattern (fields_view schemas.now) (members_view members.now)) LacksMemory }
+    ensures { PairsFor (by_pattern (fields_view schemas.now) (members_view members.now)) result }
 {
     let mut pairs = Vec::new(alloc);
     for (index, schema) in schemas.iter().enumerate() {
@@ -343,7 +343,7 @@ fn patterns_on<'a>(
     schemas: &'a Value,
     value: &'a Value,
 ) -> Result<Asked<'a>>
-    ensures { MatchResult result (λ a. asked_view a ≡ patterns_on (value_of schemas.now) (value_of value.now)) IsRefusal }
+    ensures { AsksFor (patterns_on (value_of schemas.now) (value_of value.now)) result }
 {
     match (schemas, value) {
         (Value::Object(schemas), Value::Object(members)) => {
@@ -365,7 +365,7 @@ fn names_on<'a>(schema: &'a Value, value: &'a Value) -> Asked<'a>
 
 /// The schemas, on the elements at the same indices.
 fn by_index<'a>(alloc: Global, schemas: &'a [Value], items: &'a [Value]) -> Result<Vec<Pair<'a>>>
-    ensures { MatchResult result (λ ps. pairs_view ps.items ≡ by_index (items_view schemas.now) (items_view items.now)) LacksMemory }
+    ensures { PairsFor (by_index (items_view schemas.now) (items_view items.now)) result }
 {
     let mut pairs = Vec::new(alloc);
     for (schema, value) in schemas.iter().zip(items) {
@@ -376,7 +376,7 @@ fn by_index<'a>(alloc: Global, schemas: &'a [Value], items: &'a [Value]) -> Resu
 
 /// What `prefixItems` asks.
 fn prefix_on<'a>(alloc: Global, schemas: &'a Value, value: &'a Value) -> Result<Asked<'a>>
-    ensures { MatchResult result (λ a. asked_view a ≡ prefix_on (value_of schemas.now) (value_of value.now)) IsRefusal }
+    ensures { AsksFor (prefix_on (value_of schemas.now) (value_of value.now)) result }
 {
     match (schemas, value) {
         (Value::Array(schemas), Value::Array(items)) => Ok(all_of(by_index(
@@ -414,7 +414,7 @@ fn elements_after<'a>(
     count: usize,
     value: &'a Value,
 ) -> Result<Asked<'a>>
-    ensures { MatchResult result (λ a. asked_view a ≡ elements_after (value_of schema.now) count (value_of value.now)) IsRefusal }
+    ensures { AsksFor (elements_after (value_of schema.now) count (value_of value.now)) result }
 {
     match value {
         Value::Array(items) => Ok(all_of(each_item(alloc, schema, items_after(items, count))?)),
@@ -429,7 +429,7 @@ fn items_on<'a>(
     keywords: &[(String, Value)],
     value: &'a Value,
 ) -> Result<Asked<'a>>
-    ensures { MatchResult result (λ a. asked_view a ≡ items_on (value_of schema.now) (fields_view keywords.now) (value_of value.now)) IsRefusal }
+    ensures { AsksFor (items_on (value_of schema.now) (fields_view keywords.now) (value_of value.now)) result }
 {
     if schema.is_array() {
         return prefix_on(alloc, schema, value);
@@ -445,7 +445,7 @@ fn additional_items_on<'a>(
     items: Option<&Value>,
     value: &'a Value,
 ) -> Result<Asked<'a>>
-    ensures { MatchResult result (λ a. asked_view a ≡ additional_items_on (value_of schema.now) (part_view items.entry) (value_of value.now)) IsRefusal }
+    ensures { AsksFor (additional_items_on (value_of schema.now) (part_view items.entry) (value_of value.now)) result }
 {
     match items {
         Some(Value::Array(schemas)) => elements_after(alloc, schema, elements_len(schemas), value),
@@ -460,7 +460,7 @@ fn contains_on<'a>(
     keywords: &'a [(String, Value)],
     value: &'a Value,
 ) -> Result<Asked<'a>>
-    ensures { MatchResult result (λ a. asked_view a ≡ contains_on (value_of schema.now) (fields_view keywords.now) (value_of value.now)) IsRefusal }
+    ensures { AsksFor (contains_on (value_of schema.now) (fields_view keywords.now) (value_of value.now)) result }
 {
     match value {
         Value::Array(items) => {
@@ -473,7 +473,7 @@ fn contains_on<'a>(
 
 /// What `allOf` asks.
 fn all_of_on<'a>(alloc: Global, schemas: &'a Value, value: &'a Value) -> Result<Asked<'a>>
-    ensures { MatchResult result (λ a. asked_view a ≡ all_of_on (value_of schemas.now) (value_of value.now)) IsRefusal }
+    ensures { AsksFor (all_of_on (value_of schemas.now) (value_of value.now)) result }
 {
     match schemas {
         Value::Array(schemas) => Ok(all_of(each_schema(alloc, schemas, value)?)),
@@ -483,7 +483,7 @@ fn all_of_on<'a>(alloc: Global, schemas: &'a Value, value: &'a Value) -> Result<
 
 /// What `anyOf` asks.
 fn any_of_on<'a>(alloc: Global, schemas: &'a Value, value: &'a Value) -> Result<Asked<'a>>
-    ensures { MatchResult result (λ a. asked_view a ≡ any_of_on (value_of schemas.now) (value_of value.now)) IsRefusal }
+    ensures { AsksFor (any_of_on (value_of schemas.now) (value_of value.now)) result }
 {
     match schemas {
         Value::Array(schemas) => Ok(any_of(each_schema(alloc, schemas, value)?)),
@@ -493,7 +493,7 @@ fn any_of_on<'a>(alloc: Global, schemas: &'a Value, value: &'a Value) -> Result<
 
 /// What `oneOf` asks.
 fn one_of_on<'a>(alloc: Global, schemas: &'a Value, value: &'a Value) -> Result<Asked<'a>>
-    ensures { MatchResult result (λ a. asked_view a ≡ one_of_on (value_of schemas.now) (value_of value.now)) IsRefusal }
+    ensures { AsksFor (one_of_on (value_of schemas.now) (value_of value.now)) result }
 {
     match schemas {
         Value::Array(schemas) => Ok(Asked::Within(1, 1, each_schema(alloc, schemas, value)?)),
@@ -560,7 +560,7 @@ fn dependent_schemas<'a>(
     members: &[(String, Value)],
     value: &'a Value,
 ) -> Result<Vec<Pair<'a>>>
-    ensures { MatchResult result (λ ps. pairs_view ps.items ≡ dependent_schemas (fields_view schemas.now) (fields_view members.now) (value_of value.now)) LacksMemory }
+    ensures { PairsFor (dependent_schemas (fields_view schemas.now) (fields_view members.now) (value_of value.now)) result }
 {
     let mut pairs = Vec::new(alloc);
     for (index, dependent) in schemas.iter().enumerate() {
@@ -574,7 +574,7 @@ fn dependent_schemas<'a>(
 
 /// What `dependentSchemas` asks.
 fn dependent_on<'a>(alloc: Global, schemas: &'a Value, value: &'a Value) -> Result<Asked<'a>>
-    ensures { MatchResult result (λ a. asked_view a ≡ dependent_on (value_of schemas.now) (value_of value.now)) IsRefusal }
+    ensures { AsksFor (dependent_on (value_of schemas.now) (value_of value.now)) result }
 {
     match (schemas, value) {
         (Value::Object(schemas), Value::Object(members)) => Ok(all_of(dependent_schemas(
@@ -586,7 +586,7 @@ fn dependent_on<'a>(alloc: Global, schemas: &'a Value, value: &'a Value) -> Resu
 
 /// What `dependencies` asks.
 fn dependencies_on<'a>(alloc: Global, schemas: &'a Value, value: &'a Value) -> Result<Asked<'a>>
-    ensures { MatchResult result (λ a. asked_view a ≡ dependencies_on (value_of schemas.now) (value_of value.now)) IsRefusal }
+    ensures { AsksFor (dependencies_on (value_of schemas.now) (value_of value.now)) result }
 {
     if has_all_dependents(schemas, value) {
         dependent_on(alloc, schemas, value)
@@ -597,7 +597,7 @@ fn dependencies_on<'a>(alloc: Global, schemas: &'a Value, value: &'a Value) -> R
 
 /// What `$ref` asks, with this target.
 fn refers_on<'a>(alloc: Global, target: Option<&'a Value>, value: &'a Value) -> Result<Asked<'a>>
-    ensures { MatchResult result (λ a. asked_view a ≡ refers_on (part_view target.entry) (value_of value.now)) IsRefusal }
+    ensures { AsksFor (refers_on (part_view target.entry) (value_of value.now)) result }
 {
     match target {
         Some(schema) => Ok(all_of(one(alloc, schema, value)?)),
@@ -606,62 +606,36 @@ fn refers_on<'a>(alloc: Global, target: Option<&'a Value>, value: &'a Value) -> 
 }
 
 /// What a keyword says by itself.
-fn asserts<'a>(
+fn asserts(
     alloc: Global,
     patterns: &[Pattern],
     root: &Value,
     assertion: Assertion,
     argument: &Value,
     value: &Value,
-) -> Result<Asked<'a>>
-    ensures { MatchResult result (λ a. asked_view a ≡ settled (asserts (value_of root.now) assertion (value_of argument.now) (value_of value.now))) IsRefusal }
+) -> Result<bool>
+    ensures { MatchResult result (λ b. b ≡ asserts (value_of root.now) assertion (value_of argument.now) (value_of value.now)) IsRefusal }
 {
     match assertion {
-        Assertion::Type => Ok(Asked::Settled(is_of_type(argument, value))),
-        Assertion::Enum => Ok(Asked::Settled(is_in_enum(alloc, argument, value)?)),
-        Assertion::Const => Ok(Asked::Settled(same(alloc, argument, value)?)),
-        Assertion::MultipleOf => Ok(Asked::Settled(is_multiple_of(alloc, argument, value)?)),
-        Assertion::Maximum => Ok(Asked::Settled(is_at_most(alloc, value, argument)?)),
-        Assertion::ExclusiveMaximum => Ok(Asked::Settled(is_below(alloc, value, argument)?)),
-        Assertion::Minimum => Ok(Asked::Settled(is_at_most(alloc, argument, value)?)),
-        Assertion::ExclusiveMinimum => Ok(Asked::Settled(is_below(alloc, argument, value)?)),
-        Assertion::MaxLength => Ok(Asked::Settled(count_at_most(
-            alloc,
-            characters_in(value),
-            argument,
-        )?)),
-        Assertion::MinLength => Ok(Asked::Settled(count_at_least(
-            alloc,
-            characters_in(value),
-            argument,
-        )?)),
-        Assertion::Pattern => Ok(Asked::Settled(is_matching(alloc, patterns, argument, value)?)),
-        Assertion::Format => Ok(Asked::Settled(format_holds(
-            alloc, patterns, root, argument, value,
-        )?)),
-        Assertion::MaxItems => Ok(Asked::Settled(count_at_most(
-            alloc,
-            elements_in(value),
-            argument,
-        )?)),
-        Assertion::MinItems => Ok(Asked::Settled(count_at_least(
-            alloc,
-            elements_in(value),
-            argument,
-        )?)),
-        Assertion::UniqueItems => Ok(Asked::Settled(has_distinct(alloc, argument, value)?)),
-        Assertion::MaxProperties => Ok(Asked::Settled(count_at_most(
-            alloc,
-            names_in(alloc, value)?,
-            argument,
-        )?)),
-        Assertion::MinProperties => Ok(Asked::Settled(count_at_least(
-            alloc,
-            names_in(alloc, value)?,
-            argument,
-        )?)),
-        Assertion::Required => Ok(Asked::Settled(has_required(argument, value))),
-        Assertion::DependentRequired => Ok(Asked::Settled(has_all_dependents(argument, value))),
+        Assertion::Type => Ok(is_of_type(argument, value)),
+        Assertion::Enum => Ok(is_in_enum(alloc, argument, value)?),
+        Assertion::Const => Ok(same(alloc, argument, value)?),
+        Assertion::MultipleOf => is_multiple_of(alloc, argument, value),
+        Assertion::Maximum => Ok(is_at_most(alloc, value, argument)?),
+        Assertion::ExclusiveMaximum => Ok(is_below(alloc, value, argument)?),
+        Assertion::Minimum => Ok(is_at_most(alloc, argument, value)?),
+        Assertion::ExclusiveMinimum => Ok(is_below(alloc, argument, value)?),
+        Assertion::MaxLength => Ok(count_at_most(alloc, characters_in(value), argument)?),
+        Assertion::MinLength => Ok(count_at_least(alloc, characters_in(value), argument)?),
+        Assertion::Pattern => Ok(is_matching(alloc, patterns, argument, value)?),
+        Assertion::Format => Ok(format_holds(alloc, patterns, root, argument, value)?),
+        Assertion::MaxItems => Ok(count_at_most(alloc, elements_in(value), argument)?),
+        Assertion::MinItems => Ok(count_at_least(alloc, elements_in(value), argument)?),
+        Assertion::UniqueItems => Ok(has_distinct(alloc, argument, value)?),
+        Assertion::MaxProperties => Ok(count_at_most(alloc, names_in(alloc, value)?, argument)?),
+        Assertion::MinProperties => Ok(count_at_least(alloc, names_in(alloc, value)?, argument)?),
+        Assertion::Required => Ok(has_required(argument, value)),
+        Assertion::DependentRequired => Ok(has_all_dependents(argument, value)),
     }
 }
 
@@ -713,10 +687,12 @@ pub fn asks<'a>(
     argument: &'a Value,
     value: &'a Value,
 ) -> Result<Asked<'a>>
-    ensures { MatchResult result (λ a. asked_view a ≡ asks (value_of root.now) (fields_view keywords.now) keyword (value_of argument.now) (value_of value.now)) IsRefusal }
+    ensures { AsksFor (asks (value_of root.now) (fields_view keywords.now) keyword (value_of argument.now) (value_of value.now)) result }
 {
     match keyword {
-        Keyword::Assertion(assertion) => asserts(alloc, patterns, root, assertion, argument, value),
+        Keyword::Assertion(assertion) => Ok(Asked::Settled(asserts(
+            alloc, patterns, root, assertion, argument, value,
+        )?)),
         Keyword::Applicator(applicator) => {
             applies(alloc, patterns, root, keywords, applicator, argument, value)
         }

@@ -2,16 +2,17 @@
 
 ghost use Rattle.std.specs.Prelude.{◌≡◌, MatchResult, ◌&&◌, nat_eq};
 ghost use Rattle.std.specs.Str.{chars};
-ghost use Rattle.json5_types.specs.ValueMeanings.{object, text, value_of, items_view, fields_view};
-ghost use Rattle.json5_schema.specs.Conformance.{applicator_evaluates, asked_evaluates, child_left_holds, choice_evaluates, conforming, count_conforming, elements_left_hold, is_contained, is_within, keywords_evaluate, left_holds, less, members_left_hold, names_hold, pair_evaluates, part_evaluates, part_holds, satisfied, schema_evaluates, schema_holds, some_evaluate, Conforms};
-ghost use Rattle.json5_schema.specs.Views.{IsRefusal, Settles, member_evaluates, member_holds, members_view, pair_view, pairs_view, part_view, question_of, asked_view};
+ghost use Rattle.json5_types.specs.ValueMeanings.{object, text, value_of, fields_view};
+ghost use Rattle.json5_schema.specs.Conformance.{asked_evaluates, conforming, count_conforming, is_contained, is_within, less, names_hold, pair_evaluates, part_evaluates, part_holds, satisfied, schema_holds, some_evaluate, Conforms};
+ghost use Rattle.json5_schema.specs.Views.{IsRefusal, Settles, argument_evaluates, asked_view, child_left, either_evaluates, elements_left, fields_evaluate, member_evaluates, member_holds, members_left, one_evaluates, pair_view, pairs_view, part_view, question_of, value_left};
 
 use crate::asked::{Asked, Child, Pair, applies, asks};
 use crate::keyword::{Applicator, Keyword, keyword_named};
 use crate::limits::is_counted;
-use crate::members::{Member, is_named, latest};
+use crate::members::{Member, latest};
 use crate::patterns::Pattern;
 use crate::reaching::{element_at, is_contains, is_in_place, reaches, takes_rest};
+use json5_numbers::members::is_named;
 use json5_types::ErrorCode;
 use json5_types::error::{Error, Result};
 use json5_types::value::Value;
@@ -93,7 +94,7 @@ pub fn keyword_holds(
     value: &Value,
     depth: usize,
 ) -> Result<bool>
-    ensures { Settles depth (value_of root.now) (λ v. member_holds v (value_of root.now) members.now member.now after.now (value_of value.now)) result }
+    ensures { Settles depth (value_of root.now) (λ v. member_holds v root.now members.now member.now after.now value.now) result }
 {
     let name = member.0.as_str();
     if is_named(after, name) {
@@ -281,7 +282,7 @@ fn left_holds(
     value: &Value,
     depth: usize,
 ) -> Result<bool>
-    ensures { Settles depth (value_of root.now) (λ v. left_holds v (value_of root.now) (value_of schema.now) (fields_view keywords.now) (value_of value.now)) result }
+    ensures { Settles depth (value_of root.now) (λ v. value_left v root.now schema.now keywords.now value.now) result }
 {
     match value {
         Value::Object(members) => {
@@ -309,7 +310,7 @@ fn members_left_hold(
     members: &[Member<'_>],
     depth: usize,
 ) -> Result<bool>
-    ensures { Settles depth (value_of root.now) (λ v. members_left_hold v (value_of root.now) (value_of schema.now) (fields_view keywords.now) (value_of value.now) (members_view members.now)) result }
+    ensures { Settles depth (value_of root.now) (λ v. members_left v root.now schema.now keywords.now value.now members.now) result }
 {
     for member in members {
         if !child_left_holds(
@@ -341,7 +342,7 @@ fn elements_left_hold(
     items: &[Value],
     depth: usize,
 ) -> Result<bool>
-    ensures { Settles depth (value_of root.now) (λ v. elements_left_hold v (value_of root.now) (value_of schema.now) (fields_view keywords.now) (value_of value.now) 0 (items_view items.now)) result }
+    ensures { Settles depth (value_of root.now) (λ v. elements_left v root.now schema.now keywords.now value.now items.now) result }
 {
     for (index, item) in items.iter().enumerate() {
         if !child_left_holds(
@@ -374,7 +375,7 @@ pub fn child_left_holds(
     inner: &Value,
     depth: usize,
 ) -> Result<bool>
-    ensures { Settles depth (value_of root.now) (λ v. child_left_holds v (value_of root.now) (value_of schema.now) (fields_view keywords.now) (value_of value.now) (question_of child.entry) (value_of inner.now)) result }
+    ensures { Settles depth (value_of root.now) (λ v. child_left v root.now schema.now keywords.now value.now child.entry inner.now) result }
 {
     if keywords_evaluate(alloc, patterns, root, keywords, value, child, depth)? {
         return Ok(true);
@@ -393,7 +394,7 @@ fn keywords_evaluate(
     child: Child<'_>,
     depth: usize,
 ) -> Result<bool>
-    ensures { Settles depth (value_of root.now) (λ v. keywords_evaluate v (value_of root.now) (fields_view keywords.now) (fields_view keywords.now) (value_of value.now) (question_of child.entry)) result }
+    ensures { Settles depth (value_of root.now) (λ v. one_evaluates v root.now keywords.now value.now child.entry) result }
 {
     for (index, member) in keywords.iter().enumerate() {
         if keyword_evaluates(
@@ -426,7 +427,7 @@ fn keyword_evaluates(
     child: Child<'_>,
     depth: usize,
 ) -> Result<bool>
-    ensures { Settles depth (value_of root.now) (λ v. member_evaluates v (value_of root.now) keywords.now member.now after.now (value_of value.now) (question_of child.entry)) result }
+    ensures { Settles depth (value_of root.now) (λ v. member_evaluates v root.now keywords.now member.now after.now value.now child.entry) result }
 {
     let name = member.0.as_str();
     if is_named(after, name) {
@@ -454,7 +455,7 @@ fn applicator_evaluates(
     child: Child<'_>,
     depth: usize,
 ) -> Result<bool>
-    ensures { Settles depth (value_of root.now) (λ v. applicator_evaluates v (value_of root.now) (fields_view keywords.now) applicator (value_of argument.now) (value_of value.now) (question_of child.entry)) result }
+    ensures { Settles depth (value_of root.now) (λ v. argument_evaluates v root.now keywords.now applicator argument.now value.now child.entry) result }
 {
     if is_in_place(applicator) {
         let asked = applies(alloc, patterns, root, keywords, applicator, argument, value)?;
@@ -560,7 +561,7 @@ fn choice_evaluates(
     child: Child<'_>,
     depth: usize,
 ) -> Result<bool>
-    ensures { Settles depth (value_of root.now) (λ v. choice_evaluates v (question_of child.entry) (value_of condition.now) (part_view then.entry) (part_view other.entry) (value_of value.now)) result }
+    ensures { Settles depth (value_of root.now) (λ v. either_evaluates v child.entry condition.now then.entry other.entry value.now) result }
 {
     if !conforms_within(alloc, patterns, root, condition, value, depth)? {
         return part_evaluates(alloc, patterns, root, other, value, child, depth);
@@ -625,7 +626,7 @@ fn object_evaluates(
     child: Child<'_>,
     depth: usize,
 ) -> Result<bool>
-    ensures { Settles depth (value_of root.now) (λ v. schema_evaluates v (value_of root.now) (object (fields_view keywords.now)) (value_of value.now) (question_of child.entry)) result }
+    ensures { Settles depth (value_of root.now) (λ v. fields_evaluate v root.now keywords.now value.now child.entry) result }
 {
     if takes_rest(keywords, child) {
         return Ok(true);

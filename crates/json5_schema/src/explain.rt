@@ -7,13 +7,14 @@ use crate::conforms::{child_left_holds, conforms_within, keyword_holds};
 use crate::document_faults::{Fault, Mismatch, Place, Way};
 use crate::found::Found;
 use crate::keyword::{Applicator, Keyword, keyword_named};
-use crate::members::{find, is_named, latest};
+use crate::members::latest;
 use crate::own_faults::{
     add_assertion, add_dependents, add_own, choose_branch, other_key, unknown_key,
 };
 use crate::patterns::{Pattern, fits};
 use crate::tags::names_member;
 use crate::words::shown;
+use json5_numbers::members::find;
 use json5_types::error::Result;
 use json5_types::value::Value;
 use std::alloc::Global;

@@ -35,33 +35,35 @@ pub enum Problem {
     Endless,
 }
 
+impl Problem {
+    /// The words for it, but for those that say more.
+    fn words(&self) -> &'static str {
+        match self {
+            Problem::Undecided => "this keyword isn't decided yet",
+            Problem::NoKeyword(_) => "this is no keyword",
+            Problem::NoFormat(_) => "this format isn't asserted",
+            Problem::Expected(_) => "expected ",
+            Problem::Pattern => "this regular expression can't be read",
+            Problem::OldDraft => "drafts before 6 aren't read",
+            Problem::BesideReference =>
+                "beside `$ref` this keyword counts only from draft 2019-09 on, and `$schema` names none of these",
+            Problem::Elsewhere => "only references such as `#/$defs/port` and `#port` are followed",
+            Problem::SameAnchor => "another schema has this name",
+            Problem::NoTarget => "there is nothing at this reference",
+            Problem::Endless => "this reference leads back to itself",
+        }
+    }
+}
+
 impl fmt::Display for Problem {
     fn fmt<W: fmt::Write>(&self, f: &mut fmt::Formatter<W>) -> fmt::Result {
+        f.write_str(self.words())?;
         match self {
-            Problem::Undecided => f.write_str("this keyword isn't decided yet"),
-            Problem::NoKeyword(None) => f.write_str("this is no keyword"),
-            Problem::NoKeyword(Some(likeliest)) => {
-                write!(f, "this is no keyword (did you mean `{likeliest}`?)")
+            Problem::NoKeyword(Some(likeliest)) | Problem::NoFormat(Some(likeliest)) => {
+                write!(f, " (did you mean `{likeliest}`?)")
             }
-            Problem::NoFormat(None) => f.write_str("this format isn't asserted"),
-            Problem::NoFormat(Some(likeliest)) => {
-                write!(
-                    f,
-                    "this format isn't asserted (did you mean `{likeliest}`?)"
-                )
-            }
-            Problem::Expected(shape) => write!(f, "expected {}", shape.as_str()),
-            Problem::Pattern => f.write_str("this regular expression can't be read"),
-            Problem::OldDraft => f.write_str("drafts before 6 aren't read"),
-            Problem::BesideReference => f.write_str(
-                "beside `$ref` this keyword counts only from draft 2019-09 on, and `$schema` names none of these",
-            ),
-            Problem::Elsewhere => f.write_str(
-                "only references such as `#/$defs/port` and `#port` are followed",
-            ),
-            Problem::SameAnchor => f.write_str("another schema has this name"),
-            Problem::NoTarget => f.write_str("there is nothing at this reference"),
-            Problem::Endless => f.write_str("this reference leads back to itself"),
+            Problem::Expected(shape) => f.write_str(shape.as_str()),
+            _ => Ok(()),
         }
     }
 }

@@ -1,11 +1,11 @@
 //! The formats of texts that a schema may assert, each as an expression of the rules of its RFC.
 
-ghost use Rattle.std.specs.Prelude.{◌≡◌, ◌||◌, true, not, option_map, IfOk, MatchResult};
+ghost use Rattle.std.specs.Prelude.{◌≡◌, true, option_map, IfOk, MatchResult};
 ghost use Rattle.std.specs.Str.{chars};
 ghost use Rattle.json5_types.specs.Errors.{LacksMemory};
 ghost use Rattle.json5_types.specs.ValueMeanings.{boolean, object, no_field, field, value_of};
 ghost use Rattle.json5_schema.specs.Formats.{entirely, mailbox, ipv6_address, uri_text, expression_named, has_format};
-ghost use Rattle.json5_schema.specs.Conformance.{format_vocabulary, asserts_formats, is_in_format, with_formats};
+ghost use Rattle.json5_schema.specs.Conformance.{format_vocabulary, asserts_formats, format_holds, is_in_format, with_formats};
 
 use crate::patterns::{Pattern, matches};
 use json5_types::error::Result;
@@ -200,7 +200,7 @@ pub fn format_holds(
     format: &Value,
     value: &Value,
 ) -> Result<bool>
-    ensures { MatchResult result (λ b. b ≡ (not (asserts_formats (value_of root.now)) || is_in_format (value_of format.now) (value_of value.now))) LacksMemory }
+    ensures { MatchResult result (λ b. b ≡ format_holds (value_of root.now) (value_of format.now) (value_of value.now)) LacksMemory }
 {
     if !asserts_formats(root) {
         return Ok(true);

@@ -8,9 +8,8 @@ ghost use Rattle.json5_schema.specs.Conformance.{is_not_above, at_most, is_below
 ghost use Rattle.json5_schema.specs.Views.{part_view};
 ghost use Rattle.json5_numbers.specs.Orders.{decimal_cmp};
 
-use crate::equal::same;
 use crate::members::latest;
-use json5_numbers::DecimalExt;
+use json5_numbers::{DecimalExt, same};
 use json5_types::decimal::Decimal;
 use json5_types::error::Result;
 use json5_types::value::Value;

@@ -2,10 +2,10 @@
 
 use crate::faults::{Problem, SchemaFault};
 use crate::formats::{FORMATS, expression_named};
-use crate::members::find;
 use crate::near::nearest;
 use crate::patterns::Pattern;
 use crate::shape::{Shape, is_names, is_of_shape, shape_of};
+use json5_numbers::members::find;
 use json5_types::error;
 use json5_types::value::Value;
 use std::alloc::Global;

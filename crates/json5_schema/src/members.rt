@@ -1,37 +1,18 @@
 //! The members of objects. Of equal keys the last counts.
 
-ghost use Rattle.std.specs.Prelude.{◌≡◌, if◌then◌else◌, None, option_map, is_some, reverse, MatchResult};
+ghost use Rattle.std.specs.Prelude.{◌≡◌, if◌then◌else◌, None, reverse, MatchResult};
 ghost use Rattle.std.specs.Str.{chars};
 ghost use Rattle.json5_types.specs.ValueMeanings.{value_of, items_view, fields_view};
-ghost use Rattle.json5_types.specs.ValueLookups.{last_named};
-ghost use Rattle.json5_schema.specs.Conformance.{is_named, has_name, has_names, has_required, has_dependent, has_dependents, has_all_dependents, latest};
+ghost use Rattle.json5_schema.specs.Conformance.{has_name, has_names, has_required, has_dependent, has_dependents, has_all_dependents, latest};
+ghost use Rattle.json5_numbers.specs.Sameness.{is_named};
 ghost use Rattle.json5_types.specs.Errors.{LacksMemory};
 ghost use Rattle.json5_schema.specs.Views.{members_view, part_view};
 
+use json5_numbers::members::is_named;
 use json5_types::error::Result;
 use json5_types::value::Value;
 use std::alloc::Global;
 use std::collections::BTreeSet;
-
-/// The value of the last member with this key.
-pub fn find<'v>(members: &'v [(String, Value)], key: &str) -> Option<&'v Value>
-    ensures { option_map (λ v. value_of v.now) result ≡ last_named (chars key.now) (fields_view members.now) }
-{
-    let mut found = None;
-    for (name, value) in members {
-        if name.as_str() == key {
-            found = Some(value);
-        }
-    }
-    found
-}
-
-/// Whether a member has this key.
-pub fn is_named(members: &[(String, Value)], key: &str) -> bool
-    ensures { result ≡ is_named (chars key.now) (fields_view members.now) }
-{
-    find(members, key).is_some()
-}
 
 /// What was found in a member, unless one after it has the same key.
 pub fn unless_named<'a>(

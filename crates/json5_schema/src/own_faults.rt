@@ -6,9 +6,9 @@ use crate::document_faults::{Fault, Mismatch, Place, Way};
 use crate::equal::is_among;
 use crate::found::{Found, MAX_FAULTS, MAX_STRANGENESS};
 use crate::keyword::{Applicator, Assertion};
-use crate::members::{find, is_named};
 use crate::near::nearest;
 use crate::words::{expected_by, found_by, listed, shown, shown_key};
+use json5_numbers::members::{find, is_named};
 use json5_types::error::Result;
 use json5_types::value::Value;
 use std::alloc::Global;
@@ -59,6 +59,21 @@ fn mismatch_of(assertion: Assertion) -> Mismatch {
     }
 }
 
+/// The texts of `enum` or `const`; an empty one where a value is no text.
+fn texts_of<'v>(alloc: Global, assertion: Assertion, argument: &'v Value) -> Result<Vec<&'v str>> {
+    let mut texts = Vec::new(alloc);
+    match assertion {
+        Assertion::Enum => {
+            for text in argument.as_array().unwrap_or(&[]) {
+                texts.push(text.as_str().unwrap_or(""))?;
+            }
+        }
+        Assertion::Const => texts.push(argument.as_str().unwrap_or(""))?,
+        _ => {}
+    }
+    Ok(texts)
+}
+
 /// The text of `enum` or `const` that is nearest to this one.
 fn likeliest_text(
     alloc: Global,
@@ -66,16 +81,7 @@ fn likeliest_text(
     argument: &Value,
     value: &Value,
 ) -> Result<Option<String>> {
-    let mut known = Vec::new(alloc);
-    match assertion {
-        Assertion::Enum => {
-            for text in argument.as_array().unwrap_or(&[]) {
-                known.push(text.as_str().unwrap_or(""))?;
-            }
-        }
-        Assertion::Const => known.push(argument.as_str().unwrap_or(""))?,
-        _ => return Ok(None),
-    }
+    let known = texts_of(alloc, assertion, argument)?;
     match nearest(alloc, value.as_str().unwrap_or(""), &known)? {
         Some(text) if !text.is_empty() => Ok(Some(shown(alloc, &Value::text(alloc, text)?)?)),
         _ => Ok(None),
@@ -191,17 +197,10 @@ pub fn add_own(
     found.add(fault(alloc, place.copy(alloc)?, expected, shown(alloc, value)?)?)
 }
 
-/// That a key isn't known, with the keys that are.
-pub fn unknown_key(
-    alloc: Global,
-    keywords: &[(String, Value)],
-    key: &str,
-    place: Place,
-) -> Result<Fault> {
-    let mut known = Vec::new(alloc);
+/// The keys that are known, in words.
+fn known_keys(alloc: Global, keywords: &[(String, Value)]) -> Result<String> {
     let mut words = Vec::new(alloc);
     for (name, _) in members_of(keywords, "properties") {
-        known.push(name.as_str())?;
         words.push(shown_key(alloc, name.as_str())?)?;
     }
     for (pattern, _) in members_of(keywords, "patternProperties") {
@@ -209,13 +208,32 @@ pub fn unknown_key(
         words.push(format!(in alloc; "a key that matches {pattern}")?)?;
     }
     if words.is_empty() {
-        words.push(String::from_str(alloc, "no such key")?)?;
+        return Ok(String::from_str(alloc, "no such key")?);
     }
-    let expected = listed(alloc, &words, " or ")?;
-    let likeliest = match nearest(alloc, key, &known)? {
-        Some(name) => Some(shown_key(alloc, name)?),
-        None => None,
-    };
+    listed(alloc, &words, " or ")
+}
+
+/// The likeliest of the keys that `properties` has, if one is near.
+fn likeliest_key(alloc: Global, keywords: &[(String, Value)], key: &str) -> Result<Option<String>> {
+    let mut known = Vec::new(alloc);
+    for (name, _) in members_of(keywords, "properties") {
+        known.push(name.as_str())?;
+    }
+    match nearest(alloc, key, &known)? {
+        Some(name) => Ok(Some(shown_key(alloc, name)?)),
+        None => Ok(None),
+    }
+}
+
+/// That a key isn't known, with the keys that are.
+pub fn unknown_key(
+    alloc: Global,
+    keywords: &[(String, Value)],
+    key: &str,
+    place: Place,
+) -> Result<Fault> {
+    let expected = known_keys(alloc, keywords)?;
+    let likeliest = likeliest_key(alloc, keywords, key)?;
     let found = shown_key(alloc, key)?;
     Ok(fault(alloc, place, expected.as_str(), found)?.or_likely(likeliest))
 }
@@ -227,15 +245,8 @@ pub fn other_key(
     key: &str,
     place: Place,
 ) -> Result<Fault> {
-    let mut known = Vec::new(alloc);
-    for (name, _) in members_of(keywords, "properties") {
-        known.push(name.as_str())?;
-    }
-    let likeliest = match nearest(alloc, key, &known)? {
-        Some(name) => Some(shown_key(alloc, name)?),
-        None => None,
-    };
     let expected = "a key that one of the schemas here speaks of";
+    let likeliest = likeliest_key(alloc, keywords, key)?;
     let found = shown_key(alloc, key)?;
     Ok(fault(alloc, place, expected, found)?.or_likely(likeliest))
 }
@@ -277,15 +288,10 @@ pub fn choose_branch(
     Ok(())
 }
 
-/// That the value is of another kind than each of the branches is for.
-fn strange_fault(alloc: Global, branches: &[Found], value: &Value, place: &Place) -> Result<Fault> {
-    let depth = place.path.len();
+/// What each of the branches expects first, each once.
+fn expected_by_each(alloc: Global, branches: &[Found]) -> Result<String> {
     let mut words: Vec<String> = Vec::new(alloc);
-    let mut mismatch = Mismatch::Name;
     for branch in branches {
-        if branch.mismatch_at(depth) == Mismatch::Kind {
-            mismatch = Mismatch::Kind;
-        }
         if let Some(fault) = branch.faults.first() {
             let word = fault.expected.as_str();
             if words.len() < 100 && !words.iter().any(|known| known.as_str() == word) {
@@ -293,13 +299,24 @@ fn strange_fault(alloc: Global, branches: &[Found], value: &Value, place: &Place
             }
         }
     }
-    let expected = listed(alloc, &words, " or ")?;
-    let mut strange = fault(
-        alloc,
-        place.copy(alloc)?,
-        expected.as_str(),
-        shown(alloc, value)?,
-    )?;
-    strange.mismatch = mismatch;
+    listed(alloc, &words, " or ")
+}
+
+/// How the value differs from what the branches are for: in its kind, if it does so from one of them.
+fn mismatch_of_each(branches: &[Found], depth: usize) -> Mismatch {
+    for branch in branches {
+        if branch.mismatch_at(depth) == Mismatch::Kind {
+            return Mismatch::Kind;
+        }
+    }
+    Mismatch::Name
+}
+
+/// That the value is of another kind than each of the branches is for.
+fn strange_fault(alloc: Global, branches: &[Found], value: &Value, place: &Place) -> Result<Fault> {
+    let expected = expected_by_each(alloc, branches)?;
+    let there = place.copy(alloc)?;
+    let mut strange = fault(alloc, there, expected.as_str(), shown(alloc, value)?)?;
+    strange.mismatch = mismatch_of_each(branches, place.path.len());
     Ok(strange)
 }

@@ -4,14 +4,14 @@ ghost use Rattle.std.specs.Prelude.{◌≡◌, MatchResult, Some};
 ghost use Rattle.std.specs.Str.{chars};
 ghost use Rattle.json5_types.specs.Errors.{LacksMemory};
 ghost use Rattle.json5_types.specs.ValueMeanings.{value_of, fields_view};
-ghost use Rattle.json5_schema.specs.Conformance.{element_asked, evaluating_index, evaluating_name, is_behind, is_contains, is_in_place, reaches, reaches_item, speaks_of, takes_rest};
-ghost use Rattle.json5_schema.specs.Views.{part_view, question_of};
+ghost use Rattle.json5_schema.specs.Conformance.{element_asked, evaluating_index, is_behind, is_contains, is_in_place, reaches, reaches_item, speaks_of, takes_rest};
+ghost use Rattle.json5_schema.specs.Views.{part_view, question_of, reaches_named};
 
 use crate::asked::{Child, is_additional, is_matched_in, schemas_in_front};
 use crate::keyword::Applicator;
 use crate::limits::elements_len;
-use crate::members::{find, is_named};
 use crate::patterns::Pattern;
+use json5_numbers::members::{find, is_named};
 use json5_types::error::Result;
 use json5_types::value::Value;
 use std::alloc::Global;
@@ -68,7 +68,7 @@ fn reaches_name(
     argument: &Value,
     name: &str,
 ) -> Result<bool>
-    ensures { MatchResult result (λ b. b ≡ reaches (fields_view keywords.now) applicator (value_of argument.now) (evaluating_name (chars name.now))) LacksMemory }
+    ensures { MatchResult result (λ b. b ≡ reaches_named keywords.now applicator argument.now name.now) LacksMemory }
 {
     match applicator {
         Applicator::Properties => Ok(has_property(argument, name)),

@@ -27,9 +27,10 @@ use std::collections::BTreeMap;
 /// A JSON Schema that was looked at once: this version decides each of its keywords, each argument is what its keyword wants,
 /// and each reference leads to a schema of the same document, and not back to itself.
 ///
-/// The words are those of draft 2020-12 and of draft 7. Where both have a word it means the same in both; a word that only one has
-/// is taken in either. Not decided yet, and refused: dynamic references, and `$id` below the top that is no name, as `#port`. `format`
-/// asserts nothing but by `with_formats`, or where the root's `$vocabulary` has that of asserted formats (2020-12, validation, section 7.2.2).
+/// The words are those of draft 2020-12 and of draft 7. Where both have a word it means the same in both; a word that only
+/// one has is taken in either. Not decided yet, and refused: dynamic references, and `$id` below the top that is no name, as
+/// `#port`. `format` asserts nothing but by `with_formats`, or where the root's `$vocabulary` has that of asserted formats
+/// (2020-12, validation, section 7.2.2).
 ///
 /// ```text
 /// let schema = Schema::new(alloc, &json5::from_str(alloc, "{properties: {port: {type: 'integer', maximum: 65535}}}")?)?;

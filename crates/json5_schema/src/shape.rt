@@ -1,5 +1,6 @@
 //! What the argument of a keyword has to be.
 
+use crate::keyword::{Applicator, Assertion, Keyword, keyword_named};
 use crate::kind::{Kind, is_integral, kind_named};
 use json5_types::value::Value;
 
@@ -75,27 +76,55 @@ impl Shape {
 
 /// What the argument of the keyword with this name has to be.
 pub(crate) fn shape_of(name: &str) -> Shape {
+    match keyword_named(name) {
+        Keyword::Assertion(assertion) => shape_of_assertion(assertion),
+        Keyword::Applicator(applicator) => shape_of_applicator(applicator),
+        Keyword::Annotation => shape_of_other(name),
+    }
+}
+
+/// What the argument of a keyword has to be that says by itself whether a value is as it is wanted.
+fn shape_of_assertion(assertion: Assertion) -> Shape {
+    match assertion {
+        Assertion::Type => Shape::Kinds,
+        Assertion::Enum => Shape::Array,
+        Assertion::MultipleOf => Shape::Divisor,
+        Assertion::Maximum | Assertion::ExclusiveMaximum => Shape::Number,
+        Assertion::Minimum | Assertion::ExclusiveMinimum => Shape::Number,
+        Assertion::MaxLength | Assertion::MaxItems | Assertion::MaxProperties => Shape::Count,
+        Assertion::MinLength | Assertion::MinItems | Assertion::MinProperties => Shape::Count,
+        Assertion::Pattern => Shape::Pattern,
+        Assertion::UniqueItems => Shape::Boolean,
+        Assertion::Required => Shape::Names,
+        Assertion::DependentRequired => Shape::NamedNames,
+        Assertion::Const | Assertion::Format => Shape::Any,
+    }
+}
+
+/// What the argument of a keyword has to be that applies schemas.
+fn shape_of_applicator(applicator: Applicator) -> Shape {
+    match applicator {
+        Applicator::Not | Applicator::If | Applicator::Contains => Shape::Schema,
+        Applicator::AdditionalItems | Applicator::UnevaluatedItems => Shape::Schema,
+        Applicator::AdditionalProperties | Applicator::UnevaluatedProperties => Shape::Schema,
+        Applicator::PropertyNames => Shape::Schema,
+        Applicator::AllOf | Applicator::AnyOf | Applicator::OneOf => Shape::Schemas,
+        Applicator::PrefixItems => Shape::Schemas,
+        Applicator::Items => Shape::SchemaOrSchemas,
+        Applicator::Properties | Applicator::DependentSchemas => Shape::NamedSchemas,
+        Applicator::Dependencies => Shape::NamedSchemasOrNames,
+        Applicator::PatternProperties => Shape::PatternSchemas,
+        Applicator::Ref => Shape::Reference,
+    }
+}
+
+/// What the argument of another word has to be.
+fn shape_of_other(name: &str) -> Shape {
     match name {
-        "not" | "if" | "then" | "else" => Shape::Schema,
-        "additionalProperties" | "propertyNames" | "additionalItems" | "contains" => Shape::Schema,
-        "unevaluatedItems" | "unevaluatedProperties" | "contentSchema" => Shape::Schema,
-        "allOf" | "anyOf" | "oneOf" | "prefixItems" => Shape::Schemas,
-        "items" => Shape::SchemaOrSchemas,
-        "properties" | "dependentSchemas" | "$defs" | "definitions" => Shape::NamedSchemas,
-        "dependencies" => Shape::NamedSchemasOrNames,
-        "dependentRequired" => Shape::NamedNames,
-        "required" => Shape::Names,
-        "type" => Shape::Kinds,
-        "enum" => Shape::Array,
-        "uniqueItems" => Shape::Boolean,
-        "maximum" | "exclusiveMaximum" | "minimum" | "exclusiveMinimum" => Shape::Number,
-        "maxLength" | "minLength" | "maxItems" | "minItems" => Shape::Count,
-        "maxProperties" | "minProperties" | "maxContains" | "minContains" => Shape::Count,
-        "$ref" => Shape::Reference,
+        "then" | "else" | "contentSchema" => Shape::Schema,
+        "$defs" | "definitions" => Shape::NamedSchemas,
+        "maxContains" | "minContains" => Shape::Count,
         "$anchor" => Shape::Anchor,
-        "multipleOf" => Shape::Divisor,
-        "pattern" => Shape::Pattern,
-        "patternProperties" => Shape::PatternSchemas,
         "$dynamicRef" | "$dynamicAnchor" => Shape::Undecided,
         "$recursiveRef" | "$recursiveAnchor" => Shape::Undecided,
         _ => Shape::Any,

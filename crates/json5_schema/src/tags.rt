@@ -3,9 +3,10 @@
 //! Plain code, of which no promise is made but that it is safe and ends: change it by the rows of schemas, which judge it.
 
 use crate::asked::target_of;
-use crate::equal::{is_among, same};
+use crate::equal::is_among;
 use crate::found::Found;
-use crate::members::find;
+use json5_numbers::members::find;
+use json5_numbers::same;
 use json5_types::error::Result;
 use json5_types::value::Value;
 use std::alloc::Global;
