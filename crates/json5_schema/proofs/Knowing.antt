@@ -66,7 +66,7 @@ none_named (array xs) e = tt
 -- ---- the first one, and those after it
 
 -- where nothing is left
-past_end : {X : Type 0} (xs : List X) (i : ℕ) → length xs ≤ i → drop i xs ≡ []
+pub past_end : {X : Type 0} (xs : List X) (i : ℕ) → length xs ≤ i → drop i xs ≡ []
 past_end [] zero h = refl
 past_end [] (suc n) h = refl
 past_end (x ∷ xs) zero h = absurd (omega (arith, h))

@@ -7,6 +7,7 @@ mod Named
 mod Remainders
 mod OneVerdict
 mod Parts
+mod Shaping
 mod PatternsRead
 mod Evaluating
 mod Latest

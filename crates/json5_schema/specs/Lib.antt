@@ -8,3 +8,4 @@ pub mod Views
 pub mod Anchors
 pub mod SeenTexts
 pub mod Divisors
+pub mod Shapes

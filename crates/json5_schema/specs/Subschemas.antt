@@ -13,19 +13,29 @@ abbrev pub is_any : List (List ℕ) → List ℕ → Bool
 is_any names name = list_any (λ known. pointwise nat_eq known name) names
 
 -- the argument is a schema; that of `items` may be one
-abbrev pub takes_schema : List ℕ → Bool
-takes_schema = is_any (
+abbrev pub taking_schema : List (List ℕ)
+taking_schema =
     codes "not" ∷ codes "if" ∷ codes "then" ∷ codes "else" ∷ codes "items" ∷ codes "additionalItems" ∷ codes "unevaluatedItems"
-    ∷ codes "contains" ∷ codes "additionalProperties" ∷ codes "unevaluatedProperties" ∷ codes "propertyNames" ∷ codes "contentSchema" ∷ [])
+    ∷ codes "contains" ∷ codes "additionalProperties" ∷ codes "unevaluatedProperties" ∷ codes "propertyNames" ∷ codes "contentSchema" ∷ []
+
+abbrev pub takes_schema : List ℕ → Bool
+takes_schema = is_any taking_schema
 
 -- it is an array of schemas
+abbrev pub taking_schemas : List (List ℕ)
+taking_schemas =
+    codes "allOf" ∷ codes "anyOf" ∷ codes "oneOf" ∷ codes "prefixItems" ∷ codes "items" ∷ []
+
 abbrev pub takes_schemas : List ℕ → Bool
-takes_schemas = is_any (codes "allOf" ∷ codes "anyOf" ∷ codes "oneOf" ∷ codes "prefixItems" ∷ codes "items" ∷ [])
+takes_schemas = is_any taking_schemas
 
 -- it is an object of schemas; of `dependencies` some may be arrays of names
+abbrev pub taking_named : List (List ℕ)
+taking_named =
+    codes "properties" ∷ codes "patternProperties" ∷ codes "dependentSchemas" ∷ codes "dependencies" ∷ codes "$defs" ∷ codes "definitions" ∷ []
+
 abbrev pub takes_named : List ℕ → Bool
-takes_named = is_any (
-    codes "properties" ∷ codes "patternProperties" ∷ codes "dependentSchemas" ∷ codes "dependencies" ∷ codes "$defs" ∷ codes "definitions" ∷ [])
+takes_named = is_any taking_named
 
 -- the keywords of the drafts, and of VS Code the words for its editor
 abbrev pub keywords : List (List ℕ)

@@ -10,6 +10,8 @@ use Rattle.json5_types.specs.declared.value.Value.{Value}
 use Rattle.json5_types.specs.Errors.{code, LacksMemory, SaysAt}
 use Rattle.json5_types.specs.ValueMeanings.{Datum, object, Fields, no_field, field, value_of, items_view, fields_view}
 use Rattle.json5_schema.specs.Conformance.{Asked, settled, within, counted, choice, names, left, Question, evaluating_name, evaluating_index, Answers, keyword_holds, left_holds, members_left_hold, elements_left_hold, child_left_holds, reaches, keyword_evaluates, keywords_evaluate, applicator_evaluates, choice_evaluates, schema_evaluates, unfolded}
+use Rattle.json5_schema.specs.Shapes.{IsShaped}
+use Rattle.json5_schema.specs.Subschemas.{HasOnlyKeywords}
 use Rattle.json5_schema.specs.declared.keyword.Applicator.{Applicator}
 use Rattle.json5_schema.specs.declared.schemas.Schema.{Schema}
 use Rattle.json5_schema.specs.declared.asked.Pair.{Pair}
@@ -109,3 +111,11 @@ child_left v root schema keywords x child inner = child_left_holds v (value_of r
 
 abbrev pub schema_of : Schema → Datum
 schema_of s = value_of s.root
+
+-- a schema that was taken: it is this value, and each argument in it has the shape of its keyword
+abbrev pub IsSchemaOf : Datum → Schema → Type 0
+IsSchemaOf x s = (schema_of s ≡ x) × IsShaped (schema_of s)
+
+-- and each keyword is known
+abbrev pub IsStrictOf : Datum → Schema → Type 0
+IsStrictOf x s = IsSchemaOf x s × HasOnlyKeywords (schema_of s)

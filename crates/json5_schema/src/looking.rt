@@ -1,10 +1,15 @@
 //! A schema is looked through once, with all schemas in it.
 
+ghost use Rattle.std.specs.Prelude.{◌≡◌, true, OnOk};
+ghost use Rattle.json5_types.specs.ValueMeanings.{object, value_of, items_view, fields_view};
+ghost use Rattle.json5_schema.specs.declared.shape.Holding.TheVariants as holding;
+ghost use Rattle.json5_schema.specs.Shapes.{has_outline, holding_of, shape_at, AllNamedTaken, AllTaken, HoldsNamed, HoldsTaken, IsMemberTaken, IsShapedThrough, IsTaken, IsTakenAs};
+
 use crate::faults::{Problem, SchemaFault};
 use crate::formats::{FORMATS, expression_named};
 use crate::near::nearest;
 use crate::patterns::Pattern;
-use crate::shape::{Shape, is_names, is_of_shape, shape_of};
+use crate::shape::{Holding, Shape, has_few_digits, holding_of, is_names, is_of_shape, shape_of};
 use json5_numbers::members::find;
 use json5_types::error;
 use json5_types::value::Value;
@@ -87,7 +92,9 @@ pub fn behind(alloc: Global, pointer: &str, key: &str) -> error::Result<String> 
 
 /// Looks at a schema.
 #[cycle(look)]
-pub fn look(alloc: Global, schema: &Value, pointer: &str, seen: &mut Seen) -> Looked<()> {
+pub fn look(alloc: Global, schema: &Value, pointer: &str, seen: &mut Seen) -> Looked<()>
+    ensures { OnOk result (IsTaken (value_of schema.now)) }
+{
     match schema {
         Value::Bool(_) => Ok(()),
         Value::Object(keywords) => look_at_keywords(alloc, keywords, pointer, seen),
@@ -102,26 +109,64 @@ fn look_at_keywords(
     keywords: &[(String, Value)],
     pointer: &str,
     seen: &mut Seen,
-) -> Looked<()> {
+) -> Looked<()>
+    ensures { OnOk result (IsTaken (object (fields_view keywords.now))) }
+{
     let refers = !seen.counts_siblings && find(keywords, "$ref").is_some();
     for (name, argument) in keywords {
-        let place = behind(alloc, pointer, name.as_str())?;
-        let shape = shape_at(pointer, name.as_str(), argument, seen);
-        if refers && asks_beside(name.as_str(), shape) {
-            return Err(fault(alloc, place.as_str(), Problem::BesideReference));
-        }
-        look_at(alloc, shape, argument, place.as_str(), seen)?;
+        look_at_keyword(alloc, refers, name.as_str(), argument, pointer, seen)?;
     }
     Ok(())
 }
 
-/// What the argument of a keyword has to be, in the schema at this place: `$id` isn't decided below the top, but as a name.
-fn shape_at(pointer: &str, name: &str, argument: &Value, seen: &Seen) -> Shape {
+/// Looks at a keyword, which may stand beside a reference for which drafts pass over it.
+#[cycle(look)]
+fn look_at_keyword(
+    alloc: Global,
+    refers: bool,
+    name: &str,
+    argument: &Value,
+    pointer: &str,
+    seen: &mut Seen,
+) -> Looked<()>
+    ensures { OnOk result (IsShapedThrough name.now (value_of argument.now)) }
+{
+    let place = behind(alloc, pointer, name)?;
+    let shape = shape_at(name, format_shape(seen), id_shape(pointer, argument));
+    if refers && asks_beside(name, shape) {
+        return Err(fault(alloc, place.as_str(), Problem::BesideReference));
+    }
+    look_at(alloc, shape, argument, place.as_str(), seen)
+}
+
+/// What the argument of a keyword has to be: of a format, of an `$id`, or of another.
+fn shape_at(name: &str, format: Shape, id: Shape) -> Shape
+    ensures { result ≡ shape_at name.now format id }
+{
     match name {
-        "format" if seen.asserts_formats => Shape::Format,
-        "$id" if begins_with_sign(argument) => Shape::Anchor,
-        "$id" if !pointer.is_empty() => Shape::Undecided,
+        "format" => format,
+        "$id" => id,
         _ => shape_of(name),
+    }
+}
+
+/// What a format has to be.
+fn format_shape(seen: &Seen) -> Shape {
+    if seen.asserts_formats {
+        Shape::Format
+    } else {
+        Shape::Any
+    }
+}
+
+/// What an `$id` has to be in the schema at this place: it isn't decided below the top, but as a name.
+fn id_shape(pointer: &str, argument: &Value) -> Shape {
+    if begins_with_sign(argument) {
+        Shape::Anchor
+    } else if pointer.is_empty() {
+        Shape::Any
+    } else {
+        Shape::Undecided
     }
 }
 
@@ -149,43 +194,114 @@ fn look_at(
     argument: &Value,
     pointer: &str,
     seen: &mut Seen,
+) -> Looked<()>
+    ensures { OnOk result (IsTakenAs shape (value_of argument.now)) }
+{
+    check_shape(alloc, shape, argument, pointer)?;
+    note_text(alloc, shape, argument, pointer, seen)?;
+    look_into(alloc, shape, argument, pointer, seen)
+}
+
+/// Refuses an argument that hasn't the shape, whatever stands in an array or an object of schemas.
+fn check_shape(alloc: Global, shape: Shape, argument: &Value, pointer: &str) -> Looked<()>
+    ensures { OnOk result (has_outline shape (value_of argument.now) ≡ true) }
+{
+    if is_of_shape(shape, argument) {
+        return Ok(());
+    }
+    let problem = match shape {
+        Shape::Undecided => Problem::Undecided,
+        _ => Problem::Expected(shape),
+    };
+    Err(fault(alloc, pointer, problem))
+}
+
+/// Notes what the argument says, if it is a string that has to be read; refuses a divisor of too many digits.
+fn note_text(
+    alloc: Global,
+    shape: Shape,
+    argument: &Value,
+    pointer: &str,
+    seen: &mut Seen,
 ) -> Looked<()> {
     match (shape, argument) {
-        (Shape::Undecided, _) => Err(fault(alloc, pointer, Problem::Undecided)),
         (Shape::Reference, Value::String(text)) => note(alloc, text.as_str(), pointer, seen),
-        (Shape::Reference, _) => Err(fault(alloc, pointer, Problem::Expected(shape))),
         (Shape::Anchor, Value::String(text)) => note_anchor(alloc, text.as_str(), pointer, seen),
-        (Shape::Anchor, _) => Err(fault(alloc, pointer, Problem::Expected(shape))),
-        (Shape::Schema, _) => look(alloc, argument, pointer, seen),
-        (Shape::SchemaOrSchemas, Value::Array(schemas)) => {
-            look_at_each(alloc, schemas, pointer, seen)
-        }
-        (Shape::SchemaOrSchemas, _) => look(alloc, argument, pointer, seen),
-        (Shape::Schemas, Value::Array(schemas)) if !schemas.is_empty() => {
-            look_at_each(alloc, schemas, pointer, seen)
-        }
         (Shape::Pattern, Value::String(text)) => compile(alloc, text.as_str(), pointer, seen),
         (Shape::Format, Value::String(name)) => note_format(alloc, name.as_str(), pointer, seen),
-        (
-            Shape::NamedSchemas | Shape::NamedSchemasOrNames | Shape::PatternSchemas,
-            Value::Object(schemas),
-        ) => { look_at_named(alloc, shape, schemas, pointer, seen) }
-        (
-            Shape::Schemas
-            | Shape::NamedSchemas
-            | Shape::NamedSchemasOrNames
-            | Shape::PatternSchemas
-            | Shape::Pattern,
-            _,
-        ) => { Err(fault(alloc, pointer, Problem::Expected(shape))) }
-        _ if is_of_shape(shape, argument) => Ok(()),
-        _ => Err(fault(alloc, pointer, Problem::Expected(shape))),
+        (Shape::Divisor, _) if !has_few_digits(argument) => {
+            Err(fault(alloc, pointer, Problem::Expected(shape)))
+        }
+        _ => Ok(()),
+    }
+}
+
+/// Looks at the schemas in an argument of this shape.
+#[cycle(look)]
+fn look_into(
+    alloc: Global,
+    shape: Shape,
+    argument: &Value,
+    pointer: &str,
+    seen: &mut Seen,
+) -> Looked<()>
+    ensures { OnOk result (HoldsTaken (holding_of shape) (value_of argument.now)) }
+{
+    match holding_of(shape) {
+        Holding::Nothing => Ok(()),
+        Holding::Alone => look(alloc, argument, pointer, seen),
+        Holding::Elements => look_at_elements(alloc, argument, pointer, seen),
+        Holding::AloneOrElements => look_at_either(alloc, argument, pointer, seen),
+        Holding::Members => look_at_members(alloc, shape, false, argument, pointer, seen),
+        Holding::MembersOrNames => { look_at_members(alloc, shape, true, argument, pointer, seen) }
+    }
+}
+
+/// Looks at the elements, if it has any.
+#[cycle(look)]
+fn look_at_elements(alloc: Global, argument: &Value, pointer: &str, seen: &mut Seen) -> Looked<()>
+    ensures { OnOk result (HoldsTaken holding.Elements (value_of argument.now)) }
+{
+    match argument {
+        Value::Array(schemas) => look_at_each(alloc, schemas, pointer, seen),
+        _ => Ok(()),
+    }
+}
+
+/// Looks at the elements of an array, and at anything else as a schema.
+#[cycle(look)]
+fn look_at_either(alloc: Global, argument: &Value, pointer: &str, seen: &mut Seen) -> Looked<()>
+    ensures { OnOk result (HoldsTaken holding.AloneOrElements (value_of argument.now)) }
+{
+    match argument {
+        Value::Array(schemas) => look_at_each(alloc, schemas, pointer, seen),
+        _ => look(alloc, argument, pointer, seen),
+    }
+}
+
+/// Looks at the members, if it has any.
+#[cycle(look)]
+fn look_at_members(
+    alloc: Global,
+    shape: Shape,
+    or_names: bool,
+    argument: &Value,
+    pointer: &str,
+    seen: &mut Seen,
+) -> Looked<()>
+    ensures { OnOk result (HoldsNamed or_names (value_of argument.now)) }
+{
+    match argument {
+        Value::Object(schemas) => look_at_named(alloc, shape, or_names, schemas, pointer, seen),
+        _ => Ok(()),
     }
 }
 
 /// Looks at each schema of an array.
 #[cycle(look)]
-fn look_at_each(alloc: Global, schemas: &[Value], pointer: &str, seen: &mut Seen) -> Looked<()> {
+fn look_at_each(alloc: Global, schemas: &[Value], pointer: &str, seen: &mut Seen) -> Looked<()>
+    ensures { OnOk result (AllTaken (items_view schemas.now)) }
+{
     for (index, schema) in schemas.iter().enumerate() {
         let place = format!(in alloc; "{pointer}/{index}")?;
         look(alloc, schema, place.as_str(), seen)?;
@@ -193,25 +309,43 @@ fn look_at_each(alloc: Global, schemas: &[Value], pointer: &str, seen: &mut Seen
     Ok(())
 }
 
-/// Looks at each schema of an object.
+/// Looks at each schema of an object, in which arrays of names may stand too.
 #[cycle(look)]
 fn look_at_named(
     alloc: Global,
     shape: Shape,
+    or_names: bool,
     schemas: &[(String, Value)],
     pointer: &str,
     seen: &mut Seen,
-) -> Looked<()> {
+) -> Looked<()>
+    ensures { OnOk result (AllNamedTaken or_names (fields_view schemas.now)) }
+{
     for (name, schema) in schemas {
         let place = behind(alloc, pointer, name.as_str())?;
         if matches!(shape, Shape::PatternSchemas) {
             compile(alloc, name.as_str(), place.as_str(), seen)?;
         }
-        if !matches!(shape, Shape::NamedSchemasOrNames) || !is_names(schema) {
-            look(alloc, schema, place.as_str(), seen)?;
-        }
+        look_at_member(alloc, or_names, schema, place.as_str(), seen)?;
     }
     Ok(())
+}
+
+/// Looks at a schema of an object, unless it is an array of names that may stand there.
+#[cycle(look)]
+fn look_at_member(
+    alloc: Global,
+    or_names: bool,
+    schema: &Value,
+    pointer: &str,
+    seen: &mut Seen,
+) -> Looked<()>
+    ensures { OnOk result (IsMemberTaken or_names (value_of schema.now)) }
+{
+    if or_names && is_names(schema) {
+        return Ok(());
+    }
+    look(alloc, schema, pointer, seen)
 }
 
 /// Notes a reference, unless it was noted before.

@@ -5,7 +5,8 @@ ghost use Rattle.json5_types.specs.Errors.{LacksMemory};
 ghost use Rattle.json5_types.specs.ValueMeanings.{value_of};
 ghost use Rattle.json5_schema.specs.Conformance.{Conforms, with_formats};
 ghost use Rattle.json5_schema.specs.Subschemas.{HasOnlyKeywords};
-ghost use Rattle.json5_schema.specs.Views.{IsRefusal, schema_of};
+ghost use Rattle.json5_schema.specs.Shapes.{IsShaped};
+ghost use Rattle.json5_schema.specs.Views.{IsRefusal, IsSchemaOf, IsStrictOf, schema_of};
 
 use crate::conforms::{MAX_DEPTH, conforms};
 use crate::document_faults::{Fault, Mismatch, Place};
@@ -52,7 +53,7 @@ impl Schema {
     /// - `At`, with a JSON pointer to the place and what is wrong there.
     /// - `Value`, where a request for memory was refused, or where more than 128 brackets are open at once in the value.
     pub fn new(alloc: Global, value: &Value) -> Result<Schema, SchemaFault>
-        ensures { IfOk result (λ schema. schema_of schema ≡ value_of value.now) }
+        ensures { IfOk result (IsSchemaOf (value_of value.now)) }
     {
         Schema::of(alloc, value.clone(alloc)?, false)
     }
@@ -73,7 +74,7 @@ impl Schema {
     /// - `NoKeyword` at a keyword that is none.
     /// - `NoFormat` at a format that isn't asserted, where the schema's `$vocabulary` asserts formats.
     pub fn strict(alloc: Global, value: &Value) -> Result<Schema, SchemaFault>
-        ensures { IfOk result (λ schema. (schema_of schema ≡ value_of value.now) × HasOnlyKeywords (schema_of schema)) }
+        ensures { IfOk result (IsStrictOf (value_of value.now)) }
     {
         Schema::of(alloc, value.clone(alloc)?, true)
     }
@@ -94,7 +95,7 @@ impl Schema {
     ///
     /// As `new`.
     pub fn with_formats(alloc: Global, value: &Value) -> Result<Schema, SchemaFault>
-        ensures { IfOk result (λ schema. schema_of schema ≡ with_formats (value_of value.now)) }
+        ensures { IfOk result (IsSchemaOf (with_formats (value_of value.now))) }
     {
         Schema::of(alloc, with_formats(alloc, value)?, false)
     }
@@ -110,14 +111,14 @@ impl Schema {
     ///
     /// As `strict`.
     pub fn strict_with_formats(alloc: Global, value: &Value) -> Result<Schema, SchemaFault>
-        ensures { IfOk result (λ schema. (schema_of schema ≡ with_formats (value_of value.now)) × HasOnlyKeywords (schema_of schema)) }
+        ensures { IfOk result (IsStrictOf (with_formats (value_of value.now))) }
     {
         Schema::of(alloc, with_formats(alloc, value)?, true)
     }
 
     /// The value as a schema; a strict one has no keyword but known ones.
     fn of(alloc: Global, root: Value, is_strict: bool) -> Result<Schema, SchemaFault>
-        ensures same { IfOk result (λ schema. schema_of schema ≡ value_of root) }
+        ensures taken { IfOk result (IsSchemaOf (value_of root)) }
         ensures known { is_strict ≡ true → IfOk result (λ schema. HasOnlyKeywords (schema_of schema)) }
     {
         let seen = nothing_seen(alloc, &root, is_strict)?;
@@ -282,7 +283,9 @@ fn look_at_all(
     alloc: Global,
     root: &Value,
     seen: Seen,
-) -> Result<(Vec<Pattern>, Vec<Anchor>), SchemaFault> {
+) -> Result<(Vec<Pattern>, Vec<Anchor>), SchemaFault>
+    ensures { OnOk result (IsShaped (value_of root.now)) }
+{
     let mut seen = seen;
     look(alloc, root, "", &mut seen)?;
     follow(alloc, root, seen)

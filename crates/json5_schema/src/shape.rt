@@ -1,8 +1,15 @@
 //! What the argument of a keyword has to be.
 
+ghost use Rattle.std.specs.Prelude.{◌≡◌, ◌&&◌, pos, int_le, int_lt};
+ghost use Rattle.json5_grammar.specs.Language.Numbers.{decimal};
+ghost use Rattle.json5_types.specs.ValueMeanings.{number, value_of, items_view, fields_view};
+ghost use Rattle.json5_schema.specs.Shapes.{applicator_shape, assertion_shape, other_shape, shape_named, are_texts, is_names, are_named_names, is_named_names, is_known_kind, is_kind, are_kinds, is_kinds, is_count, is_divisor, has_item, holding_of, has_outline};
+
 use crate::keyword::{Applicator, Assertion, Keyword, keyword_named};
 use crate::kind::{Kind, is_integral, kind_named};
+use json5_types::decimal::Decimal;
 use json5_types::value::Value;
+use json5_types::whole::Whole;
 
 /// What the argument of a keyword has to be.
 #[derive(Clone, Copy, Debug)]
@@ -46,6 +53,17 @@ pub enum Shape {
     Any,
 }
 
+/// Where the schemas of an argument stand.
+#[derive(Clone, Copy)]
+pub(crate) enum Holding {
+    Nothing,
+    Alone,
+    Elements,
+    AloneOrElements,
+    Members,
+    MembersOrNames,
+}
+
 impl Shape {
     /// Returns the shape in words.
     pub fn as_str(self) -> &'static str {
@@ -75,122 +93,271 @@ impl Shape {
 }
 
 /// What the argument of the keyword with this name has to be.
-pub(crate) fn shape_of(name: &str) -> Shape {
+pub(crate) fn shape_of(name: &str) -> Shape
+    ensures { result ≡ shape_named name.now }
+{
     match keyword_named(name) {
-        Keyword::Assertion(assertion) => shape_of_assertion(assertion),
-        Keyword::Applicator(applicator) => shape_of_applicator(applicator),
-        Keyword::Annotation => shape_of_other(name),
+        Keyword::Assertion(assertion) => assertion_shape(assertion),
+        Keyword::Applicator(applicator) => applicator_shape(applicator),
+        Keyword::Annotation => other_shape(name),
     }
 }
 
 /// What the argument of a keyword has to be that says by itself whether a value is as it is wanted.
-fn shape_of_assertion(assertion: Assertion) -> Shape {
+fn assertion_shape(assertion: Assertion) -> Shape
+    ensures { result ≡ assertion_shape assertion }
+{
     match assertion {
         Assertion::Type => Shape::Kinds,
         Assertion::Enum => Shape::Array,
+        Assertion::Const => Shape::Any,
         Assertion::MultipleOf => Shape::Divisor,
-        Assertion::Maximum | Assertion::ExclusiveMaximum => Shape::Number,
-        Assertion::Minimum | Assertion::ExclusiveMinimum => Shape::Number,
-        Assertion::MaxLength | Assertion::MaxItems | Assertion::MaxProperties => Shape::Count,
-        Assertion::MinLength | Assertion::MinItems | Assertion::MinProperties => Shape::Count,
+        Assertion::Maximum => Shape::Number,
+        Assertion::ExclusiveMaximum => Shape::Number,
+        Assertion::Minimum => Shape::Number,
+        Assertion::ExclusiveMinimum => Shape::Number,
+        Assertion::MaxLength => Shape::Count,
+        Assertion::MinLength => Shape::Count,
         Assertion::Pattern => Shape::Pattern,
+        Assertion::Format => Shape::Any,
+        Assertion::MaxItems => Shape::Count,
+        Assertion::MinItems => Shape::Count,
         Assertion::UniqueItems => Shape::Boolean,
+        Assertion::MaxProperties => Shape::Count,
+        Assertion::MinProperties => Shape::Count,
         Assertion::Required => Shape::Names,
         Assertion::DependentRequired => Shape::NamedNames,
-        Assertion::Const | Assertion::Format => Shape::Any,
     }
 }
 
 /// What the argument of a keyword has to be that applies schemas.
-fn shape_of_applicator(applicator: Applicator) -> Shape {
+fn applicator_shape(applicator: Applicator) -> Shape
+    ensures { result ≡ applicator_shape applicator }
+{
     match applicator {
-        Applicator::Not | Applicator::If | Applicator::Contains => Shape::Schema,
-        Applicator::AdditionalItems | Applicator::UnevaluatedItems => Shape::Schema,
-        Applicator::AdditionalProperties | Applicator::UnevaluatedProperties => Shape::Schema,
-        Applicator::PropertyNames => Shape::Schema,
-        Applicator::AllOf | Applicator::AnyOf | Applicator::OneOf => Shape::Schemas,
+        Applicator::AllOf => Shape::Schemas,
+        Applicator::AnyOf => Shape::Schemas,
+        Applicator::OneOf => Shape::Schemas,
+        Applicator::Not => Shape::Schema,
+        Applicator::If => Shape::Schema,
+        Applicator::DependentSchemas => Shape::NamedSchemas,
+        Applicator::Dependencies => Shape::NamedSchemasOrNames,
         Applicator::PrefixItems => Shape::Schemas,
         Applicator::Items => Shape::SchemaOrSchemas,
-        Applicator::Properties | Applicator::DependentSchemas => Shape::NamedSchemas,
-        Applicator::Dependencies => Shape::NamedSchemasOrNames,
+        Applicator::AdditionalItems => Shape::Schema,
+        Applicator::Contains => Shape::Schema,
+        Applicator::Properties => Shape::NamedSchemas,
         Applicator::PatternProperties => Shape::PatternSchemas,
+        Applicator::AdditionalProperties => Shape::Schema,
+        Applicator::PropertyNames => Shape::Schema,
+        Applicator::UnevaluatedProperties => Shape::Schema,
+        Applicator::UnevaluatedItems => Shape::Schema,
         Applicator::Ref => Shape::Reference,
     }
 }
 
 /// What the argument of another word has to be.
-fn shape_of_other(name: &str) -> Shape {
+fn other_shape(name: &str) -> Shape
+    ensures { result ≡ other_shape name.now }
+{
     match name {
-        "then" | "else" | "contentSchema" => Shape::Schema,
-        "$defs" | "definitions" => Shape::NamedSchemas,
-        "maxContains" | "minContains" => Shape::Count,
+        "then" => Shape::Schema,
+        "else" => Shape::Schema,
+        "contentSchema" => Shape::Schema,
+        "$defs" => Shape::NamedSchemas,
+        "definitions" => Shape::NamedSchemas,
+        "maxContains" => Shape::Count,
+        "minContains" => Shape::Count,
         "$anchor" => Shape::Anchor,
-        "$dynamicRef" | "$dynamicAnchor" => Shape::Undecided,
-        "$recursiveRef" | "$recursiveAnchor" => Shape::Undecided,
+        "$dynamicRef" => Shape::Undecided,
+        "$dynamicAnchor" => Shape::Undecided,
+        "$recursiveRef" => Shape::Undecided,
+        "$recursiveAnchor" => Shape::Undecided,
         _ => Shape::Any,
     }
 }
 
 /// Whether all of these are strings.
-fn are_names(names: &[Value]) -> bool {
-    names.iter().all(|name| name.is_string())
+fn are_names(names: &[Value]) -> bool
+    ensures { result ≡ are_texts (items_view names.now) }
+{
+    for name in names {
+        if !name.is_string() {
+            return false;
+        }
+    }
+    true
 }
 
 /// Whether it is an array of strings.
-pub(crate) fn is_names(argument: &Value) -> bool {
+pub(crate) fn is_names(argument: &Value) -> bool
+    ensures { result ≡ is_names (value_of argument.now) }
+{
     match argument {
         Value::Array(names) => are_names(names),
         _ => false,
     }
 }
 
+/// Whether all of these are arrays of strings.
+fn are_named_names(members: &[(String, Value)]) -> bool
+    ensures { result ≡ are_named_names (fields_view members.now) }
+{
+    for (_, names) in members {
+        if !is_names(names) {
+            return false;
+        }
+    }
+    true
+}
+
 /// Whether it is an object of arrays of strings.
-fn is_named_names(argument: &Value) -> bool {
+fn is_named_names(argument: &Value) -> bool
+    ensures { result ≡ is_named_names (value_of argument.now) }
+{
     match argument {
-        Value::Object(members) => members.iter().all(|member| is_names(&member.1)),
+        Value::Object(members) => are_named_names(members),
         _ => false,
     }
+}
+
+/// Whether it is one of those that `type` can name.
+fn is_known(kind: Kind) -> bool
+    ensures { result ≡ is_known_kind kind }
+{
+    !matches!(kind, Kind::Unknown)
 }
 
 /// Whether it is the name of a kind.
-fn is_kind(name: &Value) -> bool {
+fn is_kind(name: &Value) -> bool
+    ensures { result ≡ is_kind (value_of name.now) }
+{
     match name {
-        Value::String(name) => !matches!(kind_named(name.as_str()), Kind::Unknown),
+        Value::String(name) => is_known(kind_named(name.as_str())),
         _ => false,
     }
 }
 
+/// Whether all of these are names of kinds.
+fn are_kinds(names: &[Value]) -> bool
+    ensures { result ≡ are_kinds (items_view names.now) }
+{
+    for name in names {
+        if !is_kind(name) {
+            return false;
+        }
+    }
+    true
+}
+
 /// Whether it is the name of a kind, or an array of them.
-fn is_kinds(argument: &Value) -> bool {
+fn is_kinds(argument: &Value) -> bool
+    ensures { result ≡ is_kinds (value_of argument.now) }
+{
     match argument {
-        Value::Array(names) => names.iter().all(is_kind),
+        Value::Array(names) => are_kinds(names),
         _ => is_kind(argument),
     }
 }
 
+/// Whether a whole number isn't below zero.
+fn is_whole_count(number: Whole) -> bool
+    ensures { result ≡ int_le (pos 0) number }
+{
+    number.as_u128().is_some()
+}
+
+/// Whether a decimal has no fraction and isn't below zero.
+fn is_decimal_count(given: &Decimal) -> bool
+    ensures { result ≡ is_count (number (decimal given.now)) }
+{
+    is_integral(given) && (!given.is_negative() || given.digits().is_empty())
+}
+
 /// Whether it is a number without a fraction and not below zero.
-fn is_count(argument: &Value) -> bool {
+fn is_count(argument: &Value) -> bool
+    ensures { result ≡ is_count (value_of argument.now) }
+{
     match argument {
-        Value::Whole(number) => number.as_u128().is_some(),
-        Value::Decimal(number) => {
-            is_integral(number) && (!number.is_negative() || number.digits().is_empty())
-        }
+        Value::Whole(number) => is_whole_count(*number),
+        Value::Decimal(number) => is_decimal_count(number),
         _ => false,
     }
 }
 
-/// Whether it is a number above zero, whose digits are below 2^64.
-fn is_divisor(argument: &Value) -> bool {
+/// Whether a whole number is above zero.
+fn is_whole_divisor(number: Whole) -> bool
+    ensures { result ≡ int_lt (pos 0) number }
+{
+    match number.as_u128() {
+        Some(number) => 0 < number,
+        None => false,
+    }
+}
+
+/// Whether a decimal is above zero.
+fn is_decimal_divisor(given: &Decimal) -> bool
+    ensures { result ≡ is_divisor (number (decimal given.now)) }
+{
+    !given.is_negative() && !given.digits().is_empty()
+}
+
+/// Whether it is a number above zero.
+fn is_divisor(argument: &Value) -> bool
+    ensures { result ≡ is_divisor (value_of argument.now) }
+{
     match argument {
-        Value::Whole(number) => matches!(number.as_u128(), Some(1..=0xFFFF_FFFF_FFFF_FFFF)),
-        Value::Decimal(number) => !number.is_negative() && number.digits().parse::<u64>().is_ok(),
+        Value::Whole(number) => is_whole_divisor(*number),
+        Value::Decimal(number) => is_decimal_divisor(number),
         _ => false,
     }
 }
 
-/// Whether the argument has the shape, as far as it holds no schemas.
-pub(crate) fn is_of_shape(shape: Shape, argument: &Value) -> bool {
+/// Whether the digits of a number are below 2^64.
+pub(crate) fn has_few_digits(number: &Value) -> bool {
+    match number {
+        Value::Whole(number) => matches!(number.as_u128(), Some(..=0xFFFF_FFFF_FFFF_FFFF)),
+        Value::Decimal(number) => number.digits().parse::<u64>().is_ok(),
+        _ => false,
+    }
+}
+
+/// Whether it is an array of one element at least.
+fn has_item(argument: &Value) -> bool
+    ensures { result ≡ has_item (value_of argument.now) }
+{
+    match argument {
+        Value::Array(items) => !items.is_empty(),
+        _ => false,
+    }
+}
+
+/// Where schemas stand in an argument of this shape.
+pub(crate) fn holding_of(shape: Shape) -> Holding
+    ensures { result ≡ holding_of shape }
+{
     match shape {
+        Shape::Schema => Holding::Alone,
+        Shape::Schemas => Holding::Elements,
+        Shape::SchemaOrSchemas => Holding::AloneOrElements,
+        Shape::NamedSchemas => Holding::Members,
+        Shape::PatternSchemas => Holding::Members,
+        Shape::NamedSchemasOrNames => Holding::MembersOrNames,
+        _ => Holding::Nothing,
+    }
+}
+
+/// Whether the argument has the shape, whatever stands in an array or an object of schemas.
+pub(crate) fn is_of_shape(shape: Shape, argument: &Value) -> bool
+    ensures { result ≡ has_outline shape (value_of argument.now) }
+{
+    match shape {
+        Shape::Schema => true,
+        Shape::Schemas => has_item(argument),
+        Shape::SchemaOrSchemas => true,
+        Shape::NamedSchemas => argument.is_object(),
+        Shape::NamedSchemasOrNames => argument.is_object(),
+        Shape::PatternSchemas => argument.is_object(),
         Shape::NamedNames => is_named_names(argument),
         Shape::Names => is_names(argument),
         Shape::Kinds => is_kinds(argument),
@@ -199,7 +366,11 @@ pub(crate) fn is_of_shape(shape: Shape, argument: &Value) -> bool {
         Shape::Number => argument.is_number(),
         Shape::Count => is_count(argument),
         Shape::Divisor => is_divisor(argument),
+        Shape::Reference => argument.is_string(),
+        Shape::Anchor => argument.is_string(),
+        Shape::Pattern => argument.is_string(),
         Shape::Format => argument.is_string(),
-        _ => true,
+        Shape::Undecided => false,
+        Shape::Any => true,
     }
 }
