@@ -1,9 +1,8 @@
 -- What the edits of a patch make of a tree.
 use denote.Ref.{Bor}
-use Rattle.std.proofs.Common.{◌≡◌, ◌≤◌, ◌<◌, ◌+◌, ℕ, zero, suc, List, [], ◌∷◌, ◌++◌, append-nil, length, take, get_or, refl, sym, ap, ◌∙◌, subst, arith}
+use Rattle.std.proofs.Common.{◌≡◌, ◌⊎◌, ◌≤◌, ◌<◌, ◌+◌, ℕ, zero, suc, List, [], ◌∷◌, ◌++◌, append-nil, length, take, get_or, refl, sym, ap, ◌∙◌, subst, arith, inl, inr}
 use Rattle.std.specs.declared.alloc.Global.{Global}
-use Rattle.std.specs.Prelude.{Bool, true, false, IfOk, IfNone, IfSome, Option, Some, None, Result, Ok, Err, String, string_bytes, slice_range}
-use Rattle.std.specs.Bool.{OnTrue}
+use Rattle.std.specs.Prelude.{Bool, true, false, IfErr, IfOk, IfNone, IfSome, Option, Some, None, Result, Ok, Err, String, string_bytes, slice_range}
 use Rattle.std.specs.Str.{chars, IsUtf8, all_scalars}
 use Rattle.std.proofs.lemmas.Str.{chars-encodes, scalars-chars}
 use lib.Chars.{codes}
@@ -14,8 +13,9 @@ use Rattle.json5_grammar.specs.Language.Values.{Val, is_empty_object}
 use Rattle.json5_grammar.proofs.OneTree.{one_tree}
 use Rattle.json5_grammar.proofs.ScalarsWritten.{alone}
 use Rattle.json5_types.specs.ValueKinds.{items_len, fields_len, len_of}
-use Rattle.json5_types.specs.ValueMeanings.{Datum}
+use Rattle.json5_types.specs.ValueMeanings.{Datum, value_of}
 use Rattle.json5_types.specs.declared.value.Value.{Value}
+use Rattle.json5_numbers.specs.Sameness.{same_datum}
 use Rattle.json5_read.specs.TreeMeanings.{datum_of, items_of, fields_of}
 use Rattle.json5_read.specs.declared.brackets.BracketKind.TheVariants as kind
 use Rattle.json5_write.specs.EscapeFreeMarks.{unmarked}
@@ -28,15 +28,16 @@ use Rattle.json5_edit.specs.Changes.{ChangesBy, IsChanged, IsInserted, IsPushed,
 use Rattle.json5_edit.specs.Comparing.{IsWithAt, IsWithLast}
 use Rattle.json5_edit.specs.Entries.{elements, entries, members}
 use Rattle.json5_edit.specs.Parts.{part, positions_of, put}
-use Rattle.json5_edit.specs.Refusals.{IsNo, Reaches}
+use Rattle.json5_edit.specs.Refusals.{IsNo, Reaches, RefusesPath}
 use Rattle.json5_edit.specs.Sets.{IsSet}
 use Rattle.json5_edit.specs.declared.paths.Step.{Step}
 use Rattle.json5_edit.specs.declared.paths.Step.TheVariants as step
 use Rattle.json5_edit_values.specs.Locations.{AreSteps, Becomes, ChangesAt, IsStep}
 use Rattle.json5_edit_values.specs.News.{AddsKeyed, keyed_joined, keyed_last, keyed_set, AddsNew, Brings, BringsAt, HasCount, ReplacesWith, edited}
 use Rattle.json5_edit_values.specs.declared.patch.faults.Trouble.{Trouble}
+use Rattle.json5_edit_values.specs.declared.patch.faults.Trouble.TheVariants as trouble
 use Rattle.json5_edit_values.specs.Spelled.{Spells}
-use Rattle.json5_edit_values.specs.Patches.{as_whole, to_member, as_member, as_element, as_last, AddsTo, Copies, IsAt, IsOf, Joins, Moves, Patches, Performs, RemovesFrom, ReplacesAt, TakesTo, Tests, is_within}
+use Rattle.json5_edit_values.specs.Patches.{as_whole, to_member, as_member, as_element, as_last, AddsTo, Compares, ComparesIn, Copies, Fails, FailsAt, FailsIn, IsAt, IsOf, IsUnread, Joins, Moves, Patches, Performs, RefusesMove, RefusesTest, RemovesFrom, ReplacesAt, TakesTo, Tests, is_within}
 use Rattle.json5_edit_values.specs.declared.patch.new_values.New.{New}
 use Rattle.json5_edit_values.specs.declared.patch.new_values.New.TheVariants as new
 use Rattle.json5_edit_values.specs.declared.patch.operations.Operation.{Operation}
@@ -249,17 +250,19 @@ module _ (bytes spelled : List ℕ) (from : List (String Global)) (steps : List 
       let mids : m ≡ w = one_document (chars mid) m w d g in
       (t, u, f, e, (r.value, w, there t f, gone, subst (λ z. AddsTo path r.value z u) mids (subst (λ z. AddsTo path z m u) same adds)))
 
-  pub holds_test : (value : Value) → ChangesBy (Tests from value) bytes bytes
-  holds_test value = (r.tree, r.tree, r.document, r.document, (r.value, (steps, are, (r.positions, r.led, r.there)), refl))
+  pub compares_there : (value there : Value) → ((t : Tree) × Doc max_depth (chars spelled) t × (value_of there ≡ datum_of t)) → (s : Result Bool EditError) → IfOk s (λ b. b ≡ same_datum (value_of there) (value_of value))
+      → IfOk s (λ b. ComparesIn b from value bytes)
+  compares_there value there (t, d, is) (Ok b) e =
+      let same : t ≡ r.value = one_alone (chars spelled) t r.value d r.such in
+      (r.tree, r.document, (r.value, (steps, are, (r.positions, r.led, r.there)), sym (e ∙ ap (λ x. same_datum x (value_of value)) (is ∙ ap datum_of same))))
+  compares_there value there k (Err x) e = tt
+
+-- a test that holds changes nothing
+pub holds_test : (tokens : List (String Global)) (value : Value) (bytes : List ℕ) → ComparesIn true tokens value bytes → ChangesBy (Tests tokens value) bytes bytes
+holds_test tokens value bytes (t, d, k) = (t, t, d, d, (k, refl))
 
 pub moves_apart : (from path : List (String Global)) (bytes made : List ℕ) → is_within from path ≡ false → ChangesBy (TakesTo from path) bytes made → ChangesBy (Moves from path) bytes made
 moves_apart from path bytes made apart (t, u, d, e, k) = (t, u, d, e, (apart, k))
-
--- whatever the test says, where the value is
-pub if_same : {X : Type 0} (r : Result Bool EditError) → X → IfOk r (λ same. OnTrue same X)
-if_same (Ok true) x = x
-if_same (Ok false) x = tt
-if_same (Err e) x = tt
 
 -- ---- patches
 
@@ -267,6 +270,11 @@ if_same (Err e) x = tt
 pub edited_ok : {P Q : String Global → Type 0} (r : Result (String Global) EditError) (e : Result (String Global) Trouble) → e ≡ edited r → ((made : String Global) → P made → Q made) → IfOk r P → IfOk e Q
 edited_ok (Ok made) e is k p = rw is (k made p)
 edited_ok (Err x) e is k p = rw is tt
+
+-- or why there is none
+pub edited_err : (F : Trouble → Type 0) (r : Result (String Global) EditError) (e : Result (String Global) Trouble) → e ≡ edited r → ((x : EditError) → F (trouble.Edit x)) → IfErr e F
+edited_err F (Ok made) e is f = rw is tt
+edited_err F (Err x) e is f = rw is (f x)
 
 module _ (o : Operation) (bytes : List ℕ) where
   pub performs_add : (p : Pointer) (value : Value) (tokens : List (String Global)) (made : List ℕ) → o ≡ operation.Add p value → tokens ≡ p.tokens.items → ChangesBy (λ t u. (v : Tree) × IsOf value v × AddsTo tokens v t u) bytes made → ChangesBy (Performs o) bytes made
@@ -287,6 +295,27 @@ module _ (o : Operation) (bytes : List ℕ) where
   pub performs_test : (p : Pointer) (value : Value) (tokens : List (String Global)) (made : List ℕ) → o ≡ operation.Test p value → tokens ≡ p.tokens.items → ChangesBy (Tests tokens value) bytes made → ChangesBy (Performs o) bytes made
   performs_test p value tokens made is same k = subst (λ z. ChangesBy (Performs z) bytes made) (sym is) (subst (λ z. ChangesBy (Tests z value) bytes made) same k)
 
+  fails_edit : (x : EditError) → FailsIn o bytes (trouble.Edit x)
+  fails_edit x t d = tt
+
+  pub performs_not : (r : Result (String Global) EditError) (e : Result (String Global) Trouble) → e ≡ edited r → IfErr e (FailsIn o bytes)
+  performs_not r e is = edited_err (FailsIn o bytes) r e is fails_edit
+
+  pub fails_test : (p : Pointer) (value : Value) (tokens : List (String Global)) (r : Result (String Global) Trouble) → o ≡ operation.Test p value → tokens ≡ p.tokens.items → IfErr r (RefusesTest tokens value bytes) → IfErr r (FailsIn o bytes)
+  fails_test p value tokens (Ok made) is same k = tt
+  fails_test p value tokens (Err trouble.Differs) is same (u, d, k) = λ t e.
+      let one : u ≡ t = one_document (chars bytes) u t d e in
+      subst (λ z. Fails trouble.Differs z t) (sym is) (subst (λ z. Compares false z value t) same (subst (Compares false tokens value) one k))
+  fails_test p value tokens (Err trouble.IntoItself) is same k = absurd k
+  fails_test p value tokens (Err (trouble.Edit x)) is same k = fails_edit x
+
+  pub fails_move : (f p : Pointer) (from tokens : List (String Global)) (r : Result (String Global) Trouble) → o ≡ operation.Move f p → from ≡ f.tokens.items → tokens ≡ p.tokens.items → IfErr r (RefusesMove from tokens) → IfErr r (FailsIn o bytes)
+  fails_move f p from tokens (Ok made) is a b k = tt
+  fails_move f p from tokens (Err trouble.Differs) is a b k = absurd k
+  fails_move f p from tokens (Err trouble.IntoItself) is a b k = λ t e.
+      subst (λ z. Fails trouble.IntoItself z t) (sym is) (subst (λ z. is_within z p.tokens.items ≡ true) a (subst (λ z. is_within from z ≡ true) b k))
+  fails_move f p from tokens (Err (trouble.Edit x)) is a b k = fails_edit x
+
 patches_more : (i : ℕ) (ops : List Operation) (o : Operation) (t m u : Tree) → i < length ops → Patches (take i ops) t m → Performs (get_or ops i o) m u → Patches (take (suc i) ops) t u
 patches_more zero [] o t m u h p q = absurd (omega (arith, h))
 patches_more zero (x ∷ ops) o t m u h p q = (u, subst (λ z. Performs x z u) p q, refl)
@@ -302,3 +331,18 @@ patched_on i ops d o bytes mid made h is (t, m, a, b, p) (w, u, c, e, q) =
 
 pub patched_none : (bytes made : List ℕ) → made ≡ bytes → (t : Tree) × Doc max_depth (chars bytes) t → ChangesBy (Patches []) bytes made
 patched_none bytes made is (t, d) = (t, t, d, subst (λ z. Doc max_depth (chars z) t) (sym is) d, refl)
+
+-- the text isn't read
+pub unread : (ops : List Operation) (bytes : List ℕ) (n : ℕ) (x : EditError) → RefusesPath bytes [] x → IsUnread bytes (trouble.Edit x) ⊎ ((t : Tree) × Doc max_depth (chars bytes) t × FailsAt n ops (trouble.Edit x) t)
+unread ops bytes n x k = inl k
+
+fails_after : (i : ℕ) (ops : List Operation) (o : Operation) (cause : Trouble) (t m : Tree) → i < length ops → Patches (take i ops) t m → Fails cause (get_or ops i o) m → FailsAt i ops cause t
+fails_after zero [] o cause t m h p k = absurd (omega (arith, h))
+fails_after zero (x ∷ ops) o cause t m h p k = subst (Fails cause x) p k
+fails_after (suc i) [] o cause t m h p k = absurd (omega (arith, h))
+fails_after (suc i) (x ∷ ops) o cause t m h (b, first, rest) k = (b, first, fails_after i ops o cause b m (omega (arith, h)) rest k)
+
+-- one of the operations isn't made
+pub failed_on : (i : ℕ) (ops : List Operation) (d o : Operation) (bytes mid : List ℕ) (cause : Trouble) → i < length ops → o ≡ get_or ops i d → ChangesBy (Patches (take i ops)) bytes mid → FailsIn o mid cause
+    → IsUnread bytes cause ⊎ ((t : Tree) × Doc max_depth (chars bytes) t × FailsAt i ops cause t)
+failed_on i ops d o bytes mid cause h is (t, m, a, b, p) k = inr (t, a, fails_after i ops d cause t m h p (subst (λ z. Fails cause z m) is (k m b)))

@@ -13,7 +13,6 @@ pub(crate) mod new_values;
 mod operations;
 mod pointers;
 mod reading;
-mod same;
 mod steps;
 
 pub use applying::{apply_patch, apply_patch_in};

@@ -1,19 +1,21 @@
 //! A patch that is made on a text.
 
-ghost use Rattle.std.specs.Prelude.{◌≡◌, [], IfOk, string_bytes};
-ghost use Rattle.std.specs.Bool.{OnTrue};
+ghost use Rattle.std.specs.Prelude.{◌≡◌, [], IfErr, IfOk, string_bytes};
+ghost use Rattle.json5_types.specs.ValueMeanings.{value_of};
+ghost use Rattle.json5_numbers.specs.Sameness.{same_datum};
 ghost use Rattle.json5_edit.specs.Changes.{ChangesBy};
+ghost use Rattle.json5_edit.specs.Refusals.{RefusesPath};
 ghost use Rattle.json5_edit_values.specs.News.{ReplacesWith, edited};
-ghost use Rattle.json5_edit_values.specs.Patches.{Copies, Moves, Patches, Performs, RemovesFrom, TakesTo, Tests, is_within};
+ghost use Rattle.json5_edit_values.specs.Patches.{ComparesIn, Copies, FailsIn, MakesPatch, Moves, Patches, Performs, RefusesMove, RefusesTest, RemovesFrom, TakesTo, Tests, is_within};
 
 use crate::patch::adding::{added, set_at};
 use crate::patch::faults::{PatchError, Trouble};
 use crate::patch::new_values::{New, owned};
 use crate::patch::operations::{Operation, Patch};
 use crate::patch::pointers::Pointer;
-use crate::patch::same::is_same;
 use crate::patch::steps::{part_at, steps_in};
 use json5_edit::{EditError, Names, Result, remove};
+use json5_numbers::same;
 use json5_read::{check_document, read_document};
 use json5_types::value::Value;
 use std::alloc::Global;
@@ -29,14 +31,15 @@ use std::alloc::Global;
 ///
 /// With the index of the first operation that can't be made, its location, and
 /// - `Edit` with the error of the edit: `Nowhere`, if its path or its `from` leads nowhere.
-/// - `Differs`, if it is a test, and another value is there.
+/// - `Differs`, if it is a test, and the value that is there isn't equal to its own: numbers by their size, members in any
+///   order, as RFC 6902 says (section 4.6).
 /// - `IntoItself`, if it moves a value into itself.
 pub fn apply_patch(
     alloc: Global,
     text: &str,
     patch: &Patch,
 ) -> std::result::Result<String, PatchError>
-    ensures { IfOk result (λ made. ChangesBy (Patches patch.now.operations.items) text.now (string_bytes made)) }
+    ensures { MakesPatch patch.now.operations.items text.now result }
 {
     apply_patch_in(alloc, Names::Quoted, text, patch)
 }
@@ -56,7 +59,7 @@ pub fn apply_patch_in(
     text: &str,
     patch: &Patch,
 ) -> std::result::Result<String, PatchError>
-    ensures { IfOk result (λ made. ChangesBy (Patches patch.now.operations.items) text.now (string_bytes made)) }
+    ensures { MakesPatch patch.now.operations.items text.now result }
 {
     let mut made = match document(alloc, text) {
         Ok(made) => made,
@@ -117,7 +120,8 @@ fn leads_nowhere(alloc: Global, text: &str, tokens: &[String]) -> bool {
 
 /// The text itself, if it is a document.
 fn document(alloc: Global, text: &str) -> Result<String>
-    ensures { IfOk result (λ made. ChangesBy (Patches []) text.now (string_bytes made)) }
+    ensures made { IfOk result (λ made. ChangesBy (Patches []) text.now (string_bytes made)) }
+    ensures refused { IfErr result (RefusesPath text.now []) }
 {
     match check_document(alloc, text) {
         Ok(()) => owned(alloc, text),
@@ -132,7 +136,8 @@ fn performed(
     text: &str,
     operation: &Operation,
 ) -> std::result::Result<String, Trouble>
-    ensures { IfOk result (λ made. ChangesBy (Performs operation.now) text.now (string_bytes made)) }
+    ensures made { IfOk result (λ made. ChangesBy (Performs operation.now) text.now (string_bytes made)) }
+    ensures refused { IfErr result (FailsIn operation.now text.now) }
 {
     match operation {
         Operation::Add { path, value } => {
@@ -204,7 +209,8 @@ fn moved(
     from: &[String],
     path: &[String],
 ) -> std::result::Result<String, Trouble>
-    ensures { IfOk result (λ made. ChangesBy (Moves from.now path.now) text.now (string_bytes made)) }
+    ensures made { IfOk result (λ made. ChangesBy (Moves from.now path.now) text.now (string_bytes made)) }
+    ensures refused { IfErr result (RefusesMove from.now path.now) }
 {
     if is_within(from, path) {
         return Err(Trouble::IntoItself);
@@ -264,7 +270,8 @@ fn tested(
     tokens: &[String],
     value: &Value,
 ) -> std::result::Result<String, Trouble>
-    ensures { IfOk result (λ made. ChangesBy (Tests tokens.now value.now) text.now (string_bytes made)) }
+    ensures made { IfOk result (λ made. ChangesBy (Tests tokens.now value.now) text.now (string_bytes made)) }
+    ensures refused { IfErr result (RefusesTest tokens.now value.now text.now) }
 {
     match is_there(alloc, text, tokens, value) {
         Ok(true) => edited(owned(alloc, text)),
@@ -273,14 +280,24 @@ fn tested(
     }
 }
 
-/// Whether the value at the location is this one.
+/// Whether the value at the location is equal to this one.
 fn is_there(alloc: Global, text: &str, tokens: &[String], value: &Value) -> Result<bool>
-    ensures { IfOk result (λ same. OnTrue same (ChangesBy (Tests tokens.now value.now) text.now text.now)) }
+    ensures { IfOk result (λ same. ComparesIn same tokens.now value.now text.now) }
 {
     let steps = steps_in(alloc, text, tokens)?;
     let part = part_at(alloc, text, steps.as_slice())?;
     match read_document(alloc, part) {
-        Ok(there) => is_same(alloc, &there, value),
+        Ok(there) => is_equal(alloc, &there, value),
+        Err(_) => Err(EditError::NoMemory),
+    }
+}
+
+/// Whether the two values are equal.
+fn is_equal(alloc: Global, there: &Value, value: &Value) -> Result<bool>
+    ensures { IfOk result (λ equal. equal ≡ same_datum (value_of there.now) (value_of value.now)) }
+{
+    match same(alloc, there, value) {
+        Ok(equal) => Ok(equal),
         Err(_) => Err(EditError::NoMemory),
     }
 }

@@ -1,9 +1,10 @@
 //! What a patch puts into a text.
 
-ghost use Rattle.std.specs.Prelude.{◌≡◌, IfOk, string_bytes};
+ghost use Rattle.std.specs.Prelude.{◌≡◌, [], IfErr, IfOk, string_bytes};
 ghost use Rattle.std.specs.Str.{chars};
 ghost use Rattle.json5_grammar.specs.Language.Trees.{Tree};
 ghost use Rattle.json5_grammar.specs.Language.Values.{Val};
+ghost use Rattle.json5_edit.specs.Refusals.{RefusesPath};
 ghost use Rattle.json5_edit_values.specs.News.{Brings};
 
 use crate::laid_out::lays_out;
@@ -51,7 +52,8 @@ fn lined(alloc: Global, part: &str, text: &str, path: &[Step<'_>], goes: Goes) -
 
 /// A copy.
 pub(crate) fn owned(alloc: Global, text: &str) -> Result<String>
-    ensures { IfOk result (λ made. string_bytes made ≡ text.now) }
+    ensures made { IfOk result (λ made. string_bytes made ≡ text.now) }
+    ensures refused { IfErr result (RefusesPath text.now []) }
 {
     Ok(String::from_str(alloc, text)?)
 }

@@ -31,7 +31,7 @@ merged-merged_anew-requires t c = let deep = depth_of (value_of c.args.patch.now
 -- ---- merged_fields
 
 pub merged_fields-loop-key-init : goal.merged_fields-loop-key-init
-merged_fields-loop-key-init t c = λ leads. fields_begun c.args.text.now (string_bytes c.in_ok-made.made) c.args.steps.now leads c.in_ok-made.ensures
+merged_fields-loop-key-init t c = λ leads. fields_begun c.args.text.now (string_bytes c.in_ok-made.made) c.args.steps.now leads c.in_ok-made.ensures.made
 
 pub merged_fields-merged_field-requires : goal.merged_fields-merged_field-requires
 merged_fields-merged_field-requires t c =

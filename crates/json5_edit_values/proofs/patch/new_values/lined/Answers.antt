@@ -10,4 +10,4 @@ returns-then-lays_out c = λ v w.
     subst (λ b. OnTrue b (Val (chars c.args.part.now) v)) c.if-lays_out.true (c.lays_out.ensures v (subst (λ z. Val (chars z) v) (sym c.as_str.ensures.value) w))
 
 pub returns : goal.returns
-returns c = ok_then c.owned.result (λ made e v w. subst (λ z. Val (chars z) v) e w) c.owned.ensures
+returns c = ok_then c.owned.result (λ made e v w. subst (λ z. Val (chars z) v) e w) c.owned.ensures.made
