@@ -1,6 +1,6 @@
 -- Faults that are told one after another.
-use Rattle.std.proofs.Common.{◌≡◌, ◌∙◌, ◌++◌, ◌∷◌, [], Bool, true, ℕ, List, ap, sym, subst, inl, inr, arith}
-use Rattle.std.specs.Prelude.{All, Result, Ok, Err}
+use Rattle.std.proofs.Common.{◌≡◌, ◌∙◌, ◌++◌, ◌∷◌, [], Bool, true, ℕ, List, ap, subst, inl, inr, arith}
+use Rattle.std.specs.Prelude.{All, Result, Err}
 use Rattle.std.proofs.lemmas.List.Elements.{All-append, All-cons}
 use Rattle.json5_types.specs.declared.error.Error.{Error}
 use Rattle.json5_settings.specs.AllFaults.{IsFault, TakenOut, TellsIfNew, TakesOut, whole, less}

@@ -1,5 +1,5 @@
 -- The layer in which a fault is told.
-use Rattle.std.proofs.Common.{◌≡◌, ◌∙◌, ◌≤◌, ◌++◌, ◌∷◌, [], ℕ, Bool, true, false, List, length, take, refl, ap, sym, subst, inl, inr, arith, append_assoc, IsUtf8}
+use Rattle.std.proofs.Common.{◌≡◌, ◌∙◌, ◌++◌, ◌∷◌, [], ℕ, Bool, List, length, take, ap, sym, subst, inl, inr, arith, append_assoc, IsUtf8}
 use Rattle.std.specs.Prelude.{Some, None, codes, slice_range, string_bytes}
 use Rattle.std.specs.Str.{chars, IsCharBoundary}
 use Rattle.std.specs.Str.Pattern.{GetsRange}

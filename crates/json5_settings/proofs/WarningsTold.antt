@@ -150,7 +150,7 @@ pub looked_none : (k : Kind) (v : Walked) (found : List Warning) (s : BTreeSet C
 looked_none kind.Array v found s none = record { text = refl; limit = refl; leads = λ o m f. (at_element no_more o, f, refl, refl, has_none s none, tells_none found found refl) }
 looked_none kind.Object v found s none = record { text = refl; limit = refl; leads = λ o m f. (at_key no_member o, f, refl, refl, has_none s none, tells_none found found refl) }
 
-pub looked_all : {k : Kind} {first now new : Walked} {found after : List Warning} {known : List (String Global)} → Looked k first now found after known → Moved EndsEntries now new → LooksInto k first new found after
+pub looked_all : {k : Kind} {first now new : Walked} {found after : List Warning} {seen : BTreeSet CowStr} → Looked k first now found after seen → Moved EndsEntries now new → LooksInto k first new found after
 looked_all p q = record {
   text = q.text ∙ p.text;
   limit = q.limit ∙ p.limit;
