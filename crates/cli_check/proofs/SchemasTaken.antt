@@ -18,18 +18,18 @@ use Rattle.cli_check.specs.declared.trouble.SchemaTrouble.{SchemaTrouble}
 use Rattle.cli_check.specs.declared.trouble.SchemaTrouble.TheVariants as trouble
 use Rattle.cli_check.specs.declared.trouble.SchemaCause.TheVariants as cause
 use Rattle.cli_check.specs.Naming.{IsElsewhere, Leads, schema_key}
-use Rattle.cli_check.specs.Schemas.{IsFlawIn, IsFlawOf, TakesFile, TakesHeld, TakesNamed, TakesOwn}
+use Rattle.cli_check.specs.Schemas.{asserting, IsFlawIn, IsFlawOf, TakesFile, TakesHeld, TakesNamed, TakesOwn}
 use Rattle.cli_check.specs.SchemaSteps.{IsOfCause, IsOfRefusal, IsOfValue, TakesValue}
 
 -- ---- a value
 
-pub strictly : (o : Options) (x : Datum) (r : Result Schema SchemaFault) → IfOk r (λ s. (schema_of s ≡ x) × HasOnlyKeywords (schema_of s)) → IfOk r (IsOfValue o x)
-strictly o x (Ok s) k = (k.0, λ _. k.1)
-strictly o x (Err fault) k = tt
+pub strictly : (o : Options) (x y : Datum) (r : Result Schema SchemaFault) → y ≡ asserting o x → IfOk r (λ s. (schema_of s ≡ y) × HasOnlyKeywords (schema_of s)) → IfOk r (IsOfValue o x)
+strictly o x y (Ok s) is k = (k.0 ∙ is, λ _. k.1)
+strictly o x y (Err fault) is k = tt
 
-pub loosely : (o : Options) (x : Datum) (r : Result Schema SchemaFault) → o.is_strict ≡ false → IfOk r (λ s. schema_of s ≡ x) → IfOk r (IsOfValue o x)
-loosely o x (Ok s) off k = (k, λ on. absurd (true≢false (sym on ∙ off)))
-loosely o x (Err fault) off k = tt
+pub loosely : (o : Options) (x y : Datum) (r : Result Schema SchemaFault) → y ≡ asserting o x → o.is_strict ≡ false → IfOk r (λ s. schema_of s ≡ y) → IfOk r (IsOfValue o x)
+loosely o x y (Ok s) is off k = (k ∙ is, λ on. absurd (true≢false (sym on ∙ off)))
+loosely o x y (Err fault) is off k = tt
 
 -- ---- what a file holds
 

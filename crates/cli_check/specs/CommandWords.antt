@@ -29,6 +29,7 @@ abbrev pub setting_word : Setting → List ℕ
 setting_word settings.Schema = codes "--schema"
 setting_word settings.Map = codes "--map"
 setting_word settings.Draft = codes "--draft"
+setting_word settings.Format = codes "--format"
 setting_word settings.Ext = codes "--ext"
 setting_word settings.Exclude = codes "--exclude"
 
@@ -59,6 +60,7 @@ pub record Choices : Type 0 where
   pub schema : Option (List ℕ)
   pub maps : List (List ℕ)
   pub draft : Option Draft
+  pub asserts_formats : Bool
   pub endings : List (List ℕ)
   pub excluded : List (List ℕ)
   pub is_quiet : Bool
@@ -68,10 +70,10 @@ pub record Choices : Type 0 where
   pub names : List (List ℕ)
 
 abbrev pub nothing_chosen : Choices
-nothing_chosen = record { asked = asked.Files; schema = None; maps = []; draft = None; endings = []; excluded = []; is_quiet = false; is_json = false; is_strict = false; is_ended = false; names = [] }
+nothing_chosen = record { asked = asked.Files; schema = None; maps = []; draft = None; asserts_formats = false; endings = []; excluded = []; is_quiet = false; is_json = false; is_strict = false; is_ended = false; names = [] }
 
 abbrev pub choices_of : Options → Choices
-choices_of o = record { asked = o.asked; schema = option_map string_bytes o.schema; maps = names_of o.maps.items; draft = o.draft; endings = names_of o.endings.items; excluded = names_of o.excluded.items; is_quiet = o.is_quiet; is_json = o.is_json; is_strict = o.is_strict; is_ended = o.is_ended; names = names_of o.names.items }
+choices_of o = record { asked = o.asked; schema = option_map string_bytes o.schema; maps = names_of o.maps.items; draft = o.draft; asserts_formats = o.asserts_formats; endings = names_of o.endings.items; excluded = names_of o.excluded.items; is_quiet = o.is_quiet; is_json = o.is_json; is_strict = o.is_strict; is_ended = o.is_ended; names = names_of o.names.items }
 
 abbrev pub ChoosesNothing : Options → Type 0
 ChoosesNothing o = choices_of o ≡ nothing_chosen
@@ -98,6 +100,7 @@ abbrev pub Sets : Setting → (value : List ℕ) → (c d : Choices) → Type 0
 Sets settings.Schema value c d = d ≡ record c { schema = Some value }
 Sets settings.Map value c d = d ≡ record c { maps = c.maps ++ value ∷ [] }
 Sets settings.Draft value c d = (draft : Draft) × (value ≡ draft_word draft) × (d ≡ record c { draft = Some draft })
+Sets settings.Format value c d = (value ≡ codes "assert") × (d ≡ record c { asserts_formats = true })
 Sets settings.Ext value c d = (ending : List ℕ) × IsEnding value ending × (d ≡ record c { endings = c.endings ++ ending ∷ [] })
 Sets settings.Exclude value c d = (value ≢ []) × (d ≡ record c { excluded = c.excluded ++ value ∷ [] })
 

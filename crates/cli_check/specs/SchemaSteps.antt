@@ -12,7 +12,7 @@ use Rattle.cli_check.specs.declared.trouble.SchemaTrouble.TheVariants as trouble
 use Rattle.cli_check.specs.declared.trouble.SchemaCause.{SchemaCause}
 use Rattle.cli_check.specs.declared.trouble.SchemaCause.TheVariants as cause
 use Rattle.cli_check.specs.Drafts.{drafted}
-use Rattle.cli_check.specs.Schemas.{IsAllowed}
+use Rattle.cli_check.specs.Schemas.{IsAllowed, asserting}
 
 -- this is the cause, or memory ran out
 abbrev pub IsOfCause : SchemaCause → SchemaTrouble → Type 0
@@ -26,9 +26,9 @@ IsOfRefusal e trouble.NoMemory = ⊤
 IsOfRefusal e trouble.Read = ⊥
 IsOfRefusal e (trouble.Shown d line) = (d ≡ cause.NoDocument) × ¬ (IsOutOfMemory e)
 
--- the schema is this value, and allowed
+-- the schema is this value, asserting formats if it is asked to, and allowed
 abbrev pub IsOfValue : Options → Datum → Schema → Type 0
-IsOfValue o x s = (schema_of s ≡ x) × IsAllowed o (schema_of s)
+IsOfValue o x s = (schema_of s ≡ asserting o x) × IsAllowed o (schema_of s)
 
 -- the schema is; or a document with this value is none
 abbrev pub TakesDrafted : Options → Datum → Result Schema SchemaTrouble → Type 0

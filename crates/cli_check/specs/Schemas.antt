@@ -1,11 +1,12 @@
 -- What the file of a schema means, and why no schema is taken.
 -- A promise rests on this.
-use Rattle.std.specs.Prelude.{◌≡◌, ⊤, ℕ, true, List, Option, None, Some, IfSome, Result, Ok, Err}
+use Rattle.std.specs.Prelude.{◌≡◌, ⊤, ℕ, true, if◌then◌else◌, List, Option, None, Some, IfSome, Result, Ok, Err}
 use Rattle.std.specs.Str.{chars, IsUtf8}
 use Rattle.json5_grammar.specs.Language.Documents.{Doc, max_depth}
 use Rattle.json5_grammar.specs.Language.Trees.{Tree}
 use Rattle.json5_read.specs.TreeMeanings.{datum_of}
 use Rattle.json5_types.specs.ValueMeanings.{Datum}
+use Rattle.json5_schema.specs.Conformance.{with_formats}
 use Rattle.json5_schema.specs.Subschemas.{HasOnlyKeywords}
 use Rattle.json5_schema.specs.Views.{schema_of}
 use Rattle.json5_schema.specs.declared.schemas.Schema.{Schema}
@@ -29,9 +30,13 @@ HoldsNone bytes = (x : Datum) → ¬ (Means bytes x)
 abbrev pub IsAllowed : Options → Datum → Type 0
 IsAllowed o s = o.is_strict ≡ true → HasOnlyKeywords s
 
+-- with `--format assert` the schema asserts formats
+abbrev pub asserting : Options → Datum → Datum
+asserting o x = if o.asserts_formats then with_formats x else x
+
 -- the bytes are a document, and it means this schema, of the draft that words name where it names none itself
 abbrev pub MeansSchema : Options → List ℕ → Datum → Type 0
-MeansSchema o bytes s = (x : Datum) × Means bytes x × (s ≡ drafted o.draft x)
+MeansSchema o bytes s = (x : Datum) × Means bytes x × (s ≡ asserting o (drafted o.draft x))
 
 -- what was read means this schema, which is allowed
 abbrev pub HoldsSchema : Options → (held : Option (List ℕ)) → Datum → Type 0

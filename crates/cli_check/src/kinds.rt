@@ -19,6 +19,7 @@ pub(crate) enum Setting {
     Schema,
     Map,
     Draft,
+    Format,
     Ext,
     Exclude,
 }
@@ -79,6 +80,7 @@ impl Setting {
             "--schema" => Some(Setting::Schema),
             "--map" => Some(Setting::Map),
             "--draft" => Some(Setting::Draft),
+            "--format" => Some(Setting::Format),
             "--ext" => Some(Setting::Ext),
             "--exclude" => Some(Setting::Exclude),
             _ => None,

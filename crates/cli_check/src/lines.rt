@@ -20,6 +20,7 @@ A folder stands for the files below it that end in .json5, but for those that .i
   --schema S       the file of the schema for all
   --map NAME=FILE  FILE is the schema that documents call NAME, such as a URL
   --draft DRAFT    7, 2019-09 or 2020-12: the draft of schemas that name none
+  --format assert  texts have to be in the format that their schema names, as `date`
   --strict         also refuses a schema with a keyword that is none
   --ext ENDING     below folders, files with this ending too
   --exclude GLOB   is left alone below folders

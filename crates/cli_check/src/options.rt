@@ -29,6 +29,8 @@ pub struct Options {
     pub maps: Vec<String>,
     /// The draft of a schema that names none.
     pub draft: Option<Draft>,
+    /// Whether schemas assert formats, as those do whose `$vocabulary` says so.
+    pub asserts_formats: bool,
     /// The endings, without their points, of the files that are looked for below a folder, beside `json5`.
     pub endings: Vec<String>,
     /// Globs of what is left alone below a folder.
@@ -85,6 +87,7 @@ impl Options {
             schema: None,
             maps: Vec::new(alloc),
             draft: None,
+            asserts_formats: false,
             endings: Vec::new(alloc),
             excluded: Vec::new(alloc),
             is_quiet: false,

@@ -138,14 +138,16 @@ fn schema_drafted(
     }
 }
 
-/// Takes the value as a schema; with `--strict` only one whose keywords are known.
+/// Takes the value as a schema: one that asserts formats with `--format assert`, and of known keywords alone with `--strict`.
 fn taken(alloc: Global, options: &Options, value: &Value) -> Result<Schema, SchemaFault>
     ensures { IfOk result (IsOfValue options.now (value_of value.now)) }
 {
-    if options.is_strict {
-        return Schema::strict(alloc, value);
+    match (options.is_strict, options.asserts_formats) {
+        (false, false) => Schema::new(alloc, value),
+        (false, true) => Schema::with_formats(alloc, value),
+        (true, false) => Schema::strict(alloc, value),
+        (true, true) => Schema::strict_with_formats(alloc, value),
     }
-    Schema::new(alloc, value)
 }
 
 /// That the file can't be opened.

@@ -59,6 +59,7 @@ impl Options {
             Setting::Schema => self.set_schema(alloc, value),
             Setting::Map => self.add_map(alloc, value),
             Setting::Draft => self.set_draft(value),
+            Setting::Format => self.set_format(value),
             Setting::Ext => self.add_ending(alloc, value),
             Setting::Exclude => self.exclude(alloc, value),
         }
@@ -88,6 +89,17 @@ impl Options {
             return Err(WordFault::Unknown);
         };
         self.draft = Some(draft);
+        Ok(())
+    }
+
+    fn set_format(&mut self, value: &str) -> Result<(), WordFault>
+        ensures set { OnOk result (Sets Setting.Format value.now (choices_of self.old) (choices_of self.new)) }
+        ensures refused { IfErr result (Refuses (Sets Setting.Format value.now (choices_of self.old))) }
+    {
+        if value != "assert" {
+            return Err(WordFault::Unknown);
+        }
+        self.asserts_formats = true;
         Ok(())
     }
 
