@@ -1,13 +1,13 @@
 //! Reads the settings of a shop from layers: what is built in, the variables `SHOP_..`, files, and words `path=value`.
-//! Prints them, or the report of a fault in the layer that it came from. `--sample` prints a file to begin with, and `--`
-//! begins with new layers.
+//! Prints them, or the report of a fault in the layer that it came from. `--sample` prints a file to begin with, `--page` a
+//! table in Markdown, `--schema` a JSON Schema, and `--` begins with new layers.
 #![tactic(auto)]
 
 mod settings;
 
 use anyhow::{Result, bail};
 use json5_report::Report;
-use json5_settings::{Layers, faults_of, sample, warnings};
+use json5_settings::{Layers, faults_of, page, sample, schema, warnings};
 use settings::Settings;
 use std::alloc::Global;
 use std::{env, fs};
@@ -27,6 +27,8 @@ fn main(rt: HostRuntime) -> Result<()> {
                 layers = built_in(&rt)?;
             }
             "--sample" => println!(rt; "{}", sample(rt.alloc(), &layers.merged()?, &COMMENTS)?)?,
+            "--page" => println!(rt; "{}", page(rt.alloc(), &layers.merged()?, &COMMENTS)?)?,
+            "--schema" => println!(rt; "{}", schema(rt.alloc(), &layers.merged()?, &COMMENTS)?)?,
             _ => add(&rt, &mut layers, &word)?,
         }
     }

@@ -1,4 +1,4 @@
--- Lists the lemmas about layers, warnings and a file to begin with.
+-- Lists the lemmas about layers, warnings, a file to begin with and a schema.
 pub mod Followed
 pub mod Layered
 pub mod MembersMade
@@ -9,3 +9,4 @@ pub mod KeysSeen
 pub mod Blanked
 pub mod Failures
 pub mod WarningsTold
+pub mod SchemasMade

@@ -1,4 +1,4 @@
--- Lists the definitions of layers, warnings and a file to begin with.
+-- Lists the definitions of layers, warnings, a file to begin with and a schema.
 pub mod Follows
 pub mod Stacks
 pub mod Texts
@@ -8,6 +8,7 @@ pub mod Told
 pub mod Keys
 pub mod MemberTexts
 pub mod Samples
+pub mod Schemas
 pub mod Slips
 pub mod Warnings
 pub mod AllFaults

@@ -1,5 +1,6 @@
 //! Settings from several places, the later over the earlier, faults told where the value came from, and what a program
-//! changed put back into a file; warnings of what is likely a slip in a file, and a file to begin with.
+//! changed put back into a file; warnings of what is likely a slip in a file; and a file to begin with, a page and a JSON
+//! Schema of settings.
 //!
 //! ```text
 //! let mut layers = Layers::new(alloc);
@@ -20,14 +21,17 @@ mod edits;
 mod faults;
 mod follow;
 mod layers;
+mod listed;
 mod members;
 mod names;
 mod origin;
+mod pages;
 mod positions;
 mod remains;
 mod rewriting;
 mod samples;
 mod saving;
+mod schemas;
 mod slips;
 mod spots;
 mod warned;
@@ -36,7 +40,9 @@ pub use all_faults::faults_of;
 pub use faults::{Result, SettingError};
 pub use layers::Layers;
 pub use origin::fault;
+pub use pages::page;
 pub use samples::sample;
 pub use saving::update;
+pub use schemas::schema;
 pub use slips::Slip;
 pub use warned::{Warning, warnings};

@@ -50,7 +50,7 @@ pub fn sample(alloc: Global, value: &Value, comments: &[(&str, &str)]) -> Result
 }
 
 /// The value as a document, over lines.
-fn spelled(alloc: Global, value: &Value) -> Result<String>
+pub(crate) fn spelled(alloc: Global, value: &Value) -> Result<String>
     ensures { IfOk result (λ made. ReadsAs max_depth (chars (string_bytes made)) (value_of value.now)) }
 {
     match to_string_in(alloc, Layout::expanded(), value) {

@@ -1,10 +1,10 @@
-//! Rows of settings that are put back into their text.
+//! Rows of settings that are put back into their text, and of what is made for their users.
 
 use crate::outcomes::{Outcome, said};
 use crate::rows::{text_of, wanted_of};
 use json5_edit::EditError;
 use json5_read::read_document;
-use json5_settings::{sample, update};
+use json5_settings::{page, sample, schema, update};
 use json5_types::error::Result;
 use json5_types::value::Value;
 use std::alloc::Global;
@@ -13,7 +13,7 @@ use std::alloc::Global;
 pub(crate) fn outcome_of(alloc: Global, row: &Value) -> Outcome {
     let wanted = wanted_of(row);
     if row.get("value").is_some() {
-        return sampled(alloc, row);
+        return told(alloc, row);
     }
     match updated(alloc, row) {
         Ok(made) if made.as_str() == wanted => Outcome::Wanted,
@@ -23,16 +23,17 @@ pub(crate) fn outcome_of(alloc: Global, row: &Value) -> Outcome {
 }
 
 /// What comes of the row's value and its comments.
-fn sampled(alloc: Global, row: &Value) -> Outcome {
+fn told(alloc: Global, row: &Value) -> Outcome {
     let wanted = wanted_of(row);
-    match sample_of(alloc, row) {
+    match made_of(alloc, row) {
         Ok(made) if made.as_str() == wanted => Outcome::Wanted,
         Ok(made) => Outcome::Other(made),
         Err(error) => said(wanted, format!(in alloc; "{error}").ok()),
     }
 }
 
-fn sample_of(alloc: Global, row: &Value) -> json5_edit::Result<String> {
+/// A file to begin with, or the page or schema that the row asks for.
+fn made_of(alloc: Global, row: &Value) -> json5_edit::Result<String> {
     let mut comments = Vec::new(alloc);
     if let Some(texts) = row.get("comments") {
         for (path, words) in texts.entries() {
@@ -47,7 +48,11 @@ fn sample_of(alloc: Global, row: &Value) -> json5_edit::Result<String> {
         Ok(value) => value,
         Err(error) => return Err(EditError::of_text(error)),
     };
-    sample(alloc, &value, comments.as_slice())
+    match text_of(row, "as") {
+        "page" => page(alloc, &value, comments.as_slice()),
+        "schema" => schema(alloc, &value, comments.as_slice()),
+        _ => sample(alloc, &value, comments.as_slice()),
+    }
 }
 
 /// The row's text, in which what was `old` has become `new`.
