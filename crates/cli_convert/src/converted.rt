@@ -4,7 +4,8 @@ use crate::formats::{Format, Layout};
 use crate::options::Options;
 use crate::sorted_keys::sorted;
 use json5_convert::{
-    RespellError, Spelling, Values, from_toml, respell, to_lines, to_toml, to_toml_with_dates,
+    RespellError, Spelling, Values, from_lines, from_toml, respell, to_lines, to_toml,
+    to_toml_with_dates,
 };
 use json5_read::read_document;
 use json5_styles::{to_json_in, to_string_in};
@@ -38,7 +39,7 @@ pub fn convert(alloc: Global, options: &Options, name: &str, text: &str) -> Resu
     let target = options.target(name);
     let value = match (options.source(name), target) {
         (Format::Lines, _) if options.keeps_going => Value::Array(lines(alloc, text, &mut faults)?),
-        (Format::Lines, _) => Value::Array(documents(alloc, text)?),
+        (Format::Lines, _) => Value::Array(from_lines(alloc, text)?),
         (Format::Toml, _) => from_toml(alloc, text)?,
         (_, Format::Lines | Format::Toml) => read_document(alloc, text)?,
         _ => {
@@ -48,20 +49,6 @@ pub fn convert(alloc: Global, options: &Options, name: &str, text: &str) -> Resu
     };
     let text = written(alloc, options, target, value)?;
     Ok(Converted { text, faults })
-}
-
-/// The documents of a text, one after another.
-fn documents(alloc: Global, text: &str) -> Result<Vec<Value>> {
-    let mut values = Values::new(alloc, text);
-    let mut list = Vec::new(alloc);
-    // Each document has a character.
-    for _ in 0..=text.len() {
-        match values.next()? {
-            Some(value) => list.push(value)?,
-            None => return Ok(list),
-        }
-    }
-    Err(Error::new(ErrorCode::Failed))
 }
 
 /// The documents of the lines that can be read, each for itself; of the others the faults.

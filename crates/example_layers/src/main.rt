@@ -27,7 +27,7 @@ fn main(rt: HostRuntime) -> Result<()> {
                 layers = built_in(&rt)?;
             }
             "--sample" => println!(rt; "{}", sample(rt.alloc(), &layers.merged()?, &COMMENTS)?)?,
-            "--page" => println!(rt; "{}", page(rt.alloc(), &layers.merged()?, &COMMENTS)?)?,
+            "--page" => print!(rt; "{}", page(rt.alloc(), &layers.merged()?, &COMMENTS)?)?,
             "--schema" => println!(rt; "{}", schema(rt.alloc(), &layers.merged()?, &COMMENTS)?)?,
             _ => add(&rt, &mut layers, &word)?,
         }

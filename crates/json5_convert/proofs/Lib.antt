@@ -1,5 +1,6 @@
 -- Lists the lemmas about documents that are spelled anew.
 pub mod CommentsPassed
+pub mod DocumentsRead
 pub mod FaultsLast
 pub mod Kept
 pub mod LinesJoined

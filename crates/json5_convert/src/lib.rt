@@ -23,7 +23,7 @@ mod toml_texts;
 mod toml_values;
 
 pub use faults::{RespellError, Result};
-pub use lines::{Values, to_lines};
+pub use lines::{Values, from_lines, to_lines};
 pub use respelled::respell;
 pub use spelling::{Blanks, Comments, Keys, LastCommas, Numbers, Quotes, Spelling};
 pub use streams::ValueStream;

@@ -1,8 +1,9 @@
 //! Documents one after another in one text, as JSON Lines has them.
 
 ghost use Rattle.std.specs.Prelude.{◌≡◌, true, false, IfOk, IfErr, string_bytes};
+ghost use Rattle.std.specs.Str.{chars};
 ghost use Rattle.json5_read.specs.ModelSteps.{IsUnprompted};
-ghost use Rattle.json5_convert.specs.Lines.{RefusesLines, lines_of};
+ghost use Rattle.json5_convert.specs.Lines.{AreDocuments, RefusesDocuments, RefusesLines, at_start, lines_of};
 ghost use Rattle.json5_convert.specs.Streams.{Fails, IsAtStart, RefusesNext, TakesNext, TakesValue};
 
 use json5_read::read::read_value;
@@ -91,6 +92,27 @@ pub(crate) fn next_value<I: Input>(scanner: &mut Scanner<I>) -> Result<Option<Va
             Ok(Some(value))
         }
     }
+}
+
+/// Returns the documents of a text, one after another, in their order: see [`Values`].
+///
+/// ```text
+/// from_lines(alloc, "{a: 1}\n{a: 2}\n")?    // two values
+/// ```
+///
+/// # Errors
+///
+/// As [`Values::next`], of the first document that it refuses.
+pub fn from_lines(alloc: Global, text: &str) -> Result<Vec<Value>>
+    ensures read { IfOk result (λ values. AreDocuments (chars text.now) values.items) }
+    ensures refused { IfErr result (RefusesDocuments (at_start text.now)) }
+{
+    let mut documents = Values::new(alloc, text);
+    let mut values = Vec::new(alloc);
+    while let Some(value) = documents.next()? {
+        values.push(value)?;
+    }
+    Ok(values)
 }
 
 /// Returns the values as JSON, each on a line of its own.

@@ -2,7 +2,7 @@
 
 use crate::outcomes::Outcome;
 use crate::rows::{count_of, text_of};
-use json5_convert::{ValueStream, Values, to_lines};
+use json5_convert::{ValueStream, Values, from_lines, to_lines};
 use json5_types::ErrorCode;
 use json5_types::error::{Error, Result};
 use json5_types::value::Value;
@@ -48,6 +48,9 @@ fn other(alloc: Global, row: &Value) -> Result<Option<String>> {
     if !is_bytes && !fails {
         let found = of_text(alloc, text.as_str())?;
         if found.as_str() != wanted.as_str() {
+            return Ok(Some(found));
+        }
+        if let Some(found) = other_at_once(alloc, text.as_str(), wanted.as_str())? {
             return Ok(Some(found));
         }
     }
@@ -122,6 +125,23 @@ fn of_text(alloc: Global, text: &str) -> Result<String> {
         }
     }
     to_lines(alloc, list.as_slice())
+}
+
+/// What comes of all documents of the text at once, if it isn't what is wanted: of a refusal the fault alone.
+fn other_at_once(alloc: Global, text: &str, wanted: &str) -> Result<Option<String>> {
+    let (found, is_wanted) = match from_lines(alloc, text) {
+        Ok(values) => {
+            let lines = to_lines(alloc, values.as_slice())?;
+            let is_wanted = lines.as_str() == wanted;
+            (lines, is_wanted)
+        }
+        Err(fault) => {
+            let words = format!(in alloc; "{fault}")?;
+            let is_wanted = wanted.ends_with(words.as_str());
+            (words, is_wanted)
+        }
+    };
+    Ok(if is_wanted { None } else { Some(found) })
 }
 
 fn of_reader(alloc: Global, reader: Pieces<'_>, most: usize) -> Result<String> {
