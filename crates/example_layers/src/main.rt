@@ -1,6 +1,6 @@
 //! Reads the settings of a shop from layers: what is built in, the variables `SHOP_..`, files, and words `path=value`.
-//! Prints them, or the report of a fault in the layer that it came from. `--sample` prints a file to begin with, `--page` a
-//! table in Markdown, `--schema` a JSON Schema, and `--` begins with new layers.
+//! Prints them, or the report of a fault in the layer that it came from. `--sample` prints a file to begin with,
+//! `--page` a table in Markdown, `--schema` a JSON Schema, and `--` begins with new layers.
 #![tactic(auto)]
 
 mod settings;

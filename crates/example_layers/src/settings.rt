@@ -6,8 +6,8 @@ ghost use Rattle.json5.specs.Structs.{codes, struct_only};
 use json5::fields::StructFields;
 use json5::{Deserialize, Deserializer, Input, Required, Result, WithDefault, read_struct_only};
 
-/// `{ host: 'shop.example', port: 8443, label: 'Our shop', workers: { .. } }`; the port is 80 where it is missing, and the
-/// label may be missing or null.
+/// `{ host: 'shop.example', port: 8443, label: 'Our shop', workers: { .. } }`; the port is 80 where it is missing, and
+/// the label may be missing or null.
 #[derive(Drop)]
 pub struct Settings {
     pub host: String,
@@ -58,7 +58,8 @@ impl<I: Input> Deserialize<I> for Workers {
 
     ghost content = { λ w. ⟦<(Required, Required) as StructFields<I, (u8, u8)>>⟧.content (w.least, w.most) };
 
-    ghost convert = { struct_only (⟦<(Required, Required) as StructFields<I, (u8, u8)>>⟧.layout (codes "least", codes "most")) };
+    ghost convert = { struct_only (⟦<(Required, Required) as StructFields<I, (u8, u8)>>⟧.layout
+        (codes "least", codes "most")) };
 
     fn deserialize(de: &mut Deserializer<I>) -> Result<Workers> {
         let (least, most) = read_struct_only(de, (Required("least"), Required("most")))?;

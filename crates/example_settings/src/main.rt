@@ -1,5 +1,5 @@
-//! Reads the settings of a web server from the files that it is given, and prints what they say, or a report of why they
-//! are refused.
+//! Reads the settings of a web server from the files that it is given, and prints what they say, or a report of why
+//! they are refused.
 #![tactic(auto)]
 
 mod settings;

@@ -27,9 +27,11 @@ type SettingsValues = (Server, Vec<Route>, Option<Limits>, Log);
 impl<I: Input> Deserialize<I> for Settings {
     ghost Content = { ⟦<SettingsParts as StructFields<I, SettingsValues>>⟧.Content };
 
-    ghost content = { λ s. ⟦<SettingsParts as StructFields<I, SettingsValues>>⟧.content (s.server, s.routes, s.limits, s.log) };
+    ghost content = { λ s. ⟦<SettingsParts as StructFields<I, SettingsValues>>⟧.content
+        (s.server, s.routes, s.limits, s.log) };
 
-    ghost convert = { struct_only (⟦<SettingsParts as StructFields<I, SettingsValues>>⟧.layout (codes "server", (codes "routes", (codes "limits", (codes "log", Info))))) };
+    ghost convert = { struct_only (⟦<SettingsParts as StructFields<I, SettingsValues>>⟧.layout
+        (codes "server", (codes "routes", (codes "limits", (codes "log", Info))))) };
 
     fn deserialize(de: &mut Deserializer<I>) -> Result<Settings> {
         let (server, routes) = (Required("server"), Required("routes"));
@@ -57,9 +59,11 @@ type ServerParts = (Required, WithDefault<u16>, Optional);
 impl<I: Input> Deserialize<I> for Server {
     ghost Content = { ⟦<ServerParts as StructFields<I, (String, u16, Option<Tls>)>>⟧.Content };
 
-    ghost content = { λ s. ⟦<ServerParts as StructFields<I, (String, u16, Option<Tls>)>>⟧.content (s.host, s.port, s.tls) };
+    ghost content = { λ s. ⟦<ServerParts as StructFields<I, (String, u16, Option<Tls>)>>⟧.content
+        (s.host, s.port, s.tls) };
 
-    ghost convert = { struct_only (⟦<ServerParts as StructFields<I, (String, u16, Option<Tls>)>>⟧.layout (codes "host", ((codes "port", 80), codes "tls"))) };
+    ghost convert = { struct_only (⟦<ServerParts as StructFields<I, (String, u16, Option<Tls>)>>⟧.layout
+        (codes "host", ((codes "port", 80), codes "tls"))) };
 
     fn deserialize(de: &mut Deserializer<I>) -> Result<Server> {
         let fields = (Required("host"), WithDefault("port", 80), Optional("tls"));
@@ -80,7 +84,8 @@ impl<I: Input> Deserialize<I> for Tls {
 
     ghost content = { λ t. ⟦<(Required, Required) as StructFields<I, (String, String)>>⟧.content (t.cert, t.key) };
 
-    ghost convert = { struct_only (⟦<(Required, Required) as StructFields<I, (String, String)>>⟧.layout (codes "cert", codes "key")) };
+    ghost convert = { struct_only (⟦<(Required, Required) as StructFields<I, (String, String)>>⟧.layout
+        (codes "cert", codes "key")) };
 
     fn deserialize(de: &mut Deserializer<I>) -> Result<Tls> {
         let (cert, key) = read_struct_only(de, (Required("cert"), Required("key")))?;
@@ -101,9 +106,11 @@ type RouteParts = (Required, Optional, Required);
 impl<I: Input> Deserialize<I> for Route {
     ghost Content = { ⟦<RouteParts as StructFields<I, (String, Option<Vec<Method>>, String)>>⟧.Content };
 
-    ghost content = { λ r. ⟦<RouteParts as StructFields<I, (String, Option<Vec<Method>>, String)>>⟧.content (r.path, r.methods, r.upstream) };
+    ghost content = { λ r. ⟦<RouteParts as StructFields<I, (String, Option<Vec<Method>>, String)>>⟧.content
+        (r.path, r.methods, r.upstream) };
 
-    ghost convert = { struct_only (⟦<RouteParts as StructFields<I, (String, Option<Vec<Method>>, String)>>⟧.layout (codes "path", (codes "methods", codes "upstream"))) };
+    ghost convert = { struct_only (⟦<RouteParts as StructFields<I, (String, Option<Vec<Method>>, String)>>⟧.layout
+        (codes "path", (codes "methods", codes "upstream"))) };
 
     fn deserialize(de: &mut Deserializer<I>) -> Result<Route> {
         let fields = (Required("path"), Optional("methods"), Required("upstream"));
@@ -130,7 +137,8 @@ impl<I: Input> Deserialize<I> for Limits {
 
     ghost content = { λ l. ⟦<LimitsParts as StructFields<I, (u64, u32)>>⟧.content (l.body, l.header) };
 
-    ghost convert = { struct_only (⟦<LimitsParts as StructFields<I, (u64, u32)>>⟧.layout ((codes "body", 1048576), (codes "header", 8192))) };
+    ghost convert = { struct_only (⟦<LimitsParts as StructFields<I, (u64, u32)>>⟧.layout
+        ((codes "body", 1048576), (codes "header", 8192))) };
 
     fn deserialize(de: &mut Deserializer<I>) -> Result<Limits> {
         let fields = (WithDefault("body", 1048576), WithDefault("header", 8192));
@@ -152,7 +160,8 @@ impl<I: Input> Deserialize<I> for Log {
 
     ghost content = { λ l. l };
 
-    ghost convert = { one_named (codes "error" ∷ codes "info" ∷ codes "debug" ∷ []) (Error ∷ Info ∷ Debug ∷ []) };
+    ghost convert = { one_named (codes "error" ∷ codes "info" ∷ codes "debug" ∷ [])
+        (Error ∷ Info ∷ Debug ∷ []) };
 
     fn deserialize(de: &mut Deserializer<I>) -> Result<Log> {
         let logs = [Log::Error, Log::Info, Log::Debug];

@@ -10,3 +10,4 @@ pub mod Blanked
 pub mod Failures
 pub mod WarningsTold
 pub mod SchemasMade
+pub mod FieldsPassed

@@ -6,6 +6,7 @@ pub mod Words
 pub mod Members
 pub mod Told
 pub mod Keys
+pub mod Known
 pub mod MemberTexts
 pub mod Samples
 pub mod Schemas

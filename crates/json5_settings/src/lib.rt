@@ -20,6 +20,7 @@ mod blanks;
 mod edits;
 mod faults;
 mod follow;
+mod known;
 mod layers;
 mod listed;
 mod members;
@@ -38,6 +39,7 @@ mod warned;
 
 pub use all_faults::faults_of;
 pub use faults::{Result, SettingError};
+pub use known::read_known;
 pub use layers::Layers;
 pub use origin::fault;
 pub use pages::page;
