@@ -2,6 +2,7 @@
 
 use crate::example::read_ports;
 use crate::faults::error_of;
+use crate::known::known_shown;
 use crate::rows::{count_of, text_of};
 use json5_report::Report;
 use json5_settings::{fault, faults_of, warnings};
@@ -30,6 +31,9 @@ pub fn shown_of(alloc: Global, row: &Value, text: &str) -> Result<String, Error>
     }
     if row.get("faults").is_some() {
         return faults_shown(alloc, text);
+    }
+    if row.get("unknown").is_some() {
+        return known_shown(alloc, text);
     }
     let Some(error) = error_of(alloc, row, text)? else {
         return Ok(String::from_str(alloc, "it is read")?);
@@ -132,7 +136,7 @@ fn faults_shown(alloc: Global, text: &str) -> Result<String, Error> {
 }
 
 /// The reports of the faults, one after another.
-fn each_shown(alloc: Global, text: &str, faults: &[Error]) -> Result<String, Error> {
+pub(crate) fn each_shown(alloc: Global, text: &str, faults: &[Error]) -> Result<String, Error> {
     let mut shown = String::new(alloc);
     for fault in faults {
         if !shown.is_empty() {

@@ -7,6 +7,7 @@ mod edits;
 mod example;
 mod faults;
 mod kinds;
+mod known;
 mod outcomes;
 mod patches;
 mod plain_readers;
