@@ -8,3 +8,4 @@ pub mod SizeTexts
 pub mod ReadTypes
 pub mod AddressTexts
 pub mod TwinsSeen
+pub mod KeysOnce

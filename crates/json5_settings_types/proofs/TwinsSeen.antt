@@ -22,12 +22,12 @@ parted false false false false = refl
 
 module _ {C : Type 0} (same : C → C → Bool) where
   -- one element more
-  snoc : (cs : List C) (c : C) → no_twins same (cs ++ c ∷ []) ≡ (no_twins same cs && not (is_like_one same cs c))
+  pub snoc : (cs : List C) (c : C) → no_twins same (cs ++ c ∷ []) ≡ (no_twins same cs && not (is_like_one same cs c))
   snoc [] c = refl
   snoc (d ∷ cs) c = rw (list_any-append (same d) cs (c ∷ []), snoc cs c) (parted (list_any (same d) cs) (same d c) (no_twins same cs) (is_like_one same cs c))
 
   -- twins in front are twins of the whole
-  in_front : (xs ys : List C) → no_twins same xs ≡ false → no_twins same (xs ++ ys) ≡ false
+  pub in_front : (xs ys : List C) → no_twins same xs ≡ false → no_twins same (xs ++ ys) ≡ false
   in_front [] ys is = absurd (false≢true (sym is))
   in_front (x ∷ xs) ys is = rw (list_any-append (same x) xs ys) (by (list_any (same x) xs) (no_twins same xs) is (in_front xs ys))
     where

@@ -2,6 +2,8 @@
 pub mod Addresses
 pub mod Bounds
 pub mod Durations
+pub mod Floats
+pub mod Keys
 pub mod Paths
 pub mod Sizes
 pub mod Spellings

@@ -3,7 +3,9 @@
 use crate::outcomes::{Outcome, said};
 use crate::rows::{text_of, wanted_of};
 use json5::{Deserialize, Result, Serialize, from_str, to_string};
-use json5_settings_types::{AsSpelled, Duration, FilePath, NotEmpty, Size, UniqueTexts, Within};
+use json5_settings_types::{
+    AsSpelled, Duration, FilePath, Float, NotEmpty, Size, UniqueKeys, UniqueTexts, Within,
+};
 use json5_types::value::Value;
 use std::alloc::Global;
 use std::net::{IpAddr, SocketAddr};
@@ -31,6 +33,8 @@ fn written(alloc: Global, name: &str, text: &str) -> Result<String> {
         "socket" => again::<AsSpelled<SocketAddr>>(alloc, text),
         "path" => again::<FilePath>(alloc, text),
         "hosts" => again::<UniqueTexts>(alloc, text),
+        "ports" => again::<UniqueKeys<u16>>(alloc, text),
+        "ratio" => again::<Float>(alloc, text),
         _ => again::<NotEmpty<Duration>>(alloc, text),
     }
 }
