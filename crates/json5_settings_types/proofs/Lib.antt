@@ -9,3 +9,4 @@ pub mod ReadTypes
 pub mod AddressTexts
 pub mod TwinsSeen
 pub mod KeysOnce
+pub mod FloatsFound
