@@ -2,15 +2,18 @@
 use Rattle.std.proofs.Common.{◌≡◌, ◌∙◌, ◌||◌, ℕ, Bool, true, false, cond, List, [], ◌∷◌, ◌++◌, map, Option, Some, None, Ok, Err, refl, sym, ap, subst, inl, inr, String, string_bytes}
 use Rattle.std.specs.Prelude.{Result, IfErr, is_some, if◌then◌else◌}
 use Rattle.std.specs.List.{All, AllByRecursion, IsDistinct, list_any}
+use Rattle.std.specs.HashMap.{get_by_text}
 use Rattle.std.specs.Map.{keys_of, lookup}
 use Rattle.std.specs.Str.{bytes_eq, encode_utf8_all}
 use Rattle.std.specs.declared.alloc.Global.{Global}
 use Rattle.std.proofs.Math.Path.{fun_ext}
 use Rattle.std.proofs.lemmas.Bool.{false≢true}
-use Rattle.std.proofs.lemmas.List.{append-nil, append_assoc}
+use Rattle.std.proofs.lemmas.List.{append-nil, append_assoc, map-append}
 use Rattle.std.proofs.lemmas.List.Elements.{All-head, All-tail}
 use Rattle.std.proofs.lemmas.Slice.Eq.{bytes_eq-Decides}
 use Rattle.std.proofs.lemmas.Str.{IsUtf8-string_bytes, encodes-chars}
+use Rattle.indexmap.specs.IndexMap.{IndexMap, insert_entry}
+use Rattle.indexmap.proofs.CallerLemmas.{insert_entry-new}
 use Rattle.json5_grammar.specs.Language.Trees.{Tree, Members, null, boolean, number, text, array, object, no_member, member}
 use Rattle.json5_grammar.specs.Model.Collections.{both, joint, object_of, pair_contents}
 use Rattle.json5_types.specs.declared.error.Error.{Error}
@@ -33,7 +36,7 @@ use Rattle.json5_ser.specs.EscapeFreeMarks.{field_marks, marks}
 use Rattle.json5_ser.specs.WrittenTrees.{Written, fields_of}
 use Rattle.json5_fields.specs.FieldCalls.{first_value, of_type, second_value}
 use Rattle.json5_fields.proofs.Described.{made_of}
-use Rattle.json5_settings_types.specs.Keys.{KeysFault, RefusesKeys, has_key, in_members, key_step, members_of, not_opened, of_memory, same_key, written_key}
+use Rattle.json5_settings_types.specs.Keys.{IsAdded, KeysFault, RefusesKeys, has_key, in_members, key_step, members_of, not_opened, of_memory, same_key, written_key}
 use Rattle.json5_settings_types.specs.Twins.{if_no_twins, no_twins}
 use Rattle.json5_settings_types.proofs.ReadTypes.{twins_none, twins_some}
 use Rattle.json5_settings_types.proofs.TwinsSeen.{in_front, snoc}
@@ -74,7 +77,7 @@ module _ {C : Type 0} (values : Tree → Option C) where
   stands_not s name t has = rw has refl
 
   -- what members make of those before them is what they all are, where no two have one key
-  taken : (s : List (List ℕ × C)) (ps : Members) → no_twins same_key s ≡ true → if_more (λ qs. if_no_twins same_key (s ++ qs)) (pair_contents every_text values ps) ≡ run (key_step values) s ps
+  pub taken : (s : List (List ℕ × C)) (ps : Members) → no_twins same_key s ≡ true → if_more (λ qs. if_no_twins same_key (s ++ qs)) (pair_contents every_text values ps) ≡ run (key_step values) s ps
   unfolding key_step
   taken s no_member none = ap (if_no_twins same_key) (append-nil s) ∙ twins_some same_key s none
   taken s (member u escape_free t ps) none = by (values t) (has_key s (encode_utf8_all u)) refl (λ n differ. taken n ps differ)
@@ -123,10 +126,10 @@ pub both_keep : {I : Type 0} {a b c : MapAccess I} → KeepsMap a b → KeepsMap
 both_keep p q = record { same_reference = q.same_reference ∙ p.same_reference; blocks = q.blocks; start = q.start ∙ p.start; same_text = q.same_text ∙ p.same_text }
 
 live_value : {V C : Type 0} (content : V → C) (values : Tree → Option C) (old new : MapAccessState) (v : V) → GivesMemberValue content values old new v → new.at.reader.failed ≡ false
-live_value content values old new v (t, took, rest) = ap (λ (s : State). s.failed) took.rest ∙ took.live
+live_value content values old new v (t, took, converts, comma_due, none) = ap (λ (s : State). s.failed) took.rest ∙ took.live
 
-module _ {I V C : Type 0} (content : V → C) (values : Tree → Option C) (refuses : State → Error → State → Type 0) {s : List (List ℕ × C)} {name : List ℕ} {old : MapAccess I} where
-  module _ (new : has_key s name ≡ false) {next : MapAccess I} where
+module _ {I V C : Type 0} (content : V → C) (values : Tree → Option C) (refuses : State → Error → State → Type 0) (s : List (List ℕ × C)) (name : List ℕ) (old : MapAccess I) where
+  module _ (new : has_key s name ≡ false) (next : MapAccess I) where
     -- the value of a new key was read
     pub kept : (v : V) → ReadsNextValue content values refuses old next (Ok v) → TakesMember (key_step values) s (s ++ (name, content v) ∷ []) name (map_state_of old) (map_state_of next) (Ok tt)
     kept v is = record {
@@ -157,8 +160,8 @@ module _ {I V C : Type 0} (content : V → C) (values : Tree → Option C) (refu
 
   -- a key that came before is refused
   module _ (has : has_key s name ≡ true) (e : Error) where
-    pub twice : {next : MapAccess I} → (map_state_of next).at.reader.failed ≡ true → ((map_state_of old).at.reader.failed ≡ false → IsUnprompted e) → TakesMember (key_step values) s s name (map_state_of old) (map_state_of next) (Err e)
-    twice failed unprompted = record {
+    pub twice : (next : MapAccess I) → (map_state_of next).at.reader.failed ≡ true → ((map_state_of old).at.reader.failed ≡ false → IsUnprompted e) → TakesMember (key_step values) s s name (map_state_of old) (map_state_of next) (Err e)
+    twice next failed unprompted = record {
       read = tt;
       left = λ u escape_free t ps r m takes left. let none = stands_not values s name t has in absurd (cc (none, takes));
       live = tt;
@@ -169,6 +172,15 @@ module _ {I V C : Type 0} (content : V → C) (values : Tree → Option C) (refu
 
     pub twice_refused : KeyIsNamed name old → ((map_state_of old).at.reader.failed ≡ false → IsOwnAtBracket (at_its_key old) e) → RefusesMember (or_of (of_type values refuses) of_memory) (key_step values) s name (map_state_of old) (Err e)
     twice_refused named own = λ live. inl (second_value (λ t. ap is_some (stands_not values s name t has)) (record { start = old.key_start; begins = named; fault = own live }))
+
+-- the member came last
+pub grown : {V C : Type 0} (content : V → C) (es : List (String Global × V)) (name : List ℕ) (v : V) (new : List (String Global × V)) → IsAdded es name v new → members_of content es ++ (name, content v) ∷ [] ≡ members_of content new
+grown content es name v new (key, is, same) = sym (ap (members_of content) same ∙ map-append (pair_content string_bytes content) es ((key, v) ∷ []) ∙ ap (λ n. members_of content es ++ (n, content v) ∷ []) is)
+
+-- a new key goes last
+pub put_last : {V S : Type 0} (m n : IndexMap (String Global) V S) (name : List ℕ) (key : String Global) (v : V) → get_by_text m name ≡ None → string_bytes key ≡ name
+    → n.entries ≡ insert_entry (λ x y. bytes_eq (string_bytes x) (string_bytes y)) m.entries key v → n.entries ≡ m.entries ++ (key, v) ∷ []
+put_last m n name key v none is entries = entries ∙ insert_entry-new (λ x y. bytes_eq (string_bytes x) (string_bytes y)) m key v (ap (get_by_text m) is ∙ none)
 
 -- memory for it ran out
 pub not_added : {I C : Type 0} (values : Tree → Option C) (s : List (List ℕ × C)) (name : List ℕ) (old next : MapAccess I) (e : Error) → LacksMemory e → (map_state_of next).at.reader.failed ≡ true → TakesMember (key_step values) s s name (map_state_of old) (map_state_of next) (Err e)
@@ -197,14 +209,16 @@ unfolding IsDistinct
 apart content [] differ = refl
 apart content (e ∷ es) differ = rw (none_like content e.0 (content e.1) es differ.0) (apart content es differ.1)
 
+put_first : {C : Type 0} {a k : List ℕ} {o : Option C} {c : C} {r : Option (List (List ℕ × C))} {cs : List (List ℕ × C)} → a ≡ k → o ≡ Some c → r ≡ Some cs → both (joint (Some a) o) r ≡ Some ((k, c) ∷ cs)
+put_first key value others = rw (key, value, others) refl
+
 members_back : {V C : Type 0} (tree : V → Written) (values : Tree → Option C) (content : V → C) (es : List (String Global × V)) → All (λ e. values (marks (tree e.1)) ≡ Some (content e.1)) es
     → pair_contents every_text values (field_marks (fields_of written_key tree es)) ≡ Some (members_of content es)
 members_back tree values content [] back = refl
 members_back tree values content (e ∷ es) back =
     let first = All-head (λ e. values (marks (tree e.1)) ≡ Some (content e.1)) e es back in
     let others = members_back tree values content es (All-tail (λ e. values (marks (tree e.1)) ≡ Some (content e.1)) e es back) in
-    let key = encodes-chars (string_bytes e.0) (IsUtf8-string_bytes e.0) in
-    rw (key, first, others) refl
+    put_first (encodes-chars (string_bytes e.0) (IsUtf8-string_bytes e.0)) first others
 
 pub keys_back : {V C : Type 0} (tree : V → Written) (values : Tree → Option C) (content : V → C) (es : List (String Global × V)) → IsDistinct (λ k j. bytes_eq (string_bytes k) (string_bytes j)) (keys_of es) → All (λ e. values (marks (tree e.1)) ≡ Some (content e.1)) es
     → if_more (if_no_twins same_key) (pair_contents every_text values (field_marks (fields_of written_key tree es))) ≡ Some (members_of content es)

@@ -30,6 +30,6 @@ pub use not_empty::{NotEmpty, lists_read_back};
 pub use paths::{FilePath, paths_read_back};
 pub use sizes::{Size, sizes_read_back};
 pub use spelled::{AsSpelled, Spelled, read_spelled, spellings_read_back};
-pub use unique::{UniqueTexts, unique_texts_read_back};
+pub use unique::{TellsApart, Unique, UniqueTexts, unique_read_back, unique_texts_read_back};
 pub use unique_keys::{UniqueKeys, unique_keys_read_back};
 pub use within::{Within, numbers_read_back};
