@@ -10,3 +10,4 @@ pub mod AddressTexts
 pub mod TwinsSeen
 pub mod KeysOnce
 pub mod FloatsFound
+pub mod Meanings

@@ -18,6 +18,7 @@ mod paths;
 mod sizes;
 mod spelled;
 mod sums;
+mod told_apart;
 mod unique;
 mod unique_keys;
 mod units;

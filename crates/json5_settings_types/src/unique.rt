@@ -1,8 +1,6 @@
 //! Lists without twins.
 
-ghost use Rattle.std.specs.Prelude.{◌≡◌, List, ℕ, MatchResult, map};
-ghost use Rattle.std.specs.Prelude.{nat_eq};
-ghost use Rattle.std.specs.Str.{bytes_eq};
+ghost use Rattle.std.specs.Prelude.{◌≡◌, List, MatchResult, map};
 ghost use Rattle.json5_grammar.specs.Model.Collections.{array_of, contents};
 ghost use Rattle.json5_de.specs.ConvertLists.{if_some};
 ghost use Rattle.json5_de.specs.Refinement.{refined, RefusesOwn};
@@ -19,37 +17,45 @@ use std::alloc::Global;
 use std::collections::BTreeSet;
 use std::io::Write;
 
-/// A type whose values are equal where what counts of them is the same, so that a [`Unique`] list of them can be read.
+/// A type whose values are told apart by what counts of them, so that a [`Unique`] list of them can be read.
 ///
 /// ```text
 /// impl<I: Input> TellsApart<I> for Port {
+///     ghost Meaning = { ℕ };
+///     ghost meaning = { λ p. p.number };
+///     ghost means = { unsigned_below (2 ^ 16) };
 ///     ghost same = { nat_eq };
 ///     ghost tells = { λ p q. refl };
+///     ghost reads = { λ t p is. is };
+///     ghost is_read = { λ t n is. (n, is) };
+///
+///     fn expected() -> &'static str {
+///         "ports that differ"
+///     }
 /// }
 /// ```
 pub trait TellsApart<I: Input>: Deserialize<I> + Ord {
-    ghost use Rattle.std.specs.Prelude.{◌≡◌, Bool};
+    ghost use Rattle.std.specs.Prelude.{◌≡◌, Bool, Option, Some};
+    ghost use Rattle.json5_grammar.specs.Language.Trees.{Tree};
+
+    // What of a value counts, and what a tree means, as `content` and `convert` say it.
+    ghost Meaning: { Type 0 };
+
+    ghost meaning: { Self → Meaning };
+
+    ghost means: { Tree → Option Meaning };
 
     // Whether the same counts of two values.
-    ghost same: { Self.Content → Self.Content → Bool };
+    ghost same: { Meaning → Meaning → Bool };
 
-    ghost tells: { (x y : Self) → same (Self.content x) (Self.content y) ≡ Self.eq x y };
-}
+    /// What is expected where twins are: `texts that differ`.
+    fn expected() -> &'static str;
 
-impl<I: Input> TellsApart<I> for String {
-    ghost use Rattle.std.proofs.Common.{refl};
+    ghost tells: { (x y : Self) → same (meaning x) (meaning y) ≡ Self.eq x y };
 
-    ghost same = { bytes_eq };
+    ghost reads: { (t : Tree) (v : Self) → Self.convert t ≡ Some (Self.content v) → means t ≡ Some (meaning v) };
 
-    ghost tells = { λ x y. refl };
-}
-
-impl<I: Input> TellsApart<I> for u16 {
-    ghost use Rattle.std.proofs.Common.{refl};
-
-    ghost same = { nat_eq };
-
-    ghost tells = { λ x y. refl };
+    ghost is_read: { (t : Tree) (m : Meaning) → means t ≡ Some m → (c : Self.Content) × (Self.convert t ≡ Some c) };
 }
 
 /// A list no two of whose elements are equal.
@@ -98,15 +104,16 @@ impl<T> Unique<T> {
     }
 }
 
-/// A list; one with twins is refused at its bracket: `expected elements that differ, found the one at index 2 twice`.
+/// A list; one with twins is refused at its bracket: `expected texts that differ, found the one at index 2
+/// twice`.
 impl<I: Input, T: TellsApart<I>> Deserialize<I> for Unique<T> {
-    ghost Content = { List T.Content };
+    ghost Content = { List T.Meaning };
 
-    ghost content = { λ u. map T.content u.values.items };
+    ghost content = { λ u. map T.meaning u.values.items };
 
-    ghost convert = { refined (array_of (contents T.convert)) (if_no_twins T.same) };
+    ghost convert = { refined (array_of (contents T.means)) (if_no_twins T.same) };
 
-    ghost refuses = { RefusesOwn (array_of (contents T.convert)) (if_no_twins T.same) ⟦<Spanned<Vec<T>> as Deserialize<I>>⟧.refuses };
+    ghost refuses = { RefusesOwn (array_of (contents T.means)) (if_no_twins T.same) ⟦<Spanned<Vec<T>> as Deserialize<I>>⟧.refuses };
 
     fn deserialize(de: &mut Deserializer<I>) -> Result<Self> {
         let list = match Spanned::<Vec<T>>::deserialize(de) {
@@ -118,9 +125,8 @@ impl<I: Input, T: TellsApart<I>> Deserialize<I> for Unique<T> {
             Err(e) => return Err(e),
         };
         if let Some(index) = twin {
-            let message = format_args!(
-                "expected elements that differ, found the one at index {index} twice"
-            );
+            let expected = T::expected();
+            let message = format_args!("expected {expected}, found the one at index {index} twice");
             return Err(fault_at(de, list.start, message));
         }
         let values = list.value;
@@ -139,7 +145,7 @@ impl<T: Serialize> Serialize for Unique<T> {
 
 /// The law of lists without twins: what is written of one reads back if its elements do. The call does nothing.
 pub fn unique_read_back<I: Input, T: Serialize + TellsApart<I>>()
-    ensures { UniqueReadsBack T.same T.tree T.convert T.content }
+    ensures { UniqueReadsBack T.same T.tree T.means T.meaning }
 {}
 
 /// The law of texts that differ: what is written of them reads back. The call does nothing.
