@@ -11,3 +11,4 @@ pub mod TwinsSeen
 pub mod KeysOnce
 pub mod FloatsFound
 pub mod Meanings
+pub mod FieldsMade

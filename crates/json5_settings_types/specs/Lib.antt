@@ -1,6 +1,7 @@
 -- Lists the definitions of what each type here is read and written as.
 pub mod Addresses
 pub mod Bounds
+pub mod Defaults
 pub mod Durations
 pub mod Floats
 pub mod Keys
