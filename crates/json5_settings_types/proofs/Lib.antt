@@ -12,3 +12,4 @@ pub mod KeysOnce
 pub mod FloatsFound
 pub mod Meanings
 pub mod FieldsMade
+pub mod NamesTaken

@@ -5,6 +5,7 @@ pub mod Defaults
 pub mod Durations
 pub mod Floats
 pub mod Keys
+pub mod OldNames
 pub mod Paths
 pub mod Sizes
 pub mod Spellings
