@@ -1,10 +1,9 @@
 -- Lists whose elements mean what they convert to.
-use Rattle.std.proofs.Common.{◌≡◌, ◌∙◌, List, [], ◌∷◌, Option, Some, None, Ok, Err, ap, map, refl, sym}
-use Rattle.std.specs.Prelude.{Result}
+use Rattle.std.proofs.Common.{◌≡◌, ◌∙◌, List, [], ◌∷◌, Option, Some, None, ap, map, refl, sym}
 use Rattle.json5_grammar.specs.Language.Trees.{Tree, Trees, array, boolean, more, no_more, null, number, object, text}
 use Rattle.json5_grammar.specs.Model.Collections.{array_of, both, contents}
 use Rattle.json5_types.specs.declared.error.Error.{Error}
-use Rattle.json5_de.specs.DeserializeLaw.{OnlyForMemory, TookValue}
+use Rattle.json5_de.specs.DeserializeLaw.{OnlyForMemory}
 use Rattle.json5_de.specs.Refinement.{IsContent}
 use Rattle.json5_de.specs.State.{State}
 

@@ -5,8 +5,7 @@ use json5_fields::{FieldNames, Optional, StructFields};
 use json5_tokens::input::Input;
 use json5_types::error::Result;
 use std::alloc::{AllocError, Global};
-use std::fmt;
-use std::result;
+use std::{fmt, result};
 
 /// What makes the default of a field, which takes memory: a text, a list, a map.
 ///
@@ -16,7 +15,7 @@ use std::result;
 ///     ghost default = { λ _. array (more (number (whole (pos 80))) (more (number (whole (pos 443))) no_more)) };
 ///
 ///     fn make(&self, alloc: Global) -> Result<Vec<u16>, AllocError> {
-///         Vec::from_array(alloc, [80, 443])
+///         Ok(Vec::from_array(alloc, [80, 443])?)
 ///     }
 /// }
 /// ```

@@ -1,4 +1,4 @@
-use Rattle.std.proofs.Common.{◌∙◌, ap, inl, inr}
+use Rattle.std.proofs.Common.{◌∙◌, ap, inr}
 use Rattle.json5_grammar.specs.Model.Collections.{array_of, contents}
 use Rattle.json5_de.specs.Refinement.{if_more}
 use Rattle.json5_de.proofs.Refinement.{accepted_completes, refused_completes}
