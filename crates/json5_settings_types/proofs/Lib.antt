@@ -8,3 +8,8 @@ pub mod SizeTexts
 pub mod ReadTypes
 pub mod AddressTexts
 pub mod TwinsSeen
+pub mod KeysOnce
+pub mod FloatsFound
+pub mod Meanings
+pub mod FieldsMade
+pub mod NamesTaken

@@ -102,9 +102,13 @@ twins_none same cs is = rw is refl
 pub twins_some : {C : Type 0} (same : C → C → Bool) (cs : List C) → no_twins same cs ≡ true → if_no_twins same cs ≡ Some cs
 twins_some same cs is = rw is refl
 
-pub twin_missed : (texts : List (List ℕ)) (twin : Option ℕ) → HasTwin texts twin → ((place : ℕ) → twin ≡ Some place → ⊥) → no_twins bytes_eq texts ≡ true
-twin_missed texts None is none = is
-twin_missed texts (Some place) is none = absurd (none place refl)
+pub twin_missed : {C : Type 0} (same : C → C → Bool) (cs : List C) (twin : Option ℕ) → HasTwin same cs twin → ((place : ℕ) → twin ≡ Some place → ⊥) → no_twins same cs ≡ true
+twin_missed same cs None is none = is
+twin_missed same cs (Some place) is none = absurd (none place refl)
+
+pub without_twins_back : {V C : Type 0} (same : C → C → Bool) (tree : V → Written) (f : Tree → Option C) (content : V → C) (vs : List V) → no_twins same (map content vs) ≡ true → All (λ v. f (marks (tree v)) ≡ Some (content v)) vs
+    → refined (array_of (contents f)) (if_no_twins same) (marks (array (elements_of tree vs))) ≡ Some (map content vs)
+without_twins_back same tree f content vs differ back = ap (if_more (if_no_twins same)) (contents_back tree f content vs back) ∙ twins_some same (map content vs) differ
 
 -- strings are read back, whatever they are
 texts_back : (tree : String Global → Written) (values : List (String Global)) → ((s : String Global) → text_of (marks (tree s)) ≡ Some (string_bytes s)) → contents text_of (element_marks (elements_of tree values)) ≡ Some (map string_bytes values)

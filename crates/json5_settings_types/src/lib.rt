@@ -1,5 +1,5 @@
 //! Types ready for the fields of settings: durations, sizes, addresses, paths, numbers within bounds, lists that aren't empty
-//! or have no twins.
+//! or have no twins, objects without a key twice.
 //!
 //! ```text
 //! let timeout: Duration = json5::from_str(alloc, "'1h30m'")?;    // 5400 seconds
@@ -12,20 +12,29 @@
 mod addresses;
 mod durations;
 mod faults;
+mod floats;
+mod made_defaults;
 mod not_empty;
 mod paths;
+mod renamed;
 mod sizes;
 mod spelled;
 mod sums;
+mod told_apart;
 mod unique;
+mod unique_keys;
 mod units;
 mod within;
 
 pub use addresses::addresses_are_spelled;
 pub use durations::{Duration, durations_read_back};
+pub use floats::{Float, floats_read_back};
+pub use made_defaults::{MakesDefault, WithDefaultFrom};
 pub use not_empty::{NotEmpty, lists_read_back};
 pub use paths::{FilePath, paths_read_back};
+pub use renamed::{Renamed, RenamedOr};
 pub use sizes::{Size, sizes_read_back};
 pub use spelled::{AsSpelled, Spelled, read_spelled, spellings_read_back};
-pub use unique::{UniqueTexts, unique_texts_read_back};
+pub use unique::{TellsApart, Unique, UniqueTexts, unique_read_back, unique_texts_read_back};
+pub use unique_keys::{UniqueKeys, unique_keys_read_back};
 pub use within::{Within, numbers_read_back};

@@ -1,14 +1,12 @@
-//! Lists of texts that differ.
+//! Lists without twins.
 
-ghost use Rattle.std.specs.Prelude.{◌≡◌, List, ℕ, MatchResult};
-ghost use Rattle.std.specs.Str.{bytes_eq};
+ghost use Rattle.std.specs.Prelude.{◌≡◌, List, MatchResult, map};
 ghost use Rattle.json5_grammar.specs.Model.Collections.{array_of, contents};
-ghost use Rattle.json5_de.specs.Convert.{text_of};
 ghost use Rattle.json5_de.specs.ConvertLists.{if_some};
 ghost use Rattle.json5_de.specs.Refinement.{refined, RefusesOwn};
 ghost use Rattle.json5_types.specs.Errors.{LacksMemory};
 ghost use Rattle.json5_ser.specs.WrittenTrees.{array, elements_of};
-ghost use Rattle.json5_settings_types.specs.Twins.{HasTwin, TextsReadBack, if_no_twins, texts_in, unique_texts};
+ghost use Rattle.json5_settings_types.specs.Twins.{HasTwin, TextsReadBack, UniqueReadsBack, if_no_twins};
 
 use crate::faults::fault_at;
 use json5_de::{Deserialize, Deserializer, Spanned};
@@ -19,60 +17,106 @@ use std::alloc::Global;
 use std::collections::BTreeSet;
 use std::io::Write;
 
-/// A list of texts no two of which are equal.
-#[derive(Drop)]
-pub struct UniqueTexts {
-    /// In the order of the list. Those of a list that is read, or made by `new`, differ.
-    pub values: Vec<String>,
+/// A type whose values are told apart by what counts of them, so that a [`Unique`] list of them can be read.
+///
+/// ```text
+/// impl<I: Input> TellsApart<I> for Port {
+///     ghost Meaning = { ℕ };
+///     ghost meaning = { λ p. p.number };
+///     ghost means = { unsigned_below (2 ^ 16) };
+///     ghost same = { nat_eq };
+///     ghost tells = { λ p q. refl };
+///     ghost reads = { λ t p is. is };
+///     ghost is_read = { λ t n is. (n, is) };
+///
+///     fn expected() -> &'static str {
+///         "ports that differ"
+///     }
+/// }
+/// ```
+pub trait TellsApart<I: Input>: Deserialize<I> + Ord {
+    ghost use Rattle.std.specs.Prelude.{◌≡◌, Bool, Option, Some};
+    ghost use Rattle.json5_grammar.specs.Language.Trees.{Tree};
+
+    // What of a value counts, and what a tree means, as `content` and `convert` say it.
+    ghost Meaning: { Type 0 };
+
+    ghost meaning: { Self → Meaning };
+
+    ghost means: { Tree → Option Meaning };
+
+    // Whether the same counts of two values.
+    ghost same: { Meaning → Meaning → Bool };
+
+    /// What is expected where twins are: `texts that differ`.
+    fn expected() -> &'static str;
+
+    ghost tells: { (x y : Self) → same (meaning x) (meaning y) ≡ Self.eq x y };
+
+    ghost reads: { (t : Tree) (v : Self) → Self.convert t ≡ Some (Self.content v) → means t ≡ Some (meaning v) };
+
+    ghost is_read: { (t : Tree) (m : Meaning) → means t ≡ Some m → (c : Self.Content) × (Self.convert t ≡ Some c) };
 }
 
-/// The index of the first text that is equal to one before it.
-fn first_twin(alloc: Global, values: &[String]) -> Result<Option<usize>>
-    ensures { MatchResult result (HasTwin (texts_in values.now)) LacksMemory }
+/// A list no two of whose elements are equal.
+#[derive(Drop)]
+pub struct Unique<T> {
+    /// In the order of the list. Those of a list that is read, or made by `new`, differ.
+    pub values: Vec<T>,
+}
+
+/// A list of texts no two of which are equal.
+pub type UniqueTexts = Unique<String>;
+
+/// The index of the first element that is equal to one before it.
+fn first_twin<T: Ord>(alloc: Global, values: &[T]) -> Result<Option<usize>>
+    ensures { MatchResult result (HasTwin T.eq values.now) LacksMemory }
 {
     let mut seen = BTreeSet::new(alloc);
     for index in 0..values.len() {
-        if !seen.insert(values[index].as_str())? {
+        if !seen.insert(&values[index])? {
             return Ok(Some(index));
         }
     }
     Ok(None)
 }
 
-impl UniqueTexts {
-    /// The list, if no two of its texts are equal.
+impl<T> Unique<T> {
+    /// The list, if no two of its elements are equal.
     ///
     /// ```text
-    /// let hosts = UniqueTexts::new(hosts)?.unwrap();
+    /// let hosts = Unique::new(hosts)?.unwrap();
     /// ```
     ///
     /// # Errors
     ///
     /// `OutOfMemory` where a request for memory was refused. It has no position.
-    pub fn new(values: Vec<String>) -> Result<Option<Self>>
-        ensures { MatchResult result (λ made. if_some unique_texts made ≡ if_no_twins bytes_eq (texts_in values.items)) LacksMemory }
+    pub fn new(values: Vec<T>) -> Result<Option<Self>>
+    where
+        T: Ord + Drop,
+        ensures { MatchResult result (λ made. if_some (λ u. u.values.items) made ≡ if_no_twins T.eq values.items) LacksMemory }
     {
         let alloc = *values.allocator();
         match first_twin(alloc, values.as_slice())? {
             Some(_) => Ok(None),
-            None => Ok(Some(UniqueTexts { values })),
+            None => Ok(Some(Unique { values })),
         }
     }
 }
 
-/// A list of strings; one with twins is refused at its bracket: `expected texts that differ, found the one at index 2
+/// A list; one with twins is refused at its bracket: `expected texts that differ, found the one at index 2
 /// twice`.
-impl<I: Input> Deserialize<I> for UniqueTexts {
-    ghost Content = { List (List ℕ) };
+impl<I: Input, T: TellsApart<I>> Deserialize<I> for Unique<T> {
+    ghost Content = { List T.Meaning };
 
-    ghost content = { unique_texts };
+    ghost content = { λ u. map T.meaning u.values.items };
 
-    ghost convert = { refined (array_of (contents text_of)) (if_no_twins bytes_eq) };
+    ghost convert = { refined (array_of (contents T.means)) (if_no_twins T.same) };
 
-    ghost refuses = { RefusesOwn (array_of (contents text_of)) (if_no_twins bytes_eq) ⟦<Spanned<Vec<String>> as Deserialize<I>>⟧.refuses };
+    ghost refuses = { RefusesOwn (array_of (contents T.means)) (if_no_twins T.same) ⟦<Spanned<Vec<T>> as Deserialize<I>>⟧.refuses };
 
     fn deserialize(de: &mut Deserializer<I>) -> Result<Self> {
-        let list = match Spanned::<Vec<String>>::deserialize(de) {
+        let list = match Spanned::<Vec<T>>::deserialize(de) {
             Ok(list) => list,
             Err(e) => return Err(e),
         };
@@ -81,24 +125,28 @@ impl<I: Input> Deserialize<I> for UniqueTexts {
             Err(e) => return Err(e),
         };
         if let Some(index) = twin {
-            let message = format_args!(
-                "expected texts that differ, found the one at index {index} twice"
-            );
+            let expected = T::expected();
+            let message = format_args!("expected {expected}, found the one at index {index} twice");
             return Err(fault_at(de, list.start, message));
         }
         let values = list.value;
-        Ok(UniqueTexts { values })
+        Ok(Unique { values })
     }
 }
 
-/// An array of the texts.
-impl Serialize for UniqueTexts {
-    ghost tree = { λ u. array (elements_of ⟦<String as Serialize>⟧.tree u.values.items) };
+/// An array of the elements.
+impl<T: Serialize> Serialize for Unique<T> {
+    ghost tree = { λ u. array (elements_of T.tree u.values.items) };
 
     fn serialize<W: Write + Drop>(&self, ser: &mut Serializer<W>) -> Result<()> {
         self.values.serialize(ser)
     }
 }
+
+/// The law of lists without twins: what is written of one reads back if its elements do. The call does nothing.
+pub fn unique_read_back<I: Input, T: Serialize + TellsApart<I>>()
+    ensures { UniqueReadsBack T.same T.tree T.means T.meaning }
+{}
 
 /// The law of texts that differ: what is written of them reads back. The call does nothing.
 pub fn unique_texts_read_back()

@@ -3,6 +3,7 @@
 #![tactic(auto)]
 
 mod converts;
+mod described;
 mod edits;
 mod example;
 mod faults;

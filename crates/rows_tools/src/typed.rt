@@ -1,9 +1,12 @@
 //! Rows of types for settings: what is written of what was read.
 
+use crate::described::Service;
 use crate::outcomes::{Outcome, said};
 use crate::rows::{text_of, wanted_of};
 use json5::{Deserialize, Result, Serialize, from_str, to_string};
-use json5_settings_types::{AsSpelled, Duration, FilePath, NotEmpty, Size, UniqueTexts, Within};
+use json5_settings_types::{
+    AsSpelled, Duration, FilePath, Float, NotEmpty, Size, Unique, UniqueKeys, UniqueTexts, Within,
+};
 use json5_types::value::Value;
 use std::alloc::Global;
 use std::net::{IpAddr, SocketAddr};
@@ -31,6 +34,10 @@ fn written(alloc: Global, name: &str, text: &str) -> Result<String> {
         "socket" => again::<AsSpelled<SocketAddr>>(alloc, text),
         "path" => again::<FilePath>(alloc, text),
         "hosts" => again::<UniqueTexts>(alloc, text),
+        "numbers" => again::<Unique<u16>>(alloc, text),
+        "ports" => again::<UniqueKeys<u16>>(alloc, text),
+        "ratio" => again::<Float>(alloc, text),
+        "service" => parts_of(alloc, text),
         _ => again::<NotEmpty<Duration>>(alloc, text),
     }
 }
@@ -38,4 +45,10 @@ fn written(alloc: Global, name: &str, text: &str) -> Result<String> {
 fn again<'a, T: Deserialize<&'a str> + Serialize>(alloc: Global, text: &'a str) -> Result<String> {
     let value = from_str::<T>(alloc, text)?;
     to_string(alloc, &value)
+}
+
+/// What a service has, as a list.
+fn parts_of(alloc: Global, text: &str) -> Result<String> {
+    let service = from_str::<Service>(alloc, text)?;
+    to_string(alloc, &(service.host, service.workers, service.ports))
 }
