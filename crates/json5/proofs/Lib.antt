@@ -7,6 +7,9 @@ pub mod MapsBack
 pub mod WrittenThenRead
 pub mod StructsBack
 pub mod FieldLoops
+pub mod RefsCopied
+pub mod RefsRead
+pub mod TextsMean
 -- What proofs of users' types cite.
 pub use Rattle.json5_format.proofs.Formats
 pub use Rattle.json5_grammar.proofs.ObjectsRead

@@ -1,0 +1,34 @@
+-- What a value means whose texts are borrowed.
+-- A promise rests on this.
+use Rattle.std.specs.Prelude.{List, [], ◌∷◌, map}
+use Rattle.std.specs.Str.{chars}
+use Rattle.json5_grammar.specs.Language.Numbers.{whole, decimal}
+use Rattle.json5_types.specs.declared.cow_str.CowStr.{CowStr}
+use Rattle.json5_types.specs.Cows.{cow_bytes}
+use Rattle.json5_types.specs.ValueMeanings.{Datum, null, boolean, number, text, array, object, Items, items_of, Fields, no_field, field}
+use Rattle.json5.specs.declared.value_ref.ValueRef.{ValueRef, fold-ValueRef}
+use Rattle.json5.specs.declared.value_ref.ValueRef.TheOpen.{ValueRef-F}
+
+abbrev pub datum_members : List (CowStr × Datum) → Fields
+datum_members [] = no_field
+datum_members (f ∷ fs) = field (chars (cow_bytes f.0)) f.1 (datum_members fs)
+
+-- one level, with each value inside already seen as what it means
+abbrev pub ref_step : ValueRef-F Datum → Datum
+ref_step ValueRef-F.Null = null
+ref_step (ValueRef-F.Bool b) = boolean b
+ref_step (ValueRef-F.Whole z) = number (whole z)
+ref_step (ValueRef-F.Decimal d) = number (decimal d)
+ref_step (ValueRef-F.String s) = text (chars (cow_bytes s))
+ref_step (ValueRef-F.Array v) = array (items_of v.items)
+ref_step (ValueRef-F.Object v) = object (datum_members v.items)
+
+-- the same as an owned value of that kind
+abbrev pub ref_of : ValueRef → Datum
+ref_of = fold-ValueRef Datum ref_step
+
+abbrev pub refs_view : List ValueRef → Items
+refs_view vs = items_of (map ref_of vs)
+
+abbrev pub members_view : List (CowStr × ValueRef) → Fields
+members_view fs = datum_members (map (λ f. (f.0, ref_of f.1)) fs)
