@@ -8,6 +8,7 @@ pub mod WrittenThenRead
 pub mod StructsBack
 pub mod FieldLoops
 pub mod RefsCopied
+pub mod RefsFound
 pub mod RefsRead
 pub mod TextsMean
 -- What proofs of users' types cite.

@@ -20,6 +20,7 @@
 mod laws;
 pub mod ser;
 pub mod value_ref;
+mod value_ref_finds;
 mod value_ref_walks;
 
 pub use json5_de as de;
