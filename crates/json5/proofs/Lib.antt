@@ -7,6 +7,7 @@ pub mod MapsBack
 pub mod WrittenThenRead
 pub mod StructsBack
 pub mod FieldLoops
+pub mod RefsCompared
 pub mod RefsCopied
 pub mod RefsFound
 pub mod RefsRead

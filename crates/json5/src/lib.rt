@@ -20,6 +20,7 @@
 mod laws;
 pub mod ser;
 pub mod value_ref;
+mod value_ref_equal;
 mod value_ref_finds;
 mod value_ref_walks;
 

@@ -8,9 +8,12 @@ ghost use Rattle.json5_types.specs.ValueLookups.{is_null, boolean_of, whole_of, 
 ghost use Rattle.json5.specs.ValueRefs.{ref_of, refs_view, members_view};
 
 use crate::value_ref::ValueRef;
+use json5_numbers::AsF64;
 use json5_types::cow_str::CowStr;
 use json5_types::decimal::Decimal;
+use json5_types::error::Result;
 use json5_types::whole::Whole;
+use std::alloc::Global;
 
 impl<'de> ValueRef<'de> {
     /// Returns the value of an object's member with this key, or None. Of members with equal keys the last counts.
@@ -196,4 +199,19 @@ fn last_named<'v, 'de>(
         }
     }
     found
+}
+
+impl AsF64 for ValueRef<'_> {
+    ghost use Rattle.json5_types.specs.ValueKinds.{number_in};
+    ghost use Rattle.json5.specs.ValueRefs.{ref_of};
+
+    ghost number = { λ v. number_in (ref_of v) };
+
+    fn as_f64(&self, alloc: Global) -> Result<Option<f64>> {
+        match self {
+            ValueRef::Whole(number) => number.as_f64(alloc),
+            ValueRef::Decimal(number) => number.as_f64(alloc),
+            _ => Ok(None),
+        }
+    }
 }
