@@ -7,6 +7,11 @@ pub mod MapsBack
 pub mod WrittenThenRead
 pub mod StructsBack
 pub mod FieldLoops
+pub mod RefsCompared
+pub mod RefsCopied
+pub mod RefsFound
+pub mod RefsRead
+pub mod TextsMean
 -- What proofs of users' types cite.
 pub use Rattle.json5_format.proofs.Formats
 pub use Rattle.json5_grammar.proofs.ObjectsRead

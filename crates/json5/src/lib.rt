@@ -19,6 +19,10 @@
 
 mod laws;
 pub mod ser;
+pub mod value_ref;
+mod value_ref_equal;
+mod value_ref_finds;
+mod value_ref_walks;
 
 pub use json5_de as de;
 pub use json5_de::{
@@ -55,3 +59,4 @@ pub use json5_types::nesting::Limit;
 pub use json5_types::value::Value;
 pub use json5_types::value_places::member_mut;
 pub use json5_types::whole::Whole;
+pub use value_ref::ValueRef;
