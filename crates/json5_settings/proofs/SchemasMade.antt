@@ -1,5 +1,5 @@
 -- What a schema says of a value, as it is put together.
-use Rattle.std.proofs.Common.{◌≡◌, ◌⊎◌, inl, inr, Result, Ok, Err, IfOk, rules, Bool, ℤ, ℕ, List, [], ◌∷◌, ◌++◌, ap, refl, ◌∙◌, sym, String, Vec, string_bytes}
+use Rattle.std.proofs.Common.{◌≡◌, ◌⊎◌, inl, inr, rules, Bool, ℤ, ℕ, List, [], ◌∷◌, ◌++◌, ap, refl, ◌∙◌, sym, String, string_bytes}
 use Rattle.std.specs.Prelude.{codes}
 use Rattle.std.specs.declared.alloc.Global.{Global}
 use Rattle.std.specs.Str.{chars, encode_utf8_all}
@@ -9,7 +9,7 @@ use Rattle.json5_types.specs.declared.value.Value.{Value, the_lemmas}
 use Rattle.json5_types.specs.declared.value.Value as value
 use Rattle.json5_types.proofs.ValuesCompared.{view-Null, view-String}
 use Rattle.json5_types.specs.ValueMeanings.{Datum, boolean, number, object, Fields, field, no_field, value_of, fields_view}
-use Rattle.json5_settings.specs.Schemas.{Comments, default_part, described, member_path, member_schemas, part_inside, schema_parts}
+use Rattle.json5_settings.specs.Schemas.{Comments, default_part, member_path, member_schemas, part_inside, schema_parts}
 
 pub default_chars : chars (codes "default") ≡ codes "default"
 unfolding chars
@@ -77,7 +77,3 @@ default_inside cs at v (inr (inl (b, e))) = rw (e, view_Bool b) refl
 default_inside cs at v (inr (inr (inl (z, e)))) = rw (e, view_Whole z) refl
 default_inside cs at v (inr (inr (inr (inl (d, e))))) = rw (e, view_Decimal d) refl
 default_inside cs at v (inr (inr (inr (inr (s, e))))) = rw (e, view-String s) refl
-
-pub if_ok_both : {T E : Type 0} {A B C : T → Type 0} (r : Result T E) → IfOk r A → IfOk r B → ((t : T) → A t → B t → C t) → IfOk r C
-if_ok_both (Ok t) a b both = both t a b
-if_ok_both (Err e) a b both = tt

@@ -1,6 +1,6 @@
 -- A JSON Schema of values like one.
 -- A promise rests on this.
-use Rattle.std.specs.Prelude.{◌≡◌, if◌then◌else◌, nat_eq, codes, ◌==◌, ℕ, List, [], ◌∷◌, ◌++◌, length, Option, Some, None}
+use Rattle.std.specs.Prelude.{if◌then◌else◌, nat_eq, codes, ◌==◌, ℕ, List, [], ◌∷◌, ◌++◌, length, Option, Some, None}
 use Rattle.std.specs.Borrow.{Bor}
 use Rattle.std.specs.Cmp.Lexicographic.{pointwise}
 use Rattle.std.specs.Str.{chars, encode_utf8_all}

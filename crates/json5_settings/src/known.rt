@@ -28,7 +28,7 @@ pub fn read_known<T: Drop, F: Fn(&str) -> Result<T> + Drop>(
     text: &str,
     read: F,
 ) -> Result<(T, Vec<Error>)>
-    requires { F.IsAlwaysCallable read }
+    requires callable { F.IsAlwaysCallable read }
     ensures { MatchResult result (λ r. ReadsKnown (FnReturnsAt F.Fn read) text.now r.0 r.1.items) (RefusesKnown (FnReturnsAt F.Fn read) text.now) }
 {
     let mut remains = Remains::of(alloc, text)?;

@@ -2,8 +2,11 @@
 
 ghost use Rattle.std.specs.Prelude.{◌≡◌, IfOk, OnOk, string_bytes};
 ghost use Rattle.std.specs.Str.{chars};
+ghost use Rattle.json5_grammar.specs.Language.Documents.{max_depth};
+ghost use Rattle.json5_styles.specs.Json.{JsonText};
+ghost use Rattle.json5_styles.specs.LaidBack.{ReadsAs};
 ghost use Rattle.json5_types.specs.ValueMeanings.{field, no_field, value_of, fields_view, items_view};
-ghost use Rattle.json5_settings.specs.Schemas.{IsSchema, default_part, items_part, led, member_schemas, schema_parts, text_in, type_of, words_at};
+ghost use Rattle.json5_settings.specs.Schemas.{IsSchema, default_part, items_part, led, member_schemas, schema_of, schema_parts, text_in, type_of, words_at};
 
 use crate::listed::{check_paths, path_to};
 use crate::samples::spelled;
@@ -59,7 +62,8 @@ pub fn schema(alloc: Global, value: &Value, comments: &[(&str, &str)]) -> Result
 
 /// The schema as a text.
 fn schema_text(alloc: Global, comments: &[(&str, &str)], value: &Value) -> error::Result<String>
-    ensures { IfOk result (λ made. IsSchema comments.now (value_of value.now) (string_bytes made)) }
+    ensures is_json { IfOk result (λ s. JsonText (chars (string_bytes s))) }
+    ensures reads_back { IfOk result (λ s. ReadsAs max_depth (chars (string_bytes s)) (schema_of comments.now (value_of value.now))) }
 {
     let mut parts = parts_at(alloc, comments, "", value)?;
     put_in_front(alloc, &mut parts, "$schema", Some(DRAFT))?;

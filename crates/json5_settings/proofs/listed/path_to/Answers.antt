@@ -1,4 +1,4 @@
-use Rattle.std.proofs.Common.{rules, sym, ◌∙◌, refl}
+use Rattle.std.proofs.Common.{sym, ◌∙◌, refl}
 use Rattle.json5_settings.proofs.SlipsSeen.{if_ok_then}
 use Rattle.json5_settings.proofs.listed.path_to.Goals as goal
 

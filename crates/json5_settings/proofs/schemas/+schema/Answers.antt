@@ -1,11 +1,10 @@
-use Rattle.std.proofs.Common.{◌≡◌, rules, arith, ap, sym, ◌∙◌, refl, [], ◌∷◌, ◌++◌, take, take_all, string_bytes, subst}
+use Rattle.std.proofs.Common.{◌≡◌, rules, ap, ◌∙◌, refl, ◌∷◌, ◌++◌, take, string_bytes}
 use Rattle.std.specs.Prelude.{codes}
-use Rattle.std.specs.Str.{chars}
 use Rattle.std.proofs.lemmas.List.{take_more}
-use Rattle.json5_types.specs.ValueMeanings.{value_of, fields_view, items_view, field, no_field, object}
+use Rattle.json5_types.specs.ValueMeanings.{value_of, fields_view, object}
 use Rattle.json5_types.specs.declared.value.Value as value
 use Rattle.json5_types.proofs.ValuesCompared.{view-Array, view-Object}
-use Rattle.json5_settings.specs.Schemas.{led, described, part_inside, schema_parts, member_path, member_schemas}
+use Rattle.json5_settings.specs.Schemas.{part_inside, schema_parts, member_path, member_schemas}
 use Rattle.json5_settings.proofs.SlipsSeen.{if_ok_then}
 use Rattle.json5_settings.proofs.SchemasMade.{default_inside, description_chars, type_chars, items_chars, properties_chars, one_schema_more}
 use Rattle.json5_settings.proofs.schemas.+schema.Goals as goal

@@ -6,14 +6,12 @@ use Rattle.json5_types.specs.ValueMeanings.{value_of, object}
 use Rattle.json5_types.specs.declared.value.Value as value
 use Rattle.json5_types.proofs.ValuesCompared.{view-Object}
 use Rattle.json5_settings.specs.Schemas.{schema_of}
-use Rattle.json5_settings.proofs.SchemasMade.{if_ok_both, schema_chars}
+use Rattle.json5_settings.proofs.SlipsSeen.{if_ok_then}
+use Rattle.json5_settings.proofs.SchemasMade.{schema_chars}
 use Rattle.json5_settings.proofs.schemas.schema_text.Goals as goal
 
-pub returns : goal.returns
-returns c =
+pub returns-clause-reads_back : goal.returns-clause-reads_back
+returns-clause-reads_back c =
     let means : value_of (value.Object c.put_in_front.new.parts) ≡ schema_of c.args.comments.now (value_of c.args.value.now) =
     view-Object c.put_in_front.new.parts ∙ ap object (c.in_ok-put_in_front.ensures ∙ rw (schema_chars, c.in_ok-parts.ensures) refl) in
-    if_ok_both c.to_json.result c.to_json.ensures.is_json c.to_json.ensures.reads_back (λ made json reads. record {
-      json = json;
-      reads = subst (λ x. ReadsAs max_depth (chars (string_bytes made)) x) means reads;
-    })
+    if_ok_then c.to_json.result c.to_json.ensures.reads_back (λ made reads. subst (λ x. ReadsAs max_depth (chars (string_bytes made)) x) means reads)
