@@ -12,3 +12,4 @@ mod PatternsRead
 mod Evaluating
 mod Latest
 mod Distinct
+mod Refusing
