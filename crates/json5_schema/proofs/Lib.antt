@@ -13,3 +13,4 @@ mod Evaluating
 mod Latest
 mod Distinct
 mod Refusing
+mod FewDigits

@@ -29,7 +29,7 @@ use Rattle.json5_schema.specs.declared.shape.Shape.{Shape}
 use Rattle.json5_schema.specs.declared.shape.Shape.TheVariants as shape
 use Rattle.json5_schema.specs.Conformance.{asserts_formats}
 use Rattle.json5_schema.specs.Patterns.{in_rust}
-use Rattle.json5_schema.specs.Refusals.{asks_beside, begins_with_sign, gives, inner, is_signed, times, times_among, times_at, times_named, IsLaterName, NamesDraft, is_followed, is_format, names_schema, shape_in, HasUnknown, IsFaulty, beside, wrong, further, IsFaultySchema, IsFor, IsNoKeyword, IsOfMemory, IsRefused, IsRefusedBy, IsTextNot, IsWrong, RefusedFor}
+use Rattle.json5_schema.specs.Refusals.{asks_beside, begins_with_sign, gives, has_few_digits, inner, is_signed, times, times_among, times_at, times_named, IsLaterName, NamesDraft, is_followed, is_format, names_schema, shape_in, HasUnknown, IsFaulty, beside, wrong, further, IsFaultySchema, IsFor, IsNoKeyword, IsOfMemory, IsRefused, IsRefusedBy, IsTextNot, IsWrong, RefusedFor}
 use Rattle.json5_schema.specs.RefusalSteps.{members_by, CountsBeside, IsDraft, IsFaultyArgument, IsFaultyBy, IsFaultyKeyword, IsFaultyMember, IsFormatFault, IsKeyFault, IsNoFormat, IsNoName, IsNoReference, IsOfOldDraft, IsOutOfShape, IsPatternFault, IsProblemOf, IsUnknownAmong, IsUnknownBelow, IsUnknownIn, IsUnknownThrough}
 use Rattle.json5_schema.specs.Shapes.{are_named_schemas, are_schemas, are_schemas_or_names, holding_of, is_names, is_schema, IsElementOf, IsMemberOf}
 use Rattle.json5_schema.specs.Subschemas.{is_known, IsElement, IsMember, StandsIn, itself, within}
@@ -116,8 +116,8 @@ at_format rules name k n s bs p is e b u (inl (bytes, named, inl (q, h))) = let 
 at_format rules name k n s bs p is e b u (inl (bytes, named, inr (q, h))) = let t = text_bytes n s bs e b u in rw (q, is) (bytes, (chars bs, t.0, rw t.1 named), h)
 at_format rules name k n s bs p is e b u (inr (h, on, off)) = no_format rules.is_strict name k (value_of n) p h is on (text_not is_format (value_of n) bs (text_bytes n s bs e b u) off)
 
-pub at_divisor : (strict : Bool) (name : List ℕ) (k : Shape) (a : Datum) (p : Problem) → k ≡ shape.Divisor → p ≡ problem.Expected shape.Divisor → IsWrong strict name k a p
-at_divisor strict name k a p is q = rw q (inl (sym is, inr (inr is)))
+pub at_divisor : (strict : Bool) (name : List ℕ) (k : Shape) (a : Datum) (p : Problem) → k ≡ shape.Divisor → (p ≡ problem.Expected shape.Divisor) × (has_few_digits a ≡ false) → IsWrong strict name k a p
+at_divisor strict name k a p is (q, off) = rw q (inl (sym is, inr (inr (is, off))))
 
 pub out_of_shape : (strict : Bool) (name : List ℕ) (k : Shape) (a : Datum) (p : Problem) → IsOutOfShape k a p → IsWrong strict name k a p
 out_of_shape strict name k a p (inl (q, is)) = rw q is

@@ -1,10 +1,11 @@
 -- Why a value isn't taken as a schema.
 -- A promise rests on this.
-use Rattle.std.specs.Prelude.{◌≡◌, ◌⊎◌, ◌≤◌, ◌+◌, ℕ, Bool, true, false, ◌&&◌, ◌||◌, not, nat_eq, if◌then◌else◌, List, [], ◌∷◌, Option, Some, None, is_some, option_and_then, Result, IfErr}
+use Rattle.std.specs.Prelude.{◌≡◌, ◌⊎◌, ◌≤◌, ◌+◌, ℕ, Bool, true, false, ◌&&◌, ◌||◌, not, nat_eq, nat_lt, int_le, int_lt, pos, ◌^◌, if◌then◌else◌, List, [], ◌∷◌, Option, Some, None, is_some, option_and_then, Result, IfErr}
 use Rattle.std.specs.Cmp.Lexicographic.{pointwise}
 use Rattle.std.specs.Char.{is_ascii_alphabetic, is_ascii_digit}
 use Rattle.std.specs.Str.{chars, encode_utf8_all}
 use Rattle.std.specs.Str.Iter.{HasSubslice}
+use Rattle.std.specs.Str.Parse.{digits_value}
 use lib.Chars.{codes}
 use Rattle.regex.specs.Failures.{IsPattern}
 use Rattle.regex.specs.Patterns.{default_config}
@@ -14,7 +15,9 @@ use Rattle.json5_grammar.specs.declared.error_code.ErrorCode.TheVariants.{TooDee
 use Rattle.json5_types.specs.declared.error.Error.{Error}
 use Rattle.json5_types.specs.Errors.{code, LacksMemory, SaysAt}
 use Rattle.json5_types.specs.ValueLookups.{fits, named_of, text_in}
-use Rattle.json5_types.specs.ValueMeanings.{Datum, text, array, object, Items, no_item, item, Fields, no_field, field}
+use Rattle.json5_grammar.specs.Language.Numbers.{is_empty, whole, decimal}
+use Rattle.json5_types.specs.NumberDecimals.{digits_in}
+use Rattle.json5_types.specs.ValueMeanings.{Datum, number, text, array, object, Items, no_item, item, Fields, no_field, field}
 use Rattle.json5_numbers.specs.Sameness.{is_named}
 use Rattle.json5_schema.specs.declared.faults.Problem.{Problem}
 use Rattle.json5_schema.specs.declared.faults.Problem.TheVariants as problem
@@ -132,9 +135,19 @@ IsPatternIn shape.Format a bytes = (u : List ℕ) × (a ≡ text u) × (expressi
 IsPatternIn shape.PatternSchemas (object fs) bytes = (u : List ℕ) × (s : Datum) × IsMember u s fs × (bytes ≡ encode_utf8_all u)
 IsPatternIn _ a bytes = ⊥
 
+-- so few that they are divided by: below 2^64
+abbrev pub are_few_digits : List ℕ → Bool
+are_few_digits ds = not (is_empty ds) && nat_lt (digits_value 10 ds) (2 ^ 64)
+
+-- the digits of a number above zero are
+abbrev pub has_few_digits : Datum → Bool
+has_few_digits (number (whole z)) = int_le (pos 0) z && int_lt z (pos (2 ^ 64))
+has_few_digits (number (decimal d)) = are_few_digits (digits_in d)
+has_few_digits _ = false
+
 -- it isn't what the keyword wants, be it for a schema's name or for the digits of a divisor
 abbrev pub IsUnfit : List ℕ → Shape → Datum → Type 0
-IsUnfit name k a = (has_outline k a ≡ false) ⊎ ((k ≡ shape.Anchor) × IsTextNot (names_schema name) a) ⊎ (k ≡ shape.Divisor)
+IsUnfit name k a = (has_outline k a ≡ false) ⊎ ((k ≡ shape.Anchor) × IsTextNot (names_schema name) a) ⊎ ((k ≡ shape.Divisor) × (has_few_digits a ≡ false))
 
 abbrev pub IsWrong : Bool → List ℕ → Shape → Datum → Problem → Type 0
 IsWrong strict name k a problem.Undecided = k ≡ shape.Undecided
@@ -166,11 +179,11 @@ refers _ = false
 -- a keyword asks something beside `$ref`, or its argument isn't taken, or a schema right in that isn't
 pub data IsFaulty : Rules → Datum → Problem → Type 0 where
   beside : (rules : Rules) (s a : Datum) (name : List ℕ) → rules.counts_siblings ≡ false → refers s ≡ true → HasKeyword s name a
-    → asks_beside (encode_utf8_all name) (shape_in rules (encode_utf8_all name) a) ≡ true → IsFaulty rules s problem.BesideReference
+      → asks_beside (encode_utf8_all name) (shape_in rules (encode_utf8_all name) a) ≡ true → IsFaulty rules s problem.BesideReference
   wrong : (rules : Rules) (s a : Datum) (name : List ℕ) (p : Problem) → HasKeyword s name a
-    → IsWrong rules.is_strict (encode_utf8_all name) (shape_in rules (encode_utf8_all name) a) a p → IsFaulty rules s p
+      → IsWrong rules.is_strict (encode_utf8_all name) (shape_in rules (encode_utf8_all name) a) a p → IsFaulty rules s p
   further : (rules : Rules) (s a t : Datum) (name : List ℕ) (p : Problem) → HasKeyword s name a
-    → StandsBy (holding_of (shape_in rules (encode_utf8_all name) a)) a t → IsFaulty (inner rules) t p → IsFaulty rules s p
+      → StandsBy (holding_of (shape_in rules (encode_utf8_all name) a)) a t → IsFaulty (inner rules) t p → IsFaulty rules s p
 
 -- or it is none
 abbrev pub IsFaultySchema : Rules → Datum → Problem → Type 0

@@ -1,6 +1,6 @@
 //! A schema is looked through once, with all schemas in it.
 
-ghost use Rattle.std.specs.Prelude.{◌≡◌, ◌&&◌, not, true, OnOk};
+ghost use Rattle.std.specs.Prelude.{◌≡◌, ◌&&◌, not, true, false, OnOk};
 ghost use Rattle.std.specs.Str.{chars};
 ghost use lib.Chars.{codes};
 ghost use Rattle.json5_types.specs.ValueMeanings.{array, object, value_of, items_view, fields_view};
@@ -9,7 +9,7 @@ ghost use Rattle.json5_schema.specs.declared.faults.Problem.TheVariants as probl
 ghost use Rattle.json5_schema.specs.declared.shape.Holding.TheVariants as holding;
 ghost use Rattle.json5_schema.specs.declared.shape.Shape.TheVariants as shape;
 ghost use Rattle.json5_schema.specs.Shapes.{has_outline, holding_of, is_names, AllNamedTaken, AllTaken, HoldsNamed, HoldsTaken, IsMemberTaken, IsShapedThrough, IsTaken, IsTakenAs};
-ghost use Rattle.json5_schema.specs.Refusals.{are_in_name, asks_beside, begins_with_sign, format_shape, has_percent, id_shape, is_anchor_name, is_followed, is_in_name, is_letter, is_signed, is_signed_name, names_schema, shape_in, IsFaulty, IsFaultySchema, IsFor, IsWrong, RefusedFor};
+ghost use Rattle.json5_schema.specs.Refusals.{are_in_name, asks_beside, begins_with_sign, format_shape, has_few_digits, has_percent, id_shape, is_anchor_name, is_followed, is_in_name, is_letter, is_signed, is_signed_name, names_schema, shape_in, IsFaulty, IsFaultySchema, IsFor, IsWrong, RefusedFor};
 ghost use Rattle.json5_schema.specs.RefusalSteps.{members_by, IsFaultyArgument, IsFaultyBy, IsFaultyKeyword, IsFaultyMember, IsFormatFault, IsKeyFault, IsNoFormat, IsNoName, IsNoReference, IsOutOfShape, IsPatternFault, IsProblemOf};
 
 use crate::faults::{Problem, SchemaFault};
@@ -187,7 +187,15 @@ fn look_at_keyword(
     if is_passed_over(refers, name, shape) {
         return Err(fault(alloc, place.as_str(), Problem::BesideReference));
     }
-    look_at(alloc, rules.inner(), name, shape, argument, place.as_str(), seen)
+    look_at(
+        alloc,
+        rules.inner(),
+        name,
+        shape,
+        argument,
+        place.as_str(),
+        seen,
+    )
 }
 
 /// What the argument of a keyword has to be in its place.
@@ -328,7 +336,7 @@ fn note_text(
 
 /// Refuses a divisor whose digits are 2^64 or more.
 fn check_digits(alloc: Global, divisor: &Value, pointer: &str) -> Looked<()>
-    ensures { RefusedFor (λ p. p ≡ problem.Expected shape.Divisor) result }
+    ensures { RefusedFor (λ p. (p ≡ problem.Expected shape.Divisor) × (has_few_digits (value_of divisor.now) ≡ false)) result }
 {
     if has_few_digits(divisor) {
         return Ok(());
@@ -605,12 +613,7 @@ fn note_anchor(
 }
 
 /// Notes a name that no schema had before.
-fn note_name(
-    alloc: Global,
-    name: &str,
-    schema: &str,
-    seen: &mut Seen,
-) -> Result<(), AllocError> {
+fn note_name(alloc: Global, name: &str, schema: &str, seen: &mut Seen) -> Result<(), AllocError> {
     let place = seen.anchors.len();
     seen.anchor_places
         .insert(String::from_str(alloc, name)?, place)?;
@@ -621,12 +624,7 @@ fn note_name(
 }
 
 /// Notes that another schema has this name, if it is the first such name.
-fn note_twice(
-    alloc: Global,
-    name: &str,
-    pointer: &str,
-    seen: &mut Seen,
-) -> Result<(), AllocError> {
+fn note_twice(alloc: Global, name: &str, pointer: &str, seen: &mut Seen) -> Result<(), AllocError> {
     if seen.twice.is_none() {
         let name = String::from_str(alloc, name)?;
         let pointer = String::from_str(alloc, pointer)?;

@@ -331,7 +331,10 @@ fn gather_each<'v>(schemas: &'v [Value], nexts: &mut Vec<&'v str>) -> Result<(),
 
 /// Gathers those of each schema of an object.
 #[cycle(gather)]
-fn gather_named<'v>(schemas: &'v [(String, Value)], nexts: &mut Vec<&'v str>) -> Result<(), AllocError> {
+fn gather_named<'v>(
+    schemas: &'v [(String, Value)],
+    nexts: &mut Vec<&'v str>,
+) -> Result<(), AllocError> {
     for (_, schema) in schemas {
         gather(schema, nexts)?;
     }
@@ -388,7 +391,11 @@ fn counts_of(alloc: Global, links: &[Vec<&str>]) -> Result<(Vec<usize>, Vec<usiz
 }
 
 /// Which references wait for each.
-fn waiters_of(alloc: Global, seen: &Seen, links: &[Vec<&str>]) -> Result<Vec<Vec<usize>>, AllocError> {
+fn waiters_of(
+    alloc: Global,
+    seen: &Seen,
+    links: &[Vec<&str>],
+) -> Result<Vec<Vec<usize>>, AllocError> {
     let mut waiters: Vec<Vec<usize>> = Vec::new(alloc);
     for _ in links {
         waiters.push(Vec::new(alloc))?;
