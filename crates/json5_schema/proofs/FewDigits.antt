@@ -1,6 +1,6 @@
 -- Digits that are below 2^64.
 use Rattle.std.proofs.Common.{◌≡◌, ◌<◌, ◌^◌, ℕ, Bool, true, false, nat_lt, List, [], ◌∷◌, length, Result, Ok, Err, refl, sym, subst, arith}
-use Rattle.std.specs.Result.{is_ok}
+use Rattle.std.specs.Result.{is_ok, OkIff}
 use Rattle.std.specs.Str.Parse.{AllDigits, digits_value, ParsesUnsigned}
 use Rattle.std.proofs.lemmas.Bool.Decides.{nat_tests}
 use Rattle.std.proofs.lemmas.Str.Parse.{IsNumeralModel, numerals_by_value, parse_digits, tells_digits}
@@ -27,8 +27,11 @@ own : IsNumeralModel (AllDigits 10) (digits_value 10)
 own = numerals_by_value (AllDigits 10) tells_digits
 
 pub parsed : {E : Type 0} (ds : List ℕ) (r : Result ℕ E) → Each is_digit ds → ParsesUnsigned 64 10 ds r → is_ok r ≡ are_few_digits ds
-parsed ds (Ok x) e p = let h = parse_digits own 64 ds (Ok x) p (all_digits e) in few ds h.0.0 h.0.1
-parsed ds (Err f) e p = not_few ds (parse_digits own 64 ds (Err f) p (all_digits e))
+parsed {E} ds r e p = by r (parse_digits own 64 ds r p (all_digits e))
+  where
+    by : (r : Result ℕ E) → OkIff r ((0 < length ds) × (digits_value 10 ds < 2 ^ 64)) (digits_value 10 ds) → is_ok r ≡ are_few_digits ds
+    by (Ok n) (fits, same) = few ds fits.0 fits.1
+    by (Err f) refused = not_few ds refused
 
 normal_digits : (d : Decimal) → Normal d → Each is_digit (digits_in d)
 normal_digits (infinite m) h = no_char

@@ -1,5 +1,5 @@
 -- Why a part isn't taken, and so the whole isn't.
-use Rattle.std.proofs.Common.{◌≡◌, ◌⊎◌, ◌↔◌, ◌∙◌, ◌<◌, ◌≤◌, ◌+◌, ◌&&◌, ◌||◌, ℕ, zero, suc, Bool, true, false, not, List, [], ◌∷◌, length, get_or, drop, Result, Ok, Err, IfOk, IfErr, Option, Some, None, String, string_bytes, inl, inr, refl, sym, ap, subst, arith, nat_eq}
+use Rattle.std.proofs.Common.{◌≡◌, ◌↔◌, ◌∙◌, ◌<◌, ◌≤◌, ◌+◌, ◌&&◌, ◌||◌, ℕ, zero, suc, Bool, true, false, not, List, [], ◌∷◌, length, get_or, drop, Result, Ok, Err, IfOk, IfErr, Some, None, String, string_bytes, inl, inr, refl, sym, ap, subst, arith, nat_eq}
 use Rattle.std.specs.declared.alloc.Global.{Global}
 use lib.Chars.{codes}
 use Rattle.std.specs.Cmp.Lexicographic.{pointwise}
@@ -29,10 +29,10 @@ use Rattle.json5_schema.specs.declared.shape.Shape.{Shape}
 use Rattle.json5_schema.specs.declared.shape.Shape.TheVariants as shape
 use Rattle.json5_schema.specs.Conformance.{asserts_formats}
 use Rattle.json5_schema.specs.Patterns.{in_rust}
-use Rattle.json5_schema.specs.Refusals.{asks_beside, begins_with_sign, gives, has_few_digits, inner, is_signed, times, times_among, times_at, times_named, IsLaterName, NamesDraft, is_followed, is_format, names_schema, shape_in, HasUnknown, IsFaulty, beside, wrong, further, IsFaultySchema, IsFor, IsNoKeyword, IsOfMemory, IsRefused, IsRefusedBy, IsTextNot, IsWrong, RefusedFor}
-use Rattle.json5_schema.specs.RefusalSteps.{members_by, CountsBeside, IsDraft, IsFaultyArgument, IsFaultyBy, IsFaultyKeyword, IsFaultyMember, IsFormatFault, IsKeyFault, IsNoFormat, IsNoName, IsNoReference, IsOfOldDraft, IsOutOfShape, IsPatternFault, IsProblemOf, IsUnknownAmong, IsUnknownBelow, IsUnknownIn, IsUnknownThrough}
-use Rattle.json5_schema.specs.Shapes.{are_named_schemas, are_schemas, are_schemas_or_names, holding_of, is_names, is_schema, IsElementOf, IsMemberOf}
-use Rattle.json5_schema.specs.Subschemas.{is_known, IsElement, IsMember, StandsIn, itself, within}
+use Rattle.json5_schema.specs.Refusals.{asks_beside, begins_with_sign, gives, has_few_digits, inner, is_signed, times, times_among, times_at, times_named, IsLaterName, NamesDraft, is_followed, is_format, names_schema, shape_in, IsFaulty, beside, wrong, further, IsFaultySchema, IsFor, IsOfMemory, IsRefused, IsRefusedBy, IsTextNot, IsWrong, RefusedFor}
+use Rattle.json5_schema.specs.RefusalSteps.{members_by, CountsBeside, IsDraft, IsFaultyArgument, IsFaultyBy, IsFaultyKeyword, IsFaultyMember, IsFormatFault, IsKeyFault, IsNoFormat, IsNoName, IsNoReference, IsOfOldDraft, IsOutOfShape, IsPatternFault, IsProblemOf, IsUnknownIn, IsUnknownThrough}
+use Rattle.json5_schema.specs.Shapes.{are_named_schemas, are_schemas, are_schemas_or_names, holding_of, is_names, is_schema}
+use Rattle.json5_schema.specs.Subschemas.{IsElement, IsMember, itself, within}
 use Rattle.json5_schema.proofs.Knowing.{value_from}
 
 -- ---- a fault

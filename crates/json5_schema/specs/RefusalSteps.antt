@@ -1,6 +1,6 @@
 -- Why parts of a schema aren't taken, step by step.
 -- Private.
-use Rattle.std.specs.Prelude.{◌≡◌, ◌⊎◌, ℕ, Bool, true, false, List, Some, is_some}
+use Rattle.std.specs.Prelude.{◌≡◌, ◌⊎◌, ℕ, Bool, true, false, List, Some}
 use Rattle.std.specs.Str.{encode_utf8_all}
 use Rattle.regex.specs.declared.error.Error as regex
 use Rattle.regex.specs.declared.error.Error.TheVariants as unread

@@ -1,6 +1,6 @@
 -- Why a value isn't taken as a schema.
 -- A promise rests on this.
-use Rattle.std.specs.Prelude.{◌≡◌, ◌⊎◌, ◌≤◌, ◌+◌, ℕ, Bool, true, false, ◌&&◌, ◌||◌, not, nat_eq, nat_lt, int_le, int_lt, pos, ◌^◌, if◌then◌else◌, List, [], ◌∷◌, Option, Some, None, is_some, option_and_then, Result, IfErr}
+use Rattle.std.specs.Prelude.{◌≡◌, ◌⊎◌, ◌≤◌, ◌+◌, ℕ, Bool, true, false, ◌&&◌, ◌||◌, not, nat_eq, nat_lt, int_le, int_lt, pos, ◌^◌, if◌then◌else◌, List, [], ◌∷◌, Some, None, is_some, Result, IfErr}
 use Rattle.std.specs.Cmp.Lexicographic.{pointwise}
 use Rattle.std.specs.Char.{is_ascii_alphabetic, is_ascii_digit}
 use Rattle.std.specs.Str.{chars, encode_utf8_all}
@@ -14,7 +14,7 @@ use Rattle.regex_syntax.specs.declared.error.ErrorKind.{ErrorKind}
 use Rattle.json5_grammar.specs.declared.error_code.ErrorCode.TheVariants.{TooDeep}
 use Rattle.json5_types.specs.declared.error.Error.{Error}
 use Rattle.json5_types.specs.Errors.{code, LacksMemory, SaysAt}
-use Rattle.json5_types.specs.ValueLookups.{fits, named_of, text_in}
+use Rattle.json5_types.specs.ValueLookups.{fits, named_of}
 use Rattle.json5_grammar.specs.Language.Numbers.{is_empty, whole, decimal}
 use Rattle.json5_types.specs.NumberDecimals.{digits_in}
 use Rattle.json5_types.specs.ValueMeanings.{Datum, number, text, array, object, Items, no_item, item, Fields, no_field, field}

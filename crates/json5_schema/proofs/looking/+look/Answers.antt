@@ -1,5 +1,4 @@
-use Rattle.std.proofs.Common.{◌≡◌, ◌∙◌, ◌+◌, ◌&&◌, not, arith, ap, sym, subst, refl, drop, inl, inr, None, rules, string_bytes}
-use lib.Chars.{codes}
+use Rattle.std.proofs.Common.{◌≡◌, ◌∙◌, ◌+◌, arith, ap, sym, refl, drop, inl, inr, None, rules, string_bytes}
 use Rattle.std.specs.Str.{chars}
 use Rattle.std.proofs.lemmas.Result.{err_from_is_err_and}
 use Rattle.std.proofs.lemmas.Grind.{common_steps}
@@ -10,7 +9,6 @@ use Rattle.json5_types.proofs.ValuesCompared.{view-Array, view-Object}
 use Rattle.json5_types.proofs.LookedUp.{from_here}
 use Rattle.json5_schema.proofs.Knowing.{map_ok, value_from}
 use Rattle.json5_schema.proofs.Shaping.{alone_either_held, alone_held, boolean_taken, by_holding_of, each_taken, either_held, elements_held, first_named_taken, first_shaped, first_taken, keywords_shaped, members_held, named_taken, no_elements_held, no_members_held, none_held, through}
-use Rattle.json5_numbers.specs.Sameness.{is_named}
 use Rattle.json5_schema.specs.declared.faults.Problem.TheVariants as problem
 use Rattle.json5_schema.specs.declared.shape.Holding.TheVariants as holding
 use Rattle.json5_schema.specs.declared.shape.Shape.TheVariants as shape

@@ -1,4 +1,4 @@
-use Rattle.std.proofs.Common.{◌+◌, arith}
+use Rattle.std.proofs.Common.{arith}
 use Rattle.json5_types.proofs.ValuesCompared.{view-Object}
 use Rattle.json5_schema.proofs.Refusing.{among_next, named_next}
 use Rattle.json5_schema.proofs.references.+times.Goals as goal

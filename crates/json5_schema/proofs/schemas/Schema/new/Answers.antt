@@ -1,4 +1,4 @@
-use Rattle.std.proofs.Common.{true, false}
+use Rattle.std.proofs.Common.{false}
 use Rattle.json5_types.specs.ValueMeanings.{value_of}
 use Rattle.json5_schema.proofs.Refusing.{as_refused}
 use Rattle.json5_schema.proofs.schemas.Schema.new.Goals as goal

@@ -1,4 +1,4 @@
-use Rattle.std.proofs.Common.{true, false}
+use Rattle.std.proofs.Common.{true}
 use Rattle.json5_types.specs.ValueMeanings.{value_of}
 use Rattle.json5_schema.proofs.Refusing.{as_refused}
 use Rattle.json5_schema.proofs.schemas.Schema.strict_with_formats.Goals as goal
