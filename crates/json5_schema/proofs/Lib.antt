@@ -12,3 +12,5 @@ mod PatternsRead
 mod Evaluating
 mod Latest
 mod Distinct
+mod Refusing
+mod FewDigits

@@ -41,23 +41,17 @@ patterned_by o x u r e h = subst (λ z. MatchResult r (λ b. b ≡ is_patterned 
 
 -- ---- references
 
-no_sign : (bs : List ℕ) (root : Datum) → ((rest : List ℕ) → bs ≢ 35 ∷ rest) → behind_sign bs root ≡ None
+pub no_sign : (bs : List ℕ) (root : Datum) → ((rest : List ℕ) → bs ≢ 35 ∷ rest) → behind_sign bs root ≡ None
 no_sign [] root h = refl
 no_sign (c ∷ s) root h = rw (ne_eqb c 35 (λ e. h s (ap (λ y. y ∷ s) e))) refl
 
-past_sign : (bs rest : List ℕ) (root : Datum) → bs ≡ 35 ∷ rest → behind_sign bs root ≡ at_fragment rest root
+pub past_sign : (bs rest : List ℕ) (root : Datum) → bs ≡ 35 ∷ rest → behind_sign bs root ≡ at_fragment rest root
 past_sign bs rest root e = rw e refl
 
-target_text : (n : Value) (s : String Global) (bs : List ℕ) (root : Datum) → n ≡ value.String s → bs ≡ string_bytes s → IsUtf8 bs → target_of root (value_of n) ≡ behind_sign bs root
+pub target_text : (n : Value) (s : String Global) (bs : List ℕ) (root : Datum) → n ≡ value.String s → bs ≡ string_bytes s → IsUtf8 bs → target_of root (value_of n) ≡ behind_sign bs root
 target_text n s bs root e b u =
     let back : encode_utf8_all (chars (string_bytes s)) ≡ bs = ap (λ (t : List ℕ). encode_utf8_all (chars t)) (sym b) ∙ encodes-chars bs u in
     rw (e, view-String s) (ap (λ (t : List ℕ). behind_sign t root) back)
-
-pub no_target : (n : Value) (s : String Global) (bs : List ℕ) (root : Datum) → n ≡ value.String s → bs ≡ string_bytes s → IsUtf8 bs → ((rest : List ℕ) → bs ≢ 35 ∷ rest) → target_of root (value_of n) ≡ None
-no_target n s bs root e b u h = target_text n s bs root e b u ∙ no_sign bs root h
-
-pub target_at : (n : Value) (s : String Global) (bs rest : List ℕ) (root : Datum) → n ≡ value.String s → bs ≡ string_bytes s → IsUtf8 bs → bs ≡ 35 ∷ rest → target_of root (value_of n) ≡ at_fragment rest root
-target_at n s bs rest root e b u h = target_text n s bs root e b u ∙ past_sign bs rest root h
 
 -- ---- a schema
 

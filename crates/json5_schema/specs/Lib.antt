@@ -9,3 +9,5 @@ pub mod Anchors
 pub mod SeenTexts
 pub mod Divisors
 pub mod Shapes
+pub mod Refusals
+pub mod RefusalSteps

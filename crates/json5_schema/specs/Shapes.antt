@@ -4,7 +4,7 @@ use Rattle.std.specs.Prelude.{◌≡◌, ◌⊎◌, ℕ, pos, Bool, true, false,
 use Rattle.std.specs.Cmp.Lexicographic.{pointwise}
 use Rattle.std.specs.Str.{encode_utf8_all}
 use lib.Chars.{codes}
-use Rattle.json5_grammar.specs.Language.Numbers.{is_empty, Decimal, whole, decimal, infinite, nan, finite}
+use Rattle.json5_grammar.specs.Language.Numbers.{is_empty, whole, decimal}
 use Rattle.json5_types.specs.NumberDecimals.{has_minus, digits_in}
 use Rattle.json5_types.specs.ValueLookups.{boolean_of, items_in, fields_in, text_in}
 use Rattle.json5_types.specs.ValueKinds.{number_in}

@@ -2,7 +2,7 @@
 
 ghost use Rattle.std.specs.Prelude.{◌≡◌, if◌then◌else◌, None};
 ghost use Rattle.json5_types.specs.ValueMeanings.{value_of, items_view, fields_view};
-ghost use Rattle.json5_schema.specs.Conformance.{is_fragment, is_anchor, is_id, has_anchor, anchored, anchored_in, anchored_through, anchored_among, anchored_named, is_pointer, at_fragment};
+ghost use Rattle.json5_schema.specs.Conformance.{is_fragment, is_anchor, is_id, has_anchor, anchored, anchored_in, anchored_through, anchored_among, anchored_named, is_pointer, at_fragment, behind_sign};
 ghost use Rattle.json5_schema.specs.Subschemas.{takes_schemas, takes_named};
 ghost use Rattle.json5_schema.specs.Views.{part_view};
 
@@ -161,4 +161,11 @@ pub fn at_fragment<'a>(root: &'a Value, path: &str) -> Option<&'a Value>
     } else {
         anchored(root, path)
     }
+}
+
+/// The value that a reference with this text means.
+pub fn target_by<'a>(root: &'a Value, text: &str) -> Option<&'a Value>
+    ensures { part_view result ≡ behind_sign text.now (value_of root.now) }
+{
+    at_fragment(root, text.strip_prefix('#')?)
 }

@@ -8,7 +8,7 @@ ghost use Rattle.json5_types.specs.ValueMeanings.{value_of, items_view, fields_v
 ghost use Rattle.json5_schema.specs.Conformance.{each_schema, each_item, by_name, value_for, by_index, prefix_on, schemas_in_front, items_after, elements_after, items_on, additional_items_on, contains_on, all_of_on, any_of_on, one_of_on, if_on, members_left_on, elements_left_on, speaks_of, beside, is_matched, is_patterned, is_additional, latest, each_matched, of_pattern, by_pattern, patterns_on, each_additional, additional_on, names_on, properties_on, is_dependent, dependent_schemas, dependent_on, dependencies_on, all_on, some_on, target_of, refers_on, asserts, applies, asks};
 ghost use Rattle.json5_schema.specs.Views.{AsksFor, IsRefusal, PairsFor, members_view, pairs_view, part_view, asked_view};
 
-use crate::anchors::at_fragment;
+use crate::anchors::target_by;
 use crate::equal::{has_distinct, is_in_enum};
 use crate::formats::format_holds;
 use crate::keyword::{Applicator, Assertion, Keyword};
@@ -132,7 +132,7 @@ pub fn target_of<'a>(root: &'a Value, reference: &Value) -> Option<&'a Value>
     ensures { option_map (λ v. value_of v.now) result ≡ target_of (value_of root.now) (value_of reference.now) }
 {
     match reference {
-        Value::String(text) => at_fragment(root, text.as_str().strip_prefix('#')?),
+        Value::String(text) => target_by(root, text.as_str()),
         _ => None,
     }
 }

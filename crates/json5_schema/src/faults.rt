@@ -2,6 +2,7 @@
 
 ghost use Rattle.std.specs.Prelude.{◌≡◌};
 ghost use Rattle.json5_schema.specs.declared.faults.SchemaFault.TheVariants as faults;
+ghost use Rattle.json5_schema.specs.Refusals.{IsOfMemory};
 
 use crate::shape::Shape;
 use json5_types::error::Error;
@@ -19,8 +20,10 @@ pub enum Problem {
     NoFormat(Option<&'static str>),
     /// The argument isn't what the keyword wants.
     Expected(Shape),
-    /// A regular expression that Rust's regex crate doesn't read, or one that is too large.
+    /// A regular expression that Rust's regex crate doesn't read.
     Pattern,
+    /// A regular expression that is too large to be compiled.
+    LargePattern,
     /// A draft before 6, whose words mean something else.
     OldDraft,
     /// Draft 7 passes over a keyword beside `$ref`, and later drafts don't: `$schema` has to name one of these.
@@ -44,6 +47,7 @@ impl Problem {
             Problem::NoFormat(_) => "this format isn't asserted",
             Problem::Expected(_) => "expected ",
             Problem::Pattern => "this regular expression can't be read",
+            Problem::LargePattern => "this regular expression is too large",
             Problem::OldDraft => "drafts before 6 aren't read",
             Problem::BesideReference =>
                 "beside `$ref` this keyword counts only from draft 2019-09 on, and `$schema` names none of these",
@@ -105,12 +109,16 @@ impl From<Error> for SchemaFault {
 }
 
 impl From<AllocError> for SchemaFault {
+    ghost from_gives = { λ _ fault. IsOfMemory fault };
+
     fn from(error: AllocError) -> SchemaFault {
         SchemaFault::Value(Error::from(error))
     }
 }
 
 impl<T: Drop> From<AllocFailed<T>> for SchemaFault {
+    ghost from_gives = { λ _ fault. IsOfMemory fault };
+
     fn from(error: AllocFailed<T>) -> SchemaFault {
         SchemaFault::Value(Error::from(error))
     }

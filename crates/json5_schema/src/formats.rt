@@ -4,11 +4,13 @@ ghost use Rattle.std.specs.Prelude.{◌≡◌, true, option_map, IfOk, MatchResu
 ghost use Rattle.std.specs.Str.{chars};
 ghost use Rattle.json5_types.specs.Errors.{LacksMemory};
 ghost use Rattle.json5_types.specs.ValueMeanings.{boolean, object, no_field, field, value_of};
+ghost use Rattle.json5_schema.specs.Refusals.{IsCopyRefusal};
 ghost use Rattle.json5_schema.specs.Formats.{entirely, mailbox, ipv6_address, uri_text, expression_named, has_format};
 ghost use Rattle.json5_schema.specs.Conformance.{format_vocabulary, asserts_formats, format_holds, is_in_format, with_formats};
 
 use crate::patterns::{Pattern, matches};
-use json5_types::error::Result;
+use json5_types::ErrorCode;
+use json5_types::error::{Error, Result};
 use json5_types::value::Value;
 use std::alloc::Global;
 
@@ -224,15 +226,20 @@ pub fn asserts_formats(root: &Value) -> bool
 /// The schema with the vocabulary of asserted formats in place of its own.
 #[tactic(auto, using(crate::proofs::FormatsKnown::vocabulary_put, crate::proofs::FormatsKnown::nothing_put))]
 pub fn with_formats(alloc: Global, schema: &Value) -> Result<Value>
-    ensures { IfOk result (λ asserting. value_of asserting ≡ with_formats (value_of schema.now)) }
+    ensures { MatchResult result (λ asserting. value_of asserting ≡ with_formats (value_of schema.now)) (IsCopyRefusal (value_of schema.now)) }
 {
     let mut asserting = schema.clone(alloc)?;
     if !asserting.is_object() {
         return Ok(asserting);
     }
     let key = String::from_str(alloc, "$vocabulary")?;
-    asserting.insert(key, vocabularies(alloc)?)?;
-    Ok(asserting)
+    let Ok(asking) = vocabularies(alloc) else {
+        return Err(Error::new(ErrorCode::OutOfMemory));
+    };
+    match asserting.insert(key, asking) {
+        Ok(_) => Ok(asserting),
+        Err(_) => Err(Error::new(ErrorCode::OutOfMemory)),
+    }
 }
 
 /// An object that asks for the vocabulary of asserted formats.

@@ -5,6 +5,8 @@ ghost use Rattle.std.specs.Cmp.Lexicographic.{pointwise};
 ghost use Rattle.std.specs.List.{list_any};
 ghost use Rattle.json5_types.specs.ValueMeanings.{array, object, value_of, items_view, fields_view};
 ghost use Rattle.json5_schema.specs.Subschemas.{is_known, takes_schema, takes_schemas, takes_named, HasOnlyKeywords, IsKnownThrough, AllKnownAmong, AllKnownNamed};
+ghost use Rattle.json5_schema.specs.Refusals.{IsFor, IsNoKeyword, RefusedFor};
+ghost use Rattle.json5_schema.specs.RefusalSteps.{IsUnknownAmong, IsUnknownBelow, IsUnknownIn, IsUnknownNamed, IsUnknownThrough};
 
 use crate::faults::{Problem, SchemaFault};
 use crate::looking::{Looked, behind, fault};
@@ -163,7 +165,9 @@ pub fn takes_named(name: &str) -> bool
 }
 
 /// The fault of a name that is no keyword.
-fn no_keyword(alloc: Global, name: &str, pointer: &str) -> SchemaFault {
+fn no_keyword(alloc: Global, name: &str, pointer: &str) -> SchemaFault
+    ensures { IsFor IsNoKeyword result }
+{
     match nearest(alloc, name, &KEYWORDS) {
         Ok(likeliest) => fault(alloc, pointer, Problem::NoKeyword(likeliest)),
         Err(error) => SchemaFault::from(error),
@@ -173,7 +177,8 @@ fn no_keyword(alloc: Global, name: &str, pointer: &str) -> SchemaFault {
 /// Refuses a schema in which a keyword isn't known.
 #[cycle(known)]
 pub fn check_schema(alloc: Global, schema: &Value, pointer: &str) -> Looked<()>
-    ensures { OnOk result (HasOnlyKeywords (value_of schema.now)) }
+    ensures known { OnOk result (HasOnlyKeywords (value_of schema.now)) }
+    ensures unknown { RefusedFor (IsUnknownIn (value_of schema.now)) result }
 {
     match schema {
         Value::Object(keywords) => check_keywords(alloc, keywords, pointer),
@@ -184,7 +189,8 @@ pub fn check_schema(alloc: Global, schema: &Value, pointer: &str) -> Looked<()>
 /// The same of an object with these keywords.
 #[cycle(known)]
 fn check_keywords(alloc: Global, keywords: &[(String, Value)], pointer: &str) -> Looked<()>
-    ensures { OnOk result (HasOnlyKeywords (object (fields_view keywords.now))) }
+    ensures known { OnOk result (HasOnlyKeywords (object (fields_view keywords.now))) }
+    ensures unknown { RefusedFor (IsUnknownIn (object (fields_view keywords.now))) result }
 {
     for (name, argument) in keywords {
         check_keyword(alloc, name.as_str(), argument, pointer)?;
@@ -195,7 +201,8 @@ fn check_keywords(alloc: Global, keywords: &[(String, Value)], pointer: &str) ->
 /// The same of a keyword with this name and this argument.
 #[cycle(known)]
 fn check_keyword(alloc: Global, name: &str, argument: &Value, pointer: &str) -> Looked<()>
-    ensures { OnOk result (IsKnownThrough name.now (value_of argument.now)) }
+    ensures known { OnOk result (IsKnownThrough name.now (value_of argument.now)) }
+    ensures unknown { RefusedFor (IsUnknownThrough name.now (value_of argument.now)) result }
 {
     let place = behind(alloc, pointer, name)?;
     if !is_known(name) {
@@ -209,7 +216,8 @@ fn check_keyword(alloc: Global, name: &str, argument: &Value, pointer: &str) -> 
 /// The same of the argument, if it is a schema.
 #[cycle(known)]
 fn check_alone(alloc: Global, name: &str, argument: &Value, pointer: &str) -> Looked<()>
-    ensures { OnOk result (takes_schema name.now ≡ true → HasOnlyKeywords (value_of argument.now)) }
+    ensures known { OnOk result (takes_schema name.now ≡ true → HasOnlyKeywords (value_of argument.now)) }
+    ensures unknown { RefusedFor (IsUnknownBelow name.now (value_of argument.now)) result }
 {
     if !takes_schema(name) {
         return Ok(());
@@ -220,7 +228,8 @@ fn check_alone(alloc: Global, name: &str, argument: &Value, pointer: &str) -> Lo
 /// The same of its elements, if they are schemas.
 #[cycle(known)]
 fn check_elements(alloc: Global, name: &str, argument: &Value, pointer: &str) -> Looked<()>
-    ensures { OnOk result (takes_schemas name.now ≡ true → AllKnownAmong (value_of argument.now)) }
+    ensures known { OnOk result (takes_schemas name.now ≡ true → AllKnownAmong (value_of argument.now)) }
+    ensures unknown { RefusedFor (IsUnknownBelow name.now (value_of argument.now)) result }
 {
     if !takes_schemas(name) {
         return Ok(());
@@ -234,7 +243,8 @@ fn check_elements(alloc: Global, name: &str, argument: &Value, pointer: &str) ->
 /// The same of its members, if they are schemas.
 #[cycle(known)]
 fn check_members(alloc: Global, name: &str, argument: &Value, pointer: &str) -> Looked<()>
-    ensures { OnOk result (takes_named name.now ≡ true → AllKnownNamed (value_of argument.now)) }
+    ensures known { OnOk result (takes_named name.now ≡ true → AllKnownNamed (value_of argument.now)) }
+    ensures unknown { RefusedFor (IsUnknownBelow name.now (value_of argument.now)) result }
 {
     if !takes_named(name) {
         return Ok(());
@@ -248,7 +258,8 @@ fn check_members(alloc: Global, name: &str, argument: &Value, pointer: &str) -> 
 /// The same of each schema of an array.
 #[cycle(known)]
 fn check_each(alloc: Global, schemas: &[Value], pointer: &str) -> Looked<()>
-    ensures { OnOk result (AllKnownAmong (array (items_view schemas.now))) }
+    ensures known { OnOk result (AllKnownAmong (array (items_view schemas.now))) }
+    ensures unknown { RefusedFor (IsUnknownAmong (array (items_view schemas.now))) result }
 {
     for (index, schema) in schemas.iter().enumerate() {
         let place = format!(in alloc; "{pointer}/{index}")?;
@@ -260,7 +271,8 @@ fn check_each(alloc: Global, schemas: &[Value], pointer: &str) -> Looked<()>
 /// The same of each schema of an object.
 #[cycle(known)]
 fn check_named(alloc: Global, schemas: &[(String, Value)], pointer: &str) -> Looked<()>
-    ensures { OnOk result (AllKnownNamed (object (fields_view schemas.now))) }
+    ensures known { OnOk result (AllKnownNamed (object (fields_view schemas.now))) }
+    ensures unknown { RefusedFor (IsUnknownNamed (object (fields_view schemas.now))) result }
 {
     for (name, schema) in schemas {
         let place = behind(alloc, pointer, name.as_str())?;

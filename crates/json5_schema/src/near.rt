@@ -2,13 +2,16 @@
 //!
 //! Plain code, of which no promise is made but that it is safe and ends: change it by the rows of schemas, which judge it.
 
-use json5_types::error::Result;
-use std::alloc::Global;
+use std::alloc::{AllocError, Global};
 use strsim::osa_distance;
 
 /// The known name that is nearest to this one, if one is near: its letters in other case, or one letter away of three at
 /// least, or two of six.
-pub fn nearest<'m>(alloc: Global, name: &str, known: &[&'m str]) -> Result<Option<&'m str>> {
+pub fn nearest<'m>(
+    alloc: Global,
+    name: &str,
+    known: &[&'m str],
+) -> Result<Option<&'m str>, AllocError> {
     let mut least: usize = 3;
     let mut near = None;
     for other in known {
@@ -21,9 +24,9 @@ pub fn nearest<'m>(alloc: Global, name: &str, known: &[&'m str]) -> Result<Optio
 }
 
 /// How many letters the names differ in; 0 if only in case.
-fn distance_of(alloc: Global, name: &str, known: &str) -> Result<usize> {
+fn distance_of(alloc: Global, name: &str, known: &str) -> Result<usize, AllocError> {
     if name.eq_ignore_ascii_case(known) {
         return Ok(0);
     }
-    Ok(osa_distance(alloc, name, known)?)
+    osa_distance(alloc, name, known)
 }

@@ -1,9 +1,12 @@
 //! Patterns: compiled once, and looked for in texts.
 
-ghost use Rattle.std.specs.Prelude.{◌≡◌, ◌++◌, false, string_bytes, MatchResult, OnOk};
+ghost use Rattle.std.specs.Prelude.{◌≡◌, ◌++◌, false, string_bytes, IfErr, IfOk, MatchResult, OnOk};
 ghost use Rattle.std.specs.Str.{chars};
 ghost use Rattle.json5_types.specs.Errors.{LacksMemory};
 ghost use Rattle.json5_types.specs.ValueMeanings.{value_of};
+ghost use Rattle.regex.specs.Failures.{IsRightKind};
+ghost use Rattle.regex.specs.Patterns.{default_config};
+ghost use Rattle.regex.specs.Sources.{IsRefusal};
 ghost use Rattle.regex.specs.Strings.{regex_pattern};
 ghost use Rattle.json5_schema.specs.Conformance.{is_matching};
 ghost use Rattle.json5_schema.specs.Patterns.{escape, in_rust, matches, fits, Means};
@@ -36,8 +39,8 @@ fn push_escape(bytes: &mut Vec<u8>, byte: u8) -> std::result::Result<(), AllocEr
 }
 
 /// The pattern in Rust's words.
-fn in_rust(alloc: Global, pattern: &str) -> Result<Vec<u8>>
-    ensures { MatchResult result (λ bytes. bytes.items ≡ in_rust false pattern.now) LacksMemory }
+fn in_rust(alloc: Global, pattern: &str) -> std::result::Result<Vec<u8>, AllocError>
+    ensures { IfOk result (λ bytes. bytes.items ≡ in_rust false pattern.now) }
 {
     let mut bytes = Vec::new(alloc);
     let mut is_escape = false;
@@ -56,18 +59,20 @@ fn in_rust(alloc: Global, pattern: &str) -> Result<Vec<u8>>
 }
 
 impl Pattern {
-    /// Compiles a pattern; None where it is none, or too large.
-    pub fn new(alloc: Global, source: &str) -> Result<Option<Pattern>> {
+    /// Compiles a pattern.
+    pub fn new(alloc: Global, source: &str) -> std::result::Result<Pattern, regex::Error>
+        ensures read { IfErr result (IsRefusal default_config (in_rust false source.now)) }
+        ensures kind { IfErr result (IsRightKind default_config (in_rust false source.now)) }
+    {
+        // what stands in the pattern's place is text as it is, so that no memory is all that can lack
         let Ok(rust) = String::from_utf8(in_rust(alloc, source)?) else {
-            return Ok(None);
+            return Err(regex::Error::OutOfMemory);
         };
-        let Ok(regex) = Regex::new(alloc, rust.as_str()) else {
-            return Ok(None);
-        };
-        Ok(Some(Pattern {
+        let regex = Regex::new(alloc, rust.as_str())?;
+        Ok(Pattern {
             source: String::from_str(alloc, source)?,
             regex,
-        }))
+        })
     }
 
     /// Whether it is the pattern with this text.

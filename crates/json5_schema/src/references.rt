@@ -1,13 +1,17 @@
 //! The references of a schema: each has a target, and none leads back to itself without a step into the value.
 
-use crate::anchors::at_fragment;
+ghost use Rattle.std.specs.Prelude.{◌≡◌, ◌≤◌, true, IfOk};
+ghost use Rattle.std.specs.Str.{chars};
+ghost use Rattle.json5_types.specs.ValueMeanings.{value_of, items_view, fields_view};
+ghost use Rattle.json5_schema.specs.Refusals.{gives, times, times_among, times_at, times_named, IsNamedTwice, IsRefusedFor, IsUntaken, Refers, RefusedFor};
+
+use crate::anchors::{at_fragment, target_by};
 use crate::faults::Problem;
 use crate::known::check_schema;
-use crate::looking::{Anchor, Looked, Seen, behind, fault, look};
+use crate::looking::{Anchor, Looked, Reference, Rules, Seen, behind, fault, look};
 use crate::patterns::Pattern;
-use json5_types::error;
 use json5_types::value::Value;
-use std::alloc::Global;
+use std::alloc::{AllocError, Global};
 use std::collections::{BTreeMap, BTreeSet};
 
 /// The parts of a schema by their pointers, taken in where references lead through.
@@ -29,7 +33,7 @@ impl<'v> Parts<'v> {
     }
 
     /// What a reference means.
-    fn target(&mut self, alloc: Global, reference: &str) -> error::Result<Option<&'v Value>> {
+    fn target(&mut self, alloc: Global, reference: &str) -> Result<Option<&'v Value>, AllocError> {
         match reference.strip_prefix('#') {
             Some(pointer) if pointer.is_empty() || pointer.starts_with('/') => {
                 self.at(alloc, pointer)
@@ -40,7 +44,7 @@ impl<'v> Parts<'v> {
     }
 
     /// What is at a pointer.
-    fn at(&mut self, alloc: Global, pointer: &str) -> error::Result<Option<&'v Value>> {
+    fn at(&mut self, alloc: Global, pointer: &str) -> Result<Option<&'v Value>, AllocError> {
         let mut path = String::new(alloc);
         let mut value = self.root;
         for step in pointer.split('/').skip(1) {
@@ -56,7 +60,7 @@ impl<'v> Parts<'v> {
     }
 
     /// Takes in what stands right in the value at this pointer, unless it was taken in before.
-    fn open(&mut self, alloc: Global, pointer: &str, value: &'v Value) -> error::Result<()> {
+    fn open(&mut self, alloc: Global, pointer: &str, value: &'v Value) -> Result<(), AllocError> {
         if self.opened.contains(pointer) {
             return Ok(());
         }
@@ -74,26 +78,32 @@ impl<'v> Parts<'v> {
 }
 
 /// Looks at what the references mean, and that they come to an end. Gives the patterns that were compiled, and the names.
-pub fn follow(alloc: Global, root: &Value, seen: Seen) -> Looked<(Vec<Pattern>, Vec<Anchor>)> {
+pub fn follow(
+    alloc: Global,
+    rules: Rules,
+    root: &Value,
+    seen: Seen,
+) -> Looked<(Vec<Pattern>, Vec<Anchor>)>
+    ensures { RefusedFor (IsRefusedFor rules (value_of root.now)) result }
+{
     let mut seen = seen;
     let mut parts = Parts::new(alloc, root);
     let mut links = Vec::new(alloc);
     for index in 0..usize::MAX {
-        match link_at(alloc, index, &mut parts, &mut seen)? {
+        match link_at(alloc, rules, root, index, &mut parts, &mut seen)? {
             Some(nexts) => links.push(nexts)?,
             None => break,
         }
     }
-    check_ends(alloc, &seen, &links)?;
+    check_names(alloc, rules, root, &seen)?;
+    check_ends(alloc, rules, root, &seen, &links)?;
     let Seen {
-        counts_siblings: _,
-        is_strict: _,
-        asserts_formats: _,
         references: _,
         places: _,
         patterns,
         anchors,
         anchor_places: _,
+        twice: _,
     } = seen;
     Ok((patterns, anchors))
 }
@@ -102,31 +112,175 @@ pub fn follow(alloc: Global, root: &Value, seen: Seen) -> Looked<(Vec<Pattern>, 
 /// same value.
 fn link_at<'v>(
     alloc: Global,
+    rules: Rules,
+    root: &'v Value,
     index: usize,
     parts: &mut Parts<'v>,
     seen: &mut Seen,
-) -> Looked<Option<Vec<&'v str>>> {
+) -> Looked<Option<Vec<&'v str>>>
+    ensures { RefusedFor (IsRefusedFor rules (value_of root.now)) result }
+{
     let Some(reference) = seen.references.get(index) else {
         return Ok(None);
     };
-    let Some(schema) = parts.target(alloc, reference.text.as_str())? else {
-        return Err(fault(alloc, reference.pointer.as_str(), Problem::NoTarget));
-    };
-    if !reference.means_known() {
-        let pointer = String::from_str(alloc, reference.text.as_str())?;
-        if seen.is_strict {
-            check_schema(alloc, schema, pointer.as_str())?;
-        }
-        look(alloc, schema, pointer.as_str(), seen)?;
-    }
     let mut nexts = Vec::new(alloc);
-    gather(schema, &mut nexts)?;
+    match parts.target(alloc, reference.text.as_str())? {
+        Some(schema) => {
+            gather(schema, &mut nexts)?;
+            if !reference.means_known() {
+                let text = String::from_str(alloc, reference.text.as_str())?;
+                look_at_target(alloc, rules, root, schema, text.as_str(), seen)?;
+            }
+        }
+        None => check_target(alloc, rules, root, reference)?,
+    }
     Ok(Some(nexts))
+}
+
+/// Looks at a schema that a reference means, by strict rules at its keywords' names too.
+fn look_strictly(
+    alloc: Global,
+    rules: Rules,
+    schema: &Value,
+    pointer: &str,
+    seen: &mut Seen,
+) -> Looked<()>
+    ensures { RefusedFor (IsUntaken rules (value_of schema.now)) result }
+{
+    if rules.is_strict {
+        check_schema(alloc, schema, pointer)?;
+    }
+    look(alloc, rules, schema, pointer, seen)
+}
+
+/// Looks at what a reference of the whole means. A fault is made sure of by the way that `accepts` goes.
+fn look_at_target(
+    alloc: Global,
+    rules: Rules,
+    root: &Value,
+    schema: &Value,
+    text: &str,
+    seen: &mut Seen,
+) -> Looked<()>
+    ensures { RefusedFor (IsRefusedFor rules (value_of root.now)) result }
+{
+    if look_strictly(alloc, rules.inner(), schema, text, seen).is_ok() {
+        return Ok(());
+    }
+    match target_by(root, text) {
+        Some(schema) if refers(root, text) => {
+            look_strictly(alloc, rules.inner(), schema, text, seen)
+        }
+        _ => Ok(()),
+    }
+}
+
+/// Refuses a reference that leads nowhere.
+fn check_target(alloc: Global, rules: Rules, root: &Value, reference: &Reference) -> Looked<()>
+    ensures { RefusedFor (IsRefusedFor rules (value_of root.now)) result }
+{
+    let text = reference.text.as_str();
+    match target_by(root, text) {
+        None if refers(root, text) => Err(fault(
+            alloc,
+            reference.pointer.as_str(),
+            Problem::NoTarget,
+        )),
+        _ => Ok(()),
+    }
+}
+
+/// Refuses a name that two schemas have.
+fn check_names(alloc: Global, rules: Rules, root: &Value, seen: &Seen) -> Looked<()>
+    ensures { RefusedFor (IsRefusedFor rules (value_of root.now)) result }
+{
+    let Some(twice) = &seen.twice else {
+        return Ok(());
+    };
+    if is_named_twice(alloc, root, twice.name.as_str())? {
+        return Err(fault(alloc, twice.pointer.as_str(), Problem::SameAnchor));
+    }
+    Ok(())
+}
+
+/// Whether two places of the value give this name to a schema.
+fn is_named_twice(alloc: Global, root: &Value, name: &str) -> Result<bool, AllocError>
+    ensures { IfOk result (λ b. b ≡ true → IsNamedTwice (value_of root.now) name.now) }
+{
+    let mut signed = String::from_str(alloc, "#")?;
+    signed.push_str(name)?;
+    let ids = times(root, "$id", signed.as_str());
+    Ok(times(root, "$anchor", name).saturating_add(ids) >= 2)
+}
+
+/// Whether the value has a reference with this text.
+fn refers(root: &Value, text: &str) -> bool
+    ensures { result ≡ true → Refers (value_of root.now) text.now }
+{
+    times(root, "$ref", text) >= 1
+}
+
+/// How often a member of this name and with this text stands in the value, at least.
+#[cycle(times)]
+fn times(value: &Value, name: &str, text: &str) -> usize
+    ensures { result ≤ times name.now text.now (value_of value.now) }
+{
+    match value {
+        Value::Array(items) => times_among(items, name, text),
+        Value::Object(members) => times_named(members, name, text),
+        _ => 0,
+    }
+}
+
+/// The same of these elements.
+#[cycle(times)]
+fn times_among(items: &[Value], name: &str, text: &str) -> usize
+    ensures { result ≤ times_among name.now text.now (items_view items.now) }
+{
+    let mut count = 0usize;
+    for item in items {
+        count = count.saturating_add(times(item, name, text));
+    }
+    count
+}
+
+/// The same of these members.
+#[cycle(times)]
+fn times_named(members: &[(String, Value)], name: &str, text: &str) -> usize
+    ensures { result ≤ times_named name.now text.now (fields_view members.now) }
+{
+    let mut count = 0usize;
+    for (key, value) in members {
+        count = count.saturating_add(times_at(key.as_str(), value, name, text));
+    }
+    count
+}
+
+/// The same of a member.
+#[cycle(times)]
+fn times_at(key: &str, value: &Value, name: &str, text: &str) -> usize
+    ensures { result ≤ times_at name.now text.now (chars key.now) (value_of value.now) }
+{
+    if gives(key, value, name, text) {
+        1
+    } else {
+        times(value, name, text)
+    }
+}
+
+/// Whether the member has this name and this text.
+fn gives(key: &str, value: &Value, name: &str, text: &str) -> bool
+    ensures { result ≡ gives name.now text.now (chars key.now) (value_of value.now) }
+{
+    match value {
+        Value::String(found) => key == name && found.as_str() == text,
+        _ => false,
+    }
 }
 
 /// Gathers the references that a schema applies to the same value.
 #[cycle(gather)]
-fn gather<'v>(schema: &'v Value, nexts: &mut Vec<&'v str>) -> error::Result<()> {
+fn gather<'v>(schema: &'v Value, nexts: &mut Vec<&'v str>) -> Result<(), AllocError> {
     match schema {
         Value::Object(keywords) => gather_keywords(keywords, nexts),
         _ => Ok(()),
@@ -138,7 +292,7 @@ fn gather<'v>(schema: &'v Value, nexts: &mut Vec<&'v str>) -> error::Result<()> 
 fn gather_keywords<'v>(
     keywords: &'v [(String, Value)],
     nexts: &mut Vec<&'v str>,
-) -> error::Result<()> {
+) -> Result<(), AllocError> {
     for (name, argument) in keywords {
         gather_keyword(name.as_str(), argument, nexts)?;
     }
@@ -151,7 +305,7 @@ fn gather_keyword<'v>(
     name: &str,
     argument: &'v Value,
     nexts: &mut Vec<&'v str>,
-) -> error::Result<()> {
+) -> Result<(), AllocError> {
     match (name, argument) {
         ("$ref", Value::String(text)) => {
             nexts.push(text.as_str())?;
@@ -168,7 +322,7 @@ fn gather_keyword<'v>(
 
 /// Gathers those of each schema of an array.
 #[cycle(gather)]
-fn gather_each<'v>(schemas: &'v [Value], nexts: &mut Vec<&'v str>) -> error::Result<()> {
+fn gather_each<'v>(schemas: &'v [Value], nexts: &mut Vec<&'v str>) -> Result<(), AllocError> {
     for schema in schemas {
         gather(schema, nexts)?;
     }
@@ -177,7 +331,10 @@ fn gather_each<'v>(schemas: &'v [Value], nexts: &mut Vec<&'v str>) -> error::Res
 
 /// Gathers those of each schema of an object.
 #[cycle(gather)]
-fn gather_named<'v>(schemas: &'v [(String, Value)], nexts: &mut Vec<&'v str>) -> error::Result<()> {
+fn gather_named<'v>(
+    schemas: &'v [(String, Value)],
+    nexts: &mut Vec<&'v str>,
+) -> Result<(), AllocError> {
     for (_, schema) in schemas {
         gather(schema, nexts)?;
     }
@@ -185,7 +342,26 @@ fn gather_named<'v>(schemas: &'v [(String, Value)], nexts: &mut Vec<&'v str>) ->
 }
 
 /// Refuses a reference that never comes to an end: one ends once all those have that its target applies to the same value.
-fn check_ends(alloc: Global, seen: &Seen, links: &[Vec<&str>]) -> Looked<()> {
+fn check_ends(
+    alloc: Global,
+    rules: Rules,
+    root: &Value,
+    seen: &Seen,
+    links: &[Vec<&str>],
+) -> Looked<()>
+    ensures { RefusedFor (IsRefusedFor rules (value_of root.now)) result }
+{
+    let left = left_of(alloc, seen, links)?;
+    for (reference, left) in seen.references.iter().zip(&left) {
+        if *left > 0 && refers(root, reference.text.as_str()) {
+            return Err(fault(alloc, reference.pointer.as_str(), Problem::Endless));
+        }
+    }
+    Ok(())
+}
+
+/// For how many others each reference waits that don't come to an end.
+fn left_of(alloc: Global, seen: &Seen, links: &[Vec<&str>]) -> Result<Vec<usize>, AllocError> {
     let waiters = waiters_of(alloc, seen, links)?;
     let (mut left, mut ended) = counts_of(alloc, links)?;
     for turn in 0..links.len() {
@@ -198,16 +374,11 @@ fn check_ends(alloc: Global, seen: &Seen, links: &[Vec<&str>]) -> Looked<()> {
             }
         }
     }
-    for (reference, left) in seen.references.iter().zip(&left) {
-        if *left > 0 {
-            return Err(fault(alloc, reference.pointer.as_str(), Problem::Endless));
-        }
-    }
-    Ok(())
+    Ok(left)
 }
 
 /// For how many others each reference waits, and those that wait for none.
-fn counts_of(alloc: Global, links: &[Vec<&str>]) -> error::Result<(Vec<usize>, Vec<usize>)> {
+fn counts_of(alloc: Global, links: &[Vec<&str>]) -> Result<(Vec<usize>, Vec<usize>), AllocError> {
     let mut counts = Vec::new(alloc);
     let mut ended = Vec::new(alloc);
     for (place, nexts) in links.iter().enumerate() {
@@ -220,7 +391,11 @@ fn counts_of(alloc: Global, links: &[Vec<&str>]) -> error::Result<(Vec<usize>, V
 }
 
 /// Which references wait for each.
-fn waiters_of(alloc: Global, seen: &Seen, links: &[Vec<&str>]) -> error::Result<Vec<Vec<usize>>> {
+fn waiters_of(
+    alloc: Global,
+    seen: &Seen,
+    links: &[Vec<&str>],
+) -> Result<Vec<Vec<usize>>, AllocError> {
     let mut waiters: Vec<Vec<usize>> = Vec::new(alloc);
     for _ in links {
         waiters.push(Vec::new(alloc))?;

@@ -1,10 +1,13 @@
 //! Schemas, looked at once, and whether documents conform to them.
 
-ghost use Rattle.std.specs.Prelude.{◌≡◌, ◌==◌, true, false, vec_len, IfOk, MatchResult, OnOk};
+ghost use Rattle.std.specs.Prelude.{◌≡◌, ◌==◌, true, false, vec_len, IfErr, IfOk, MatchResult, OnOk};
 ghost use Rattle.json5_types.specs.Errors.{LacksMemory};
 ghost use Rattle.json5_types.specs.ValueMeanings.{value_of};
 ghost use Rattle.json5_schema.specs.Conformance.{Conforms, with_formats};
 ghost use Rattle.json5_schema.specs.Subschemas.{HasOnlyKeywords};
+ghost use Rattle.json5_schema.specs.Refusals.{IsLaterName, IsOldName, IsRefused, IsRefusedBy, IsRefusedFor, IsRuled, NamesDraft, RefusedFor};
+ghost use Rattle.json5_schema.specs.RefusalSteps.{CountsBeside, IsDraft, IsOfOldDraft};
+ghost use Rattle.json5_schema.specs.declared.faults.Problem.TheVariants as problem;
 ghost use Rattle.json5_schema.specs.Shapes.{IsShaped};
 ghost use Rattle.json5_schema.specs.Views.{IsRefusal, IsSchemaOf, IsStrictOf, schema_of};
 
@@ -15,7 +18,7 @@ use crate::faults::{Problem, SchemaFault};
 use crate::formats::{asserts_formats, with_formats};
 use crate::found::Found;
 use crate::known::check_schema;
-use crate::looking::{Anchor, Seen, fault, look};
+use crate::looking::{Anchor, Rules, Seen, fault, look};
 use crate::patterns::Pattern;
 use crate::references::follow;
 use crate::words::shown;
@@ -53,7 +56,8 @@ impl Schema {
     /// - `At`, with a JSON pointer to the place and what is wrong there.
     /// - `Value`, where a request for memory was refused, or where more than 128 brackets are open at once in the value.
     pub fn new(alloc: Global, value: &Value) -> Result<Schema, SchemaFault>
-        ensures { IfOk result (IsSchemaOf (value_of value.now)) }
+        ensures taken { IfOk result (IsSchemaOf (value_of value.now)) }
+        ensures refused { IfErr result (IsRefused false (value_of value.now) (value_of value.now)) }
     {
         Schema::of(alloc, value.clone(alloc)?, false)
     }
@@ -74,7 +78,8 @@ impl Schema {
     /// - `NoKeyword` at a keyword that is none.
     /// - `NoFormat` at a format that isn't asserted, where the schema's `$vocabulary` asserts formats.
     pub fn strict(alloc: Global, value: &Value) -> Result<Schema, SchemaFault>
-        ensures { IfOk result (IsStrictOf (value_of value.now)) }
+        ensures taken { IfOk result (IsStrictOf (value_of value.now)) }
+        ensures refused { IfErr result (IsRefused true (value_of value.now) (value_of value.now)) }
     {
         Schema::of(alloc, value.clone(alloc)?, true)
     }
@@ -95,7 +100,8 @@ impl Schema {
     ///
     /// As `new`.
     pub fn with_formats(alloc: Global, value: &Value) -> Result<Schema, SchemaFault>
-        ensures { IfOk result (IsSchemaOf (with_formats (value_of value.now))) }
+        ensures taken { IfOk result (IsSchemaOf (with_formats (value_of value.now))) }
+        ensures refused { IfErr result (IsRefused false (value_of value.now) (with_formats (value_of value.now))) }
     {
         Schema::of(alloc, with_formats(alloc, value)?, false)
     }
@@ -111,7 +117,8 @@ impl Schema {
     ///
     /// As `strict`.
     pub fn strict_with_formats(alloc: Global, value: &Value) -> Result<Schema, SchemaFault>
-        ensures { IfOk result (IsStrictOf (with_formats (value_of value.now))) }
+        ensures taken { IfOk result (IsStrictOf (with_formats (value_of value.now))) }
+        ensures refused { IfErr result (IsRefused true (value_of value.now) (with_formats (value_of value.now))) }
     {
         Schema::of(alloc, with_formats(alloc, value)?, true)
     }
@@ -120,10 +127,11 @@ impl Schema {
     fn of(alloc: Global, root: Value, is_strict: bool) -> Result<Schema, SchemaFault>
         ensures taken { IfOk result (IsSchemaOf (value_of root)) }
         ensures known { is_strict ≡ true → IfOk result (λ schema. HasOnlyKeywords (schema_of schema)) }
+        ensures refused { RefusedFor (IsRefusedBy is_strict (value_of root)) result }
     {
-        let seen = nothing_seen(alloc, &root, is_strict)?;
-        check_keywords_of(alloc, &root, is_strict)?;
-        let (patterns, anchors) = look_at_all(alloc, &root, seen)?;
+        let rules = rules_of(alloc, &root, is_strict)?;
+        check_keywords_of(alloc, rules, &root)?;
+        let (patterns, anchors) = look_at_all(alloc, rules, &root)?;
         Ok(Schema {
             root,
             patterns,
@@ -243,50 +251,106 @@ fn whole_fault(alloc: Global, value: &Value) -> error::Result<Fault> {
     })
 }
 
-/// Whether a draft is named in which keywords beside `$ref` count: drafts 6 and 7 pass over them.
-fn counts_siblings(alloc: Global, root: &Value) -> Result<bool, SchemaFault> {
-    let Some(draft) = root.get("$schema").and_then(|name| name.as_str()) else {
-        return Ok(false);
-    };
-    if draft.contains("draft-03") || draft.contains("draft-04") || draft.contains("draft-05") {
-        return Err(fault(alloc, "/$schema", Problem::OldDraft));
-    }
-    Ok(draft.contains("2019-09") || draft.contains("2020-12"))
+/// Whether the name of a draft is that of the fourth or of the fifth.
+fn is_fourth_or_fifth(draft: &str) -> bool
+    ensures { result ≡ true → IsOldName draft.now }
+{
+    draft.contains("draft-04") || draft.contains("draft-05")
 }
 
-/// What is known of a schema before it is looked at.
-fn nothing_seen(alloc: Global, root: &Value, is_strict: bool) -> Result<Seen, SchemaFault> {
-    Ok(Seen {
+/// Whether the name of a draft is that of one before 6.
+fn is_old(draft: &str) -> bool
+    ensures { result ≡ true → IsOldName draft.now }
+{
+    draft.contains("draft-03") || is_fourth_or_fifth(draft)
+}
+
+/// Whether the name of a draft is that of one in which keywords beside `$ref` count: drafts 6 and 7 pass over them.
+fn is_later(draft: &str) -> bool
+    ensures { result ≡ false → ¬ IsLaterName draft.now }
+{
+    draft.contains("2019-09") || draft.contains("2020-12")
+}
+
+/// Whether keywords beside `$ref` count in the draft with this name. Refuses one before 6.
+fn counts_by_name(alloc: Global, draft: &str) -> Result<bool, SchemaFault>
+    ensures counts { IfOk result (CountsBeside (IsLaterName draft.now)) }
+    ensures refused { RefusedFor (λ p. (p ≡ problem.OldDraft) × IsOldName draft.now) result }
+{
+    if is_old(draft) {
+        return Err(fault(alloc, "/$schema", Problem::OldDraft));
+    }
+    Ok(is_later(draft))
+}
+
+/// The same of the draft that a value names, if it does.
+fn counts_by(alloc: Global, draft: &Value) -> Result<bool, SchemaFault>
+    ensures counts { IfOk result (CountsBeside (IsDraft IsLaterName (value_of draft.now))) }
+    ensures refused { RefusedFor (λ p. (p ≡ problem.OldDraft) × IsDraft IsOldName (value_of draft.now)) result }
+{
+    match draft {
+        Value::String(name) => counts_by_name(alloc, name.as_str()),
+        _ => Ok(false),
+    }
+}
+
+/// Whether a draft is named in which keywords beside `$ref` count.
+fn counts_siblings(alloc: Global, root: &Value) -> Result<bool, SchemaFault>
+    ensures counts { IfOk result (CountsBeside (NamesDraft IsLaterName (value_of root.now))) }
+    ensures refused { RefusedFor (IsOfOldDraft (value_of root.now)) result }
+{
+    match root.get("$schema") {
+        Some(draft) => counts_by(alloc, draft),
+        None => Ok(false),
+    }
+}
+
+/// How a schema is looked at.
+fn rules_of(alloc: Global, root: &Value, is_strict: bool) -> Result<Rules, SchemaFault>
+    ensures ruled { IfOk result (IsRuled is_strict (value_of root.now)) }
+    ensures refused { RefusedFor (IsOfOldDraft (value_of root.now)) result }
+{
+    Ok(Rules {
         counts_siblings: counts_siblings(alloc, root)?,
         is_strict,
         asserts_formats: asserts_formats(root),
-        references: Vec::new(alloc),
-        places: BTreeMap::new(alloc),
-        patterns: Vec::new(alloc),
-        anchors: Vec::new(alloc),
-        anchor_places: BTreeMap::new(alloc),
+        is_whole: true,
     })
 }
 
 /// Refuses a strict schema in which a keyword isn't known.
-fn check_keywords_of(alloc: Global, root: &Value, is_strict: bool) -> Result<(), SchemaFault>
-    ensures { OnOk result (is_strict ≡ true → HasOnlyKeywords (value_of root.now)) }
+fn check_keywords_of(alloc: Global, rules: Rules, root: &Value) -> Result<(), SchemaFault>
+    ensures known { OnOk result (rules.is_strict ≡ true → HasOnlyKeywords (value_of root.now)) }
+    ensures refused { RefusedFor (IsRefusedFor rules (value_of root.now)) result }
 {
-    if !is_strict {
+    if !rules.is_strict {
         return Ok(());
     }
     check_schema(alloc, root, "")
 }
 
+/// What is known of a schema before it is looked at.
+fn nothing_seen(alloc: Global) -> Seen {
+    Seen {
+        references: Vec::new(alloc),
+        places: BTreeMap::new(alloc),
+        patterns: Vec::new(alloc),
+        anchors: Vec::new(alloc),
+        anchor_places: BTreeMap::new(alloc),
+        twice: None,
+    }
+}
+
 /// Looks at a schema, and at all that its references mean.
 fn look_at_all(
     alloc: Global,
+    rules: Rules,
     root: &Value,
-    seen: Seen,
 ) -> Result<(Vec<Pattern>, Vec<Anchor>), SchemaFault>
-    ensures { OnOk result (IsShaped (value_of root.now)) }
+    ensures taken { OnOk result (IsShaped (value_of root.now)) }
+    ensures refused { RefusedFor (IsRefusedFor rules (value_of root.now)) result }
 {
-    let mut seen = seen;
-    look(alloc, root, "", &mut seen)?;
-    follow(alloc, root, seen)
+    let mut seen = nothing_seen(alloc);
+    look(alloc, rules, root, "", &mut seen)?;
+    follow(alloc, rules, root, seen)
 }

@@ -1,8 +1,11 @@
 //! What the argument of a keyword has to be.
 
-ghost use Rattle.std.specs.Prelude.{◌≡◌, ◌&&◌, pos, int_le, int_lt};
+ghost use Rattle.std.specs.Prelude.{◌≡◌, ◌&&◌, ◌^◌, pos, int_le, int_lt};
+ghost use Rattle.json5_grammar.specs.Language.Characters.{is_digit, Each};
 ghost use Rattle.json5_grammar.specs.Language.Numbers.{decimal};
+ghost use Rattle.json5_types.specs.NumberDecimals.{digits_in};
 ghost use Rattle.json5_types.specs.ValueMeanings.{number, value_of, items_view, fields_view};
+ghost use Rattle.json5_schema.specs.Refusals.{are_few_digits, has_few_digits};
 ghost use Rattle.json5_schema.specs.Shapes.{applicator_shape, assertion_shape, other_shape, shape_named, are_texts, is_names, are_named_names, is_named_names, is_known_kind, is_kind, are_kinds, is_kinds, is_count, is_divisor, has_item, holding_of, has_outline};
 
 use crate::keyword::{Applicator, Assertion, Keyword, keyword_named};
@@ -313,11 +316,38 @@ fn is_divisor(argument: &Value) -> bool
     }
 }
 
+/// Whether digits are below 2^64.
+fn are_few_digits(digits: &str) -> bool
+    requires { Each is_digit digits.now }
+    ensures { result ≡ are_few_digits digits.now }
+{
+    digits.parse::<u64>().is_ok()
+}
+
+/// Whether a whole number isn't below zero, but below 2^64.
+fn is_small(number: Whole) -> bool
+    ensures { result ≡ (int_le (pos 0) number && int_lt number (pos (2 ^ 64))) }
+{
+    match number.as_u128() {
+        Some(number) => number <= 0xFFFF_FFFF_FFFF_FFFF,
+        None => false,
+    }
+}
+
+/// Whether the digits of a decimal are below 2^64.
+fn is_short(number: &Decimal) -> bool
+    ensures { result ≡ are_few_digits (digits_in number.now) }
+{
+    are_few_digits(number.digits())
+}
+
 /// Whether the digits of a number are below 2^64.
-pub(crate) fn has_few_digits(number: &Value) -> bool {
+pub(crate) fn has_few_digits(number: &Value) -> bool
+    ensures { result ≡ has_few_digits (value_of number.now) }
+{
     match number {
-        Value::Whole(number) => matches!(number.as_u128(), Some(..=0xFFFF_FFFF_FFFF_FFFF)),
-        Value::Decimal(number) => number.digits().parse::<u64>().is_ok(),
+        Value::Whole(number) => is_small(*number),
+        Value::Decimal(number) => is_short(number),
         _ => false,
     }
 }

@@ -1,0 +1,7 @@
+use Rattle.std.proofs.Common.{true}
+use Rattle.json5_types.specs.ValueMeanings.{value_of}
+use Rattle.json5_schema.proofs.Refusing.{as_refused}
+use Rattle.json5_schema.proofs.schemas.Schema.strict.Goals as goal
+
+pub returns-clause-refused : goal.returns-clause-refused
+returns-clause-refused c = as_refused c.of.result true (value_of c.args.value.now) _ _ c.in_ok-clone.ensures.1 c.of.ensures.refused
