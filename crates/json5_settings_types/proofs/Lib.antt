@@ -13,3 +13,5 @@ pub mod FloatsFound
 pub mod Meanings
 pub mod FieldsMade
 pub mod NamesTaken
+pub mod TextsGathered
+pub mod SetsWritten

@@ -111,7 +111,7 @@ pub without_twins_back : {V C : Type 0} (same : C → C → Bool) (tree : V → 
 without_twins_back same tree f content vs differ back = ap (if_more (if_no_twins same)) (contents_back tree f content vs back) ∙ twins_some same (map content vs) differ
 
 -- strings are read back, whatever they are
-texts_back : (tree : String Global → Written) (values : List (String Global)) → ((s : String Global) → text_of (marks (tree s)) ≡ Some (string_bytes s)) → contents text_of (element_marks (elements_of tree values)) ≡ Some (map string_bytes values)
+pub texts_back : (tree : String Global → Written) (values : List (String Global)) → ((s : String Global) → text_of (marks (tree s)) ≡ Some (string_bytes s)) → contents text_of (element_marks (elements_of tree values)) ≡ Some (map string_bytes values)
 texts_back tree [] back = refl
 texts_back tree (s ∷ ss) back = let first = back s in let others = texts_back tree ss back in rw (first, others) refl
 

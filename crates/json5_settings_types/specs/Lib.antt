@@ -10,4 +10,5 @@ pub mod Paths
 pub mod Sizes
 pub mod Spellings
 pub mod Sums
+pub mod TextSets
 pub mod Twins

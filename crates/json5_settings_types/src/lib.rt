@@ -1,5 +1,5 @@
-//! Types ready for the fields of settings: durations, sizes, addresses, paths, numbers within bounds, lists that aren't empty
-//! or have no twins, objects without a key twice.
+//! Types ready for the fields of settings: durations, sizes, addresses, paths, floats, numbers within bounds, lists that aren't
+//! empty or have no twins, sets, objects without a key twice; and fields with an old name or with a default that is made.
 //!
 //! ```text
 //! let timeout: Duration = json5::from_str(alloc, "'1h30m'")?;    // 5400 seconds
@@ -20,6 +20,7 @@ mod renamed;
 mod sizes;
 mod spelled;
 mod sums;
+mod text_sets;
 mod told_apart;
 mod unique;
 mod unique_keys;
@@ -35,6 +36,7 @@ pub use paths::{FilePath, paths_read_back};
 pub use renamed::{Renamed, RenamedOr};
 pub use sizes::{Size, sizes_read_back};
 pub use spelled::{AsSpelled, Spelled, read_spelled, spellings_read_back};
+pub use text_sets::{TextSet, text_sets_read_back};
 pub use unique::{TellsApart, Unique, UniqueTexts, unique_read_back, unique_texts_read_back};
 pub use unique_keys::{UniqueKeys, unique_keys_read_back};
 pub use within::{Within, numbers_read_back};

@@ -5,7 +5,8 @@ use crate::outcomes::{Outcome, said};
 use crate::rows::{text_of, wanted_of};
 use json5::{Deserialize, Result, Serialize, from_str, to_string};
 use json5_settings_types::{
-    AsSpelled, Duration, FilePath, Float, NotEmpty, Size, Unique, UniqueKeys, UniqueTexts, Within,
+    AsSpelled, Duration, FilePath, Float, NotEmpty, Size, TextSet, Unique, UniqueKeys, UniqueTexts,
+    Within,
 };
 use json5_types::value::Value;
 use std::alloc::Global;
@@ -37,6 +38,7 @@ fn written(alloc: Global, name: &str, text: &str) -> Result<String> {
         "numbers" => again::<Unique<u16>>(alloc, text),
         "ports" => again::<UniqueKeys<u16>>(alloc, text),
         "ratio" => again::<Float>(alloc, text),
+        "roles" => again::<TextSet>(alloc, text),
         "service" => parts_of(alloc, text),
         _ => again::<NotEmpty<Duration>>(alloc, text),
     }
