@@ -12,7 +12,6 @@ use Rattle.json5_de.specs.Lending.{map_state_of}
 use Rattle.json5_de.specs.Objects.{MapAccessState}
 use Rattle.json5_de.specs.Plans.{Plan, Step, TakesMember, run}
 use Rattle.json5_de.specs.Refinement.{if_more}
-use Rattle.json5_de.specs.State.{State}
 use Rattle.json5_de.specs.StructFaults.{RefusesMember, ValueFaults, may_stand, or_of}
 use Rattle.json5_de.specs.declared.map.MapAccess.{MapAccess}
 use Rattle.json5_fields.specs.FieldCalls.{PassesHere, TakesHere}

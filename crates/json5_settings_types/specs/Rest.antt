@@ -1,7 +1,7 @@
 -- A struct that keeps the members which none of its fields has.
 -- A promise rests on this.
 use Rattle.std.proofs.Common.{refl}
-use Rattle.std.specs.Prelude.{◌≡◌, ℕ, Bool, false, if◌then◌else◌, List, [], Option, Some, Result}
+use Rattle.std.specs.Prelude.{◌≡◌, ℕ, false, if◌then◌else◌, List, [], Option, Some, Result}
 use Rattle.std.specs.Str.{encode_utf8_all}
 use Rattle.json5_grammar.specs.Language.Trees.{Tree, Members, no_member, member}
 use Rattle.json5_grammar.specs.Model.Collections.{joint, object_of, pair_contents}

@@ -1,4 +1,3 @@
-use Rattle.json5_de.specs.Lending.{map_state_of}
 use Rattle.json5_settings_types.specs.Keys.{members_of}
 use Rattle.json5_settings_types.specs.Rest.{of_others}
 use Rattle.json5_settings_types.proofs.RestRead.{field_refused, field_takes, other_refused, other_takes}
