@@ -49,7 +49,7 @@ impl<I: Input, V: Drop, F: StructFields<I, V>, T: Deserialize<I>> Fields<I>
 ///
 /// ```text
 /// // `{host: 'a', max_age: 1}`
-/// let (host, rest) = read_struct_rest::<_, _, _, Value>(de, Required("host"))?;
+/// let (host, rest): (String, UniqueKeys<Value>) = read_struct_rest(de, Required("host"))?;
 /// let max_age = rest.get("max_age");
 /// ```
 ///
