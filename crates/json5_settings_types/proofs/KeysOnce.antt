@@ -61,7 +61,7 @@ found content name (e ∷ es) = by (bytes_eq name (string_bytes e.0)) (found con
     by true rest = refl
     by false rest = rest
 
-some_made : {A B : Type 0} (g : A → B) (o : Option A) → is_some (if_some g o) ≡ is_some o
+pub some_made : {A B : Type 0} (g : A → B) (o : Option A) → is_some (if_some g o) ≡ is_some o
 some_made g None = refl
 some_made g (Some a) = refl
 

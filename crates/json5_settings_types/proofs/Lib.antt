@@ -15,3 +15,4 @@ pub mod FieldsMade
 pub mod NamesTaken
 pub mod TextsGathered
 pub mod SetsWritten
+pub mod RestRead

@@ -7,6 +7,7 @@ pub mod Floats
 pub mod Keys
 pub mod OldNames
 pub mod Paths
+pub mod Rest
 pub mod Sizes
 pub mod Spellings
 pub mod Sums

@@ -56,8 +56,8 @@ impl<V> UniqueKeys<V> {
 
 /// The members of an object, as far as they were read.
 #[derive(Drop)]
-struct Members<V> {
-    values: IndexMap<String, V>,
+pub(crate) struct Members<V> {
+    pub(crate) values: IndexMap<String, V>,
 }
 
 impl<V: Drop> Members<V> {

@@ -1,13 +1,19 @@
-//! A described struct whose fields are those of json5_settings_types.
+//! Described structs whose fields are those of json5_settings_types.
 
-ghost use Rattle.std.specs.Prelude.{pos};
+ghost use Rattle.std.specs.Prelude.{◌^◌, List, pos, string_bytes, ℕ};
+ghost use Rattle.json5.specs.Convert.{text_of, unsigned_below};
+ghost use Rattle.json5.specs.Layouts.{required_field};
 ghost use Rattle.json5.specs.Numbers.{whole};
-ghost use Rattle.json5.specs.Structs.{codes, struct_of};
+ghost use Rattle.json5.specs.Structs.{codes, object_of, struct_of};
 ghost use Rattle.json5.specs.Trees.{array, more, no_more, number};
+ghost use Rattle.json5_settings_types.specs.Keys.{members_of};
+ghost use Rattle.json5_settings_types.specs.Rest.{Kept, with_rest};
 
 use json5::fields::StructFields;
-use json5::{Deserialize, Deserializer, Input, Result, read_struct};
-use json5_settings_types::{MakesDefault, Renamed, RenamedOr, WithDefaultFrom};
+use json5::{Deserialize, Deserializer, Input, Required, Result, read_struct};
+use json5_settings_types::{
+    MakesDefault, Renamed, RenamedOr, UniqueKeys, WithDefaultFrom, read_struct_rest,
+};
 use std::alloc::{AllocError, Global};
 use std::result;
 
@@ -54,6 +60,30 @@ impl<I: Input> Deserialize<I> for Service {
                 workers,
                 ports,
             }),
+            Err(e) => Err(e),
+        }
+    }
+}
+
+/// A plugin and its settings: `{ name: 'a', size: 1 }`.
+#[derive(Drop)]
+pub(crate) struct Plugin {
+    /// Which one.
+    pub(crate) name: String,
+    /// Each other member.
+    pub(crate) rest: UniqueKeys<u16>,
+}
+
+impl<I: Input> Deserialize<I> for Plugin {
+    ghost Content = { List ℕ × Kept ℕ };
+
+    ghost content = { λ p. (string_bytes p.name, members_of (λ n. n) p.rest.values.entries) };
+
+    ghost convert = { object_of (with_rest (required_field (codes "name") text_of) (unsigned_below (2 ^ 16))) };
+
+    fn deserialize(de: &mut Deserializer<I>) -> Result<Plugin> {
+        match read_struct_rest::<I, String, Required, u16>(de, Required("name")) {
+            Ok((name, rest)) => Ok(Plugin { name, rest }),
             Err(e) => Err(e),
         }
     }

@@ -1,6 +1,6 @@
 //! Rows of types for settings: what is written of what was read.
 
-use crate::described::Service;
+use crate::described::{Plugin, Service};
 use crate::outcomes::{Outcome, said};
 use crate::rows::{text_of, wanted_of};
 use json5::{Deserialize, Result, Serialize, from_str, to_string};
@@ -40,6 +40,7 @@ fn written(alloc: Global, name: &str, text: &str) -> Result<String> {
         "ratio" => again::<Float>(alloc, text),
         "roles" => again::<TextSet>(alloc, text),
         "service" => parts_of(alloc, text),
+        "plugin" => plugin_of(alloc, text),
         _ => again::<NotEmpty<Duration>>(alloc, text),
     }
 }
@@ -53,4 +54,10 @@ fn again<'a, T: Deserialize<&'a str> + Serialize>(alloc: Global, text: &'a str) 
 fn parts_of(alloc: Global, text: &str) -> Result<String> {
     let service = from_str::<Service>(alloc, text)?;
     to_string(alloc, &(service.host, service.workers, service.ports))
+}
+
+/// The name of a plugin and its other members, as a list.
+fn plugin_of(alloc: Global, text: &str) -> Result<String> {
+    let plugin = from_str::<Plugin>(alloc, text)?;
+    to_string(alloc, &(plugin.name, plugin.rest))
 }
