@@ -6,7 +6,7 @@ use Rattle.json5_types.specs.declared.cow_str.CowStr.{CowStr}
 use Rattle.json5_types.specs.declared.value.Value.{Value}
 use Rattle.json5_types.specs.Cows.{cow_bytes}
 use Rattle.json5_types.specs.ValueChanges.{items_then}
-use Rattle.json5_types.specs.ValueMeanings.{Datum, Items, item, Fields, no_field, field, text, array, object, value_of, items_view, fields_view}
+use Rattle.json5_types.specs.ValueMeanings.{Datum, item, Fields, no_field, field, text, array, object, value_of, items_view, fields_view}
 use Rattle.json5.specs.declared.value_ref.ValueRef.{ValueRef, the_lemmas}
 use Rattle.json5.specs.declared.value_ref.ValueRef as ref
 use Rattle.json5.specs.ValueRefs.{ref_of, refs_view, members_view}

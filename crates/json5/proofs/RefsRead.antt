@@ -1,22 +1,23 @@
 -- What a walk takes of a borrowed value, step by step, and what reading the whole comes to.
-use Rattle.std.proofs.Common.{◌≡◌, ℕ, ℤ, ◌≤◌, Bool, true, false, List, [], ◌∷◌, ◌++◌, refl, ap, sym, ◌∙◌, subst, inl, rules, Option, Some, None}
-use Rattle.std.specs.Prelude.{IsUtf8, IfOk, OnOk, OnSome, IfNone, IfErr, if◌then◌else◌, MatchOption, MatchResult, Result, Ok, Err, is_ok, is_err}
+use Rattle.std.proofs.Common.{◌≡◌, ℕ, ℤ, Bool, true, false, List, [], ◌∷◌, ◌++◌, drop, refl, ap, sym, ◌∙◌, subst, inl, rules, Option, Some, None}
+use Rattle.std.specs.Prelude.{IsUtf8, IfOk, OnOk, OnSome, IfNone, if◌then◌else◌, MatchResult, Result, Ok, Err, is_ok, is_err}
 use Rattle.std.specs.Option.{is_some}
 use Rattle.std.specs.Result.{result_ok}
 use Rattle.std.specs.Str.{chars, encode_utf8_all}
 use Rattle.json5_grammar.specs.Language.Documents.{Doc}
 use Rattle.json5_grammar.specs.Language.Numbers as numbers
-use Rattle.json5_grammar.specs.Language.Trees.{Tree, Trees, Members, boolean, number, text, array, object, no_more, more, no_member, member}
+use Rattle.json5_grammar.specs.Language.Trees.{Tree, Trees, Members, number, text, no_more, more, no_member, member}
 use Rattle.json5_grammar.specs.Model.Collections.{snoc, snoc_member}
-use Rattle.json5_grammar.proofs.OneTree.{one_tree}
-use Rattle.json5_tokens.specs.Cursor.{IsOutOfMemory}
+use Rattle.json5_grammar.specs.Language.Values.{Reads, is_number}
+use Rattle.json5_grammar.proofs.OneTree.{one_phrase, one_tree}
+use Rattle.json5_tokens.specs.Cursor.{Cursor}
+use Rattle.json5_tokens.specs.ShortWays.{TookNumber as TakesNumber}
+use Rattle.json5_tokens.proofs.TextCuts.{Halves, drop_half}
 use Rattle.json5_types.specs.declared.cow_str.CowStr.{CowStr}
 use Rattle.json5_types.specs.declared.error.Error.{Error}
-use Rattle.json5_types.specs.declared.number.Number.{Number}
 use Rattle.json5_types.specs.declared.value.Value.{Value}
 use Rattle.json5_types.specs.Cows.{cow_bytes}
 use Rattle.json5_types.specs.Errors.{LacksMemory}
-use Rattle.json5_types.specs.NumberMeanings.{number_of}
 use Rattle.json5_types.specs.ValueChanges.{items_then}
 use Rattle.json5_types.specs.ValueMeanings.{Datum, Items, Fields, no_item, item, no_field, field, value_of}
 use Rattle.json5_types.specs.ValueMeanings as datum
@@ -24,21 +25,21 @@ use Rattle.json5_read.specs.declared.brackets.BracketKind.{BracketKind as Kind}
 use Rattle.json5_read.specs.declared.brackets.BracketKind.TheVariants as kind
 use Rattle.json5_read.specs.declared.kinds.Literal.{Literal}
 use Rattle.json5_read.specs.declared.kinds.Literal.TheVariants as literal
-use Rattle.json5_read.specs.DocumentReads.{IsRefusedWithin, ReadsText}
+use Rattle.json5_read.specs.DocumentReads.{ReadsText}
 use Rattle.json5_read.specs.OwnedReads.{datum_of_literal}
 use Rattle.json5_read.specs.TreeMeanings.{datum_of}
-use Rattle.json5_walk.specs.Nexts.{takes_value}
-use Rattle.json5_walk.specs.Frames.{Frame, in_array, in_object, At, at_value, at_element, at_key, at_colon, at_comma, next_of, value_frames}
+use Rattle.json5_walk.specs.Frames.{Frame, in_array, in_object, At, at_value, at_element, at_key, at_colon, at_comma, value_frames}
 use Rattle.json5_walk.specs.Moves.{Stays, stays, TakesTree, takes_tree, Opens, opens_array, opens_object, TakesKeyOf, takes_key, TakesColon, takes_colon, TakesComma, after_element, after_member, Closes, closes_elements, closes_array, closes_members, closes_object}
-use Rattle.json5_walk.specs.Walks.{Walked, Trail, IsAt, Moved, Ends, TookNumber, TookSpacedString, TookSpacedWhole, TookString, at_start, tree_of}
+use Rattle.json5_walk.specs.Walks.{Walked, Trail, IsAt, Moved, Ends, TakesFewDigits, TookNumber, TookSpacedString, TookSpacedWhole, TookString, at_start, offset_in, tree_of}
 use Rattle.json5_walk.proofs.Calls.{starts_at}
+use Rattle.json5_walk.proofs.Rests.{reads_gap, token_reads}
 use Rattle.json5_walk.proofs.Entries.{after_gap, then as followed, named_so}
 use Rattle.json5.specs.declared.value_ref.ValueRef.{ValueRef, the_lemmas}
 use Rattle.json5.specs.declared.value_ref.ValueRef as ref
 use Rattle.json5.specs.declared.value_ref_walks.Front.{Front}
 use Rattle.json5.specs.declared.value_ref_walks.Front.TheVariants as front
-use Rattle.json5.specs.ValueRefs.{ref_of, refs_view, members_view}
-use Rattle.json5.specs.ValueRefReads.{ReadsRef, meaning_of, meanings_of, member_meanings, IsRead, TakesMeaning, InElements, InMembers, IsOpened, Finishes, TakesElements, TakesMembers, TakesFront, TakesItem, TakesKey, TakesPart}
+use Rattle.json5.specs.ValueRefs.{ReadsRef, ref_of, refs_view, members_view}
+use Rattle.json5.specs.ValueRefWalks.{meaning_of, meanings_of, member_meanings, IsRead, TakesMeaning, InElements, InMembers, Finishes, TakesElements, TakesMembers, TakesFront, TakesItem, TakesKey, TakesPart}
 use Rattle.json5.proofs.RefsCopied.{fields_then, members_last, refs_last, view-String}
 use Rattle.json5.proofs.TextsMean.{document_means}
 
@@ -125,6 +126,42 @@ literal_means literal.False = refl
 
 pub took_literal : {v w : Walked} (l : Literal) (x : ValueRef) → ref_of x ≡ datum_of_literal l → Moved (TakesTree (tree_of l)) v w → Moved (TakesMeaning (ref_of x)) v w
 took_literal l x e m = takes (tree_of l) (ref_of x) (literal_means l ∙ sym e) m
+
+-- ---- a decimal that a scanner reads of what the walk passes over
+
+-- what is left of a text after so many bytes, if a walk has taken these
+rest_is : (v : Walked) (s : Trail) (bytes rest : List ℕ) (n : ℕ) → IsAt v s → bytes ≡ v.text → n ≡ offset_in v → rest ≡ drop n bytes → chars rest ≡ v.unread
+rest_is v s bytes rest n f e o r =
+    let halves : Halves v.text f.front v.unread = record { is_text = f.is_text; split = f.split } in
+    ap chars (r ∙ ap (λ z. drop n z) e ∙ ap (λ z. drop z v.text) o) ∙ drop_half halves
+
+scanned : (old new : Cursor) (n : numbers.Number) → TakesNumber old new n → Reads old.unread (number n) new.unread
+scanned old new n k = subst (λ x. Reads x (number n) new.unread) (sym k.split) (reads_gap k.is_gap (token_reads (k.literal ++ new.unread) k.literal new.unread (number n) refl (is_number k.is_number) k.stops))
+
+pub no_digits : {v w : Walked} (done : Bool) → TakesFewDigits v w done → done ≡ false → w ≡ v
+no_digits true p h = absurd (cc)
+no_digits false p h = p
+
+few_digits : {v w : Walked} (done : Bool) → TakesFewDigits v w done → done ≡ true → TakesFewDigits v w true
+few_digits true p h = p
+few_digits false p h = absurd (cc)
+
+same_number : (m n : numbers.Number) → number m ≡ number n → m ≡ n
+same_number m n e = cc
+
+pub took_scanned : {v w : Walked} (bytes rest : List ℕ) (n : ℕ) (d : numbers.Decimal) (old new : Cursor) (done : Bool) → bytes ≡ v.text → n ≡ offset_in v → rest ≡ drop n bytes → old.unread ≡ chars rest → TakesNumber old new (numbers.decimal d)
+    → TakesFewDigits v w done → done ≡ true → Moved (TakesMeaning (ref_of (ref.Decimal d))) v w
+took_scanned {v = v} {w = w} bytes rest n d old new done e o r u k p h =
+    let (m, took) = few_digits done p h in
+    let same : (s : Trail) → IsAt v s → m ≡ numbers.decimal d = λ s f.
+    let front : old.unread ≡ v.unread = u ∙ rest_is v s bytes rest n f e o r in
+    let read : Reads v.unread (number (numbers.decimal d)) new.unread = subst (λ x. Reads x (number (numbers.decimal d)) new.unread) front (scanned old new (numbers.decimal d) k) in
+    same_number m (numbers.decimal d) (one_phrase v.unread w.unread new.unread (number m) (number (numbers.decimal d)) took.reads read).0 in
+    takes (number (numbers.decimal d)) (ref_of (ref.Decimal d)) (sym (view-Decimal d)) (record {
+      text = took.moved.text;
+      limit = took.moved.limit;
+      leads = λ s f. subst (λ z. (a : At) × TakesTree (number z) s.now a × IsAt w (record { now = a; marked = s.marked })) (same s f) (took.moved.leads s f);
+    })
 
 -- ---- elements
 

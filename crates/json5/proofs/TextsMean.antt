@@ -15,7 +15,7 @@ use Rattle.json5_tokens.proofs.UnicodeScalars.{key_scalars, text_scalars}
 use Rattle.json5_types.specs.ValueMeanings.{no_item, item, no_field, field}
 use Rattle.json5_types.specs.ValueMeanings as datum
 use Rattle.json5_read.specs.TreeMeanings.{datum_of, items_of, fields_of}
-use Rattle.json5.specs.ValueRefReads.{meaning_of, meanings_of, member_meanings}
+use Rattle.json5.specs.ValueRefWalks.{meaning_of, meanings_of, member_meanings}
 
 append_scalars : (x y : List ℕ) → all_scalars x ≡ true → all_scalars y ≡ true → all_scalars (x ++ y) ≡ true
 append_scalars [] y a b = b

@@ -6,8 +6,7 @@ ghost use Rattle.json5_grammar.specs.Language.Documents.{max_depth};
 ghost use Rattle.json5_types.specs.Cows.{cow_bytes};
 ghost use Rattle.json5_types.specs.Errors.{LacksMemory};
 ghost use Rattle.json5_types.specs.ValueMeanings.{value_of, items_view, fields_view};
-ghost use Rattle.json5.specs.ValueRefs.{ref_of, refs_view, members_view};
-ghost use Rattle.json5.specs.ValueRefReads.{ReadsRef};
+ghost use Rattle.json5.specs.ValueRefs.{ReadsRef, ref_of, refs_view, members_view};
 
 use crate::value_ref_walks::walked;
 use json5_read::read_document_within;
@@ -20,7 +19,7 @@ use json5_types::whole::Whole;
 use std::alloc::Global;
 
 /// What a JSON5 text holds, as [`Value`] has it, but strings and keys are borrowed from the text where they are spelled without an
-/// escape. So most of them take no memory, and the value lives no longer than the text.
+/// escape. So most of them take no memory, and the value lives no longer than the text. No clause says which are borrowed.
 ///
 /// ```text
 /// let value = ValueRef::from_str(alloc, text)?;
@@ -71,7 +70,7 @@ impl<'de> ValueRef<'de> {
     ///
     /// # Errors
     ///
-    /// Those of `json5::from_str_within` for a [`Value`], at the same positions.
+    /// Those of `json5::from_str_within` for a [`Value`], at the same positions. Each open bracket takes up to half a KiB of stack.
     pub fn from_str_within(alloc: Global, limit: Limit, text: &'de str) -> Result<ValueRef<'de>>
         ensures { ReadsRef limit (chars text.now) result }
     {

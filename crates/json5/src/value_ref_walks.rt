@@ -11,11 +11,12 @@ ghost use Rattle.json5_types.specs.ValueMeanings.{array, object};
 ghost use Rattle.json5_walk.specs.Moves.{TakesColon};
 ghost use Rattle.json5_walk.specs.Walks.{Moved};
 ghost use Rattle.json5.specs.ValueRefs.{ref_of, refs_view, members_view};
-ghost use Rattle.json5.specs.ValueRefReads.{TakesMeaning, TakesFront, TakesItem, TakesKey, TakesPart, Finishes};
+ghost use Rattle.json5.specs.ValueRefWalks.{TakesMeaning, TakesFront, TakesItem, TakesKey, TakesPart, Finishes};
 
 use crate::value_ref::ValueRef;
 use json5_read::brackets::BracketKind;
 use json5_read::kinds::{Literal, ValueKind, kind_at};
+use json5_tokens::scanner::Scanner;
 use json5_types::cow_str::CowStr;
 use json5_types::nesting::Limit;
 use json5_types::number::Number;
@@ -78,7 +79,7 @@ fn take_other<'de>(
         Front::Closed => Some(None),
         Front::Literal(literal) => Some(Some(value_of_literal(literal))),
         Front::String => Some(Some(take_string(walk)?)),
-        Front::Number => Some(Some(take_number(walk)?)),
+        Front::Number => Some(Some(take_number(alloc, walk)?)),
         Front::Other => None,
     }
 }
@@ -320,7 +321,31 @@ fn take_string<'de>(walk: &mut Walk<'de>) -> Option<ValueRef<'de>>
 
 /// Takes a number.
 #[inline(never)]
-fn take_number<'de>(walk: &mut Walk<'de>) -> Option<ValueRef<'de>>
+fn take_number<'de>(alloc: Global, walk: &mut Walk<'de>) -> Option<ValueRef<'de>>
+    ensures { IfSome result (λ v. Moved (TakesMeaning (ref_of v)) walk.old walk.new) }
+{
+    match short_decimal(alloc, walk) {
+        Some(value) => Some(value),
+        None => take_long_number(walk),
+    }
+}
+
+/// Takes a decimal whose digits take no memory: a scanner reads what the walk passes over.
+#[inline(always)]
+fn short_decimal<'de>(alloc: Global, walk: &mut Walk<'de>) -> Option<ValueRef<'de>>
+    ensures { MatchOption result (walk.new ≡ walk.old) (λ v. Moved (TakesMeaning (ref_of v)) walk.old walk.new) }
+{
+    let (_, rest) = walk.text().split_at_checked(walk.offset())?;
+    let decimal = Scanner::new(alloc, rest).short_decimal()?;
+    if !walk.short_number() {
+        return None;
+    }
+    Some(ValueRef::Decimal(decimal))
+}
+
+/// Takes any number.
+#[inline(never)]
+fn take_long_number<'de>(walk: &mut Walk<'de>) -> Option<ValueRef<'de>>
     ensures { IfSome result (λ v. Moved (TakesMeaning (ref_of v)) walk.old walk.new) }
 {
     match walk.number().ok()? {

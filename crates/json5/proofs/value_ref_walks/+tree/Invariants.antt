@@ -1,7 +1,7 @@
 use Rattle.std.proofs.Common.{◌*◌, ◌+◌}
 use Rattle.json5_walk.specs.Walks.{Moved}
 use Rattle.json5.specs.ValueRefs.{refs_view, members_view}
-use Rattle.json5.specs.ValueRefReads.{TakesElements, TakesMembers}
+use Rattle.json5.specs.ValueRefWalks.{TakesElements, TakesMembers}
 use Rattle.json5.proofs.value_ref_walks.+tree.Given as goal
 
 -- each call takes a step down, and a collection within takes one from the room

@@ -1,36 +1,23 @@
--- How a borrowed value is read: as a whole document, and by a walk.
--- A promise rests on this.
-use Rattle.std.specs.Prelude.{◌≡◌, ℕ, Bool, true, false, List, [], ◌∷◌, Option, Some, None, Result, IfOk, IfErr, MatchResult, ⊤}
+-- What reading a borrowed value takes of a walk.
+-- Private.
+use Rattle.std.specs.Prelude.{◌≡◌, Bool, true, false, List, ◌∷◌, Option, Some, None, ⊤}
 use Rattle.std.specs.Str.{chars, encode_utf8_all}
-use Rattle.json5_grammar.specs.Language.Documents.{Doc}
 use Rattle.json5_grammar.specs.Language.Trees.{Tree, Trees, Members, null, boolean, number, text, array, object, no_more, more, no_member, member}
 use Rattle.json5_grammar.specs.Model.Collections.{snoc, snoc_member}
-use Rattle.json5_tokens.specs.Cursor.{IsOutOfMemory}
 use Rattle.json5_types.specs.declared.cow_str.CowStr.{CowStr}
-use Rattle.json5_types.specs.declared.error.Error.{Error}
 use Rattle.json5_types.specs.Cows.{cow_bytes}
 use Rattle.json5_types.specs.ValueMeanings.{Datum, Items, Fields, no_item, item, no_field, field}
 use Rattle.json5_types.specs.ValueMeanings as datum
 use Rattle.json5_read.specs.declared.brackets.BracketKind.{BracketKind as Kind}
 use Rattle.json5_read.specs.declared.brackets.BracketKind.TheVariants as kind
-use Rattle.json5_read.specs.DocumentReads.{IsRefusedWithin}
-use Rattle.json5_read.specs.TreeMeanings.{datum_of}
 use Rattle.json5_walk.specs.Nexts.{takes_value}
-use Rattle.json5_walk.specs.Frames.{Frame, in_array, in_object, At, at_value, at_element, at_key, at_colon, at_comma, next_of, value_frames}
+use Rattle.json5_walk.specs.Frames.{Frame, in_array, in_object, At, at_element, at_key, at_comma, next_of, value_frames}
 use Rattle.json5_walk.specs.Moves.{Stays, Opens, Closes, TakesComma, TakesKeyOf, TakesTree}
 use Rattle.json5_walk.specs.Walks.{Walked, Moved, tree_of}
 use Rattle.json5.specs.declared.value_ref.ValueRef.{ValueRef}
 use Rattle.json5.specs.declared.value_ref_walks.Front.{Front}
 use Rattle.json5.specs.declared.value_ref_walks.Front.TheVariants as front
 use Rattle.json5.specs.ValueRefs.{ref_of}
-
--- Ok(v) exactly when x is a document within the limit, and then v is what its tree means; unless memory runs out
-pub record ReadsRef (limit : ℕ) (x : List ℕ) (result : Result ValueRef Error) : Type 0 where
-  pub sound : IfOk result (λ v. (t : Tree) × Doc limit x t × (ref_of v ≡ datum_of t))
-  pub complete : (t : Tree) → Doc limit x t → MatchResult result (λ v. ref_of v ≡ datum_of t) IsOutOfMemory
-  pub refused : IfErr result (IsRefusedWithin limit x)
-
--- ---- private clauses alone cite these
 
 -- what a tree means, as the bytes of its texts say it
 abbrev mutual

@@ -2,7 +2,7 @@ use Rattle.std.proofs.Common.{subst}
 use Rattle.json5_types.specs.NumberMeanings.{number_of}
 use Rattle.json5_walk.specs.Walks.{TookNumber}
 use Rattle.json5.proofs.RefsRead.{if_ok, took_decimal, took_whole}
-use Rattle.json5.proofs.value_ref_walks.take_number.Goals as goal
+use Rattle.json5.proofs.value_ref_walks.take_long_number.Goals as goal
 
 pub returns-in-Whole : goal.returns-in-Whole
 returns-in-Whole c =
