@@ -19,7 +19,7 @@ use Rattle.json5_types.specs.declared.value.Value.{Value}
 use Rattle.json5_types.specs.Cows.{cow_bytes}
 use Rattle.json5_types.specs.Errors.{LacksMemory}
 use Rattle.json5_types.specs.ValueChanges.{items_then}
-use Rattle.json5_types.specs.ValueMeanings.{Datum, Items, Fields, no_item, item, no_field, field, value_of}
+use Rattle.json5_types.specs.ValueMeanings.{Datum, Items, Fields, item, field, value_of}
 use Rattle.json5_types.specs.ValueMeanings as datum
 use Rattle.json5_read.specs.declared.brackets.BracketKind.{BracketKind as Kind}
 use Rattle.json5_read.specs.declared.brackets.BracketKind.TheVariants as kind
@@ -138,10 +138,6 @@ rest_is v s bytes rest n f e o r =
 scanned : (old new : Cursor) (n : numbers.Number) → TakesNumber old new n → Reads old.unread (number n) new.unread
 scanned old new n k = subst (λ x. Reads x (number n) new.unread) (sym k.split) (reads_gap k.is_gap (token_reads (k.literal ++ new.unread) k.literal new.unread (number n) refl (is_number k.is_number) k.stops))
 
-pub no_digits : {v w : Walked} (done : Bool) → TakesFewDigits v w done → done ≡ false → w ≡ v
-no_digits true p h = absurd (cc)
-no_digits false p h = p
-
 few_digits : {v w : Walked} (done : Bool) → TakesFewDigits v w done → done ≡ true → TakesFewDigits v w true
 few_digits true p h = p
 few_digits false p h = absurd (cc)
@@ -196,9 +192,6 @@ elements_ended xs o _ _ (closes_array ts t p) (e, q) = (ap datum.array e, q)
 elements_ended xs o _ _ (closes_members ps p) h = absurd h
 elements_ended xs o _ _ (closes_object ps u e t p) h = absurd h
 
-pub no_elements : {v : Walked} → Moved (TakesElements no_item) v v
-no_elements = record { text = refl; limit = refl; leads = λ s f. (s.now, λ o is. is, f) }
-
 pub element_more : {v mid w : Walked} (xs : Items) (x : Datum) → Moved (TakesElements xs) v mid → Moved (TakesMeaning x) mid w → Moved (TakesElements (items_then xs x)) v w
 element_more xs x p q = followed (TakesElements xs) (TakesMeaning x) (TakesElements (items_then xs x)) (λ a b c m k o is. in_elements_then xs x o b c (m o is) k) p q
 
@@ -235,9 +228,6 @@ members_ended fs o _ _ (closes_elements ts p) h = absurd h
 members_ended fs o _ _ (closes_array ts t p) h = absurd h
 members_ended fs o _ _ (closes_members ps p) (is, q) = (ap datum.object is, q)
 members_ended fs o _ _ (closes_object ps u e t p) (is, q) = (ap datum.object is, q)
-
-pub no_members : {v : Walked} → Moved (TakesMembers no_field) v v
-no_members = record { text = refl; limit = refl; leads = λ s f. (s.now, λ o is. is, f) }
 
 pub member_more : {v0 v1 v2 v3 v4 : Walked} (fs : Fields) (bytes : List ℕ) (x : Datum) → Moved (TakesMembers fs) v0 v1 → Moved (TakesKeyOf bytes) v1 v2 → Moved TakesColon v2 v3 → Moved (TakesMeaning x) v3 v4
     → Moved (TakesMembers (fields_then fs (chars bytes) x)) v0 v4
@@ -294,9 +284,6 @@ opened k x p q = followed (Opens k) (Finishes k x) (TakesMeaning x) (λ a b c. s
     so : (k : Kind) (a b c : At) → Opens k a b → Finishes k x b c → TakesMeaning x a c
     so _ _ _ c (opens_array a due) m = (due, m (value_frames a) (refl, refl))
     so _ _ _ c (opens_object a due) m = (due, m (value_frames a) (refl, refl))
-
-pub finished : {v w : Walked} (k j : Kind) (x y : Datum) → k ≡ j → x ≡ y → Moved (Finishes j x) v w → Moved (Finishes k y) v w
-finished {v = v} {w = w} k j x y e is p = subst (λ z. Moved (Finishes z y) v w) (sym e) (subst (λ z. Moved (Finishes j z) v w) is p)
 
 -- ---- the whole
 

@@ -1,6 +1,6 @@
 //! What a borrowed value is, and what is found in it, each as a [`Value`](json5_types::value::Value) has it.
 
-ghost use Rattle.std.specs.Prelude.{◌≡◌, option_map, pos, ◌^◌, ◌≤ℤ◌, ◌<ℤ◌, FitsSigned};
+ghost use Rattle.std.specs.Prelude.{◌≡◌, option_map, pos, ◌^◌, FitsSigned};
 ghost use Rattle.std.specs.Int.{w64};
 ghost use Rattle.std.specs.Str.{chars};
 ghost use Rattle.json5_types.specs.ValueKinds.{ReadsWhole, IsBelow, len_of, members_of};
