@@ -7,8 +7,8 @@ use crate::own_structs::{Config, Letters, Person};
 use crate::writes::{write, write_within};
 use indexmap::IndexMap;
 use json5::{
-    ByteBuf, CowStr, Decimal, Deserialize, Deserializer, IgnoredAny, Limit, Serialize, Value,
-    from_str, from_str_within,
+    ByteBuf, CowStr, Decimal, Deserialize, Deserializer, Error, IgnoredAny, Limit, Result,
+    Serialize, Value, ValueRef, from_str, from_str_within,
 };
 use std::alloc::Global;
 use std::collections::{BTreeMap, HashMap};
@@ -67,6 +67,7 @@ pub fn answer(alloc: Global, asked: Asked, name: &str, text: &str) -> Answer {
     match name {
         "Decimal" => of_decimal(alloc, asked, text),
         "Value" => of_value(alloc, asked, text),
+        "ValueRef" => of_value_ref(alloc, asked, text),
         _ => of_scalar(alloc, asked, name, text),
     }
 }
@@ -80,9 +81,39 @@ fn of_decimal(alloc: Global, asked: Asked, text: &str) -> Answer {
 
 fn of_value(alloc: Global, asked: Asked, text: &str) -> Answer {
     match asked {
-        Asked::Read => shown(alloc, from_str(alloc, text).map(Any)),
-        Asked::Within(limit) => shown(alloc, from_str_within(alloc, limit, text).map(Any)),
+        Asked::Read => same(
+            alloc,
+            from_str(alloc, text),
+            ValueRef::from_str(alloc, text),
+        ),
+        Asked::Within(limit) => same(
+            alloc,
+            from_str_within(alloc, limit, text),
+            ValueRef::from_str_within(alloc, limit, text),
+        ),
         _ => ask::<Value>(alloc, asked, text),
+    }
+}
+
+/// The answer of a value. What borrows its texts has to give the same.
+fn same(alloc: Global, read: Result<Value>, borrowed: Result<ValueRef<'_>>) -> Answer {
+    let answer = shown(alloc, read.map(Any));
+    if answer == shown(alloc, owned(alloc, borrowed).map(Any)) {
+        return answer;
+    }
+    Err(Error::custom(alloc, "a ValueRef gives something else")?)
+}
+
+fn owned(alloc: Global, borrowed: Result<ValueRef<'_>>) -> Result<Value> {
+    borrowed?.to_owned(alloc)
+}
+
+/// Shows which texts are borrowed.
+fn of_value_ref(alloc: Global, asked: Asked, text: &str) -> Answer {
+    match asked {
+        Asked::Read => shown(alloc, ValueRef::from_str(alloc, text)),
+        Asked::Within(limit) => shown(alloc, ValueRef::from_str_within(alloc, limit, text)),
+        _ => unknown(alloc),
     }
 }
 

@@ -16,6 +16,7 @@ mod numbers;
 mod places;
 mod readers;
 mod reading;
+mod refs;
 mod rows;
 mod short;
 mod texts;

@@ -1,7 +1,7 @@
 //! Calls that work with a `Value`.
 
 use crate::answers::{Answer, wrapped};
-use crate::{bytes, changes, finds, kinds, makes, texts};
+use crate::{bytes, changes, finds, kinds, makes, refs, texts};
 use std::alloc::Global;
 
 /// A row: its call, the words that follow the call's name, the value, and what follows that: a key, and another text.
@@ -45,10 +45,14 @@ fn answer_of(alloc: Global, row: Row<'_>) -> Answer {
 fn answer_of_value(alloc: Global, row: Row<'_>) -> Answer {
     let value = json5::from_str(alloc, row.value)?;
     match row.call {
-        "is" | "len" | "as_u64" | "as_i64" | "as_u128" | "as_i128" => kinds::answer(
-            alloc, row, &value,
-        ),
-        "get" | "get_at" | "pointer" | "entries" | "hash" => finds::answer(alloc, row, &value),
+        "is" | "as_u128" | "as_i128" => kinds::answer(alloc, row, &value),
+        "pointer" | "hash" => finds::answer(alloc, row, &value),
+        "len" | "as_u64" | "as_i64" => {
+            refs::same(alloc, row, &value, kinds::answer(alloc, row, &value))
+        }
+        "get" | "get_at" | "entries" => {
+            refs::same(alloc, row, &value, finds::answer(alloc, row, &value))
+        }
         "deeper" => texts::answer(alloc, row, &wrapped(alloc, value)?),
         "to_string_in" | "to_json" | "to_json_compact" | "to_json_in" | "is_json" | "shown" =>
             texts::answer(alloc, row, &value),
