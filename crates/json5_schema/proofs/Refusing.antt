@@ -1,8 +1,8 @@
 -- Why a part isn't taken, and so the whole isn't.
-use Rattle.std.proofs.Common.{◌≡◌, ◌↔◌, ◌∙◌, ◌<◌, ◌≤◌, ◌+◌, ◌&&◌, ◌||◌, ℕ, zero, suc, Bool, true, false, not, List, [], ◌∷◌, length, get_or, drop, Result, Ok, Err, IfOk, IfErr, Some, None, String, string_bytes, inl, inr, refl, sym, ap, subst, arith, nat_eq}
+use Rattle.std.proofs.Common.{◌≡◌, ◌⊎◌, ◌↔◌, ◌∙◌, ◌<◌, ◌≤◌, ◌+◌, ◌&&◌, ◌||◌, ℕ, zero, suc, Bool, true, false, not, List, [], ◌∷◌, length, get_or, drop, Result, Ok, Err, IfOk, IfErr, Some, None, String, string_bytes, inl, inr, refl, sym, ap, subst, arith, nat_eq}
 use Rattle.std.specs.declared.alloc.Global.{Global}
 use lib.Chars.{codes}
-use Rattle.std.specs.Cmp.Lexicographic.{pointwise}
+use Rattle.std.specs.Cmp.Lexicographic.{pointwise, same_text}
 use Rattle.std.specs.Str.{chars, IsUtf8, encode_utf8_all}
 use Rattle.std.specs.Str.Iter.{HasSubslice}
 use Rattle.std.proofs.lemmas.Str.{encodes-chars}
@@ -27,11 +27,11 @@ use Rattle.json5_schema.specs.declared.shape.Holding.{Holding}
 use Rattle.json5_schema.specs.declared.shape.Holding.TheVariants as holding
 use Rattle.json5_schema.specs.declared.shape.Shape.{Shape}
 use Rattle.json5_schema.specs.declared.shape.Shape.TheVariants as shape
-use Rattle.json5_schema.specs.Conformance.{asserts_formats}
+use Rattle.json5_schema.specs.Conformance.{asserts_formats, behind_sign}
 use Rattle.json5_schema.specs.Patterns.{in_rust}
-use Rattle.json5_schema.specs.Refusals.{asks_beside, begins_with_sign, gives, has_few_digits, inner, is_signed, times, times_among, times_at, times_named, IsLaterName, NamesDraft, is_followed, is_format, names_schema, shape_in, IsFaulty, beside, wrong, further, IsFaultySchema, IsFor, IsOfMemory, IsRefused, IsRefusedBy, IsTextNot, IsWrong, RefusedFor}
-use Rattle.json5_schema.specs.RefusalSteps.{members_by, CountsBeside, IsDraft, IsFaultyArgument, IsFaultyBy, IsFaultyKeyword, IsFaultyMember, IsFormatFault, IsKeyFault, IsNoFormat, IsNoName, IsNoReference, IsOfOldDraft, IsOutOfShape, IsPatternFault, IsProblemOf, IsUnknownIn, IsUnknownThrough}
-use Rattle.json5_schema.specs.Shapes.{are_named_schemas, are_schemas, are_schemas_or_names, holding_of, is_names, is_schema}
+use Rattle.json5_schema.specs.Refusals.{asks_beside, begins_with_sign, gives, is_by_name, is_each, has_few_digits, inner, is_signed, times, times_among, times_at, times_named, IsLaterName, NamesDraft, is_followed, is_format, names_schema, shape_in, IsFaulty, beside, wrong, further, IsFaultySchema, IsFor, IsOfMemory, IsRefused, IsRefusedBy, IsTextNot, IsWrong, LeadsOn, here, inside, LeadsTo, step, steps, Refers, RefusedFor, StandsInPlace}
+use Rattle.json5_schema.specs.RefusalSteps.{members_by, CountsBeside, IsDraft, IsFaultyArgument, IsFaultyBy, IsFaultyKeyword, IsFaultyMember, IsFormatFault, IsKeyFault, IsNoFormat, IsNoName, IsNoReference, IsOfOldDraft, IsOutOfShape, IsPatternFault, IsProblemOf, IsUnknownIn, IsUnknownThrough, LeadsAmong, LeadsBack, LeadsBy, LeadsNamed}
+use Rattle.json5_schema.specs.Shapes.{are_named_schemas, are_schemas, are_schemas_or_names, holding_of, is_names, is_schema, IsElementOf, IsMemberOf}
 use Rattle.json5_schema.specs.Subschemas.{IsElement, IsMember, itself, within}
 use Rattle.json5_schema.proofs.Knowing.{value_from}
 
@@ -309,3 +309,35 @@ pub as_refused : {A : Type 0} (r : Result A SchemaFault) (is_strict : Bool) (x r
 as_refused (Ok v) is_strict x root y e h = tt
 as_refused (Err (faults.At place p)) is_strict x root y e h = subst (λ z. IsRefusedBy is_strict z p) e h
 as_refused (Err (faults.Value f)) is_strict x root y e h = inl h
+
+-- ---- references that lead back
+
+pub by_keyword : (xs : List (String Global × Value)) (i : ℕ) (f : String Global × Value) (bytes to : List ℕ) → i < length xs → f ≡ get_or xs i f → bytes ≡ string_bytes f.0 → IsUtf8 bytes → LeadsBy bytes (value_of f.1) to → LeadsOn (object (fields_view xs)) to
+by_keyword xs i f bytes to h is b u (inl (named, same)) =
+    here (object (fields_view xs)) (chars (string_bytes f.0)) to (subst (λ z. IsMember (chars (string_bytes f.0)) z (fields_view xs)) same (member_at xs i f h is)) (sym (spelled f bytes b u) ∙ named)
+by_keyword xs i f bytes to h is b u (inr (t, stands, leads)) =
+    inside (object (fields_view xs)) (value_of f.1) t (chars (string_bytes f.0)) to (member_at xs i f h is) (subst (λ z. StandsInPlace z (value_of f.1) t) (spelled f bytes b u) stands) leads
+
+pub by_reference : (n : Value) (s : String Global) (bs name to : List ℕ) (a b : Bool) → n ≡ value.String s → bs ≡ string_bytes s → a ≡ pointwise nat_eq name (codes "$ref") → b ≡ pointwise nat_eq bs to → a ≡ true → b ≡ true → LeadsBy name (value_of n) to
+by_reference n s bs name to a b e t k l h j =
+    let named = same_text name (codes "$ref") (sym h ∙ k) in
+    let same = same_text bs to (sym j ∙ l) in
+    inl (named, ap value_of e ∙ (view-String s ∙ ap (λ z. text (chars z)) (sym t ∙ same)))
+
+pub by_each : (a : Datum) (xs : Items) (name to : List ℕ) → a ≡ array xs → is_each name ≡ true → LeadsAmong (array xs) to → LeadsBy name a to
+by_each a xs name to e each (t, there, leads) = inr (t, inr (inl (each, subst (IsElementOf t) (sym e) there)), leads)
+
+pub by_member : (a : Datum) (fs : Fields) (name to : List ℕ) → a ≡ object fs → is_by_name name ≡ true → LeadsNamed (object fs) to → LeadsBy name a to
+by_member a fs name to e named (t, there, leads) = inr (t, inr (inr (named, subst (IsMemberOf t) (sym e) there)), leads)
+
+pub leads_once : (root : Datum) (from to : List ℕ) (t : Datum) → Some t ≡ behind_sign from root → Refers root from → LeadsOn t to → LeadsTo root from to
+leads_once root from to t is there leads = step t from to there (sym is) leads
+
+-- from the first one to the next one, by the one in front of it
+pub led_on : (root : Datum) (first last next : List ℕ) → (last ≡ first) ⊎ LeadsTo root first last → LeadsTo root last next → (next ≡ first) ⊎ LeadsTo root first next
+led_on root first last next (inl same) h = inr (subst (λ z. LeadsTo root z next) same h)
+led_on root first last next (inr before) h = inr (steps first last next before h)
+
+pub led_back : (root : Datum) (first last : List ℕ) → (last ≡ first) ⊎ LeadsTo root first last → LeadsTo root last first → LeadsBack root
+led_back root first last (inl same) h = (first, subst (λ z. LeadsTo root z first) same h)
+led_back root first last (inr before) h = (first, steps first last first before h)

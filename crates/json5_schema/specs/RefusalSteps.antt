@@ -1,7 +1,8 @@
 -- Why parts of a schema aren't taken, step by step.
 -- Private.
 use Rattle.std.specs.Prelude.{◌≡◌, ◌⊎◌, ℕ, Bool, true, false, List, Some}
-use Rattle.std.specs.Str.{encode_utf8_all}
+use lib.Chars.{codes}
+use Rattle.std.specs.Str.{chars, encode_utf8_all}
 use Rattle.regex.specs.declared.error.Error as regex
 use Rattle.regex.specs.declared.error.Error.TheVariants as unread
 use Rattle.json5_types.specs.ValueMeanings.{Datum, text, Fields}
@@ -13,7 +14,7 @@ use Rattle.json5_schema.specs.declared.shape.Shape.TheVariants as shape
 use Rattle.json5_schema.specs.declared.shape.Holding.{Holding}
 use Rattle.json5_schema.specs.declared.shape.Holding.TheVariants as holding
 use Rattle.json5_schema.specs.Formats.{expression_named}
-use Rattle.json5_schema.specs.Refusals.{asks_beside, inner, is_followed, is_format, names_schema, shape_in, HasUnknown, IsFaulty, IsFaultySchema, IsLarge, IsNoKeyword, IsOldName, IsUnread, IsWrong, NamesDraft}
+use Rattle.json5_schema.specs.Refusals.{asks_beside, inner, is_followed, is_format, names_schema, shape_in, HasUnknown, IsFaulty, IsFaultySchema, IsLarge, IsNoKeyword, IsOldName, IsUnread, IsWrong, LeadsOn, LeadsTo, NamesDraft, StandsInPlace}
 use Rattle.json5_schema.specs.Shapes.{has_outline, holding_of, holds_schemas, is_names, IsElementOf, IsMemberOf, StandsBy}
 use Rattle.json5_schema.specs.Subschemas.{is_known, IsMember, StandsIn}
 
@@ -99,3 +100,19 @@ IsOfOldDraft root p = (p ≡ problem.OldDraft) × NamesDraft IsOldName root
 -- it counts what stands beside references if a draft is named in which that counts
 abbrev pub CountsBeside : Type 0 → Bool → Type 0
 CountsBeside names counts = counts ≡ false → ¬ names
+
+-- ---- references that lead back
+
+-- the argument of a keyword with this name does
+abbrev pub LeadsBy : List ℕ → Datum → List ℕ → Type 0
+LeadsBy name a bytes = ((name ≡ codes "$ref") × (a ≡ text (chars bytes))) ⊎ ((t : Datum) × StandsInPlace name a t × LeadsOn t bytes)
+
+abbrev pub LeadsAmong : Datum → List ℕ → Type 0
+LeadsAmong a bytes = (t : Datum) × IsElementOf t a × LeadsOn t bytes
+
+abbrev pub LeadsNamed : Datum → List ℕ → Type 0
+LeadsNamed a bytes = (t : Datum) × IsMemberOf t a × LeadsOn t bytes
+
+-- some reference leads back to itself
+abbrev pub LeadsBack : Datum → Type 0
+LeadsBack root = (bytes : List ℕ) × LeadsTo root bytes bytes

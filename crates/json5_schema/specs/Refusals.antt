@@ -29,8 +29,8 @@ use Rattle.json5_schema.specs.declared.shape.Shape.TheVariants as shape
 use Rattle.json5_schema.specs.Conformance.{asserts_formats, behind_sign}
 use Rattle.json5_schema.specs.Formats.{expression_named}
 use Rattle.json5_schema.specs.Patterns.{in_rust}
-use Rattle.json5_schema.specs.Shapes.{has_outline, holding_of, holds_schemas, is_schema, shape_at, StandsBy}
-use Rattle.json5_schema.specs.Subschemas.{is_known, HasKeyword, IsMember, Subschema}
+use Rattle.json5_schema.specs.Shapes.{has_outline, holding_of, holds_schemas, is_schema, shape_at, IsElementOf, IsMemberOf, StandsBy}
+use Rattle.json5_schema.specs.Subschemas.{is_any, is_known, HasKeyword, IsMember, Subschema}
 
 -- ---- the draft that a schema names
 
@@ -238,11 +238,36 @@ IsMeant root t = (bytes : List ℕ) × Refers root bytes × (behind_sign bytes r
 abbrev pub IsNamedTwice : Datum → List ℕ → Type 0
 IsNamedTwice root name = 2 ≤ times (codes "$anchor") name root + times (codes "$id") (0x23 ∷ name) root
 
+-- ---- references that lead back
+
+-- a schema in the argument of a keyword with this name, by its bytes, is applied to the value itself
+abbrev pub is_alone : List ℕ → Bool
+is_alone = is_any (codes "not" ∷ codes "if" ∷ codes "then" ∷ codes "else" ∷ [])
+
+abbrev pub is_each : List ℕ → Bool
+is_each = is_any (codes "allOf" ∷ codes "anyOf" ∷ codes "oneOf" ∷ [])
+
+abbrev pub is_by_name : List ℕ → Bool
+is_by_name = is_any (codes "dependentSchemas" ∷ codes "dependencies" ∷ [])
+
+abbrev pub StandsInPlace : List ℕ → Datum → Datum → Type 0
+StandsInPlace name a t = ((is_alone name ≡ true) × (t ≡ a)) ⊎ (((is_each name ≡ true) × IsElementOf t a) ⊎ ((is_by_name name ≡ true) × IsMemberOf t a))
+
+-- the schema applies to the value itself what a reference with this text means
+pub data LeadsOn : Datum → List ℕ → Type 0 where
+  here : (s : Datum) (name bytes : List ℕ) → HasKeyword s name (text (chars bytes)) → encode_utf8_all name ≡ codes "$ref" → LeadsOn s bytes
+  inside : (s a t : Datum) (name bytes : List ℕ) → HasKeyword s name a → StandsInPlace (encode_utf8_all name) a t → LeadsOn t bytes → LeadsOn s bytes
+
+-- so a reference leads to another one, in one step or in several
+pub data LeadsTo (root : Datum) : List ℕ → List ℕ → Type 0 where
+  step : (t : Datum) (from to : List ℕ) → Refers root from → behind_sign from root ≡ Some t → LeadsOn t to → LeadsTo root from to
+  steps : (from through to : List ℕ) → LeadsTo root from through → LeadsTo root through to → LeadsTo root from to
+
 abbrev pub IsOfWhole : Datum → Problem → Type 0
 IsOfWhole root problem.OldDraft = NamesDraft IsOldName root
 IsOfWhole root problem.NoTarget = (bytes : List ℕ) × Refers root bytes × (behind_sign bytes root ≡ None)
 IsOfWhole root problem.SameAnchor = (name : List ℕ) × IsNamedTwice root name
-IsOfWhole root problem.Endless = (bytes : List ℕ) × Refers root bytes
+IsOfWhole root problem.Endless = (bytes : List ℕ) × LeadsTo root bytes bytes
 IsOfWhole root _ = ⊥
 
 -- the whole isn't taken, or what a reference means isn't; or the problem is one of the whole

@@ -121,7 +121,7 @@ const TAKING_NAMED: [&str; 6] = [
 ];
 
 /// Whether it is one of the names.
-fn is_any(names: &[&str], name: &str) -> bool
+pub fn is_any(names: &[&str], name: &str) -> bool
     ensures { result ≡ list_any (λ known. pointwise nat_eq known.now name.now) names.now }
 {
     for known in names {

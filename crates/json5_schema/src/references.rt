@@ -2,12 +2,13 @@
 
 ghost use Rattle.std.specs.Prelude.{◌≡◌, ◌≤◌, true, IfOk};
 ghost use Rattle.std.specs.Str.{chars};
-ghost use Rattle.json5_types.specs.ValueMeanings.{value_of, items_view, fields_view};
-ghost use Rattle.json5_schema.specs.Refusals.{gives, times, times_among, times_at, times_named, IsNamedTwice, IsRefusedFor, IsUntaken, Refers, RefusedFor};
+ghost use Rattle.json5_types.specs.ValueMeanings.{array, object, value_of, items_view, fields_view};
+ghost use Rattle.json5_schema.specs.Refusals.{gives, is_alone, is_by_name, is_each, times, times_among, times_at, times_named, IsNamedTwice, IsRefusedFor, IsUntaken, LeadsOn, LeadsTo, Refers, RefusedFor};
+ghost use Rattle.json5_schema.specs.RefusalSteps.{LeadsAmong, LeadsBack, LeadsBy, LeadsNamed};
 
 use crate::anchors::{at_fragment, target_by};
 use crate::faults::Problem;
-use crate::known::check_schema;
+use crate::known::{check_schema, is_any};
 use crate::looking::{Anchor, Looked, Reference, Rules, Seen, behind, fault, look};
 use crate::patterns::Pattern;
 use json5_types::value::Value;
@@ -352,12 +353,194 @@ fn check_ends(
     ensures { RefusedFor (IsRefusedFor rules (value_of root.now)) result }
 {
     let left = left_of(alloc, seen, links)?;
-    for (reference, left) in seen.references.iter().zip(&left) {
-        if *left > 0 && refers(root, reference.text.as_str()) {
-            return Err(fault(alloc, reference.pointer.as_str(), Problem::Endless));
+    for (place, reference) in seen.references.iter().enumerate() {
+        if left.get(place).is_some_and(|left| *left > 0) {
+            return check_round(
+                alloc,
+                rules,
+                root,
+                reference,
+                &round_from(alloc, seen, links, &left, place)?,
+            );
         }
     }
     Ok(())
+}
+
+/// Refuses a reference that leads to this round.
+fn check_round(
+    alloc: Global,
+    rules: Rules,
+    root: &Value,
+    reference: &Reference,
+    round: &[&str],
+) -> Looked<()>
+    ensures { RefusedFor (IsRefusedFor rules (value_of root.now)) result }
+{
+    if leads_back(root, round) {
+        return Err(fault(alloc, reference.pointer.as_str(), Problem::Endless));
+    }
+    Ok(())
+}
+
+/// The first reference that is open still, of those that the one at this place leads on to.
+fn open_after(seen: &Seen, links: &[Vec<&str>], left: &[usize], place: usize) -> Option<usize> {
+    for next in links.get(place)? {
+        let next = *seen.places.get(*next)?;
+        if *left.get(next)? > 0 {
+            return Some(next);
+        }
+    }
+    None
+}
+
+/// A round of references that the open one at this place leads to.
+fn round_from<'s>(
+    alloc: Global,
+    seen: &'s Seen,
+    links: &[Vec<&str>],
+    left: &[usize],
+    place: usize,
+) -> Result<Vec<&'s str>, AllocError> {
+    let mut start = place;
+    for _ in links {
+        start = open_after(seen, links, left, start).unwrap_or(start);
+    }
+    let mut round = Vec::new(alloc);
+    let mut place = start;
+    for _ in links {
+        let Some(reference) = seen.references.get(place) else {
+            break;
+        };
+        round.push(reference.text.as_str())?;
+        place = open_after(seen, links, left, place).unwrap_or(start);
+        if place == start {
+            break;
+        }
+    }
+    Ok(round)
+}
+
+/// Whether each of these references leads on to the next one, and the last one to the first.
+fn leads_back(root: &Value, round: &[&str]) -> bool
+    ensures { result ≡ true → LeadsBack (value_of root.now) }
+{
+    match round {
+        [first, rest @ ..] => leads_round(root, first, rest),
+        [] => false,
+    }
+}
+
+/// The same of the first one and those behind it.
+fn leads_round(root: &Value, first: &str, rest: &[&str]) -> bool
+    ensures { result ≡ true → LeadsBack (value_of root.now) }
+{
+    let mut last = first;
+    for next in rest {
+        if !leads_to(root, last, next) {
+            return false;
+        }
+        last = *next;
+    }
+    leads_to(root, last, first)
+}
+
+/// Whether what the one reference means applies the other one to the same value.
+fn leads_to(root: &Value, from: &str, to: &str) -> bool
+    ensures { result ≡ true → LeadsTo (value_of root.now) from.now to.now }
+{
+    match target_by(root, from) {
+        Some(schema) => refers(root, from) && leads_on(schema, to),
+        None => false,
+    }
+}
+
+/// Whether the schema applies to the value itself what a reference with this text means.
+#[cycle(leads)]
+fn leads_on(schema: &Value, text: &str) -> bool
+    ensures { result ≡ true → LeadsOn (value_of schema.now) text.now }
+{
+    match schema {
+        Value::Object(keywords) => one_leads(keywords, text),
+        _ => false,
+    }
+}
+
+/// Whether one of these keywords does.
+#[cycle(leads)]
+fn one_leads(keywords: &[(String, Value)], text: &str) -> bool
+    ensures { result ≡ true → LeadsOn (object (fields_view keywords.now)) text.now }
+{
+    for (name, argument) in keywords {
+        if leads_by(name.as_str(), argument, text) {
+            return true;
+        }
+    }
+    false
+}
+
+/// Whether a keyword of this name and with this argument does.
+#[cycle(leads)]
+fn leads_by(name: &str, argument: &Value, text: &str) -> bool
+    ensures { result ≡ true → LeadsBy name.now (value_of argument.now) text.now }
+{
+    match argument {
+        Value::String(found) => name == "$ref" && found.as_str() == text,
+        Value::Array(schemas) => is_each(name) && some_leads(schemas, text),
+        Value::Object(_) if is_alone(name) => leads_on(argument, text),
+        Value::Object(schemas) => is_by_name(name) && named_leads(schemas, text),
+        _ => false,
+    }
+}
+
+/// Whether one of the schemas of an array does.
+#[cycle(leads)]
+fn some_leads(schemas: &[Value], text: &str) -> bool
+    ensures { result ≡ true → LeadsAmong (array (items_view schemas.now)) text.now }
+{
+    for schema in schemas {
+        if leads_on(schema, text) {
+            return true;
+        }
+    }
+    false
+}
+
+/// Whether one of the schemas of an object does.
+#[cycle(leads)]
+fn named_leads(schemas: &[(String, Value)], text: &str) -> bool
+    ensures { result ≡ true → LeadsNamed (object (fields_view schemas.now)) text.now }
+{
+    for (_, schema) in schemas {
+        if leads_on(schema, text) {
+            return true;
+        }
+    }
+    false
+}
+
+/// Whether the argument of this keyword is a schema for the value itself.
+fn is_alone(name: &str) -> bool
+    ensures { result ≡ is_alone name.now }
+{
+    let names: [&str; 4] = ["not", "if", "then", "else"];
+    is_any(names.as_slice(), name)
+}
+
+/// Whether it is an array of such schemas.
+fn is_each(name: &str) -> bool
+    ensures { result ≡ is_each name.now }
+{
+    let names: [&str; 3] = ["allOf", "anyOf", "oneOf"];
+    is_any(names.as_slice(), name)
+}
+
+/// Whether it is an object of such schemas.
+fn is_by_name(name: &str) -> bool
+    ensures { result ≡ is_by_name name.now }
+{
+    let names: [&str; 2] = ["dependentSchemas", "dependencies"];
+    is_any(names.as_slice(), name)
 }
 
 /// For how many others each reference waits that don't come to an end.
