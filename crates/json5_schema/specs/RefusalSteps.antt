@@ -1,5 +1,5 @@
 -- Why parts of a schema aren't taken, step by step.
--- Private.
+-- A promise rests on this.
 use Rattle.std.specs.Prelude.{◌≡◌, ◌⊎◌, ℕ, Bool, true, false, List, Some}
 use lib.Chars.{codes}
 use Rattle.std.specs.Str.{chars, encode_utf8_all}
