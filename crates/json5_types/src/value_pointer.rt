@@ -104,8 +104,12 @@ fn written_place(fields: &[(String, Value)], part: &str) -> Option<usize>
     None
 }
 
-/// Whether the key is written so.
-fn is_written(name: &[u8], part: &[u8]) -> bool
+/// Returns whether a step of a JSON pointer is the key, with `~0` for `~` and `~1` for `/`.
+///
+/// ```text
+/// is_written(b"a/b", b"a~1b")    // true
+/// ```
+pub fn is_written(name: &[u8], part: &[u8]) -> bool
     ensures { result ≡ pointwise nat_eq (escaped_key name.now) part.now }
 {
     let mut rest = part;
@@ -129,8 +133,12 @@ fn strip_escaped(byte: u8, part: &[u8]) -> Option<&[u8]>
     }
 }
 
-/// The index that is written so, if it is one.
-fn index_of(part: &str) -> Option<usize>
+/// Returns the index that a step of a JSON pointer is: decimal digits without zeros in front. None of any other step.
+///
+/// ```text
+/// index_of("10")    // Some(10), None of `010` and of `-1`
+/// ```
+pub fn index_of(part: &str) -> Option<usize>
     ensures { result ≡ index_in part.now }
 {
     if !begins_index(part.as_bytes()) {

@@ -1,11 +1,12 @@
 //! Pointers as of RFC 6901.
 
-ghost use Rattle.std.specs.Prelude.{◌≡◌, IfOk, IfSome};
-ghost use Rattle.json5_types.specs.Pointers.{begins_index, index_in, parts_of};
+ghost use Rattle.std.specs.Prelude.{IfOk, IfSome};
+ghost use Rattle.json5_types.specs.Pointers.{parts_of};
 ghost use Rattle.json5_edit.specs.PathTexts.{IsEscape, SpellsParts, SpellsPartOf, UnescapesTo};
 
 use crate::path_texts::faults::{Expected, PathError};
 use crate::path_texts::parsed::Written;
+use json5_types::value_pointer::index_of;
 use std::alloc::Global;
 
 /// Reads the steps of a pointer of this length, of which `rest` follows the first slash.
@@ -62,26 +63,5 @@ fn unescaped_front(escape: &str) -> Option<(char, &str)>
     match escape.strip_prefix('1') {
         Some(after) => Some(('/', after)),
         None => None,
-    }
-}
-
-/// The index that a part is.
-fn index_of(part: &str) -> Option<usize>
-    ensures { result ≡ index_in part.now }
-{
-    if !begins_index(part.as_bytes()) {
-        return None;
-    }
-    part.parse().ok()
-}
-
-/// Whether it is `0` alone, or begins with a digit from 1 to 9.
-fn begins_index(part: &[u8]) -> bool
-    ensures { result ≡ begins_index part.now }
-{
-    match part.first() {
-        Some(b'0') => part.len() == 1,
-        Some(first) => matches!(first, b'1'..=b'9'),
-        None => false,
     }
 }

@@ -1,12 +1,14 @@
 //! The short ways: they take what stands in most documents, and leave the rest to the calls with the longer names.
 
 ghost use Rattle.std.specs.Prelude.{◌≡◌, MatchOption};
+ghost use Rattle.json5_grammar.specs.Language.Numbers.{decimal};
 ghost use Rattle.json5_walk.specs.Moves.{TakesColon, TakesComma, Closes};
-ghost use Rattle.json5_walk.specs.Walks.{Moved, TookSpacedString, TookSpacedWhole, TookSpacedKey, TakesFewDigits, TakesSign};
+ghost use Rattle.json5_walk.specs.Walks.{Moved, TookSpacedString, TookSpacedWhole, TookSpacedKey, TookSpacedNumber, TakesFewDigits, TakesSign};
 
 use crate::next::{Next, closing_byte, may_close, member};
 use crate::walk::Walk;
 use json5_read::brackets::OpenBracket;
+use json5_types::decimal::Decimal;
 
 impl<'t> Walk<'t> {
     /// Takes ASCII blanks and a string without an escape, and returns its text. Where anything else is in front it takes
@@ -69,6 +71,27 @@ impl<'t> Walk<'t> {
         }
         self.next = Next::Comma;
         true
+    }
+
+    /// Takes ASCII blanks and a number with a point or an exponent whose digits take no memory.
+    ///
+    /// ```text
+    /// walk.short_decimal()    // Some of ` 1.5, 2`, None of `80`
+    /// ```
+    #[inline(always)]
+    pub fn short_decimal(&mut self) -> Option<Decimal>
+        ensures { MatchOption result (self.new ≡ self.old) (λ d. TookSpacedNumber (decimal d) self.old self.new) }
+    {
+        if !self.next.takes_value() {
+            return None;
+        }
+        match self.scanner.short_decimal() {
+            Some(number) => {
+                self.next = Next::Comma;
+                Some(number)
+            }
+            None => None,
+        }
     }
 
     /// Takes ASCII blanks and a key without an escape, and returns its text.
