@@ -151,7 +151,7 @@ mutual
       let g = value_seam (v ++ y) val stops value in
       record { is = value_json (v ++ y) val stops value; kind = g.kind; rest = (blank_seam y bv g.rest).rest }
 
-numbers_json : {k : Bool} {x : List ℕ} {t : Tree} → Doc max_depth x t → Plain k last.sign x → is_json (datum_of t) ≡ true
+pub numbers_json : {k : Bool} {x : List ℕ} {t : Tree} → Doc max_depth x t → Plain k last.sign x → is_json (datum_of t) ≡ true
 numbers_json {k = k} d p =
     value_json d.after d.value (last_stops d.last) (blank_seam (d.text ++ d.after) d.blank (subst (Plain k last.sign) d.whole p)).rest
 

@@ -6,15 +6,14 @@
 //! ```
 #![tactic(auto)]
 
-mod comments;
 mod faults;
 mod gaps;
 pub mod laws;
 mod lines;
-mod meanings;
 mod numbers;
 mod respelled;
 mod sources;
+mod spelled_anew;
 mod spelling;
 mod streams;
 mod strings;

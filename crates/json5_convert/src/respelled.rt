@@ -1,12 +1,13 @@
 //! Spells a document anew.
 
-ghost use Rattle.std.specs.Prelude.{◌≡◌, true, IsTrue, IfOk, IfErr, OnOk, string_bytes};
+ghost use Rattle.std.specs.Prelude.{◌≡◌, true, false, IsTrue, IfOk, IfErr, OnOk, string_bytes};
 ghost use Rattle.json5_types.specs.ValueMeanings.{value_of};
+ghost use Rattle.json5_walk.specs.Walks.{IsDocument};
+ghost use Rattle.json5_convert.specs.Spellings.{asks_json};
 ghost use Rattle.json5_convert.specs.Respelled.{IsAsPlain, IsLost, IsMade, IsRespelled, KeepsComments, KeepsNumbers, RefusesRespelling, loses_number};
 
-use crate::comments::keeps_comments;
 use crate::faults::{RespellError, Result};
-use crate::meanings::check_meaning;
+use crate::spelled_anew::check_spelled_anew;
 use crate::spelling::Spelling;
 use crate::tokens::spelled;
 use json5_lexemes::is_plain_with;
@@ -58,14 +59,37 @@ fn made(alloc: Global, spelling: Spelling, text: &str) -> Result<String>
     }
     let made = spelled(alloc, spelling, text)?;
     if spelling.has_comments() && !spelling.has_json_numbers() && made.as_str() == text {
-        check_document(alloc, text)?;
         return Ok(made);
     }
-    check_meaning(alloc, spelling.has_json_numbers(), text, made.as_str())?;
-    if keeps_comments(spelling, text, made.as_str()) && is_as_plain(spelling, made.as_str()) {
-        return Ok(made);
+    check_made(alloc, spelling, text, made.as_str())?;
+    Ok(made)
+}
+
+/// Refuses with `Failed` unless what was made of a document is as it should be.
+fn check_made(alloc: Global, spelling: Spelling, text: &str, made: &str) -> Result<()>
+    requires { IsDocument text.now }
+    ensures { OnOk result (IsMade spelling text.now made.now) }
+{
+    check_document(alloc, made)?;
+    check_spelled_anew(alloc, spelling.has_comments(), text, made)?;
+    check_numbers(alloc, spelling, text)?;
+    if is_as_plain(spelling, made) {
+        Ok(())
+    } else {
+        Err(RespellError::Failed)
     }
-    Err(RespellError::Failed)
+}
+
+/// Refuses with `Failed` where numbers are to be JSON's and the text has another. JSON itself has none, so what is JSON isn't looked
+/// at.
+fn check_numbers(alloc: Global, spelling: Spelling, text: &str) -> Result<()>
+    ensures { OnOk result (asks_json spelling ≡ false → KeepsNumbers spelling text.now) }
+{
+    if spelling.is_json() || !spelling.has_json_numbers() || is_json(&read_document(alloc, text)?) {
+        Ok(())
+    } else {
+        Err(RespellError::Failed)
+    }
 }
 
 /// Why nothing was made of the text.

@@ -2,6 +2,9 @@
 //!
 //! Plain code: what it makes is compared with the text.
 
+ghost use Rattle.std.specs.Prelude.{OnOk};
+ghost use Rattle.json5_walk.specs.Walks.{IsDocument};
+
 use crate::faults::{RespellError, Result};
 use crate::gaps::{begins_last_line, has_json_blanks, is_blank_in_json, push_gap};
 use crate::numbers::{is_json_number, push_number};
@@ -14,8 +17,10 @@ use json5_walk::next::Next;
 use json5_walk::walk::Walk;
 use std::alloc::Global;
 
-/// The document spelled anew. Of a text that is no document it makes some text, or none.
-pub(crate) fn spelled(alloc: Global, spelling: Spelling, text: &str) -> Result<String> {
+/// The document spelled anew.
+pub(crate) fn spelled(alloc: Global, spelling: Spelling, text: &str) -> Result<String>
+    ensures { OnOk result (IsDocument text.now) }
+{
     let mut speller = Speller {
         alloc,
         spelling,
@@ -29,11 +34,27 @@ pub(crate) fn spelled(alloc: Global, spelling: Spelling, text: &str) -> Result<S
     for _ in 0..=text.len() {
         match speller.step() {
             Step::Took => {}
-            Step::Ended => return Ok(speller.made),
+            Step::Ended => {
+                check_walked(&mut speller.walk, text)?;
+                return Ok(speller.made);
+            }
             Step::Refused => return Err(speller.fault),
         }
     }
     Err(RespellError::Failed)
+}
+
+/// Refuses with `Failed` unless the walk has taken a document, and this one.
+fn check_walked(walk: &mut Walk<'_>, text: &str) -> Result<()>
+    ensures { OnOk result (IsDocument text.now) }
+{
+    let walked = walk.text();
+    walk.finish()?;
+    if walked == text {
+        Ok(())
+    } else {
+        Err(RespellError::Failed)
+    }
 }
 
 /// What a step came to.
@@ -41,7 +62,7 @@ pub(crate) fn spelled(alloc: Global, spelling: Spelling, text: &str) -> Result<S
 enum Step {
     /// A token was taken.
     Took,
-    /// The document has ended.
+    /// The value has ended, and what follows it is appended.
     Ended,
     /// Nothing is made.
     Refused,
@@ -412,13 +433,10 @@ impl<'t> Speller<'t> {
     /// The end of the document, and what comes before it and isn't appended.
     fn end(&mut self) -> Step {
         let end = self.walk.text().len();
-        match self.walk.finish() {
-            Ok(()) if self.gap_to(end) && self.copy_to(end) => Step::Ended,
-            Ok(()) => Step::Refused,
-            Err(error) => {
-                self.refuse(RespellError::from(error));
-                Step::Refused
-            }
+        if self.gap_to(end) && self.copy_to(end) {
+            Step::Ended
+        } else {
+            Step::Refused
         }
     }
 

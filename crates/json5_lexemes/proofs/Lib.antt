@@ -23,3 +23,4 @@ pub mod PlainWords
 pub mod PlainWordsTaken
 pub mod PlainPassed
 pub mod PiecesPassed
+pub mod SharedSteps

@@ -11,3 +11,4 @@ pub mod WithoutComments
 pub mod PlainSteps
 pub mod LastTokens
 pub mod Pieces
+pub mod SharedTokens

@@ -82,9 +82,13 @@ impl<'x> Rest<'x> {
     }
 }
 
-/// The first character, and what follows it.
+/// Returns the first character, and what follows it.
+///
+/// ```text
+/// front("80")    // Some(('8', "0"))
+/// ```
 #[inline(always)]
-pub(crate) fn front(text: &str) -> Option<(char, &str)>
+pub fn front(text: &str) -> Option<(char, &str)>
     ensures { IsFront text.now result }
 {
     let mut rest = text.chars();
@@ -110,9 +114,13 @@ fn begins_with(bytes: &[u8], byte: u8) -> bool
     !bytes.is_empty() && bytes[0] == byte
 }
 
-/// What follows the character of ASCII, if it is in front.
+/// Returns what follows the character of ASCII, if it is in front.
+///
+/// ```text
+/// past_byte("[1]", b'[')    // Some("1]")
+/// ```
 #[inline(always)]
-pub(crate) fn past_byte(text: &str, byte: u8) -> Option<&str>
+pub fn past_byte(text: &str, byte: u8) -> Option<&str>
     requires { byte < 128 }
     ensures { IsPast byte text.now result }
 {
