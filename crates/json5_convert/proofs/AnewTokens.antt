@@ -5,7 +5,7 @@ use Rattle.std.proofs.lemmas.Bool.{both_ways}
 use Rattle.json5_grammar.specs.Language.Characters.{slash_sign, comma_sign, colon_sign, left_bracket, right_bracket, left_brace, right_brace, Each, no_char}
 use Rattle.json5_grammar.specs.Language.Documents.{Doc, max_depth}
 use Rattle.json5_grammar.specs.Language.Names.{Key}
-use Rattle.json5_grammar.specs.Language.Trees.{Tree, Trees, Members, array, object}
+use Rattle.json5_grammar.specs.Language.Trees.{Tree, Trees, Members, array, object, no_more, no_member}
 use Rattle.json5_grammar.specs.Language.Values.{KeyText, Val}
 use Rattle.json5_grammar.specs.Language.Values as values
 use Rattle.json5_grammar.proofs.CharacterClasses.{colon_no_name}
@@ -98,73 +98,98 @@ members_no_colon : {l r : List (List ℕ)} {ps : Members} → MemberTokens l ps 
 members_no_colon (object_ends {r = r}) m e = signs_apart right_brace colon_sign r m refl e
 members_no_colon (member_begins n a es) m e = no_sign colon_sign refl (token_is e) (key_token n)
 
+-- a sign in front of one list is in front of the other
+sign_front : (c : ℕ) {l m : List (List ℕ)} → is_sign c ≡ true → SameTokens false ((c ∷ []) ∷ l) m → (k : List (List ℕ)) × (m ≡ (c ∷ []) ∷ k) × SameTokens false l k
+sign_front c h (a_sign {m = m} g s) = (m, refl, s)
+sign_front c h (a_value i j k n s) = absurd (no_sign c h refl i)
+sign_front c h (a_key i j n s) = absurd (no_sign c h refl i)
+
+sign_back : (c : ℕ) {l m : List (List ℕ)} → is_sign c ≡ true → SameTokens false l ((c ∷ []) ∷ m) → (k : List (List ℕ)) × (l ≡ (c ∷ []) ∷ k)
+sign_back c h (a_sign {l = l} g s) = (l, refl)
+sign_back c h (a_value i j k n s) = absurd (no_sign c h refl j)
+sign_back c h (a_key i j n s) = absurd (no_sign c h refl j)
+
+rest_is : {s t : List ℕ} {l m : List (List ℕ)} → s ∷ l ≡ t ∷ m → l ≡ m
+rest_is e = cc
+
+array_of : {m q k : List (List ℕ)} {u : Tree} → Tokens m u q → m ≡ (left_bracket ∷ []) ∷ k → (us : Trees) × (u ≡ array us) × ElementTokens k us q
+array_of (scalar a) e = absurd (no_sign left_bracket refl (token_is e) (scalar_token a))
+array_of {q = q} (array_begins {ts = us} b) e = (us, refl, subst (λ z. ElementTokens z us q) (rest_is e) b)
+array_of {k = k} (object_begins {l = l} b) e = absurd (signs_apart left_brace left_bracket l k refl e)
+
+object_of : {m q k : List (List ℕ)} {u : Tree} → Tokens m u q → m ≡ (left_brace ∷ []) ∷ k → (ps : Members) × (u ≡ object ps) × MemberTokens k ps q
+object_of (scalar a) e = absurd (no_sign left_brace refl (token_is e) (scalar_token a))
+object_of {k = k} (array_begins {l = l} b) e = absurd (signs_apart left_bracket left_brace l k refl e)
+object_of {q = q} (object_begins {ps = ps} b) e = (ps, refl, subst (λ z. MemberTokens z ps q) (rest_is e) b)
+
+scalar_of : {m q k : List (List ℕ)} {s : List ℕ} {u : Tree} → IsToken s → Tokens m u q → m ≡ s ∷ k → Scalar s u × (k ≡ q)
+scalar_of {u = u} i (scalar a) e = (subst (λ z. Scalar z u) (token_is e) a, sym (rest_is e))
+scalar_of i (array_begins a) e = absurd (no_sign left_bracket refl (sym (token_is e)) i)
+scalar_of i (object_begins a) e = absurd (no_sign left_brace refl (sym (token_is e)) i)
+
+same_scalar : {s : List ℕ} {m r q : List (List ℕ)} {t u : Tree} → Scalar s t → SameTokens false (s ∷ r) m → Tokens m u q → NoColon r → (datum_of t ≡ datum_of u) × SameTokens false r q
+same_scalar {r = r} {t = t} {u = u} a (a_value i j k n s) b free = let c = scalar_of j b refl in (k t u a c.0, subst (SameTokens false r) c.1 s)
+same_scalar a (a_key i j n s) b free = absurd (colon_next s free)
+same_scalar a (a_sign {c = c} h s) b free = absurd (no_sign c h refl (scalar_token a))
+
+elements_end : {m q k : List (List ℕ)} {us : Trees} → ElementTokens m us q → m ≡ (right_bracket ∷ []) ∷ k → (us ≡ no_more) × (k ≡ q)
+elements_end array_ends e = (refl, sym (rest_is e))
+elements_end (element b bs) e = absurd (value_no_sign right_bracket refl refl refl b e)
+
+members_end : {m q k : List (List ℕ)} {ps : Members} → MemberTokens m ps q → m ≡ (right_brace ∷ []) ∷ k → (ps ≡ no_member) × (k ≡ q)
+members_end object_ends e = (refl, sym (rest_is e))
+members_end (member_begins n b bs) e = absurd (no_sign right_brace refl (token_is e) (key_token n))
+
 -- after a key's token that may be a value too
 past_colon : {l m : List (List ℕ)} → SameTokens false ((colon_sign ∷ []) ∷ l) ((colon_sign ∷ []) ∷ m) → SameTokens false l m
 past_colon (a_sign h s) = s
 past_colon (a_value i j k n s) = absurd (no_sign colon_sign refl refl i)
 past_colon (a_key i j k s) = absurd (no_sign colon_sign refl refl i)
 
--- a value has a token
-some_left : {l r : List (List ℕ)} {t : Tree} → Tokens l t r → l ≡ [] → ⊥
-some_left (scalar a) e = absurd (cc)
-some_left (array_begins a) e = absurd (cc)
-some_left (object_begins a) e = absurd (cc)
-
--- members have a bracket
-some_members : {l r : List (List ℕ)} {ps : Members} → MemberTokens l ps r → l ≡ [] → ⊥
-some_members object_ends e = absurd (cc)
-some_members (member_begins k a es) e = absurd (cc)
+same_key : {k j u v : List ℕ} {e f : Bool} {l m : List (List ℕ)} → KeyText k u e → KeyText j v f → SameTokens false (k ∷ (colon_sign ∷ []) ∷ l) (j ∷ (colon_sign ∷ []) ∷ m) → (u ≡ v) × SameTokens false l m
+same_key {u = u} {v = v} {e = e} {f = f} a b (a_value i j k n s) = (n u v e f a b, past_colon s)
+same_key {u = u} {v = v} {e = e} {f = f} a b (a_key i j n (a_colon s)) = (n u v e f a b, s)
+same_key a b (a_sign {c = c} h s) = absurd (no_sign c h refl (key_token a))
 
 member_same : {u v : List ℕ} {t w : Datum} {ps qs : Fields} → u ≡ v → t ≡ w → ps ≡ qs → field u t ps ≡ field v w qs
 member_same {v = v} {t = t} {ps = ps} e f g = ap (λ z. field z t ps) e ∙ ap₂ (field v) f g
 
 mutual
-  same_values : {l m r q : List (List ℕ)} {t u : Tree} → SameTokens false l m → Tokens l t r → Tokens m u q → NoColon r → (datum_of t ≡ datum_of u) × SameTokens false r q
-  same_values no_tokens a b free = absurd (some_left a refl)
-  same_values (a_value i j k n s) (scalar a) (scalar b) free = (k _ _ a b, s)
-  same_values (a_value i j k n s) (scalar a) (array_begins b) free = absurd (no_sign left_bracket refl refl j)
-  same_values (a_value i j k n s) (scalar a) (object_begins b) free = absurd (no_sign left_brace refl refl j)
-  same_values (a_value i j k n s) (array_begins a) b free = absurd (no_sign left_bracket refl refl i)
-  same_values (a_value i j k n s) (object_begins a) b free = absurd (no_sign left_brace refl refl i)
-  same_values (a_key i j k s) (scalar a) b free = absurd (colon_next s free)
-  same_values (a_key i j k s) (array_begins a) b free = absurd (no_sign left_bracket refl refl i)
-  same_values (a_key i j k s) (object_begins a) b free = absurd (no_sign left_brace refl refl i)
-  same_values (a_sign {c = c} h s) (scalar a) b free = absurd (no_sign c h refl (scalar_token a))
-  same_values (a_sign h s) (array_begins a) (scalar b) free = absurd (no_sign left_bracket refl refl (scalar_token b))
-  same_values (a_sign h s) (array_begins a) (array_begins b) free = let k = same_elements s a b in (ap datum.array k.0, k.1)
-  same_values (a_sign h s) (object_begins a) (scalar b) free = absurd (no_sign left_brace refl refl (scalar_token b))
-  same_values (a_sign h s) (object_begins a) (object_begins b) free = let k = same_members s a b in (ap datum.object k.0, k.1)
+  same_values : {l m r q : List (List ℕ)} {t u : Tree} → Tokens l t r → Tokens m u q → SameTokens false l m → NoColon r → (datum_of t ≡ datum_of u) × SameTokens false r q
+  same_values (scalar a) b s free = same_scalar a s b free
+  same_values (array_begins {ts = ts} a) b s free =
+      let (k, e, rest) = sign_front left_bracket refl s in
+      let (us, is, bs) = array_of b e in
+      let both = same_elements a bs rest in
+      (ap datum.array both.0 ∙ ap datum_of (sym is), both.1)
+  same_values (object_begins a) b s free =
+      let (k, e, rest) = sign_front left_brace refl s in
+      let (ps, is, bs) = object_of b e in
+      let both = same_members a bs rest in
+      (ap datum.object both.0 ∙ ap datum_of (sym is), both.1)
 
-  same_elements : {l m r q : List (List ℕ)} {ts us : Trees} → SameTokens false l m → ElementTokens l ts r → ElementTokens m us q → (items_of ts ≡ items_of us) × SameTokens false r q
-  same_elements (a_sign h s) array_ends array_ends = (refl, s)
-  same_elements (a_sign h s) array_ends (element b bs) = absurd (value_no_sign right_bracket refl refl refl b refl)
-  same_elements (a_value i j k n s) array_ends b = absurd (no_sign right_bracket refl refl i)
-  same_elements (a_key i j k s) array_ends b = absurd (no_sign right_bracket refl refl i)
-  same_elements (a_sign h s) (element a es) array_ends = absurd (value_no_sign right_bracket refl refl refl a refl)
-  same_elements (a_value i j k n s) (element a es) array_ends = absurd (no_sign right_bracket refl refl j)
-  same_elements (a_key i j k s) (element a es) array_ends = absurd (no_sign right_bracket refl refl j)
-  same_elements s (element a es) (element b bs) =
-      let first = same_values s a b (elements_no_colon es) in
-      let others = same_elements first.1 es bs in
+  same_elements : {l m r q : List (List ℕ)} {ts us : Trees} → ElementTokens l ts r → ElementTokens m us q → SameTokens false l m → (items_of ts ≡ items_of us) × SameTokens false r q
+  same_elements {r = r} array_ends b s =
+      let (k, e, rest) = sign_front right_bracket refl s in
+      let (none, left) = elements_end b e in
+      (ap items_of (sym none), subst (SameTokens false r) left rest)
+  same_elements (element a es) array_ends s = let (k, e) = sign_back right_bracket refl s in absurd (value_no_sign right_bracket refl refl refl a e)
+  same_elements (element a es) (element b bs) s =
+      let first = same_values a b s (elements_no_colon es) in
+      let others = same_elements es bs first.1 in
       (ap₂ item first.0 others.0, others.1)
 
-  same_members : {l m r q : List (List ℕ)} {ps qs : Members} → SameTokens false l m → MemberTokens l ps r → MemberTokens m qs q → (fields_of ps ≡ fields_of qs) × SameTokens false r q
-  same_members no_tokens a b = absurd (some_members a refl)
-  same_members (a_sign h s) object_ends object_ends = (refl, s)
-  same_members (a_sign h s) object_ends (member_begins k b bs) = absurd (no_sign right_brace refl refl (key_token k))
-  same_members (a_value i j k n s) object_ends b = absurd (no_sign right_brace refl refl i)
-  same_members (a_key i j k s) object_ends b = absurd (no_sign right_brace refl refl i)
-  same_members (a_sign {c = c} h s) (member_begins k a es) b = absurd (no_sign c h refl (key_token k))
-  same_members (a_value i j m n s) (member_begins k a es) object_ends = absurd (no_sign right_brace refl refl j)
-  same_members (a_value i j m n s) (member_begins k a es) (member_begins o b bs) =
-      let first = same_values (past_colon s) a b (members_no_colon es) in
-      let others = same_members first.1 es bs in
-      (member_same (n _ _ _ _ k o) first.0 others.0, others.1)
-  same_members (a_key i j n s) (member_begins k a es) object_ends = absurd (no_sign right_brace refl refl j)
-  same_members (a_key i j n (a_colon s)) (member_begins k a es) (member_begins o b bs) =
-      let first = same_values s a b (members_no_colon es) in
-      let others = same_members first.1 es bs in
-      (member_same (n _ _ _ _ k o) first.0 others.0, others.1)
+  same_members : {l m r q : List (List ℕ)} {ps qs : Members} → MemberTokens l ps r → MemberTokens m qs q → SameTokens false l m → (fields_of ps ≡ fields_of qs) × SameTokens false r q
+  same_members {r = r} object_ends b s =
+      let (k, e, rest) = sign_front right_brace refl s in
+      let (none, left) = members_end b e in
+      (ap fields_of (sym none), subst (SameTokens false r) left rest)
+  same_members (member_begins n a es) object_ends s = let (k, e) = sign_back right_brace refl s in absurd (no_sign right_brace refl (token_is e) (key_token n))
+  same_members (member_begins n a es) (member_begins o b bs) s =
+      let (same, rest) = same_key n o s in
+      let first = same_values a b rest (members_no_colon es) in
+      let others = same_members es bs first.1 in
+      (member_same same first.0 others.0, others.1)
 
 -- ---- lexemes and comments
 
@@ -184,9 +209,6 @@ record Listed (stay due : Bool) (x y : List ℕ) : Type 0 where
   right_comments : Comments y (kept stay comments)
 
 -- what one side passes over
-blank_neither : (c : ℕ) → is_separator c ≡ true → begins_neither c ≡ true
-blank_neither c h = separator_neither c h
-
 left_separator : {stay due : Bool} {x y : List ℕ} (c : ℕ) → is_separator c ≡ true → Listed stay due x y → Listed stay due (c ∷ x) y
 left_separator c h k = record { left = k.left; right = k.right; left_lexemes = lexemes.separator h k.left_lexemes; right_lexemes = k.right_lexemes; tokens = k.tokens; comments = k.comments; left_comments = comments.other (separator_neither c h) k.left_comments; right_comments = k.right_comments }
 
@@ -335,7 +357,7 @@ module _ (stay : Bool) (x y : List ℕ) (t u : Tree) (d : Doc max_depth x t) (e 
     document = d;
     other = u;
     respelled = e;
-    same = sym (same_values lists.tokens (document_spells max_depth x t lists.left d lists.left_lexemes) (document_spells max_depth y u lists.right e lists.right_lexemes) nothing_follows).0;
+    same = sym (same_values (document_spells max_depth x t lists.left d lists.left_lexemes) (document_spells max_depth y u lists.right e lists.right_lexemes) lists.tokens nothing_follows).0;
   }
 
   pub same_comments : stay ≡ true → HaveSameComments x y
