@@ -10,6 +10,7 @@ pub mod FieldLoops
 pub mod RefsCompared
 pub mod RefsCopied
 pub mod RefsFound
+pub mod RefsPointed
 pub mod RefsRead
 pub mod TextsMean
 -- What proofs of users' types cite.

@@ -22,6 +22,7 @@ pub mod ser;
 pub mod value_ref;
 mod value_ref_equal;
 mod value_ref_finds;
+mod value_ref_pointer;
 mod value_ref_walks;
 
 pub use json5_de as de;
