@@ -76,7 +76,7 @@ impl<'de> ValueRef<'de> {
     {
         match walked(alloc, limit, text) {
             Some(value) => Ok(value),
-            None => read_anew(alloc, limit, text),
+            None => unborrowed(alloc, &read_document_within(alloc, limit, text)?),
         }
     }
 
@@ -94,16 +94,6 @@ impl<'de> ValueRef<'de> {
     {
         owned(alloc, self)
     }
-}
-
-/// Reads the document again, of which the walk made nothing: it is refused with its fault, or memory ran out.
-#[cold]
-#[inline(never)]
-fn read_anew<'de>(alloc: Global, limit: Limit, text: &str) -> Result<ValueRef<'de>>
-    ensures { ReadsRef limit (chars text.now) result }
-{
-    let value = read_document_within(alloc, limit, text)?;
-    unborrowed(alloc, &value)
 }
 
 /// A copy that owns its texts.
