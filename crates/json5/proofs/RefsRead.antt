@@ -25,7 +25,7 @@ use Rattle.json5_read.specs.DocumentReads.{ReadsText}
 use Rattle.json5_read.specs.OwnedReads.{datum_of_literal}
 use Rattle.json5_read.specs.TreeMeanings.{datum_of}
 use Rattle.json5_walk.specs.Frames.{Frame, in_array, in_object, At, at_value, at_element, at_key, at_colon, at_comma, value_frames}
-use Rattle.json5_walk.specs.Moves.{Stays, stays, TakesTree, takes_tree, Opens, opens_array, opens_object, TakesKeyOf, takes_key, TakesColon, takes_colon, TakesComma, after_element, after_member, Closes, closes_elements, closes_array, closes_members, closes_object}
+use Rattle.json5_walk.specs.Moves.{Stays, TakesTree, takes_tree, Opens, opens_array, opens_object, TakesKeyOf, takes_key, TakesColon, takes_colon, TakesComma, after_element, after_member, Closes, closes_elements, closes_array, closes_members, closes_object}
 use Rattle.json5_walk.specs.Walks.{Walked, Trail, IsAt, Moved, Ends, TookNumber, TookSpacedNumber, TookSpacedString, TookSpacedWhole, TookString, at_start, tree_of}
 use Rattle.json5_walk.proofs.Calls.{starts_at}
 use Rattle.json5_walk.proofs.Entries.{after_gap, then as followed, named_so}

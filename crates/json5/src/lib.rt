@@ -24,6 +24,7 @@ mod value_ref_equal;
 mod value_ref_finds;
 mod value_ref_pointer;
 mod value_ref_walks;
+mod value_ref_writes;
 
 pub use json5_de as de;
 pub use json5_de::{

@@ -24,7 +24,10 @@ use std::alloc::Global;
 /// ```text
 /// let value = ValueRef::from_str(alloc, text)?;
 /// value.get("host")?.as_str()    // Some of `localhost`, a part of the text `{host: 'localhost'}`
+/// to_string(alloc, &value)?      // as of the `Value` that means the same, and without making it
 /// ```
+///
+/// A layout, and JSON, are written of a `Value` alone: [`to_owned`](ValueRef::to_owned) makes one, and copies each text.
 #[derive(Debug, Drop)]
 pub enum ValueRef<'de> {
     /// `null`.
