@@ -10,7 +10,9 @@ pub mod FieldLoops
 pub mod RefsCompared
 pub mod RefsCopied
 pub mod RefsFound
+pub mod RefsPointed
 pub mod RefsRead
+pub mod RefsWritten
 pub mod TextsMean
 -- What proofs of users' types cite.
 pub use Rattle.json5_format.proofs.Formats

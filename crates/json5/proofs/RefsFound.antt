@@ -15,7 +15,7 @@ use Rattle.json5_types.proofs.ValuesCompared.{bytes_or_characters}
 use Rattle.json5.specs.declared.value_ref.ValueRef.{ValueRef}
 use Rattle.json5.specs.ValueRefs.{ref_of, refs_view, members_view}
 
-abbrev Member : Type 0
+abbrev pub Member : Type 0
 Member = CowStr × ValueRef
 
 pub at_name : (key : List ℕ) (f : Member) (fs xs : List Member) (found : Option Datum) → xs ≡ f ∷ fs → pointwise nat_eq (chars (cow_bytes f.0)) key ≡ true

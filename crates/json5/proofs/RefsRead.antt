@@ -1,6 +1,6 @@
 -- What a walk takes of a borrowed value, step by step, and what reading the whole comes to.
-use Rattle.std.proofs.Common.{◌≡◌, ℕ, ℤ, Bool, true, false, List, [], ◌∷◌, ◌++◌, drop, refl, ap, sym, ◌∙◌, subst, inl, rules, Option, Some, None}
-use Rattle.std.specs.Prelude.{IsUtf8, IfOk, OnOk, OnSome, IfNone, if◌then◌else◌, MatchResult, Result, Ok, Err, is_ok, is_err}
+use Rattle.std.proofs.Common.{◌≡◌, ℕ, ℤ, Bool, true, false, List, [], ◌∷◌, ◌++◌, refl, ap, sym, ◌∙◌, subst, inl, rules, Option, Some, None}
+use Rattle.std.specs.Prelude.{IsUtf8, IfOk, OnOk, OnSome, IfNone, MatchOption, if◌then◌else◌, MatchResult, Result, Ok, Err, is_ok, is_err}
 use Rattle.std.specs.Option.{is_some}
 use Rattle.std.specs.Result.{result_ok}
 use Rattle.std.specs.Str.{chars, encode_utf8_all}
@@ -8,11 +8,7 @@ use Rattle.json5_grammar.specs.Language.Documents.{Doc}
 use Rattle.json5_grammar.specs.Language.Numbers as numbers
 use Rattle.json5_grammar.specs.Language.Trees.{Tree, Trees, Members, number, text, no_more, more, no_member, member}
 use Rattle.json5_grammar.specs.Model.Collections.{snoc, snoc_member}
-use Rattle.json5_grammar.specs.Language.Values.{Reads, is_number}
-use Rattle.json5_grammar.proofs.OneTree.{one_phrase, one_tree}
-use Rattle.json5_tokens.specs.Cursor.{Cursor}
-use Rattle.json5_tokens.specs.ShortWays.{TookNumber as TakesNumber}
-use Rattle.json5_tokens.proofs.TextCuts.{Halves, drop_half}
+use Rattle.json5_grammar.proofs.OneTree.{one_tree}
 use Rattle.json5_types.specs.declared.cow_str.CowStr.{CowStr}
 use Rattle.json5_types.specs.declared.error.Error.{Error}
 use Rattle.json5_types.specs.declared.value.Value.{Value}
@@ -29,17 +25,14 @@ use Rattle.json5_read.specs.DocumentReads.{ReadsText}
 use Rattle.json5_read.specs.OwnedReads.{datum_of_literal}
 use Rattle.json5_read.specs.TreeMeanings.{datum_of}
 use Rattle.json5_walk.specs.Frames.{Frame, in_array, in_object, At, at_value, at_element, at_key, at_colon, at_comma, value_frames}
-use Rattle.json5_walk.specs.Moves.{Stays, stays, TakesTree, takes_tree, Opens, opens_array, opens_object, TakesKeyOf, takes_key, TakesColon, takes_colon, TakesComma, after_element, after_member, Closes, closes_elements, closes_array, closes_members, closes_object}
-use Rattle.json5_walk.specs.Walks.{Walked, Trail, IsAt, Moved, Ends, TakesFewDigits, TookNumber, TookSpacedString, TookSpacedWhole, TookString, at_start, offset_in, tree_of}
+use Rattle.json5_walk.specs.Moves.{Stays, TakesTree, takes_tree, Opens, opens_array, opens_object, TakesKeyOf, takes_key, TakesColon, takes_colon, TakesComma, after_element, after_member, Closes, closes_elements, closes_array, closes_members, closes_object}
+use Rattle.json5_walk.specs.Walks.{Walked, Trail, IsAt, Moved, Ends, TookNumber, TookSpacedNumber, TookSpacedString, TookSpacedWhole, TookString, at_start, tree_of}
 use Rattle.json5_walk.proofs.Calls.{starts_at}
-use Rattle.json5_walk.proofs.Rests.{reads_gap, token_reads}
 use Rattle.json5_walk.proofs.Entries.{after_gap, then as followed, named_so}
 use Rattle.json5.specs.declared.value_ref.ValueRef.{ValueRef, the_lemmas}
 use Rattle.json5.specs.declared.value_ref.ValueRef as ref
-use Rattle.json5.specs.declared.value_ref_walks.Front.{Front}
-use Rattle.json5.specs.declared.value_ref_walks.Front.TheVariants as front
 use Rattle.json5.specs.ValueRefs.{ReadsRef, ref_of, refs_view, members_view}
-use Rattle.json5.specs.ValueRefWalks.{meaning_of, meanings_of, member_meanings, IsRead, TakesMeaning, InElements, InMembers, Finishes, TakesElements, TakesMembers, TakesFront, TakesItem, TakesKey, TakesPart}
+use Rattle.json5.specs.ValueRefWalks.{meaning_of, meanings_of, member_meanings, IsRead, TakesMeaning, InElements, InMembers, Finishes, TakesElements, TakesMembers, TakesItem, TakesKey, TakesPart}
 use Rattle.json5.proofs.RefsCopied.{fields_then, members_last, refs_last, view-String}
 use Rattle.json5.proofs.TextsMean.{document_means}
 
@@ -70,24 +63,17 @@ pub none_so : {A T : Type 0} (r : Option T) (done : Bool) → done ≡ is_some r
 none_so (Some a) done e p h = let k : false ≡ true = sym h ∙ e in absurd (cc)
 none_so None done e p h = p
 
--- ---- nothing, or blanks, before a step
+pub none_kept : {A T : Type 0} (B : T → Type 0) (r : Option T) (done : Bool) → done ≡ is_some r → MatchOption r A B → done ≡ false → A
+none_kept B (Some a) done e p h = let k : false ≡ true = sym h ∙ e in absurd (cc)
+none_kept B None done e p h = p
 
-pub keeps : {v : Walked} → Moved Stays v v
-keeps = record { text = refl; limit = refl; leads = λ s f. (s.now, stays s.now, f) }
+-- ---- nothing, or blanks, before a step
 
 pub from_kept : {v w left : Walked} (Step : At → At → Type 0) → w ≡ v → Moved Step w left → Moved Step v left
 from_kept {left = left} Step e p = subst (λ z. Moved Step z left) e p
 
 pub gap_kept : {u v w : Walked} → Moved Stays u v → w ≡ v → Moved Stays u w
 gap_kept {u = u} p e = subst (λ z. Moved Stays u z) (sym e) p
-
-pub front_after : {u v : Walked} (w : Walked) (f : Front) → Moved Stays u v → TakesFront f v w → TakesFront f u w
-front_after w (front.Opened k) p q = after_gap p q
-front_after w front.Closed p q = after_gap p q
-front_after w (front.Literal l) p q = after_gap p q
-front_after w front.String p q = after_gap p q
-front_after w front.Number p q = after_gap p q
-front_after w front.Other p q = tt
 
 -- ---- values that are no collection
 
@@ -113,11 +99,11 @@ long_text s k = takes (text k.text_of k.escape_free) (ref_of (ref.String s)) (ap
 pub short_whole : {v mid w : Walked} (min max n z : ℤ) → mid ≡ v → z ≡ n → TookSpacedWhole min max n mid w → Moved (TakesMeaning (ref_of (ref.Whole z))) v w
 short_whole min max n z e same k = from_kept (TakesMeaning (ref_of (ref.Whole z))) e (takes (number (numbers.whole n)) (ref_of (ref.Whole z)) (ap (λ m. datum.number (numbers.whole m)) (sym same) ∙ sym (view-Whole z)) k.took.moved)
 
-pub took_whole : {v w : Walked} (z : ℤ) → TookNumber (numbers.whole z) v w → Moved (TakesMeaning (ref_of (ref.Whole z))) v w
-took_whole z k = takes (number (numbers.whole z)) (ref_of (ref.Whole z)) (sym (view-Whole z)) k.moved
+pub short_decimal : {v mid w : Walked} (d : numbers.Decimal) → mid ≡ v → TookSpacedNumber (numbers.decimal d) mid w → Moved (TakesMeaning (ref_of (ref.Decimal d))) v w
+short_decimal d e k = from_kept (TakesMeaning (ref_of (ref.Decimal d))) e (takes (number (numbers.decimal d)) (ref_of (ref.Decimal d)) (sym (view-Decimal d)) k.moved)
 
-pub took_decimal : {v w : Walked} (d : numbers.Decimal) → TookNumber (numbers.decimal d) v w → Moved (TakesMeaning (ref_of (ref.Decimal d))) v w
-took_decimal d k = takes (number (numbers.decimal d)) (ref_of (ref.Decimal d)) (sym (view-Decimal d)) k.moved
+pub took_number : {v w : Walked} (n : numbers.Number) (x : ValueRef) → ref_of x ≡ datum.number n → TookNumber n v w → Moved (TakesMeaning (ref_of x)) v w
+took_number n x e k = takes (number n) (ref_of x) (sym e) k.moved
 
 literal_means : (l : Literal) → meaning_of (tree_of l) ≡ datum_of_literal l
 literal_means literal.Null = refl
@@ -126,38 +112,6 @@ literal_means literal.False = refl
 
 pub took_literal : {v w : Walked} (l : Literal) (x : ValueRef) → ref_of x ≡ datum_of_literal l → Moved (TakesTree (tree_of l)) v w → Moved (TakesMeaning (ref_of x)) v w
 took_literal l x e m = takes (tree_of l) (ref_of x) (literal_means l ∙ sym e) m
-
--- ---- a decimal that a scanner reads of what the walk passes over
-
--- what is left of a text after so many bytes, if a walk has taken these
-rest_is : (v : Walked) (s : Trail) (bytes rest : List ℕ) (n : ℕ) → IsAt v s → bytes ≡ v.text → n ≡ offset_in v → rest ≡ drop n bytes → chars rest ≡ v.unread
-rest_is v s bytes rest n f e o r =
-    let halves : Halves v.text f.front v.unread = record { is_text = f.is_text; split = f.split } in
-    ap chars (r ∙ ap (λ z. drop n z) e ∙ ap (λ z. drop z v.text) o) ∙ drop_half halves
-
-scanned : (old new : Cursor) (n : numbers.Number) → TakesNumber old new n → Reads old.unread (number n) new.unread
-scanned old new n k = subst (λ x. Reads x (number n) new.unread) (sym k.split) (reads_gap k.is_gap (token_reads (k.literal ++ new.unread) k.literal new.unread (number n) refl (is_number k.is_number) k.stops))
-
-few_digits : {v w : Walked} (done : Bool) → TakesFewDigits v w done → done ≡ true → TakesFewDigits v w true
-few_digits true p h = p
-few_digits false p h = absurd (cc)
-
-same_number : (m n : numbers.Number) → number m ≡ number n → m ≡ n
-same_number m n e = cc
-
-pub took_scanned : {v w : Walked} (bytes rest : List ℕ) (n : ℕ) (d : numbers.Decimal) (old new : Cursor) (done : Bool) → bytes ≡ v.text → n ≡ offset_in v → rest ≡ drop n bytes → old.unread ≡ chars rest → TakesNumber old new (numbers.decimal d)
-    → TakesFewDigits v w done → done ≡ true → Moved (TakesMeaning (ref_of (ref.Decimal d))) v w
-took_scanned {v = v} {w = w} bytes rest n d old new done e o r u k p h =
-    let (m, took) = few_digits done p h in
-    let same : (s : Trail) → IsAt v s → m ≡ numbers.decimal d = λ s f.
-    let front : old.unread ≡ v.unread = u ∙ rest_is v s bytes rest n f e o r in
-    let read : Reads v.unread (number (numbers.decimal d)) new.unread = subst (λ x. Reads x (number (numbers.decimal d)) new.unread) front (scanned old new (numbers.decimal d) k) in
-    same_number m (numbers.decimal d) (one_phrase v.unread w.unread new.unread (number m) (number (numbers.decimal d)) took.reads read).0 in
-    takes (number (numbers.decimal d)) (ref_of (ref.Decimal d)) (sym (view-Decimal d)) (record {
-      text = took.moved.text;
-      limit = took.moved.limit;
-      leads = λ s f. subst (λ z. (a : At) × TakesTree (number z) s.now a × IsAt w (record { now = a; marked = s.marked })) (same s f) (took.moved.leads s f);
-    })
 
 -- ---- elements
 
@@ -278,12 +232,16 @@ member_pushed {v0 = v} {v4 = w} fs new k x e p q r l =
 
 -- ---- a collection
 
-pub opened : {v mid w : Walked} (k : Kind) (x : Datum) → Moved (Opens k) v mid → Moved (Finishes k x) mid w → Moved (TakesMeaning x) v w
+opened : {v mid w : Walked} (k : Kind) (x : Datum) → Moved (Opens k) v mid → Moved (Finishes k x) mid w → Moved (TakesMeaning x) v w
 opened k x p q = followed (Opens k) (Finishes k x) (TakesMeaning x) (λ a b c. so k a b c) p q
   where
     so : (k : Kind) (a b c : At) → Opens k a b → Finishes k x b c → TakesMeaning x a c
     so _ _ _ c (opens_array a due) m = (due, m (value_frames a) (refl, refl))
     so _ _ _ c (opens_object a due) m = (due, m (value_frames a) (refl, refl))
+
+-- blanks, a bracket, and what is left after it
+pub taken_within : {u v mid w : Walked} (k : Kind) (x : Datum) (value : ValueRef) → ref_of value ≡ x → Moved Stays u v → Moved (Opens k) v mid → Moved (Finishes k x) mid w → Moved (TakesMeaning (ref_of value)) u w
+taken_within {u = u} {w = w} k x value e gap p q = subst (λ z. Moved (TakesMeaning z) u w) (sym e) (after_gap gap (opened k x p q))
 
 -- ---- the whole
 

@@ -3,6 +3,7 @@ pub mod DocumentReads
 pub mod ReadsBack
 pub mod Structs
 pub mod ValueRefs
+pub mod ValueRefTrees
 pub mod ValueRefWalks
 -- What else contracts cite, and what a user's type cites: trees, and what an input holds.
 pub use Rattle.json5_grammar.specs.Language.Trees

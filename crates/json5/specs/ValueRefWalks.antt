@@ -1,6 +1,6 @@
 -- What reading a borrowed value takes of a walk.
 -- Private.
-use Rattle.std.specs.Prelude.{◌≡◌, Bool, true, false, List, ◌∷◌, Option, Some, None, ⊤}
+use Rattle.std.specs.Prelude.{◌≡◌, Bool, true, false, List, ◌∷◌, Option, Some, None}
 use Rattle.std.specs.Str.{chars, encode_utf8_all}
 use Rattle.json5_grammar.specs.Language.Trees.{Tree, Trees, Members, null, boolean, number, text, array, object, no_more, more, no_member, member}
 use Rattle.json5_grammar.specs.Model.Collections.{snoc, snoc_member}
@@ -12,11 +12,9 @@ use Rattle.json5_read.specs.declared.brackets.BracketKind.{BracketKind as Kind}
 use Rattle.json5_read.specs.declared.brackets.BracketKind.TheVariants as kind
 use Rattle.json5_walk.specs.Nexts.{takes_value}
 use Rattle.json5_walk.specs.Frames.{Frame, in_array, in_object, At, at_element, at_key, at_comma, next_of, value_frames}
-use Rattle.json5_walk.specs.Moves.{Stays, Opens, Closes, TakesComma, TakesKeyOf, TakesTree}
-use Rattle.json5_walk.specs.Walks.{Walked, Moved, tree_of}
+use Rattle.json5_walk.specs.Moves.{Closes, TakesComma, TakesKeyOf}
+use Rattle.json5_walk.specs.Walks.{Walked, Moved}
 use Rattle.json5.specs.declared.value_ref.ValueRef.{ValueRef}
-use Rattle.json5.specs.declared.value_ref_walks.Front.{Front}
-use Rattle.json5.specs.declared.value_ref_walks.Front.TheVariants as front
 use Rattle.json5.specs.ValueRefs.{ref_of}
 
 -- what a tree means, as the bytes of its texts say it
@@ -73,15 +71,6 @@ TakesElements xs a b = (o : List Frame) → IsOpened kind.Array o a → InElemen
 
 abbrev pub TakesMembers : Fields → At → At → Type 0
 TakesMembers fs a b = (o : List Frame) → IsOpened kind.Object o a → InMembers fs o b
-
--- a bracket, a literal or blanks were taken
-abbrev pub TakesFront : Front → Walked → Walked → Type 0
-TakesFront (front.Opened k) old new = Moved (Opens k) old new
-TakesFront front.Closed old new = Moved Closes old new
-TakesFront (front.Literal l) old new = Moved (TakesTree (tree_of l)) old new
-TakesFront front.String old new = Moved Stays old new
-TakesFront front.Number old new = Moved Stays old new
-TakesFront front.Other old new = ⊤
 
 -- a value was taken, or the closing bracket
 abbrev pub TakesItem : Option ValueRef → Walked → Walked → Type 0

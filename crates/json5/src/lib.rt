@@ -22,7 +22,9 @@ pub mod ser;
 pub mod value_ref;
 mod value_ref_equal;
 mod value_ref_finds;
+mod value_ref_pointer;
 mod value_ref_walks;
+mod value_ref_writes;
 
 pub use json5_de as de;
 pub use json5_de::{

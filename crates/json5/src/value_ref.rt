@@ -24,7 +24,10 @@ use std::alloc::Global;
 /// ```text
 /// let value = ValueRef::from_str(alloc, text)?;
 /// value.get("host")?.as_str()    // Some of `localhost`, a part of the text `{host: 'localhost'}`
+/// to_string(alloc, &value)?      // as of the `Value` that means the same, and without making it
 /// ```
+///
+/// A layout, and JSON, are written of a `Value` alone: [`to_owned`](ValueRef::to_owned) makes one, and copies each text.
 #[derive(Debug, Drop)]
 pub enum ValueRef<'de> {
     /// `null`.
@@ -76,7 +79,7 @@ impl<'de> ValueRef<'de> {
     {
         match walked(alloc, limit, text) {
             Some(value) => Ok(value),
-            None => read_anew(alloc, limit, text),
+            None => unborrowed(alloc, &read_document_within(alloc, limit, text)?),
         }
     }
 
@@ -94,16 +97,6 @@ impl<'de> ValueRef<'de> {
     {
         owned(alloc, self)
     }
-}
-
-/// Reads the document again, of which the walk made nothing: it is refused with its fault, or memory ran out.
-#[cold]
-#[inline(never)]
-fn read_anew<'de>(alloc: Global, limit: Limit, text: &str) -> Result<ValueRef<'de>>
-    ensures { ReadsRef limit (chars text.now) result }
-{
-    let value = read_document_within(alloc, limit, text)?;
-    unborrowed(alloc, &value)
 }
 
 /// A copy that owns its texts.

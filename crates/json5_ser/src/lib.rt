@@ -6,6 +6,7 @@ mod impls;
 mod key;
 pub mod laws;
 mod ser;
+pub mod trees;
 mod whole_output;
 
 pub use collection::SerializeCollection;

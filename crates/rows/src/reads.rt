@@ -91,17 +91,35 @@ fn of_value(alloc: Global, asked: Asked, text: &str) -> Answer {
             from_str_within(alloc, limit, text),
             ValueRef::from_str_within(alloc, limit, text),
         ),
-        _ => ask::<Value>(alloc, asked, text),
+        _ => alike(
+            alloc,
+            ask::<Value>(alloc, asked, text),
+            written(alloc, asked, text),
+        ),
     }
 }
 
 /// The answer of a value. What borrows its texts has to give the same.
 fn same(alloc: Global, read: Result<Value>, borrowed: Result<ValueRef<'_>>) -> Answer {
     let answer = shown(alloc, read.map(Any));
-    if answer == shown(alloc, owned(alloc, borrowed).map(Any)) {
+    alike(alloc, answer, shown(alloc, owned(alloc, borrowed).map(Any)))
+}
+
+/// The answer of a value, if that of what borrows its texts is the same.
+fn alike(alloc: Global, answer: Answer, borrowed: Answer) -> Answer {
+    if answer == borrowed {
         return answer;
     }
     Err(Error::custom(alloc, "a ValueRef gives something else")?)
+}
+
+/// What is written of what borrows its texts.
+fn written(alloc: Global, asked: Asked, text: &str) -> Answer {
+    let value = ValueRef::from_str(alloc, text)?;
+    match asked {
+        Asked::Written(limit) => write_within(alloc, limit, &value),
+        _ => write(alloc, &value),
+    }
 }
 
 fn owned(alloc: Global, borrowed: Result<ValueRef<'_>>) -> Result<Value> {

@@ -24,6 +24,7 @@ fn asked(alloc: Global, row: Row<'_>, value: &ValueRef<'_>) -> Answer {
             Ok(index) => shown(alloc, value.at(index)),
             Err(_) => unknown(alloc),
         },
+        "pointer" => shown(alloc, value.pointer(row.rest)),
         "entries" => entries(alloc, value),
         _ => unknown(alloc),
     }

@@ -46,11 +46,11 @@ fn answer_of_value(alloc: Global, row: Row<'_>) -> Answer {
     let value = json5::from_str(alloc, row.value)?;
     match row.call {
         "is" | "as_u128" | "as_i128" => kinds::answer(alloc, row, &value),
-        "pointer" | "hash" => finds::answer(alloc, row, &value),
+        "hash" => finds::answer(alloc, row, &value),
         "len" | "as_u64" | "as_i64" => {
             refs::same(alloc, row, &value, kinds::answer(alloc, row, &value))
         }
-        "get" | "get_at" | "entries" => {
+        "get" | "get_at" | "pointer" | "entries" => {
             refs::same(alloc, row, &value, finds::answer(alloc, row, &value))
         }
         "deeper" => texts::answer(alloc, row, &wrapped(alloc, value)?),

@@ -1,6 +1,11 @@
+use Rattle.json5_read.specs.declared.brackets.BracketKind.TheVariants as kind
+use Rattle.json5_types.specs.ValueMeanings.{array, object}
+use Rattle.json5_walk.specs.Moves.{Stays}
 use Rattle.json5_walk.proofs.Entries.{after_gap}
+use Rattle.json5.specs.declared.value_ref.ValueRef as ref
 use Rattle.json5.specs.ValueRefs.{refs_view, members_view}
-use Rattle.json5.proofs.RefsRead.{closed_at, comma_at, elements_closed, elements_on, end_at, grown, item_at, key_at, member_pushed, members_closed, members_on, no_key_at, opened, pushed, took_literal}
+use Rattle.json5.proofs.RefsCopied.{view-Array, view-Object}
+use Rattle.json5.proofs.RefsRead.{closed_at, comma_at, elements_closed, elements_on, end_at, from_kept, grown, item_at, key_at, member_pushed, members_closed, members_on, no_key_at, pushed, taken_within}
 use Rattle.json5.proofs.value_ref_walks.+tree.Goals as goal
 
 pub take_elements-returns-in_default : goal.take_elements-returns-in_default
@@ -35,14 +40,18 @@ take_members-loop-preserved t c =
     (key_at c.in_ok-key.field-0 c.in-Some.key c.in-Some.is c.in_ok-key.ensures) c.in_ok-take_colon.ensures (item_at c.in_ok-take_value.field-0 c.in_ok-value.value c.in_ok-value.was c.in_ok-take_value.ensures) in
     members_on (members_view new) taken (comma_at c.in_ok-take_part.field-0 c.if-not-branch.false c.in_ok-take_part.ensures)
 
-pub take_other-returns-in_ok-take_collection-in-Opened : goal.take_other-returns-in_ok-take_collection-in-Opened
-take_other-returns-in_ok-take_collection-in-Opened t c = opened c.in-Opened.kind _ c.in-Opened.ensures c.in_ok-take_collection-in-Opened.ensures
+pub take_value-returns-in_ok-take_elements-in-91 : goal.take_value-returns-in_ok-take_elements-in-91
+take_value-returns-in_ok-take_elements-in-91 t c =
+    let v = c.in_ok-take_elements-in-91.field-0 in
+    taken_within kind.Array (array (refs_view v.items)) (ref.Array v) (view-Array v) (from_kept Stays c.in_default.ensures c.in_ok-c.ensures) c.in_ok-within-in-91.ensures.1 c.in_ok-take_elements-in-91.ensures
 
-pub take_other-returns-in-Literal : goal.take_other-returns-in-Literal
-take_other-returns-in-Literal t c = took_literal c.in-Literal.literal c.value_of_literal.result c.value_of_literal.ensures c.in-Literal.ensures
+pub take_value-returns-in_ok-take_members-in-123 : goal.take_value-returns-in_ok-take_members-in-123
+take_value-returns-in_ok-take_members-in-123 t c =
+    let v = c.in_ok-take_members-in-123.field-0 in
+    taken_within kind.Object (object (members_view v.items)) (ref.Object v) (view-Object v) (from_kept Stays c.in_default.ensures c.in_ok-c.ensures) c.in_ok-within-in-123.ensures.1 c.in_ok-take_members-in-123.ensures
 
-pub take_other-returns-in_ok-take_string-in-String : goal.take_other-returns-in_ok-take_string-in-String
-take_other-returns-in_ok-take_string-in-String t c = after_gap c.in-String.ensures c.in_ok-take_string-in-String.ensures
+pub take_value-returns-in_ok-close-in-93 : goal.take_value-returns-in_ok-close-in-93
+take_value-returns-in_ok-close-in-93 t c = after_gap (from_kept Stays c.in_default.ensures c.in_ok-c.ensures) c.in_ok-close-in-93.ensures.taken
 
-pub take_other-returns-in_ok-take_number-in-Number : goal.take_other-returns-in_ok-take_number-in-Number
-take_other-returns-in_ok-take_number-in-Number t c = after_gap c.in-Number.ensures c.in_ok-take_number-in-Number.ensures
+pub take_value-returns-in_ok-take_token-in_default-2 : goal.take_value-returns-in_ok-take_token-in_default-2
+take_value-returns-in_ok-take_token-in_default-2 t c = after_gap (from_kept Stays c.in_default.ensures c.in_ok-c.ensures) c.in_ok-take_token-in_default-2.ensures

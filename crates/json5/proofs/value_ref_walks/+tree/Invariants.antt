@@ -5,20 +5,14 @@ use Rattle.json5.specs.ValueRefWalks.{TakesElements, TakesMembers}
 use Rattle.json5.proofs.value_ref_walks.+tree.Given as goal
 
 -- each call takes a step down, and a collection within takes one from the room
-abbrev pub decreases-take_collection : goal.decreases-take_collection
-decreases-take_collection l = 4 * l.room + 1
-
-abbrev pub decreases-take_other : goal.decreases-take_other
-decreases-take_other l = 4 * l.room + 2
-
 abbrev pub decreases-take_value : goal.decreases-take_value
-decreases-take_value l = 4 * l.room + 3
+decreases-take_value l = 2 * l.room + 1
 
 abbrev pub decreases-take_elements : goal.decreases-take_elements
-decreases-take_elements l = 4 * l.room + 4
+decreases-take_elements l = 2 * l.room + 2
 
 abbrev pub decreases-take_members : goal.decreases-take_members
-decreases-take_members l = 4 * l.room + 4
+decreases-take_members l = 2 * l.room + 2
 
 abbrev pub invariant-take_elements-loop : goal.invariant-take_elements-loop
 invariant-take_elements-loop l = Moved (TakesElements (refs_view l.items.items)) l.fn.walk l.walk
