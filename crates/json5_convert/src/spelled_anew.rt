@@ -9,7 +9,9 @@ ghost use Rattle.json5_types.specs.NumberMeanings.{number_of};
 ghost use Rattle.json5_convert.specs.SpelledAnew.{BeginsComment, BeginsNumber, IsBlankBefore, IsComment, IsKeyAt, IsNumberAt, IsStringAt, PassesGap, PassesOn, PassesShort, SpelledAnew, Unquotes, begins_number};
 
 use crate::faults::{RespellError, Result};
-use json5_lexemes::{Piece, Pieces, ends_word, front, past_blanks, past_byte, past_same, past_same_name, past_token};
+use json5_lexemes::{
+    Piece, Pieces, ends_word, front, past_blanks, past_byte, past_same, past_same_name, past_token,
+};
 use json5_tokens::char::is_json5_whitespace;
 use json5_tokens::scanner::Scanner;
 use json5_types::cow_str::CowStr;
@@ -18,7 +20,12 @@ use std::alloc::Global;
 
 /// Refuses with `Failed` unless the second text has the tokens of the first, each spelled as there or anew, and its comments, or
 /// none where they don't stay.
-pub(crate) fn check_spelled_anew<'x>(alloc: Global, stay: bool, text: &'x str, made: &'x str) -> Result<()>
+pub(crate) fn check_spelled_anew<'x>(
+    alloc: Global,
+    stay: bool,
+    text: &'x str,
+    made: &'x str,
+) -> Result<()>
     ensures { OnOk result (SpelledAnew stay false (chars text.now) (chars made.now)) }
 {
     let mut left = text;
@@ -37,7 +44,12 @@ pub(crate) fn check_spelled_anew<'x>(alloc: Global, stay: bool, text: &'x str, m
 
 /// What follows what is next in both texts.
 #[inline(always)]
-fn past_next<'x>(alloc: Global, stay: bool, left: &'x str, right: &'x str) -> Result<(&'x str, &'x str)>
+fn past_next<'x>(
+    alloc: Global,
+    stay: bool,
+    left: &'x str,
+    right: &'x str,
+) -> Result<(&'x str, &'x str)>
     ensures { IfOk result (λ p. PassesOn stay false left.now right.now p.0.now p.1.now) }
 {
     match past_short(left, right) {
@@ -104,7 +116,12 @@ fn quote_of(text: &str) -> Option<u8>
 
 /// The same of what is seldom: a blank that JSON hasn't, a comment, a comma, or a token that is spelled anew.
 #[inline(never)]
-fn past_long<'x>(alloc: Global, stay: bool, left: &'x str, right: &'x str) -> Result<(&'x str, &'x str)>
+fn past_long<'x>(
+    alloc: Global,
+    stay: bool,
+    left: &'x str,
+    right: &'x str,
+) -> Result<(&'x str, &'x str)>
     ensures { IfOk result (λ p. PassesOn stay false left.now right.now p.0.now p.1.now) }
 {
     if let Some((left_after, right_after)) = past_gap(stay, left, right) {
@@ -196,7 +213,12 @@ fn past_comma<'x>(left: &'x str, right: &'x str) -> Option<(&'x str, &'x str)>
 }
 
 /// What follows a token that is spelled anew. After a key that is its colon.
-fn past_respelled<'x>(alloc: Global, stay: bool, left: &'x str, right: &'x str) -> Result<(&'x str, &'x str)>
+fn past_respelled<'x>(
+    alloc: Global,
+    stay: bool,
+    left: &'x str,
+    right: &'x str,
+) -> Result<(&'x str, &'x str)>
     ensures { IfOk result (λ p. PassesOn stay false left.now right.now p.0.now p.1.now) }
 {
     if quote_of(left).is_some() && quote_of(right).is_some() {
@@ -285,7 +307,12 @@ fn is_same_number(number: &Number, other: &Number) -> bool
 }
 
 /// What follows a key that both texts have, and its colon.
-fn past_keys<'x>(alloc: Global, stay: bool, left: &'x str, right: &'x str) -> Result<(&'x str, &'x str)>
+fn past_keys<'x>(
+    alloc: Global,
+    stay: bool,
+    left: &'x str,
+    right: &'x str,
+) -> Result<(&'x str, &'x str)>
     ensures { IfOk result (λ p. PassesOn stay false left.now right.now p.0.now p.1.now) }
 {
     let (key, left_rest) = split_key(alloc, left)?;
