@@ -351,13 +351,16 @@ module _ (stay : Bool) (x y : List ℕ) (t u : Tree) (d : Doc max_depth x t) (e 
   lists : Listed stay false x y
   lists = listed s
 
+  pub same_meaning : datum_of u ≡ datum_of t
+  same_meaning = sym (same_values (document_spells max_depth x t lists.left d lists.left_lexemes) (document_spells max_depth y u lists.right e lists.right_lexemes) lists.tokens nothing_follows).0
+
   pub means_the_same : MeanTheSame x y
   means_the_same = record {
     tree = t;
     document = d;
     other = u;
     respelled = e;
-    same = sym (same_values (document_spells max_depth x t lists.left d lists.left_lexemes) (document_spells max_depth y u lists.right e lists.right_lexemes) lists.tokens nothing_follows).0;
+    same = same_meaning;
   }
 
   pub same_comments : stay ≡ true → HaveSameComments x y

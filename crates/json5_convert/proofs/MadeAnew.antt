@@ -10,7 +10,7 @@ use Rattle.json5_convert.specs.Respelled.{HasNumbers, IsAsPlain, IsMade, KeepsNu
 use Rattle.json5_convert.specs.SpelledAnew.{SpelledAnew}
 use Rattle.json5_convert.specs.Spellings.{are_json_numbers, are_json_quotes, are_quoted, asks_json, has_comments, has_json_numbers}
 use Rattle.json5_convert.specs.declared.spelling.Spelling.{Spelling}
-use Rattle.json5_convert.proofs.AnewTokens.{means_the_same, no_comments, same_comments}
+use Rattle.json5_convert.proofs.AnewTokens.{means_the_same, no_comments, same_comments, same_meaning}
 use Rattle.json5_convert.proofs.OneComments.{document_has_comments}
 use Rattle.json5_convert.proofs.PlainKept.{numbers_json}
 
@@ -38,7 +38,7 @@ module _ (s : Spelling) (x y : List ℕ) (t u : Tree) (d : Doc max_depth (chars 
   means = means_the_same (has_comments s) (chars x) (chars y) t u d e k
 
   numbers : (b : Bool) → asks_json s ≡ b → KeepsNumbers s x
-  numbers true asked = λ h. (t, d, ap is_json (sym means.same) ∙ numbers_json e (p asked))
+  numbers true asked = λ h. (t, d, ap is_json (sym (same_meaning (has_comments s) (chars x) (chars y) t u d e k)) ∙ numbers_json e (p asked))
   numbers false asked = other asked
 
   pub made_so : IsMade s x y
