@@ -4,19 +4,20 @@ ghost use Rattle.std.specs.Prelude.{◌≡◌, List, MatchResult, ℕ};
 ghost use Rattle.json5_types.specs.Errors.{LacksMemory};
 ghost use Rattle.json5_de.specs.Convert.{text_of};
 ghost use Rattle.json5_de.specs.Refinement.{refined, RefusesOwn};
-ghost use Rattle.json5_settings_types.specs.Bounds.{IsOwnFault};
 ghost use Rattle.json5_settings_types.specs.Spellings.{SpellingsReadBack, if_spelled, value_and_text};
 ghost use Rattle.json5_settings_types.specs.Urls.{url_of};
 ghost use Rattle.url.specs.Parts.{Parts};
 
-use crate::faults::fault_at;
-use crate::spelled::AsSpelled;
+use crate::spelled::{AsSpelled, not_spelled};
 use json5_de::{Deserialize, Deserializer, Spanned};
 use json5_tokens::input::Input;
 use json5_types::ErrorCode;
 use json5_types::error::{Error, Result};
 use std::alloc::Global;
 use url::{ParseError, Url};
+
+/// What is expected where another text stands.
+const EXPECTED: &str = "a URL such as 'https://shop.example/'";
 
 /// The URL that the text spells, if it spells one.
 fn url_in(alloc: Global, text: &str) -> Result<Option<Url>>
@@ -29,15 +30,6 @@ fn url_in(alloc: Global, text: &str) -> Result<Option<Url>>
         }
         Err(_) => Ok(None),
     }
-}
-
-/// The fault of a text that spells no URL.
-fn no_url<I: Input>(de: &Deserializer<I>, text: &Spanned<String>) -> Error
-    ensures { IsOwnFault de.now.input text.now.start result }
-{
-    let found = text.value.as_str();
-    let message = format_args!("expected a URL such as 'https://shop.example/', found `{found}`");
-    fault_at(de, text.start, message)
 }
 
 /// A text that is a URL with its scheme in front, by the URL Standard; another one is refused at its quote. One of 4 GB
@@ -58,7 +50,7 @@ impl<I: Input> Deserialize<I> for AsSpelled<Url> {
         };
         let value = match url_in(de.allocator(), read.value.as_str()) {
             Ok(Some(value)) => value,
-            Ok(None) => return Err(no_url(de, &read)),
+            Ok(None) => return Err(not_spelled(de, &read, EXPECTED)),
             Err(e) => return Err(e),
         };
         let text = read.value;

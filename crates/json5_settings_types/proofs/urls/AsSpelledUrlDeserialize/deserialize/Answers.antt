@@ -21,7 +21,7 @@ returns-in-Ok-None-clause-complete g c =
 pub returns-in-Ok-None-clause-refused : goal.returns-in-Ok-None-clause-refused
 returns-in-Ok-None-clause-refused g c =
     let none = spelled_none url_of _ (sym c.in-Ok-None.field-0-is ∙ c.in-Ok-None.ensures ∙ ap url_of c.as_str.ensures.value) in
-    inr (refused_own text_of (if_spelled url_of) c.args.de.now c.deserialize.new.de _ _ _ _ c.in-Ok.ensures.reads.sound c.in-Ok.ensures.spans none c.no_url.ensures)
+    inr (refused_own text_of (if_spelled url_of) c.args.de.now c.deserialize.new.de _ _ _ _ c.in-Ok.ensures.reads.sound c.in-Ok.ensures.spans none c.not_spelled.ensures)
 
 pub returns-clause-sound : goal.returns-clause-sound
 returns-clause-sound g c =
