@@ -11,11 +11,12 @@ use Rattle.json5_de.specs.ConvertLists.{if_some}
 use Rattle.json5_de.specs.ObjectFaults.{ValueRefusedAtBrace}
 use Rattle.json5_de.specs.Objects.{MapAccessState}
 use Rattle.json5_de.specs.KeyPlaces.{IsOwnAtKey}
-use Rattle.json5_de.specs.Plans.{TakesMember, at_name}
+use Rattle.json5_de.specs.Plans.{TakesFree, TakesMember, at_name}
 use Rattle.json5_de.specs.StructFaults.{ValueFaults, RefusesMember}
 use Rattle.json5_de.specs.Lending.{map_state_of, KeepsMap, NoKeyPending, HoldsTheSameMap}
 use Rattle.json5_de.specs.declared.map.MapAccess.{MapAccess}
 use Rattle.json5_fields.specs.Layouts.{Layout, has_name}
+use Rattle.json5_fields.specs.Spares.{spared}
 
 -- the faults of a field of this type, by whatever name: its first value is refused as its type refuses it, and a second value isn't allowed
 pub data of_type {C : Type 0} (convert : Tree → Option C) (refuses : State → Error → State → Type 0) (name : List ℕ) (may : Tree → Bool) (old : MapAccessState) (e : Error) : Type 0 where
@@ -28,6 +29,10 @@ pub record TakesNamed {I V C : Type 0} (content : V → C) (convert : Tree → O
   pub refused : RefusesMember (of_type convert refuses) (at_name convert name) (if_some content field) name (map_state_of old) result
   pub access : KeepsMap old new
   pub pending : OnOk result (NoKeyPending new)
+
+-- it does so without memory, where its type reads it without
+abbrev pub TakesNamedFree : {I V C : Type 0} → (V → C) → (Tree → Option C) → (Tree → Bool) → List ℕ → (old : MapAccess I) → (field : Option V) → Result (Unit {0}) Error → Type 0
+TakesNamedFree content convert allocation_free name old field result = TakesFree (spared convert allocation_free) (at_name convert name) (if_some content field) name (map_state_of old) result
 
 -- the value of the key that was read is that of a field here: s is what was read of the fields before, n after it
 pub record TakesHere {I S D : Type 0} (l : Layout S D) (faults : ValueFaults) (s n : S) (name : List ℕ) (old new : MapAccess I) (result : Result (Unit {0}) Error) : Type 0 where

@@ -1,11 +1,8 @@
 //! One field of a struct, and what a description of fields has to say.
 
 ghost use Rattle.std.specs.Prelude.{◌≡◌};
-ghost use Rattle.json5_de.specs.ConvertLists.{if_some};
-ghost use Rattle.json5_de.specs.Lending.{map_state_of, KeyPending, KeyIsNamed};
-ghost use Rattle.json5_de.specs.Plans.{TakesFree, at_name};
-ghost use Rattle.json5_fields.specs.FieldCalls.{TakesNamed};
-ghost use Rattle.json5_fields.specs.Spares.{spared};
+ghost use Rattle.json5_de.specs.Lending.{KeyPending, KeyIsNamed};
+ghost use Rattle.json5_fields.specs.FieldCalls.{TakesNamed, TakesNamedFree};
 
 use crate::field_names::FieldNames;
 use json5_de::{Deserialize, MapAccess};
@@ -83,8 +80,17 @@ pub trait StructFields<I: Input, V: Drop>: Sized + Drop {
         ensures no_memory { FinishesFree allocation_free.defaults (layout (kept fields)) (state fields) (map_state_of map.old) result };
 }
 
-/// Reads the value of the key that was read last into its field. A second value is refused at its key.
-pub(crate) fn take_field<I: Input, T: Deserialize<I>>(
+/// Reads the value of the key that was read last into its field, which has this name. The `read` of a [`StructFields`]
+/// of your own calls it.
+///
+/// ```text
+/// take_field(&mut fields.value, map, name)?;    // 80 of `{ port: 80 }`
+/// ```
+///
+/// # Errors
+///
+/// Those of [`MapAccess::next_field`], and ``duplicate field `name` `` at the key of a second value.
+pub fn take_field<I: Input, T: Deserialize<I>>(
     found: &mut Option<T>,
     map: &mut MapAccess<'_, I>,
     name: &str,
@@ -92,7 +98,7 @@ pub(crate) fn take_field<I: Input, T: Deserialize<I>>(
     requires key { KeyPending map.old }
     requires named { KeyIsNamed name.now map.old }
     ensures taken { TakesNamed T.content T.convert T.refuses name.now map.old map.new found.old found.new result }
-    ensures no_memory { TakesFree (spared T.convert T.allocation_free) (at_name T.convert name.now) (if_some T.content found.old) name.now (map_state_of map.old) result }
+    ensures no_memory { TakesNamedFree T.content T.convert T.allocation_free name.now map.old found.old result }
 {
     if found.is_some() {
         return Err(map.refuse_key(format_args!("duplicate field `{name}`")));

@@ -28,7 +28,7 @@ pub use distinct_texts::{Distinct, read_distinct};
 pub use entries::{Field, Given, WrittenFields};
 pub use enums::read_enum;
 pub use field_names::FieldNames;
-pub use fields::{Optional, Required, StructFields, WithDefault};
+pub use fields::{Optional, Required, StructFields, WithDefault, take_field};
 pub use names::one_of_names;
 pub use objects::read_struct;
 pub use only::read_struct_only;

@@ -9,5 +9,6 @@ pub mod KeysSeen
 pub mod Blanked
 pub mod Failures
 pub mod WarningsTold
+pub mod OldNamesTold
 pub mod SchemasMade
 pub mod FieldsPassed

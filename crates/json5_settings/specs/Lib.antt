@@ -8,6 +8,7 @@ pub mod Told
 pub mod Keys
 pub mod Known
 pub mod MemberTexts
+pub mod OldNames
 pub mod Samples
 pub mod Schemas
 pub mod Slips

@@ -1,6 +1,7 @@
 //! Where a fault is, as a way through the document.
 
-ghost use Rattle.std.specs.Prelude.{IfErr};
+ghost use Rattle.std.specs.Prelude.{IfErr, IfOk};
+ghost use Rattle.json5_edit.specs.PathTexts.{AreStepsOf};
 ghost use Rattle.json5_edit.specs.Refusals.{RefusesText};
 
 use json5_edit::{EditError, Path, Step, find};
@@ -115,7 +116,8 @@ pub(crate) fn key_start(alloc: Global, text: &str, steps: &[Step<'_>]) -> Result
 
 /// The steps of a path in a document.
 pub(crate) fn steps_of<'p>(alloc: Global, path: &'p Path, text: &str) -> Result<Vec<Step<'p>>>
-    ensures { IfErr result (RefusesText text.now) }
+    ensures steps { IfOk result (λ steps. AreStepsOf text.now path.now.written.items steps.items) }
+    ensures refused { IfErr result (RefusesText text.now) }
 {
     match path.steps_in(alloc, text) {
         Ok(steps) => Ok(steps),

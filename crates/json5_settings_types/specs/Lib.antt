@@ -13,3 +13,4 @@ pub mod Spellings
 pub mod Sums
 pub mod TextSets
 pub mod Twins
+pub mod Urls

@@ -1,5 +1,6 @@
-//! Types ready for the fields of settings: durations, sizes, addresses, paths, floats, numbers within bounds, lists that aren't
-//! empty or have no twins, sets, objects without a key twice; and fields with an old name or with a default that is made.
+//! Types ready for the fields of settings: durations, sizes, addresses, URLs, paths, floats, numbers within bounds, lists
+//! that aren't empty or have no twins, sets, objects without a key twice; and fields with an old name or with a default
+//! that is made.
 //!
 //! ```text
 //! let timeout: Duration = json5::from_str(alloc, "'1h30m'")?;    // 5400 seconds
@@ -26,6 +27,7 @@ mod told_apart;
 mod unique;
 mod unique_keys;
 mod units;
+mod urls;
 mod within;
 
 pub use addresses::addresses_are_spelled;
@@ -41,4 +43,6 @@ pub use spelled::{AsSpelled, Spelled, read_spelled, spellings_read_back};
 pub use text_sets::{TextSet, text_sets_read_back};
 pub use unique::{TellsApart, Unique, UniqueTexts, unique_read_back, unique_texts_read_back};
 pub use unique_keys::{UniqueKeys, unique_keys_read_back};
+pub use url::Url;
+pub use urls::urls_read_back;
 pub use within::{Within, numbers_read_back};

@@ -2,14 +2,10 @@
 
 ghost use Rattle.std.specs.Prelude.{◌≡◌, None, [], ◌∷◌};
 ghost use Rattle.json5_de.specs.ConvertLists.{if_some};
-ghost use Rattle.json5_de.specs.Lending.{map_state_of, KeyPending, KeyIsNamed};
-ghost use Rattle.json5_de.specs.Plans.{TakesFree, at_name};
-ghost use Rattle.json5_fields.specs.FieldCalls.{TakesNamed};
 ghost use Rattle.json5_fields.specs.Layouts.{has_name};
-ghost use Rattle.json5_fields.specs.Spares.{spared};
 
 use json5_de::{Deserialize, MapAccess};
-use json5_fields::{FieldNames, StructFields};
+use json5_fields::{FieldNames, StructFields, take_field};
 use json5_tokens::input::Input;
 use json5_types::error::Result;
 use std::fmt;
@@ -79,23 +75,6 @@ impl<T> FieldNames for DefaultedByEither<T> {
     }
 }
 
-/// Reads the value of the key that was read last. A second value is refused at its key.
-fn take_value<I: Input, T: Deserialize<I>>(
-    found: &mut Option<T>,
-    map: &mut MapAccess<'_, I>,
-    name: &str,
-) -> Result<()>
-    requires key { KeyPending map.old }
-    requires named { KeyIsNamed name.now map.old }
-    ensures taken { TakesNamed T.content T.convert T.refuses name.now map.old map.new found.old found.new result }
-    ensures no_memory { TakesFree (spared T.convert T.allocation_free) (at_name T.convert name.now) (if_some T.content found.old) name.now (map_state_of map.old) result }
-{
-    if found.is_some() {
-        return Err(map.refuse_key(format_args!("duplicate field `{name}`")));
-    }
-    map.next_field(name, found)
-}
-
 impl<I: Input, T: Deserialize<I>> StructFields<I, T> for Renamed {
     ghost use Rattle.std.specs.Prelude.{ℕ, List, Option};
     ghost use Rattle.json5_fields.specs.Spares.{spares_field};
@@ -136,7 +115,7 @@ impl<I: Input, T: Deserialize<I>> StructFields<I, T> for Renamed {
         if !fields.is_named(name) {
             return Ok(false);
         }
-        match take_value(&mut fields.value, map, name) {
+        match take_field(&mut fields.value, map, name) {
             Ok(()) => Ok(true),
             Err(e) => Err(e),
         }

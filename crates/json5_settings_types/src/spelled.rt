@@ -48,10 +48,14 @@ pub trait Spelled: Sized + Drop {
 }
 
 /// The fault of a text that spells no value.
-fn not_spelled<I: Input, T: Spelled>(de: &Deserializer<I>, text: &Spanned<String>) -> Error
+pub(crate) fn not_spelled<I: Input>(
+    de: &Deserializer<I>,
+    text: &Spanned<String>,
+    expected: &str,
+) -> Error
     ensures { IsOwnFault de.now.input text.now.start result }
 {
-    let (found, expected) = (text.value.as_str(), T::expected());
+    let found = text.value.as_str();
     let message = format_args!("expected {expected}, found `{found}`");
     fault_at(de, text.start, message)
 }
@@ -74,7 +78,7 @@ pub fn read_spelled<I: Input, T: Spelled>(de: &mut Deserializer<I>) -> Result<T>
         Err(e) => return Err(e),
     };
     let Some(value) = T::parse(text.value.as_str()) else {
-        return Err(not_spelled::<I, T>(de, &text));
+        return Err(not_spelled(de, &text, T::expected()));
     };
     Ok(value)
 }
@@ -119,7 +123,7 @@ impl<I: Input, T: Spelled> Deserialize<I> for AsSpelled<T> {
             Err(e) => return Err(e),
         };
         let Some(value) = T::parse(read.value.as_str()) else {
-            return Err(not_spelled::<I, T>(de, &read));
+            return Err(not_spelled(de, &read, T::expected()));
         };
         let text = read.value;
         Ok(AsSpelled { value, text })

@@ -5,7 +5,7 @@ use crate::faults::error_of;
 use crate::known::known_shown;
 use crate::rows::{count_of, text_of};
 use json5_report::Report;
-use json5_settings::{fault, faults_of, warnings};
+use json5_settings::{fault, faults_of, old_names, warnings};
 use json5_types::error::Error;
 use json5_types::value::Value;
 use std::alloc::{AllocError, Global};
@@ -28,6 +28,9 @@ pub fn shown_of(alloc: Global, row: &Value, text: &str) -> Result<String, Error>
     }
     if row.get("warnings").is_some() {
         return warnings_shown(alloc, text);
+    }
+    if let Some(Value::Object(renamed)) = row.get("renamed") {
+        return renamed_shown(alloc, renamed, text);
     }
     if row.get("faults").is_some() {
         return faults_shown(alloc, text);
@@ -127,6 +130,18 @@ fn warnings_shown(alloc: Global, text: &str) -> Result<String, Error> {
         faults.push(warning.fault(alloc, text)?)?;
     }
     each_shown(alloc, text, &faults)
+}
+
+/// The reports of the old names that the row renames, one after another.
+fn renamed_shown(alloc: Global, renamed: &[(String, Value)], text: &str) -> Result<String, Error> {
+    let mut names = Vec::new(alloc);
+    for (old, new) in renamed {
+        names.push((old.as_str(), new.as_str().unwrap_or("")))?;
+    }
+    match old_names(alloc, text, &names) {
+        Ok(faults) => each_shown(alloc, text, &faults),
+        Err(error) => Ok(format!(in alloc; "{error}")?),
+    }
 }
 
 /// The reports of all faults of reading lists of bytes by their names, one after another.

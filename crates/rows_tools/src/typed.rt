@@ -6,7 +6,7 @@ use crate::rows::{text_of, wanted_of};
 use json5::{Deserialize, Result, Serialize, from_str, to_string};
 use json5_settings_types::{
     AsSpelled, Duration, FilePath, Float, NotEmpty, Size, TextSet, Unique, UniqueKeys, UniqueTexts,
-    Within,
+    Url, Within,
 };
 use json5_types::value::Value;
 use std::alloc::Global;
@@ -33,6 +33,7 @@ fn written(alloc: Global, name: &str, text: &str) -> Result<String> {
         "degrees" => again::<Within<{ COLDEST }, 50>>(alloc, text),
         "address" => again::<AsSpelled<IpAddr>>(alloc, text),
         "socket" => again::<AsSpelled<SocketAddr>>(alloc, text),
+        "url" => again::<AsSpelled<Url>>(alloc, text),
         "path" => again::<FilePath>(alloc, text),
         "hosts" => again::<UniqueTexts>(alloc, text),
         "numbers" => again::<Unique<u16>>(alloc, text),
