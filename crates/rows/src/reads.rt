@@ -91,10 +91,15 @@ fn of_value(alloc: Global, asked: Asked, text: &str) -> Answer {
             from_str_within(alloc, limit, text),
             ValueRef::from_str_within(alloc, limit, text),
         ),
-        _ => alike(
+        Asked::Write => alike(
             alloc,
-            ask::<Value>(alloc, asked, text),
-            written(alloc, asked, text),
+            ask::<Value>(alloc, Asked::Write, text),
+            written(alloc, text),
+        ),
+        Asked::Written(limit) => alike(
+            alloc,
+            ask::<Value>(alloc, Asked::Written(limit), text),
+            written_within(alloc, limit, text),
         ),
     }
 }
@@ -114,12 +119,12 @@ fn alike(alloc: Global, answer: Answer, borrowed: Answer) -> Answer {
 }
 
 /// What is written of what borrows its texts.
-fn written(alloc: Global, asked: Asked, text: &str) -> Answer {
-    let value = ValueRef::from_str(alloc, text)?;
-    match asked {
-        Asked::Written(limit) => write_within(alloc, limit, &value),
-        _ => write(alloc, &value),
-    }
+fn written(alloc: Global, text: &str) -> Answer {
+    write(alloc, &ValueRef::from_str(alloc, text)?)
+}
+
+fn written_within(alloc: Global, limit: Limit, text: &str) -> Answer {
+    write_within(alloc, limit, &ValueRef::from_str(alloc, text)?)
 }
 
 fn owned(alloc: Global, borrowed: Result<ValueRef<'_>>) -> Result<Value> {
