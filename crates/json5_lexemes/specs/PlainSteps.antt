@@ -1,5 +1,5 @@
--- Steps over a text that is asked for JSON's lexemes. Private clauses and proofs alone cite it.
--- Private.
+-- Steps over a text that is asked for JSON's lexemes.
+-- A promise rests on this.
 use denote.Ref.{Bor}
 use Rattle.std.specs.Prelude.{◌≡◌, ◌<◌, ◌⊎◌, ◌↔◌, ◌||◌, ◌==◌, ◌≢◌, ℕ, Bool, true, not, List, [], ◌∷◌, ◌++◌, length, slice_index, Option, MatchOption}
 use Rattle.std.specs.Str.{chars}
