@@ -1,9 +1,9 @@
 -- Steps over a document and what was made of it.
-use Rattle.std.proofs.Common.{◌≡◌, ◌≢◌, ◌<◌, ◌≤◌, ◌+◌, ◌==◌, ℕ, Bool, true, false, List, [], ◌∷◌, ◌++◌, length, refl, sym, ap, ap₂, ◌∙◌, subst, append_assoc, length-append, arith}
+use Rattle.std.proofs.Common.{◌≡◌, ◌≢◌, ◌<◌, ◌≤◌, ◌+◌, ◌==◌, ℕ, Bool, true, false, List, [], ◌∷◌, ◌++◌, length, take, drop, refl, sym, ap, ap₂, ◌∙◌, subst, append_assoc, length-append, arith}
 use denote.Ref.{Bor}
 use Rattle.std.specs.Prelude.{◌||◌, not, Option, Some, None}
 use Rattle.std.specs.Option.{is_some}
-use Rattle.std.specs.Str.{all_scalars, chars, encode_utf8_all, IsUtf8}
+use Rattle.std.specs.Str.{all_scalars, chars, encode_utf8_all, IsCharBoundary, IsUtf8}
 use Rattle.std.specs.List.{list_any}
 use Rattle.std.proofs.lemmas.Bool.Decides.{nat_tests}
 use Rattle.std.proofs.lemmas.List.{append_cancel_right}
@@ -31,7 +31,7 @@ use Rattle.json5_tokens.specs.Cursor.{Cursor, Took}
 use Rattle.json5_tokens.specs.Scan.{StartsWith}
 use Rattle.json5_tokens.specs.TextTokens.{IsCowOf, Spells}
 use Rattle.json5_tokens.specs.declared.text_token.TextToken.{TextToken}
-use Rattle.json5_tokens.proofs.TextCuts.{no_chars, scalar_halves}
+use Rattle.json5_tokens.proofs.TextCuts.{halves_at, no_chars, scalar_halves}
 use Rattle.json5_tokens.proofs.UnicodeScalars.{key_scalars, text_scalars}
 use Rattle.json5_lexemes.specs.PlainSteps.{IsPast}
 use Rattle.json5_lexemes.specs.Lexemes.{Quoted}
@@ -47,7 +47,7 @@ use Rattle.json5_lexemes.proofs.OneList.{part_apart, each_head}
 use Rattle.json5_lexemes.proofs.PlainSeams.{json_blank}
 use Rattle.json5_lexemes.proofs.SharedSteps.{quoted_run}
 use Rattle.json5_lexemes.proofs.WordParts.{IsToken, a_word, a_string, scalar_token, key_token}
-use Rattle.json5_convert.specs.SpelledAnew.{BeginsNumber, IsBlankBefore, IsComment, IsKeyAt, IsNumberAt, IsStringAt, PassesGap, PassesOn, PassesShort, SameKeys, SameScalars, SpelledAnew, TokenBefore, Unquotes, begins_number, left_of}
+use Rattle.json5_convert.specs.SpelledAnew.{BeginsNumber, IsBlankBefore, IsComment, IsKeyAt, IsNumberAt, IsStringAt, PassesGap, PassesOn, PassesShort, Repeats, SameKeys, SameScalars, SpelledAnew, TokenBefore, Unquotes, begins_number, left_of}
 use Rattle.json5_convert.specs.SpelledAnew as anew
 use Rattle.json5_convert.proofs.AnewTokens.{itself_keys, itself_scalars, one_key_text, one_scalar}
 
@@ -296,12 +296,29 @@ both_stay {stay = stay} {due = due} {q = q} a is (anew.block {s = s} {r = r} i) 
     let same : s ≡ t = append_cancel_right s t (42 ∷ 47 ∷ []) rest in
     subst (λ z. SpelledAnew stay due (47 ∷ 42 ∷ s ++ 42 ∷ 47 ∷ r) (47 ∷ 42 ∷ z ++ 42 ∷ 47 ∷ q)) same (anew.block a i k)
 
-pub comment_stays : {stay : Bool} (left right after after_right comment other : List ℕ) → stay ≡ true → comment ≡ other → IsComment (chars comment) (chars left) (chars after) → IsComment (chars other) (chars right) (chars after_right)
+pub comment_stays : {stay : Bool} (left right after after_right comment : List ℕ) → stay ≡ true → IsComment (chars comment) (chars left) (chars after) → Repeats (chars comment) (chars right) (chars after_right)
     → PassesGap stay left right after after_right
-comment_stays left right after after_right comment other a is c d = record {
-  same = λ due k. both_stay a (ap chars is) c d k;
-  fewer = fewer_left left right after after_right (comment_shorter c) (let h = comment_shorter d in omega (arith, h));
-}
+comment_stays left right after after_right comment a c again =
+    let d = again (chars left) (chars after) c in
+    record {
+      same = λ due k. both_stay a refl c d k;
+      fewer = fewer_left left right after after_right (comment_shorter c) (let h = comment_shorter d in omega (arith, h));
+    }
+
+-- a comment stands before a line end too
+at_line_end : {comment x r : List ℕ} (y t : List ℕ) → y ≡ comment ++ t → NotBegun is_line_part t → IsComment comment x r → IsComment comment y t
+at_line_end y t e n (anew.line {s = s} d m) = subst (λ z. IsComment (47 ∷ 47 ∷ s) z t) (sym e) (anew.line d n)
+at_line_end y t e n (anew.block {s = s} i) =
+    subst (λ z. IsComment (47 ∷ 42 ∷ s ++ 42 ∷ 47 ∷ []) z t) (sym (e ∙ ap (λ z. 47 ∷ 42 ∷ z) (append_assoc s (42 ∷ 47 ∷ []) t))) (anew.block i)
+
+pub repeats_line : (comment other text rest : List ℕ) (n : ℕ) → comment ≡ other → IsUtf8 text → IsCharBoundary text n → other ≡ take n text → rest ≡ drop n text → NotBegun is_line_part (chars rest)
+    → Repeats (chars comment) (chars text) (chars rest)
+repeats_line comment other text rest n is u b e f h y t k =
+    let cut = (halves_at text n u b).split in
+    at_line_end (chars text) (chars rest) (cut ∙ ap₂ (λ p q. chars p ++ chars q) (sym (is ∙ e)) (sym f)) h k
+
+pub repeats_comment : (comment other text rest : List ℕ) → comment ≡ other → IsComment (chars other) (chars text) (chars rest) → Repeats (chars comment) (chars text) (chars rest)
+repeats_comment comment other text rest is d y t k = subst (λ z. IsComment z (chars text) (chars rest)) (ap chars (sym is)) d
 
 pub gap_on : {stay : Bool} (left right after after_right : List ℕ) → PassesGap stay left right after after_right → PassesOn stay false left right after after_right
 gap_on left right after after_right g = record { same = λ k. g.same false k; fewer = g.fewer }

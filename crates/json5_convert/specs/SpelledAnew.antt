@@ -92,6 +92,10 @@ pub data IsComment : (comment x r : List ℕ) → Type 0 where
   line : {s r : List ℕ} → Each is_line_part s → NotBegun is_line_part r → IsComment (slash_sign ∷ slash_sign ∷ s) (slash_sign ∷ slash_sign ∷ s ++ r) r
   block : {s r : List ℕ} → Inside s → IsComment (slash_sign ∷ star_sign ∷ s ++ star_sign ∷ slash_sign ∷ []) (slash_sign ∷ star_sign ∷ s ++ star_sign ∷ slash_sign ∷ r) r
 
+-- if this is a comment, x is it and then r
+abbrev pub Repeats : (comment x r : List ℕ) → Type 0
+Repeats comment x r = (y t : List ℕ) → IsComment comment y t → IsComment comment x r
+
 -- x begins with a comment, and r follows it
 abbrev pub BeginsComment : (x r : List ℕ) → Type 0
 BeginsComment x r = (comment : List ℕ) × (x ≡ comment ++ r) × IsComment comment x r

@@ -8,7 +8,7 @@ ghost use Rattle.json5_convert.specs.Respelled.{IsAsPlain, IsLost, IsMade, IsRes
 
 use crate::faults::{RespellError, Result};
 use crate::spelled_anew::check_spelled_anew;
-use crate::spelling::Spelling;
+use crate::spelling::{Blanks, Spelling};
 use crate::tokens::spelled;
 use json5_lexemes::is_plain_with;
 use json5_read::{check_document, read_document};
@@ -57,7 +57,7 @@ fn made(alloc: Global, spelling: Spelling, text: &str) -> Result<String>
         check_document(alloc, text)?;
         return Ok(String::from_str(alloc, text)?);
     }
-    let made = spelled(alloc, spelling, text)?;
+    let made = spelled_plainly(alloc, spelling, text)?;
     if spelling.has_comments() && !spelling.has_json_numbers() && made.as_str() == text {
         return Ok(made);
     }
@@ -65,19 +65,36 @@ fn made(alloc: Global, spelling: Spelling, text: &str) -> Result<String>
     Ok(made)
 }
 
+/// The document spelled anew, as JSON where that is asked for. Mostly its blanks are JSON's, so they aren't looked at unless it
+/// turns out that they aren't.
+fn spelled_plainly(alloc: Global, spelling: Spelling, text: &str) -> Result<String>
+    ensures { IfOk result (λ made. IsDocument text.now × IsAsPlain spelling (string_bytes made)) }
+{
+    if spelling.is_json() {
+        let blanks = Blanks::Own;
+        let made = spelled(alloc, Spelling { blanks, ..spelling }, text)?;
+        if is_plain_with(spelling.has_comments(), made.as_str()) {
+            return Ok(made);
+        }
+    }
+    let made = spelled(alloc, spelling, text)?;
+    if is_as_plain(spelling, made.as_str()) {
+        Ok(made)
+    } else {
+        Err(RespellError::Failed)
+    }
+}
+
 /// Refuses with `Failed` unless what was made of a document is as it should be.
 fn check_made(alloc: Global, spelling: Spelling, text: &str, made: &str) -> Result<()>
-    requires { IsDocument text.now }
+    requires document { IsDocument text.now }
+    requires plain { IsAsPlain spelling made.now }
     ensures { OnOk result (IsMade spelling text.now made.now) }
 {
     check_document(alloc, made)?;
     check_spelled_anew(alloc, spelling.has_comments(), text, made)?;
     check_numbers(alloc, spelling, text)?;
-    if is_as_plain(spelling, made) {
-        Ok(())
-    } else {
-        Err(RespellError::Failed)
-    }
+    Ok(())
 }
 
 /// Refuses with `Failed` where numbers are to be JSON's and the text has another. JSON itself has none, so what is JSON isn't looked

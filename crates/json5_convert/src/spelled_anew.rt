@@ -4,15 +4,15 @@ ghost use Rattle.std.specs.Prelude.{◌≡◌, IfOk, IfSome, IsTrue, OnOk, true,
 ghost use Rattle.std.specs.Str.{chars, IsUtf8};
 ghost use Rattle.json5_grammar.specs.Language.Characters.{NotBegun};
 ghost use Rattle.json5_grammar.specs.Language.Strings.{is_quote};
-ghost use Rattle.json5_lexemes.specs.SameLexemes.{is_word_part};
+ghost use Rattle.json5_lexemes.specs.SameLexemes.{is_line_part, is_word_part};
 ghost use Rattle.json5_types.specs.NumberMeanings.{number_of};
-ghost use Rattle.json5_convert.specs.SpelledAnew.{BeginsComment, BeginsNumber, IsBlankBefore, IsComment, IsKeyAt, IsNumberAt, IsStringAt, PassesGap, PassesOn, PassesShort, SpelledAnew, Unquotes, begins_number};
+ghost use Rattle.json5_convert.specs.SpelledAnew.{BeginsComment, BeginsNumber, IsBlankBefore, IsComment, IsKeyAt, IsNumberAt, IsStringAt, PassesGap, PassesOn, PassesShort, Repeats, SpelledAnew, Unquotes, begins_number};
 
 use crate::faults::{RespellError, Result};
 use json5_lexemes::{
     Piece, Pieces, ends_word, front, past_blanks, past_byte, past_same, past_same_name, past_token,
 };
-use json5_tokens::char::is_json5_whitespace;
+use json5_tokens::char::{is_json5_line_terminator, is_json5_whitespace};
 use json5_tokens::scanner::Scanner;
 use json5_types::cow_str::CowStr;
 use json5_types::number::Number;
@@ -63,25 +63,14 @@ fn past_next<'x>(
 fn past_short<'x>(left: &'x str, right: &'x str) -> Option<(&'x str, &'x str)>
     ensures { IfSome result (λ p. PassesShort left.now right.now p.0.now p.1.now) }
 {
-    if let Some((left_after, right_after)) = past_alike(left, right) {
+    if let Some((first, left_rest, right_rest)) = past_same(left, right) {
+        let (left_after, right_after) = past_token(first, left_rest, right_rest)?;
         return Some((left_after, right_after));
     }
     if let Some((left_after, right_after)) = past_quotes(left, right) {
         return Some((left_after, right_after));
     }
-    let Some((right_after, left_after)) = past_quotes(right, left) else {
-        return None;
-    };
-    Some((left_after, right_after))
-}
-
-/// What follows a token or a comma that is spelled alike.
-#[inline(always)]
-fn past_alike<'x>(left: &'x str, right: &'x str) -> Option<(&'x str, &'x str)>
-    ensures { IfSome result (λ p. PassesShort left.now right.now p.0.now p.1.now) }
-{
-    let (first, left_rest, right_rest) = past_same(left, right)?;
-    let (left_after, right_after) = past_token(first, left_rest, right_rest)?;
+    let (right_after, left_after) = past_quotes(right, left)?;
     Some((left_after, right_after))
 }
 
@@ -114,7 +103,8 @@ fn quote_of(text: &str) -> Option<u8>
     }
 }
 
-/// The same of what is seldom: a blank that JSON hasn't, a comment, a comma, or a token that is spelled anew.
+/// The same of what is seldom: a string in other quotes, a blank that JSON hasn't, a comment, a comma, or another token that is
+/// spelled anew.
 #[inline(never)]
 fn past_long<'x>(
     alloc: Global,
@@ -124,6 +114,10 @@ fn past_long<'x>(
 ) -> Result<(&'x str, &'x str)>
     ensures { IfOk result (λ p. PassesOn stay false left.now right.now p.0.now p.1.now) }
 {
+    if quote_of(left).is_some() && quote_of(right).is_some() {
+        let (left_after, right_after) = past_strings(alloc, left, right)?;
+        return Ok((left_after, right_after));
+    }
     if let Some((left_after, right_after)) = past_gap(stay, left, right) {
         return Ok((left_after, right_after));
     }
@@ -133,17 +127,23 @@ fn past_long<'x>(
     past_respelled(alloc, stay, left, right)
 }
 
-/// What follows a blank in one text or a comment.
+/// What follows a blank in one text, or a comment of the first, which the second has too if it stays.
 fn past_gap<'x>(stay: bool, left: &'x str, right: &'x str) -> Option<(&'x str, &'x str)>
     ensures { IfSome result (λ p. PassesGap stay left.now right.now p.0.now p.1.now) }
 {
+    if let Some((comment, left_after)) = split_comment(left) {
+        if !stay {
+            return Some((left_after, right));
+        }
+        if let Some(right_after) = past_repeated(comment, right) {
+            return Some((left_after, right_after));
+        }
+    }
     if let Some(left_after) = past_blank(left) {
         return Some((left_after, right));
     }
-    if let Some(right_after) = past_blank(right) {
-        return Some((left, right_after));
-    }
-    past_comment(stay, left, right)
+    let right_after = past_blank(right)?;
+    Some((left, right_after))
 }
 
 /// What follows a blank.
@@ -158,23 +158,29 @@ fn past_blank(text: &str) -> Option<&str>
     }
 }
 
-/// What follows a comment of the first text, which the second has too if it stays.
-fn past_comment<'x>(stay: bool, left: &'x str, right: &'x str) -> Option<(&'x str, &'x str)>
-    ensures { IfSome result (λ p. PassesGap stay left.now right.now p.0.now p.1.now) }
+/// What follows this comment, where it is in front. Most comments end with their line, and aren't looked through again.
+fn past_repeated<'x>(comment: &str, text: &'x str) -> Option<&'x str>
+    ensures { IfSome result (λ rest. Repeats (chars comment.now) (chars text.now) (chars rest.now)) }
 {
-    let Some((comment, left_after)) = split_comment(left) else {
+    if let Some((other, rest)) = text.split_at_checked(comment.len()) {
+        if comment == other && ends_line(rest) {
+            return Some(rest);
+        }
+    }
+    let Some((other, rest)) = split_comment(text) else {
         return None;
     };
-    if !stay {
-        return Some((left_after, right));
+    if comment == other { Some(rest) } else { None }
+}
+
+/// Whether nothing follows, or a line end.
+fn ends_line(text: &str) -> bool
+    ensures { IsTrue result → NotBegun is_line_part (chars text.now) }
+{
+    match front(text) {
+        Some((c, _)) => is_json5_line_terminator(c),
+        None => true,
     }
-    let Some((other, right_after)) = split_comment(right) else {
-        return None;
-    };
-    if comment == other {
-        return Some((left_after, right_after));
-    }
-    None
 }
 
 /// The comment in front, and what follows it.
@@ -212,7 +218,7 @@ fn past_comma<'x>(left: &'x str, right: &'x str) -> Option<(&'x str, &'x str)>
     Some((left, right_after))
 }
 
-/// What follows a token that is spelled anew. After a key that is its colon.
+/// What follows a number or a key that is spelled anew. After a key that is its colon.
 fn past_respelled<'x>(
     alloc: Global,
     stay: bool,
@@ -221,10 +227,6 @@ fn past_respelled<'x>(
 ) -> Result<(&'x str, &'x str)>
     ensures { IfOk result (λ p. PassesOn stay false left.now right.now p.0.now p.1.now) }
 {
-    if quote_of(left).is_some() && quote_of(right).is_some() {
-        let (left_after, right_after) = past_strings(alloc, left, right)?;
-        return Ok((left_after, right_after));
-    }
     if begins_number(left) {
         let (left_after, right_after) = past_numbers(alloc, left, right)?;
         return Ok((left_after, right_after));

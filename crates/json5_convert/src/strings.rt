@@ -56,6 +56,12 @@ fn ends_unescaped(token: &str) -> bool {
     }
 }
 
+/// Whether the text has no character that JSON escapes.
+#[inline(always)]
+pub(crate) fn needs_no_escape(text: &str) -> bool {
+    skip_unescaped_within(text).is_empty()
+}
+
 /// Appends a string that is spelled so, between these quotes.
 pub(crate) fn push_string(
     alloc: Global,

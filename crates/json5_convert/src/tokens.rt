@@ -9,7 +9,9 @@ use crate::faults::{RespellError, Result};
 use crate::gaps::{begins_last_line, has_json_blanks, is_blank_in_json, push_gap};
 use crate::numbers::{is_json_number, push_number};
 use crate::spelling::{Blanks, Comments, Keys, LastCommas, Numbers, Spelling};
-use crate::strings::{is_ascii_name, keeps_escapes, keeps_short, keeps_string, push_string};
+use crate::strings::{
+    is_ascii_name, keeps_escapes, keeps_short, keeps_string, needs_no_escape, push_string,
+};
 use json5_read::brackets::BracketKind;
 use json5_read::kinds::{ValueKind, kind_at};
 use json5_types::nesting::Limit;
@@ -217,7 +219,16 @@ impl<'t> Speller<'t> {
             return false;
         };
         let token = self.part(start, self.end);
-        keeps_short(self.spelling.strings, token) || self.put_string(start, token)
+        keeps_short(self.spelling.strings, token) || self.put_short(start, token, text)
+    }
+
+    /// Appends the string that is spelled so, which has this text and no escape, in JSON's quotes.
+    #[inline(never)]
+    fn put_short(&mut self, start: usize, token: &str, text: &str) -> bool {
+        if needs_no_escape(text) {
+            return self.put_quoted(start, text);
+        }
+        self.put_string(start, token)
     }
 
     #[inline(never)]
@@ -390,10 +401,10 @@ impl<'t> Speller<'t> {
         self.leave_out(start) && self.push(text)
     }
 
-    /// The same between double quotes: a name has no character that JSON escapes.
+    /// The same between double quotes, of a text without a character that JSON escapes, as a name is.
     #[inline(never)]
-    fn put_quoted(&mut self, start: usize, name: &str) -> bool {
-        self.leave_out(start) && self.push("\"") && self.push(name) && self.push("\"")
+    fn put_quoted(&mut self, start: usize, text: &str) -> bool {
+        self.leave_out(start) && self.push("\"") && self.push(text) && self.push("\"")
     }
 
     #[inline(always)]

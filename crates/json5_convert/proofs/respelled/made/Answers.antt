@@ -13,6 +13,6 @@ returns-then-is_plain_with c =
 
 pub returns-then-eq : goal.returns-then-eq
 returns-then-eq c =
-    let (t, d) = c.in_ok-made.ensures in
+    let (t, d) = c.in_ok-made.ensures.0 in
     let same = (bytes_decides c.as_str.result.now c.args.text.now).0 (sym c.eq.ensures ∙ c.if-eq.true) in
     subst (IsMade c.args.spelling c.args.text.now) (sym same ∙ c.as_str.ensures.value) (unchanged c.args.spelling c.args.text.now t d (sym c.has_comments-2.ensures ∙ c.if-has_comments.true) (sym c.has_json_numbers.ensures ∙ c.if-not-has_json_numbers.true))
