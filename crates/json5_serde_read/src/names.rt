@@ -24,14 +24,16 @@ pub(crate) fn find_field(names: &[Name<'_>], key: &str) -> usize {
 /// Whether the key stands for the name of a field.
 #[inline(always)]
 fn is_field(name: &Name<'_>, key: &str) -> bool {
-    if name.skipped || !name.aliases.is_empty() {
+    if name.skipped {
+        return false;
+    }
+    if !name.aliases.is_empty() {
         return stands_for(name, key);
     }
+    let (text, bytes) = (name.name.as_bytes(), key.as_bytes());
     match (name.case, name.kind) {
-        (Case::AsIs, _) => is_same(name.name.as_bytes(), key.as_bytes()),
-        (Case::Camel, NameKind::Field) if name.name.len() <= 24 => {
-            is_camel(name.name.as_bytes(), key.as_bytes())
-        }
+        (Case::AsIs, _) | (Case::Lower | Case::Snake, NameKind::Field) => is_same(text, bytes),
+        (Case::Camel, NameKind::Field) if text.len() <= 24 => is_camel(text, bytes),
         _ => may_be(name, first_of(key)) && stands_for(name, key),
     }
 }
@@ -150,6 +152,7 @@ fn may_be(name: &Name<'_>, first: u8) -> bool {
     !begins.is_ascii_alphabetic() || begins.eq_ignore_ascii_case(&first) || !name.aliases.is_empty()
 }
 
+#[inline(never)]
 fn stands_for(name: &Name<'_>, key: &str) -> bool {
     !name.skipped && (name.case.matches(name.kind, name.name, key) || is_among(name.aliases, key))
 }
