@@ -56,18 +56,15 @@ fn is_same(name: &[u8], key: &[u8]) -> bool {
 /// of a constant become compares.
 #[inline(always)]
 fn is_camel(name: &[u8], key: &[u8]) -> bool {
-    let most = letters(name, 0).saturating_add(letters(name, 8));
-    key.len() == most.saturating_add(letters(name, 16)) && spelled_camel(name, key).is_some()
+    key.len() == letters(name) && spelled_camel(name, key).is_some()
 }
 
-/// How many of eight bytes of a name are spelled in camel case.
+/// How many bytes of a name are spelled in camel case.
 #[inline(always)]
-fn letters(name: &[u8], from: usize) -> usize {
+fn letters(name: &[u8]) -> usize {
     let mut count: usize = 0;
-    for at in from..from.saturating_add(8) {
-        if let Some(byte) = name.get(at) {
-            count = count.saturating_add((*byte != b'_') as usize);
-        }
+    for byte in name {
+        count = count.saturating_add((*byte != b'_') as usize);
     }
     count
 }
@@ -95,7 +92,7 @@ fn spelled_camel(name: &[u8], key: &[u8]) -> Option<Spelling> {
 #[inline(always)]
 fn spelled(name: &[u8], from: usize, key: &[u8], before: Spelling) -> Option<Spelling> {
     let mut now = before;
-    for at in from..from.saturating_add(8) {
+    for at in from..from.saturating_add(8).min(name.len()) {
         match name.get(at) {
             Some(b'_') => now.begins = true,
             Some(byte) => now = after_letter(*byte, key, now)?,
@@ -124,7 +121,7 @@ fn after_letter(byte: u8, key: &[u8], before: Spelling) -> Option<Spelling> {
     })
 }
 
-/// The same where no call knows the names beforehand, as those of an enum.
+/// The index of the first name that the key stands for, where no call knows the names beforehand, as those of an enum.
 #[inline(never)]
 pub(crate) fn find_name(names: &[Name<'_>], key: &str) -> usize {
     let first = first_of(key);
