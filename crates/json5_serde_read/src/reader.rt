@@ -4,7 +4,7 @@ ghost use Rattle.std.specs.Prelude.{OnOk};
 ghost use Rattle.json5_walk.specs.Walks.{IsDocumentWithin};
 
 use crate::fault::{Fault, Long, Saying, Wanted};
-use crate::names::find_name;
+use crate::names::{find_field, find_name};
 use crate::texts::{is_of_digits, number_in};
 use json5_grammar::error_code::ErrorCode;
 use json5_read::brackets::BracketKind;
@@ -200,12 +200,24 @@ impl<'t> Json5<'t> {
     #[inline(always)]
     pub(crate) fn short_on(&mut self) -> Option<bool> {
         if self.is_comma_due() && !self.walk.comma() {
+            if self.close() {
+                return Some(false);
+            }
             return self.far_on();
         }
         match self.walk.peek() {
-            Some('0'..='9' | '"' | '\'' | '-' | '{' | '[' | 'a'..='z' | 'A'..='Z') => Some(true),
+            Some('!'..='.' | '0'..='\\' | '^'..='|') => Some(true),
+            Some(' ') if self.is_entry_spaced() => Some(true),
             _ => self.entry_or_end(),
         }
+    }
+
+    /// Whether an element or a key begins after the next character, a blank.
+    #[inline(always)]
+    fn is_entry_spaced(&self) -> bool {
+        let text: &'t str = self.walk.text();
+        let next = text.as_bytes().get(self.walk.offset().saturating_add(1));
+        matches!(next, Some(b'!'..=b'.' | b'0'..=b'\\' | b'^'..=b'|'))
     }
 
     /// The same where a comma is due that isn't the next character.
@@ -223,11 +235,9 @@ impl<'t> Json5<'t> {
     /// The same where no comma is due.
     #[inline(never)]
     fn entry_or_end(&mut self) -> Option<bool> {
-        if let Some(comes) = self.short_end() {
-            return Some(comes);
-        }
-        match self.solid() {
-            Some(b'!'..=b'.' | b'0'..=b'~') => Some(true),
+        match self.solid()? {
+            b']' | b'}' => self.short_end(),
+            b'!'..=b'.' | b'0'..=b'~' => Some(true),
             _ => None,
         }
     }
@@ -271,12 +281,10 @@ impl<'t> Json5<'t> {
         None
     }
 
-    /// Takes blanks if ASCII blanks alone are in front.
-    #[inline(never)]
-    fn short_gap(&mut self) {
-        if let Some(b'!'..=b'.' | b'0'..=b'~') = self.solid() {
-            let _ = self.walk.gap();
-        }
+    /// Takes blanks, and says whether they have no fault. A fault is found again by the next call that takes blanks.
+    #[inline(always)]
+    fn short_gap(&mut self) -> bool {
+        self.walk.gap().is_ok()
     }
 
     /// A fault with words.
@@ -315,12 +323,19 @@ impl<'t> Json5<'t> {
     #[inline(always)]
     fn short_begin(&mut self) -> bool {
         self.past_colon();
-        if let Some(' ' | '\n' | '\r' | '\t') = self.walk.peek() {
-            self.short_gap();
-        }
+        let is_solid = self.short_blanks();
         self.stand();
-        matches!(self.walk.peek(), Some('!'..='.' | '0'..='~'))
-            && !matches!(self.walk.next(), Next::Colon)
+        is_solid && !matches!(self.walk.next(), Next::Colon)
+    }
+
+    /// Takes blanks that begin with an ASCII one, if any, and says whether no others are in front.
+    #[inline(always)]
+    fn short_blanks(&mut self) -> bool {
+        match self.walk.peek() {
+            Some('!'..='.' | '0'..='~') => true,
+            Some(' ' | '\n' | '\r' | '\t') => self.short_gap(),
+            _ => false,
+        }
     }
 
     /// Goes to the next value, past a colon if one is due.
@@ -376,11 +391,23 @@ impl<'t> Json5<'t> {
 
     /// Takes a decimal number of few digits, and gives it as it stands.
     #[inline(always)]
-    pub(crate) fn short_digits(&mut self) -> Option<&'t str> {
-        if self.at_key || !self.short_begin() || !self.walk.short_number() {
+    pub(crate) fn short_digits(&mut self) -> Option<&'t [u8]> {
+        if self.at_key {
             return None;
         }
-        Some(self.digits())
+        self.past_colon();
+        self.stand();
+        if !self.walk.short_number() && !self.spaced_number() {
+            return None;
+        }
+        let text: &'t str = self.walk.text();
+        text.as_bytes().get(self.last..self.walk.offset())
+    }
+
+    /// The same after blanks.
+    #[inline(never)]
+    fn spaced_number(&mut self) -> bool {
+        self.short_begin() && self.walk.short_number()
     }
 
     /// Takes a whole number, or a key whose text is one.
@@ -469,7 +496,7 @@ impl<'t> Json5<'t> {
         self.walk.short_string()
     }
 
-    #[inline(never)]
+    #[inline(always)]
     fn key_text(&mut self) -> Option<&'t str> {
         self.stand();
         let key = self.walk.short_key()?;
@@ -482,6 +509,7 @@ impl<'t> Json5<'t> {
     pub(crate) fn open(&mut self, kind: BracketKind) -> Step<()> {
         if !self.at_key {
             self.past_colon();
+            let _ = self.short_blanks();
             self.stand();
             if self.walk.open(kind) {
                 return Ok(());
@@ -600,7 +628,7 @@ impl<'t> Json5<'t> {
     /// Where a name was looked up: notes its place, if it is none of these.
     #[inline(always)]
     pub(crate) fn found(&mut self, names: &[Name<'_>], key: &str) -> usize {
-        let found = serde::find(names, key);
+        let found = find_field(names, key);
         if found == usize::MAX {
             self.note_unknown(names);
         }
