@@ -1,6 +1,7 @@
-//! The search for a name among those of a type.
+//! The names of a type: the search for one among them, and how they are told.
 
 use serde::{Case, Name, NameKind};
+use std::alloc::Global;
 
 macro_rules! return_field {
     ($names:ident, $key:ident, $($at:literal)*) => {
@@ -14,6 +15,9 @@ macro_rules! return_field {
 /// over a constant table a jump on the key's length is left, and compares with constants.
 #[inline(always)]
 pub(crate) fn find_field(names: &[Name<'_>], key: &str) -> usize {
+    if names.is_empty() || !is_key(&names[0]) {
+        return serde::find(names, key);
+    }
     return_field!(names, key, 0 1 2 3 4 5 6 7 8 9 10 11 12 13 14 15);
     if names.len() <= 16 {
         return usize::MAX;
@@ -21,21 +25,22 @@ pub(crate) fn find_field(names: &[Name<'_>], key: &str) -> usize {
     find_name(names, key)
 }
 
+/// Whether a name without an alias is the field's key as it stands.
+#[inline(always)]
+fn is_key(name: &Name<'_>) -> bool {
+    matches!(
+        (name.case, name.kind),
+        (Case::AsIs, _) | (Case::Lower | Case::Snake, NameKind::Field)
+    )
+}
+
 /// Whether the key stands for the name of a field.
 #[inline(always)]
 fn is_field(name: &Name<'_>, key: &str) -> bool {
-    if name.skipped {
-        return false;
+    if is_key(name) && name.aliases.is_empty() {
+        return !name.skipped && is_same(name.name.as_bytes(), key.as_bytes());
     }
-    if !name.aliases.is_empty() {
-        return stands_for(name, key);
-    }
-    let (text, bytes) = (name.name.as_bytes(), key.as_bytes());
-    match (name.case, name.kind) {
-        (Case::AsIs, _) | (Case::Lower | Case::Snake, NameKind::Field) => is_same(text, bytes),
-        (Case::Camel, NameKind::Field) if text.len() <= 24 => is_camel(text, bytes),
-        _ => may_be(name, first_of(key)) && stands_for(name, key),
-    }
+    stands_for(name, key)
 }
 
 /// Whether the bytes are the same. They are compared one by one, so that those of a constant become compares.
@@ -50,75 +55,6 @@ fn is_same(name: &[u8], key: &[u8]) -> bool {
         }
     }
     true
-}
-
-/// Whether the key is a field's name of at most 24 bytes in camel case. Eight of them are compared at a time, so that those
-/// of a constant become compares.
-#[inline(always)]
-fn is_camel(name: &[u8], key: &[u8]) -> bool {
-    key.len() == letters(name) && spelled_camel(name, key).is_some()
-}
-
-/// How many bytes of a name are spelled in camel case.
-#[inline(always)]
-fn letters(name: &[u8]) -> usize {
-    let mut count: usize = 0;
-    for byte in name {
-        count = count.saturating_add((*byte != b'_') as usize);
-    }
-    count
-}
-
-/// How many bytes of a key spell the front of a name, and whether a word of the name begins then.
-#[derive(Clone, Copy)]
-struct Spelling {
-    taken: usize,
-    begins: bool,
-}
-
-/// What of the key spells the name; None where a byte differs.
-#[inline(always)]
-fn spelled_camel(name: &[u8], key: &[u8]) -> Option<Spelling> {
-    let nothing = Spelling {
-        taken: 0,
-        begins: false,
-    };
-    let front = spelled(name, 0, key, nothing)?;
-    let middle = spelled(name, 8, key, front)?;
-    spelled(name, 16, key, middle)
-}
-
-/// The same after eight more bytes of the name, or those that are left.
-#[inline(always)]
-fn spelled(name: &[u8], from: usize, key: &[u8], before: Spelling) -> Option<Spelling> {
-    let mut now = before;
-    for at in from..from.saturating_add(8).min(name.len()) {
-        match name.get(at) {
-            Some(b'_') => now.begins = true,
-            Some(byte) => now = after_letter(*byte, key, now)?,
-            None => return Some(now),
-        }
-    }
-    Some(now)
-}
-
-/// The same after a letter of the name.
-#[inline(always)]
-fn after_letter(byte: u8, key: &[u8], before: Spelling) -> Option<Spelling> {
-    let letter = if before.taken == 0 {
-        byte.to_ascii_lowercase()
-    } else if before.begins {
-        byte.to_ascii_uppercase()
-    } else {
-        byte
-    };
-    if key.get(before.taken) != Some(&letter) {
-        return None;
-    }
-    Some(Spelling {
-        taken: before.taken.saturating_add(1),
-        begins: false,
-    })
 }
 
 /// The index of the first name that the key stands for, where no call knows the names beforehand, as those of an enum.
@@ -165,4 +101,44 @@ fn first_of(text: &str) -> u8 {
         Some(byte) => *byte,
         None => 0,
     }
+}
+
+/// What a name has to be: `` expected `a` ``, `` expected `a` or `b` ``, or `` expected one of `a`, `b`, `c` ``.
+#[cold]
+#[inline(never)]
+pub(crate) fn list_of(alloc: Global, names: &[Name<'_>]) -> Option<String> {
+    let count = count_of(names);
+    let (lead, mark) = match count {
+        0 => ("there are no ", ""),
+        1 | 2 => ("expected `", "` or `"),
+        _ => ("expected one of `", "`, `"),
+    };
+    let mut list = String::from_str(alloc, lead).ok()?;
+    let mut left = count;
+    for name in names {
+        if !name.skipped {
+            left = left.saturating_sub(1);
+            name.case.append(name.kind, name.name, &mut list).ok()?;
+            list.push_str(if left == 0 { "`" } else { mark }).ok()?;
+        }
+    }
+    Some(list)
+}
+
+/// The key of a field.
+pub(crate) fn key_of(alloc: Global, name: &Name<'_>) -> Option<String> {
+    let mut key = String::new(alloc);
+    name.case.append(name.kind, name.name, &mut key).ok()?;
+    Some(key)
+}
+
+/// How many of the names may be read.
+fn count_of(names: &[Name<'_>]) -> usize {
+    let mut count: usize = 0;
+    for name in names {
+        if !name.skipped {
+            count = count.saturating_add(1);
+        }
+    }
+    count
 }

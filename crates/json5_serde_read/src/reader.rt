@@ -4,7 +4,7 @@ ghost use Rattle.std.specs.Prelude.{OnOk};
 ghost use Rattle.json5_walk.specs.Walks.{IsDocumentWithin};
 
 use crate::fault::{Fault, Long, Saying, Wanted};
-use crate::names::{find_field, find_name};
+use crate::names::{find_field, find_name, key_of, list_of};
 use crate::texts::{is_of_digits, number_in};
 use json5_grammar::error_code::ErrorCode;
 use json5_read::brackets::BracketKind;
@@ -767,44 +767,4 @@ impl<'t> Json5<'t> {
             Err(error) => Err(self.scanned(error)),
         }
     }
-}
-
-/// What a name has to be: `` expected `a` ``, `` expected `a` or `b` ``, or `` expected one of `a`, `b`, `c` ``.
-#[cold]
-#[inline(never)]
-fn list_of(alloc: Global, names: &[Name<'_>]) -> Option<String> {
-    let count = count_of(names);
-    let (lead, mark) = match count {
-        0 => ("there are no ", ""),
-        1 | 2 => ("expected `", "` or `"),
-        _ => ("expected one of `", "`, `"),
-    };
-    let mut list = String::from_str(alloc, lead).ok()?;
-    let mut left = count;
-    for name in names {
-        if !name.skipped {
-            left = left.saturating_sub(1);
-            name.case.append(name.kind, name.name, &mut list).ok()?;
-            list.push_str(if left == 0 { "`" } else { mark }).ok()?;
-        }
-    }
-    Some(list)
-}
-
-/// The key of a field.
-fn key_of(alloc: Global, name: &Name<'_>) -> Option<String> {
-    let mut key = String::new(alloc);
-    name.case.append(name.kind, name.name, &mut key).ok()?;
-    Some(key)
-}
-
-/// How many of the names may be read.
-fn count_of(names: &[Name<'_>]) -> usize {
-    let mut count: usize = 0;
-    for name in names {
-        if !name.skipped {
-            count = count.saturating_add(1);
-        }
-    }
-    count
 }
