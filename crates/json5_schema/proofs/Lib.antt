@@ -14,3 +14,4 @@ mod Latest
 mod Distinct
 mod Refusing
 mod FewDigits
+mod KeywordGroups
