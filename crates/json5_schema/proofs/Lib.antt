@@ -15,3 +15,6 @@ mod Distinct
 mod Refusing
 mod FewDigits
 mod KeywordGroups
+mod WholeOrders
+mod FoundLast
+mod Additional

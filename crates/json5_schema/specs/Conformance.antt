@@ -349,6 +349,11 @@ abbrev pub each_additional : Datum → Fields → Fields → List (Datum × Datu
 each_additional s keywords no_field = []
 each_additional s keywords (field u x fs) = if is_additional keywords u then (s, x) ∷ each_additional s keywords fs else each_additional s keywords fs
 
+-- some member is; private clauses alone cite this
+abbrev pub has_additional : Fields → Fields → Bool
+has_additional keywords no_field = false
+has_additional keywords (field u x fs) = is_additional keywords u || has_additional keywords fs
+
 abbrev pub additional_on : Datum → Fields → Datum → Asked
 additional_on s keywords (object fs) = all_on (each_additional s keywords (latest fs))
 additional_on s keywords _ = settled true

@@ -5,7 +5,7 @@ ghost use lib.Chars.{codes};
 ghost use Rattle.std.specs.Str.{chars};
 ghost use Rattle.json5_types.specs.Errors.{LacksMemory};
 ghost use Rattle.json5_types.specs.ValueMeanings.{value_of, items_view, fields_view};
-ghost use Rattle.json5_schema.specs.Conformance.{each_schema, each_item, by_name, value_for, by_index, prefix_on, schemas_in_front, items_after, elements_after, items_on, additional_items_on, contains_on, all_of_on, any_of_on, one_of_on, if_on, members_left_on, elements_left_on, speaks_of, beside, is_matched, is_patterned, is_additional, latest, each_matched, of_pattern, by_pattern, patterns_on, each_additional, additional_on, names_on, properties_on, is_dependent, dependent_schemas, dependent_on, dependencies_on, all_on, some_on, target_of, refers_on, asserts, applies, asks};
+ghost use Rattle.json5_schema.specs.Conformance.{each_schema, each_item, by_name, value_for, by_index, prefix_on, schemas_in_front, items_after, elements_after, items_on, additional_items_on, contains_on, all_of_on, any_of_on, one_of_on, if_on, members_left_on, elements_left_on, speaks_of, beside, is_matched, is_patterned, is_additional, latest, each_matched, of_pattern, by_pattern, patterns_on, each_additional, has_additional, additional_on, names_on, properties_on, is_dependent, dependent_schemas, dependent_on, dependencies_on, all_on, some_on, target_of, refers_on, asserts, applies, asks};
 ghost use Rattle.json5_schema.specs.Views.{AsksFor, IsRefusal, PairsFor, members_view, pairs_view, part_view, asked_view};
 
 use crate::anchors::target_by;
@@ -17,10 +17,11 @@ use crate::limits::{
     characters_in, count_at_least, count_at_most, elements_in, elements_len, is_at_most, is_below,
     names_in,
 };
-use crate::members::{Member, has_all_dependents, has_required, latest, unless_named};
+use crate::members::{
+    Member, find, has_all_dependents, has_required, is_named, latest, unless_named,
+};
 use crate::multiples::is_multiple_of;
 use crate::patterns::{Pattern, fits, is_matching};
-use json5_numbers::members::{find, is_named};
 use json5_numbers::same;
 use json5_types::error::Result;
 use json5_types::value::Value;
@@ -250,6 +251,23 @@ fn each_additional<'a>(
     Ok(pairs)
 }
 
+/// Whether a member is additional, be it the last with its name or not.
+fn has_additional(
+    alloc: Global,
+    patterns: &[Pattern],
+    keywords: &[(String, Value)],
+    members: &[(String, Value)],
+) -> Result<bool>
+    ensures { MatchResult result (λ b. b ≡ has_additional (fields_view keywords.now) (fields_view members.now)) LacksMemory }
+{
+    for (name, _) in members {
+        if is_additional(alloc, patterns, keywords, name.as_str())? {
+            return Ok(true);
+        }
+    }
+    Ok(false)
+}
+
 /// What `additionalProperties` asks.
 fn additional_on<'a>(
     alloc: Global,
@@ -262,6 +280,9 @@ fn additional_on<'a>(
 {
     match value {
         Value::Object(members) => {
+            if !has_additional(alloc, patterns, keywords, members)? {
+                return Ok(all_of(Vec::new(alloc)));
+            }
             let members = latest(alloc, members)?;
             Ok(all_of(each_additional(alloc, patterns, schema, keywords, &members)?))
         }

@@ -9,10 +9,9 @@ ghost use Rattle.json5_schema.specs.Views.{IsRefusal, Settles, argument_evaluate
 use crate::asked::{Asked, Child, Pair, applies, asks};
 use crate::keyword::{Applicator, Keyword, keyword_named};
 use crate::limits::is_counted;
-use crate::members::{Member, latest};
+use crate::members::{Member, is_named, latest};
 use crate::patterns::Pattern;
 use crate::reaching::{element_at, is_contains, is_in_place, reaches, takes_rest};
-use json5_numbers::members::is_named;
 use json5_types::ErrorCode;
 use json5_types::error::{Error, Result};
 use json5_types::value::Value;

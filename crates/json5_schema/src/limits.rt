@@ -2,7 +2,8 @@
 
 ghost use Rattle.std.specs.Prelude.{◌≡◌, ◌&&◌, MatchResult};
 ghost use Rattle.json5_types.specs.Errors.{LacksMemory};
-ghost use Rattle.json5_types.specs.ValueMeanings.{value_of, items_view, fields_view};
+ghost use Rattle.json5_grammar.specs.Language.Numbers.{whole};
+ghost use Rattle.json5_types.specs.ValueMeanings.{number, value_of, items_view, fields_view};
 ghost use Rattle.json5_types.specs.ValueKinds.{items_len, fields_len};
 ghost use Rattle.json5_schema.specs.Conformance.{is_not_above, at_most, is_below, characters_in, elements_in, latest, names_in, count_at_most, count_at_least, is_enough, is_few};
 ghost use Rattle.json5_schema.specs.Views.{part_view};
@@ -13,6 +14,7 @@ use json5_numbers::{DecimalExt, same};
 use json5_types::decimal::Decimal;
 use json5_types::error::Result;
 use json5_types::value::Value;
+use json5_types::whole::Whole;
 use std::alloc::Global;
 use std::cmp::Ordering;
 
@@ -26,15 +28,25 @@ fn is_not_above(number: &Decimal, other: &Decimal) -> bool
     )
 }
 
+/// Whether the one whole number is at most the other.
+fn are_in_order(first: Whole, second: Whole) -> bool
+    ensures { result ≡ at_most (number (whole first)) (number (whole second)) }
+{
+    match (first.as_u128(), second.as_u128()) {
+        (Some(first), Some(second)) => first <= second,
+        (Some(_), None) => false,
+        (None, Some(_)) => true,
+        // both are below zero
+        (None, None) => first.as_i128().unwrap_or(0) <= second.as_i128().unwrap_or(0),
+    }
+}
+
 /// Whether the number is at most the other; true where one of them is no number.
 pub fn is_at_most(alloc: Global, number: &Value, other: &Value) -> Result<bool>
     ensures { MatchResult result (λ b. b ≡ at_most (value_of number.now) (value_of other.now)) LacksMemory }
 {
     match (number, other) {
-        (Value::Whole(number), Value::Whole(other)) => {
-            let number = Decimal::from_whole(alloc, *number)?;
-            Ok(is_not_above(&number, &Decimal::from_whole(alloc, *other)?))
-        }
+        (Value::Whole(number), Value::Whole(other)) => Ok(are_in_order(*number, *other)),
         (Value::Whole(number), Value::Decimal(other)) => {
             Ok(is_not_above(&Decimal::from_whole(alloc, *number)?, other))
         }
