@@ -129,7 +129,8 @@ impl Schema {
         ensures known { is_strict ≡ true → IfOk result (λ schema. HasOnlyKeywords (schema_of schema)) }
         ensures refused { RefusedFor (IsRefusedBy is_strict (value_of root)) result }
     {
-        let rules = rules_of(alloc, &root, is_strict)?;
+        let counts = counts_siblings(alloc, &root)?;
+        let rules = rules_of(&root, is_strict, counts);
         check_keywords_of(alloc, rules, &root)?;
         let (patterns, anchors) = look_at_all(alloc, rules, &root)?;
         Ok(Schema {
@@ -298,17 +299,17 @@ fn counts_siblings(alloc: Global, root: &Value) -> Result<bool, SchemaFault>
     }
 }
 
-/// How a schema is looked at.
-fn rules_of(alloc: Global, root: &Value, is_strict: bool) -> Result<Rules, SchemaFault>
-    ensures ruled { IfOk result (IsRuled is_strict (value_of root.now)) }
-    ensures refused { RefusedFor (IsOfOldDraft (value_of root.now)) result }
+/// How a schema is looked at, by whether keywords beside `$ref` count.
+fn rules_of(root: &Value, is_strict: bool, counts_siblings: bool) -> Rules
+    requires { CountsBeside (NamesDraft IsLaterName (value_of root.now)) counts_siblings }
+    ensures { IsRuled is_strict (value_of root.now) result }
 {
-    Ok(Rules {
-        counts_siblings: counts_siblings(alloc, root)?,
+    Rules {
+        counts_siblings,
         is_strict,
         asserts_formats: asserts_formats(root),
         is_whole: true,
-    })
+    }
 }
 
 /// Refuses a strict schema in which a keyword isn't known.

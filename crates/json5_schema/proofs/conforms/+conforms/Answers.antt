@@ -56,8 +56,8 @@ keyword_holds-returns-in-Assertion t c =
     asserted_keyword c.asserts.result c.args.depth (value_of c.args.root.now) (value_of c.args.member.now.1) (value_of c.args.value.now) c.as_str-name.result.now (string_bytes c.args.member.now.0) (fields_view c.args.members.now) (fields_view c.args.after.now)
     c.keyword_named.result c.in-Assertion.assertion (sym c.is_named.ensures ∙ c.if-is_named.false) c.as_str-name.utf8 c.as_str-name.ensures.value c.keyword_named.ensures c.in-Assertion.is c.asserts.ensures
 
-pub keyword_holds-returns-in-Applicator : goal.keyword_holds-returns-in-Applicator
-keyword_holds-returns-in-Applicator t c =
+pub keyword_holds-returns-in_ok-asked-in-Applicator : goal.keyword_holds-returns-in_ok-asked-in-Applicator
+keyword_holds-returns-in_ok-asked-in-Applicator t c =
     asked_keyword c.satisfied.result c.args.depth (value_of c.args.root.now) (value_of c.args.member.now.1) (value_of c.args.value.now) c.as_str-name.result.now (string_bytes c.args.member.now.0) (fields_view c.args.members.now) (fields_view c.args.after.now)
     c.keyword_named.result (asked_view c.in_ok-asked-in-Applicator.asked) (sym c.is_named.ensures ∙ c.if-is_named.false) c.as_str-name.utf8 c.as_str-name.ensures.value c.keyword_named.ensures (rw c.in-Applicator.is c.in_ok-asked-in-Applicator.ensures) c.satisfied.ensures
 
