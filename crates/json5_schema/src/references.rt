@@ -425,10 +425,17 @@ fn round_from<'s>(
 fn leads_back(root: &Value, round: &[&str]) -> bool
     ensures { result ≡ true → LeadsBack (value_of root.now) }
 {
-    let [first, rest @ ..] = round else {
-        return false;
-    };
-    let mut last = *first;
+    match round {
+        [first, rest @ ..] => leads_round(root, first, rest),
+        [] => false,
+    }
+}
+
+/// The same of the first one and those behind it.
+fn leads_round(root: &Value, first: &str, rest: &[&str]) -> bool
+    ensures { result ≡ true → LeadsBack (value_of root.now) }
+{
+    let mut last = first;
     for next in rest {
         if !leads_to(root, last, next) {
             return false;

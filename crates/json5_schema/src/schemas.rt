@@ -129,8 +129,7 @@ impl Schema {
         ensures known { is_strict ≡ true → IfOk result (λ schema. HasOnlyKeywords (schema_of schema)) }
         ensures refused { RefusedFor (IsRefusedBy is_strict (value_of root)) result }
     {
-        let counts = counts_siblings(alloc, &root)?;
-        let rules = rules_of(&root, is_strict, counts);
+        let rules = rules_of(alloc, &root, is_strict)?;
         check_keywords_of(alloc, rules, &root)?;
         let (patterns, anchors) = look_at_all(alloc, rules, &root)?;
         Ok(Schema {
@@ -252,11 +251,18 @@ fn whole_fault(alloc: Global, value: &Value) -> error::Result<Fault> {
     })
 }
 
+/// Whether the name of a draft is that of the fourth or of the fifth.
+fn is_fourth_or_fifth(draft: &str) -> bool
+    ensures { result ≡ true → IsOldName draft.now }
+{
+    draft.contains("draft-04") || draft.contains("draft-05")
+}
+
 /// Whether the name of a draft is that of one before 6.
 fn is_old(draft: &str) -> bool
     ensures { result ≡ true → IsOldName draft.now }
 {
-    draft.contains("draft-03") || draft.contains("draft-04") || draft.contains("draft-05")
+    draft.contains("draft-03") || is_fourth_or_fifth(draft)
 }
 
 /// Whether the name of a draft is that of one in which keywords beside `$ref` count: drafts 6 and 7 pass over them.
@@ -299,17 +305,17 @@ fn counts_siblings(alloc: Global, root: &Value) -> Result<bool, SchemaFault>
     }
 }
 
-/// How a schema is looked at, by whether keywords beside `$ref` count.
-fn rules_of(root: &Value, is_strict: bool, counts_siblings: bool) -> Rules
-    requires { CountsBeside (NamesDraft IsLaterName (value_of root.now)) counts_siblings }
-    ensures { IsRuled is_strict (value_of root.now) result }
+/// How a schema is looked at.
+fn rules_of(alloc: Global, root: &Value, is_strict: bool) -> Result<Rules, SchemaFault>
+    ensures ruled { IfOk result (IsRuled is_strict (value_of root.now)) }
+    ensures refused { RefusedFor (IsOfOldDraft (value_of root.now)) result }
 {
-    Rules {
-        counts_siblings,
+    Ok(Rules {
+        counts_siblings: counts_siblings(alloc, root)?,
         is_strict,
         asserts_formats: asserts_formats(root),
         is_whole: true,
-    }
+    })
 }
 
 /// Refuses a strict schema in which a keyword isn't known.

@@ -1,4 +1,4 @@
-use Rattle.std.proofs.Common.{inl, inr}
+use Rattle.std.proofs.Common.{inl}
 use lib.Chars.{codes}
 use Rattle.std.proofs.lemmas.Str.Pattern.{contains_text}
 use Rattle.json5_schema.proofs.schemas.is_old.Goals as goal

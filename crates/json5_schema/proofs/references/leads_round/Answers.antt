@@ -1,7 +1,7 @@
 use Rattle.std.proofs.Common.{rules}
 use Rattle.json5_types.specs.ValueMeanings.{value_of}
 use Rattle.json5_schema.proofs.Refusing.{led_back, led_on}
-use Rattle.json5_schema.proofs.references.leads_back.Goals as goal
+use Rattle.json5_schema.proofs.references.leads_round.Goals as goal
 
 pub loop-next-preserved : goal.loop-next-preserved
 loop-next-preserved c =

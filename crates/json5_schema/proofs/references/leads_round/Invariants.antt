@@ -3,7 +3,7 @@ use denote.Shadow.{shadow}
 use denote.Text.{Utf8}
 use Rattle.json5_types.specs.ValueMeanings.{value_of}
 use Rattle.json5_schema.specs.Refusals.{LeadsTo}
-use Rattle.json5_schema.proofs.references.leads_back.Given as goal
+use Rattle.json5_schema.proofs.references.leads_round.Given as goal
 
 -- the first one leads to the last one that was come to
 abbrev pub invariant-loop-next : goal.invariant-loop-next
