@@ -14,3 +14,7 @@ mod Latest
 mod Distinct
 mod Refusing
 mod FewDigits
+mod KeywordGroups
+mod WholeOrders
+mod FoundLast
+mod Additional

@@ -11,10 +11,12 @@ use Rattle.json5_types.specs.ValueMeanings.{Datum, null, boolean, number, text, 
 use Rattle.json5_types.specs.ValueLookups.{boolean_of, fields_in}
 use Rattle.json5_types.specs.Errors.{LacksMemory}
 use Rattle.json5_types.proofs.ValuesCompared.{view-String}
+use Rattle.json5_schema.specs.declared.keyword.Assertion.{Assertion}
 use Rattle.json5_schema.specs.declared.keyword.Keyword.{Keyword}
+use Rattle.json5_schema.specs.declared.keyword.Keyword.TheVariants as keyword
 use Rattle.json5_schema.specs.declared.kind.Kind.{Kind}
 use Rattle.json5_schema.specs.Keywords.{keyword_named, kind_named}
-use Rattle.json5_schema.specs.Conformance.{is_patterned, is_of_kind, is_of_named, at_fragment, behind_sign, target_of, items_after, by_index, all_on, dependent_schemas, dependent_on, Asked, choice, asks, Question, conforming, Answers, answers, satisfied, part_holds, keyword_holds, keywords_hold, schema_holds, unfolded, Conforms}
+use Rattle.json5_schema.specs.Conformance.{is_patterned, is_of_kind, is_of_named, at_fragment, behind_sign, target_of, items_after, by_index, all_on, dependent_schemas, dependent_on, Asked, choice, settled, asserts, asks, Question, conforming, Answers, answers, satisfied, part_holds, keyword_holds, keywords_hold, schema_holds, unfolded, Conforms}
 use Rattle.json5_numbers.specs.Sameness.{is_named}
 use Rattle.json5_schema.specs.Patterns.{matches, fits}
 use Rattle.json5_schema.specs.Views.{IsRefusal}
@@ -111,6 +113,17 @@ pub asked_keyword : (r : Result Bool Error) (n : ℕ) (root a x : Datum) (key by
     → MatchResult r (λ b. (v : Answers) → satisfied (unfolded n v root) root q ≡ b) IsRefusal → MatchResult r (λ b. (v : Answers) → keyword_holds (unfolded n v root) root all (chars bytes) a rest x ≡ b) IsRefusal
 asked_keyword (Ok b) n root a x key bytes all rest k q h u same named asked holds = λ v. keyword_asked (unfolded n v root) root a x key bytes all rest k q h u same named asked ∙ holds v
 asked_keyword (Err f) n root a x key bytes all rest k q h u same named asked holds = holds
+
+-- one that says by itself whether it holds
+pub asserted_keyword : (r : Result Bool Error) (n : ℕ) (root a x : Datum) (key bytes : List ℕ) (all rest : Fields) (k : Keyword) (j : Assertion) → is_named (chars key) rest ≡ false → IsUtf8 key → key ≡ bytes → k ≡ keyword_named key → k ≡ keyword.Assertion j
+    → MatchResult r (λ b. b ≡ asserts root j a x) IsRefusal → MatchResult r (λ b. (v : Answers) → keyword_holds (unfolded n v root) root all (chars bytes) a rest x ≡ b) IsRefusal
+asserted_keyword (Ok b) n root a x key bytes all rest k j h u same named is holds =
+    λ v. keyword_asked (unfolded n v root) root a x key bytes all rest k (settled b) h u same named (rw is (ap settled holds))
+asserted_keyword (Err f) n root a x key bytes all rest k j h u same named is holds = holds
+
+pub passed_keyword : (n : ℕ) (v : Answers) (root a x : Datum) (key bytes : List ℕ) (all rest : Fields) (k : Keyword) → is_named (chars key) rest ≡ false → IsUtf8 key → key ≡ bytes → k ≡ keyword_named key → k ≡ keyword.Annotation
+    → keyword_holds (unfolded n v root) root all (chars bytes) a rest x ≡ true
+passed_keyword n v root a x key bytes all rest k h u same named is = keyword_asked (unfolded n v root) root a x key bytes all rest k (settled true) h u same named (rw is refl)
 
 -- ---- a choice
 

@@ -128,7 +128,7 @@ by_one n = omega arith
 times_ten : (n k : ℕ) → n * 10 ^ suc k ≡ n * 10 ^ k * 10
 times_ten n k = let next : suc k ≡ k + 1 = omega arith in ap (λ (m : ℕ). n * 10 ^ m) next ∙ sym (spread n (10 ^ k) (10 ^ (k + 1)) (pow-add 10 k 1))
 
-ten_to_pos : (k : ℕ) → 0 < 10 ^ k
+pub ten_to_pos : (k : ℕ) → 0 < 10 ^ k
 ten_to_pos zero = omega arith
 ten_to_pos (suc k) =
     let next : suc k ≡ k + 1 = omega arith in

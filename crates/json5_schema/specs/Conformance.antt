@@ -48,6 +48,16 @@ is_of_kind kind.Integer (number (decimal d)) = is_integral d
 is_of_kind kind.Text (text u) = true
 is_of_kind _ _ = false
 
+-- one name of its kind; private clauses alone cite this
+abbrev pub usual_name : Datum → List ℕ
+usual_name null = codes "null"
+usual_name (boolean b) = codes "boolean"
+usual_name (number (whole z)) = codes "integer"
+usual_name (number (decimal d)) = codes "number"
+usual_name (text u) = codes "string"
+usual_name (array xs) = codes "array"
+usual_name (object fs) = codes "object"
+
 abbrev pub is_of_named : Datum → Datum → Bool
 is_of_named (text name) x = is_of_kind (kind_named (encode_utf8_all name)) x
 is_of_named _ x = false
@@ -348,6 +358,11 @@ patterns_on _ _ = settled true
 abbrev pub each_additional : Datum → Fields → Fields → List (Datum × Datum)
 each_additional s keywords no_field = []
 each_additional s keywords (field u x fs) = if is_additional keywords u then (s, x) ∷ each_additional s keywords fs else each_additional s keywords fs
+
+-- some member is; private clauses alone cite this
+abbrev pub has_additional : Fields → Fields → Bool
+has_additional keywords no_field = false
+has_additional keywords (field u x fs) = is_additional keywords u || has_additional keywords fs
 
 abbrev pub additional_on : Datum → Fields → Datum → Asked
 additional_on s keywords (object fs) = all_on (each_additional s keywords (latest fs))

@@ -7,8 +7,7 @@ ghost use Rattle.json5_schema.specs.Subschemas.{takes_schemas, takes_named};
 ghost use Rattle.json5_schema.specs.Views.{part_view};
 
 use crate::known::{takes_named, takes_schema, takes_schemas};
-use crate::members::unless_named;
-use json5_numbers::members::find;
+use crate::members::{find, unless_named};
 use json5_types::value::Value;
 
 /// Whether the text is `#` and the name.

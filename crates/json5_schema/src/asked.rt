@@ -5,22 +5,23 @@ ghost use lib.Chars.{codes};
 ghost use Rattle.std.specs.Str.{chars};
 ghost use Rattle.json5_types.specs.Errors.{LacksMemory};
 ghost use Rattle.json5_types.specs.ValueMeanings.{value_of, items_view, fields_view};
-ghost use Rattle.json5_schema.specs.Conformance.{each_schema, each_item, by_name, value_for, by_index, prefix_on, schemas_in_front, items_after, elements_after, items_on, additional_items_on, contains_on, all_of_on, any_of_on, one_of_on, if_on, members_left_on, elements_left_on, speaks_of, beside, is_matched, is_patterned, is_additional, latest, each_matched, of_pattern, by_pattern, patterns_on, each_additional, additional_on, names_on, properties_on, is_dependent, dependent_schemas, dependent_on, dependencies_on, all_on, some_on, target_of, refers_on, asserts, applies, asks};
+ghost use Rattle.json5_schema.specs.Conformance.{each_schema, each_item, by_name, value_for, by_index, prefix_on, schemas_in_front, items_after, elements_after, items_on, additional_items_on, contains_on, all_of_on, any_of_on, one_of_on, if_on, members_left_on, elements_left_on, speaks_of, beside, is_matched, is_patterned, is_additional, latest, each_matched, of_pattern, by_pattern, patterns_on, each_additional, has_additional, additional_on, names_on, properties_on, is_dependent, dependent_schemas, dependent_on, dependencies_on, all_on, some_on, target_of, refers_on, asserts, applies};
 ghost use Rattle.json5_schema.specs.Views.{AsksFor, IsRefusal, PairsFor, members_view, pairs_view, part_view, asked_view};
 
 use crate::anchors::target_by;
 use crate::equal::{has_distinct, is_in_enum};
 use crate::formats::format_holds;
-use crate::keyword::{Applicator, Assertion, Keyword};
+use crate::keyword::{Applicator, Assertion};
 use crate::kind::is_of_type;
 use crate::limits::{
     characters_in, count_at_least, count_at_most, elements_in, elements_len, is_at_most, is_below,
     names_in,
 };
-use crate::members::{Member, has_all_dependents, has_required, latest, unless_named};
+use crate::members::{
+    Member, find, has_all_dependents, has_required, is_named, latest, unless_named,
+};
 use crate::multiples::is_multiple_of;
 use crate::patterns::{Pattern, fits, is_matching};
-use json5_numbers::members::{find, is_named};
 use json5_numbers::same;
 use json5_types::error::Result;
 use json5_types::value::Value;
@@ -61,7 +62,7 @@ pub enum Child<'a> {
 fn each_schema<'a>(alloc: Global, schemas: &'a [Value], value: &'a Value) -> Result<Vec<Pair<'a>>>
     ensures { PairsFor (each_schema (items_view schemas.now) (value_of value.now)) result }
 {
-    let mut pairs = Vec::new(alloc);
+    let mut pairs = Vec::with_capacity(alloc, schemas.len())?;
     for schema in schemas {
         pairs.push(Pair { schema, value })?;
     }
@@ -72,7 +73,7 @@ fn each_schema<'a>(alloc: Global, schemas: &'a [Value], value: &'a Value) -> Res
 fn each_item<'a>(alloc: Global, schema: &'a Value, items: &'a [Value]) -> Result<Vec<Pair<'a>>>
     ensures { PairsFor (each_item (value_of schema.now) (items_view items.now)) result }
 {
-    let mut pairs = Vec::new(alloc);
+    let mut pairs = Vec::with_capacity(alloc, items.len())?;
     for value in items {
         pairs.push(Pair { schema, value })?;
     }
@@ -87,7 +88,7 @@ fn by_name<'a>(
 ) -> Result<Vec<Pair<'a>>>
     ensures { PairsFor (by_name (fields_view properties.now) (fields_view members.now)) result }
 {
-    let mut pairs = Vec::new(alloc);
+    let mut pairs = Vec::with_capacity(alloc, properties.len().min(members.len()))?;
     for (index, property) in properties.iter().enumerate() {
         if let Some(value) = value_for(property, &properties[index + 1..], members) {
             pairs.push(Pair {
@@ -250,6 +251,23 @@ fn each_additional<'a>(
     Ok(pairs)
 }
 
+/// Whether a member is additional, be it the last with its name or not.
+fn has_additional(
+    alloc: Global,
+    patterns: &[Pattern],
+    keywords: &[(String, Value)],
+    members: &[(String, Value)],
+) -> Result<bool>
+    ensures { MatchResult result (λ b. b ≡ has_additional (fields_view keywords.now) (fields_view members.now)) LacksMemory }
+{
+    for (name, _) in members {
+        if is_additional(alloc, patterns, keywords, name.as_str())? {
+            return Ok(true);
+        }
+    }
+    Ok(false)
+}
+
 /// What `additionalProperties` asks.
 fn additional_on<'a>(
     alloc: Global,
@@ -262,6 +280,9 @@ fn additional_on<'a>(
 {
     match value {
         Value::Object(members) => {
+            if !has_additional(alloc, patterns, keywords, members)? {
+                return Ok(all_of(Vec::new(alloc)));
+            }
             let members = latest(alloc, members)?;
             Ok(all_of(each_additional(alloc, patterns, schema, keywords, &members)?))
         }
@@ -606,7 +627,7 @@ fn refers_on<'a>(alloc: Global, target: Option<&'a Value>, value: &'a Value) -> 
 }
 
 /// What a keyword says by itself.
-fn asserts(
+pub fn asserts(
     alloc: Global,
     patterns: &[Pattern],
     root: &Value,
@@ -618,22 +639,22 @@ fn asserts(
 {
     match assertion {
         Assertion::Type => Ok(is_of_type(argument, value)),
-        Assertion::Enum => Ok(is_in_enum(alloc, argument, value)?),
-        Assertion::Const => Ok(same(alloc, argument, value)?),
+        Assertion::Enum => is_in_enum(alloc, argument, value),
+        Assertion::Const => same(alloc, argument, value),
         Assertion::MultipleOf => is_multiple_of(alloc, argument, value),
-        Assertion::Maximum => Ok(is_at_most(alloc, value, argument)?),
-        Assertion::ExclusiveMaximum => Ok(is_below(alloc, value, argument)?),
-        Assertion::Minimum => Ok(is_at_most(alloc, argument, value)?),
-        Assertion::ExclusiveMinimum => Ok(is_below(alloc, argument, value)?),
-        Assertion::MaxLength => Ok(count_at_most(alloc, characters_in(value), argument)?),
-        Assertion::MinLength => Ok(count_at_least(alloc, characters_in(value), argument)?),
-        Assertion::Pattern => Ok(is_matching(alloc, patterns, argument, value)?),
-        Assertion::Format => Ok(format_holds(alloc, patterns, root, argument, value)?),
-        Assertion::MaxItems => Ok(count_at_most(alloc, elements_in(value), argument)?),
-        Assertion::MinItems => Ok(count_at_least(alloc, elements_in(value), argument)?),
-        Assertion::UniqueItems => Ok(has_distinct(alloc, argument, value)?),
-        Assertion::MaxProperties => Ok(count_at_most(alloc, names_in(alloc, value)?, argument)?),
-        Assertion::MinProperties => Ok(count_at_least(alloc, names_in(alloc, value)?, argument)?),
+        Assertion::Maximum => is_at_most(alloc, value, argument),
+        Assertion::ExclusiveMaximum => is_below(alloc, value, argument),
+        Assertion::Minimum => is_at_most(alloc, argument, value),
+        Assertion::ExclusiveMinimum => is_below(alloc, argument, value),
+        Assertion::MaxLength => count_at_most(alloc, characters_in(value), argument),
+        Assertion::MinLength => count_at_least(alloc, characters_in(value), argument),
+        Assertion::Pattern => is_matching(alloc, patterns, argument, value),
+        Assertion::Format => format_holds(alloc, patterns, root, argument, value),
+        Assertion::MaxItems => count_at_most(alloc, elements_in(value), argument),
+        Assertion::MinItems => count_at_least(alloc, elements_in(value), argument),
+        Assertion::UniqueItems => has_distinct(alloc, argument, value),
+        Assertion::MaxProperties => count_at_most(alloc, names_in(alloc, value)?, argument),
+        Assertion::MinProperties => count_at_least(alloc, names_in(alloc, value)?, argument),
         Assertion::Required => Ok(has_required(argument, value)),
         Assertion::DependentRequired => Ok(has_all_dependents(argument, value)),
     }
@@ -674,28 +695,5 @@ pub fn applies<'a>(
         Applicator::UnevaluatedProperties => Ok(members_left_on(argument, keywords, value)),
         Applicator::UnevaluatedItems => Ok(elements_left_on(argument, keywords, value)),
         Applicator::Ref => refers_on(alloc, target_of(root, argument), value),
-    }
-}
-
-/// What a keyword with this argument asks of the value.
-pub fn asks<'a>(
-    alloc: Global,
-    patterns: &[Pattern],
-    root: &'a Value,
-    keywords: &'a [(String, Value)],
-    keyword: Keyword,
-    argument: &'a Value,
-    value: &'a Value,
-) -> Result<Asked<'a>>
-    ensures { AsksFor (asks (value_of root.now) (fields_view keywords.now) keyword (value_of argument.now) (value_of value.now)) result }
-{
-    match keyword {
-        Keyword::Assertion(assertion) => Ok(Asked::Settled(asserts(
-            alloc, patterns, root, assertion, argument, value,
-        )?)),
-        Keyword::Applicator(applicator) => {
-            applies(alloc, patterns, root, keywords, applicator, argument, value)
-        }
-        Keyword::Annotation => Ok(Asked::Settled(true)),
     }
 }

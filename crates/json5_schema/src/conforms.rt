@@ -6,13 +6,12 @@ ghost use Rattle.json5_types.specs.ValueMeanings.{object, text, value_of, fields
 ghost use Rattle.json5_schema.specs.Conformance.{asked_evaluates, conforming, count_conforming, is_contained, is_within, less, names_hold, pair_evaluates, part_evaluates, part_holds, satisfied, schema_holds, some_evaluate, Conforms};
 ghost use Rattle.json5_schema.specs.Views.{IsRefusal, Settles, argument_evaluates, asked_view, child_left, either_evaluates, elements_left, fields_evaluate, member_evaluates, member_holds, members_left, one_evaluates, pair_view, pairs_view, part_view, question_of, value_left};
 
-use crate::asked::{Asked, Child, Pair, applies, asks};
+use crate::asked::{Asked, Child, Pair, applies, asserts};
 use crate::keyword::{Applicator, Keyword, keyword_named};
 use crate::limits::is_counted;
-use crate::members::{Member, latest};
+use crate::members::{Member, is_named, latest};
 use crate::patterns::Pattern;
 use crate::reaching::{element_at, is_contains, is_in_place, reaches, takes_rest};
-use json5_numbers::members::is_named;
 use json5_types::ErrorCode;
 use json5_types::error::{Error, Result};
 use json5_types::value::Value;
@@ -100,16 +99,17 @@ pub fn keyword_holds(
     if is_named(after, name) {
         return Ok(true);
     }
-    let asked = asks(
-        alloc,
-        patterns,
-        root,
-        members,
-        keyword_named(name),
-        &member.1,
-        value,
-    )?;
-    satisfied(alloc, patterns, root, &asked, depth)
+    let argument = &member.1;
+    match keyword_named(name) {
+        Keyword::Assertion(assertion) => {
+            asserts(alloc, patterns, root, assertion, argument, value)
+        }
+        Keyword::Applicator(applicator) => {
+            let asked = applies(alloc, patterns, root, members, applicator, argument, value)?;
+            satisfied(alloc, patterns, root, &asked, depth)
+        }
+        Keyword::Annotation => Ok(true),
+    }
 }
 
 /// Whether it is as it is asked.

@@ -3,7 +3,7 @@
 ghost use Rattle.std.specs.Prelude.{◌≡◌};
 ghost use Rattle.json5_types.specs.ValueMeanings.{value_of, items_view};
 ghost use Rattle.json5_schema.specs.Keywords.{kind_named};
-ghost use Rattle.json5_schema.specs.Conformance.{is_integral, is_of_kind, is_of_named, is_of_some, is_of_type};
+ghost use Rattle.json5_schema.specs.Conformance.{usual_name, is_integral, is_of_kind, is_of_named, is_of_some, is_of_type};
 
 use json5_types::decimal::Decimal;
 use json5_types::value::Value;
@@ -62,12 +62,34 @@ pub fn is_of_kind(kind: Kind, value: &Value) -> bool
     }
 }
 
+/// The usual name of the value's kind.
+fn usual_name(value: &Value) -> &'static str
+    ensures { result.now ≡ usual_name (value_of value.now) }
+{
+    match value {
+        Value::Null => "null",
+        Value::Bool(_) => "boolean",
+        Value::Whole(_) => "integer",
+        Value::Decimal(_) => "number",
+        Value::String(_) => "string",
+        Value::Array(_) => "array",
+        Value::Object(_) => "object",
+    }
+}
+
+/// Whether the value is of the kind with this name, which mostly is its usual one.
+fn is_called(name: &str, value: &Value) -> bool
+    ensures { result ≡ is_of_kind (kind_named name.now) (value_of value.now) }
+{
+    name == usual_name(value) || is_of_kind(kind_named(name), value)
+}
+
 /// Whether the value is of the kind that this text names.
 fn is_of_named(name: &Value, value: &Value) -> bool
     ensures { result ≡ is_of_named (value_of name.now) (value_of value.now) }
 {
     match name {
-        Value::String(name) => is_of_kind(kind_named(name.as_str()), value),
+        Value::String(name) => is_called(name.as_str(), value),
         _ => false,
     }
 }

@@ -2,10 +2,12 @@
 
 ghost use Rattle.std.specs.Prelude.{◌≡◌, ◌&&◌, MatchResult};
 ghost use Rattle.json5_types.specs.Errors.{LacksMemory};
-ghost use Rattle.json5_types.specs.ValueMeanings.{value_of, items_view, fields_view};
+ghost use Rattle.json5_grammar.specs.Language.Numbers.{whole};
+ghost use Rattle.json5_types.specs.ValueMeanings.{number, value_of, items_view, fields_view};
 ghost use Rattle.json5_types.specs.ValueKinds.{items_len, fields_len};
 ghost use Rattle.json5_schema.specs.Conformance.{is_not_above, at_most, is_below, characters_in, elements_in, latest, names_in, count_at_most, count_at_least, is_enough, is_few};
 ghost use Rattle.json5_schema.specs.Views.{part_view};
+ghost use Rattle.json5_numbers.specs.NumberTexts.{decimal_of_whole};
 ghost use Rattle.json5_numbers.specs.Orders.{decimal_cmp};
 
 use crate::members::latest;
@@ -13,6 +15,7 @@ use json5_numbers::{DecimalExt, same};
 use json5_types::decimal::Decimal;
 use json5_types::error::Result;
 use json5_types::value::Value;
+use json5_types::whole::Whole;
 use std::alloc::Global;
 use std::cmp::Ordering;
 
@@ -26,21 +29,43 @@ fn is_not_above(number: &Decimal, other: &Decimal) -> bool
     )
 }
 
+/// Whether the one whole number is at most the other.
+fn are_in_order(first: Whole, second: Whole) -> bool
+    ensures { result ≡ at_most (number (whole first)) (number (whole second)) }
+{
+    match (first.as_u128(), second.as_u128()) {
+        (Some(first), Some(second)) => first <= second,
+        (Some(_), None) => false,
+        (None, Some(_)) => true,
+        // both are below zero
+        (None, None) => first.as_i128().unwrap_or(0) <= second.as_i128().unwrap_or(0),
+    }
+}
+
+/// Whether the whole number is at most the decimal.
+#[inline(never)]
+fn is_whole_at_most(alloc: Global, number: Whole, other: &Decimal) -> Result<bool>
+    ensures { MatchResult result (λ b. b ≡ is_not_above (decimal_cmp (decimal_of_whole number) other.now)) LacksMemory }
+{
+    Ok(is_not_above(&Decimal::from_whole(alloc, number)?, other))
+}
+
+/// Whether the decimal is at most the whole number.
+#[inline(never)]
+fn is_at_most_whole(alloc: Global, number: &Decimal, other: Whole) -> Result<bool>
+    ensures { MatchResult result (λ b. b ≡ is_not_above (decimal_cmp number.now (decimal_of_whole other))) LacksMemory }
+{
+    Ok(is_not_above(number, &Decimal::from_whole(alloc, other)?))
+}
+
 /// Whether the number is at most the other; true where one of them is no number.
 pub fn is_at_most(alloc: Global, number: &Value, other: &Value) -> Result<bool>
     ensures { MatchResult result (λ b. b ≡ at_most (value_of number.now) (value_of other.now)) LacksMemory }
 {
     match (number, other) {
-        (Value::Whole(number), Value::Whole(other)) => {
-            let number = Decimal::from_whole(alloc, *number)?;
-            Ok(is_not_above(&number, &Decimal::from_whole(alloc, *other)?))
-        }
-        (Value::Whole(number), Value::Decimal(other)) => {
-            Ok(is_not_above(&Decimal::from_whole(alloc, *number)?, other))
-        }
-        (Value::Decimal(number), Value::Whole(other)) => {
-            Ok(is_not_above(number, &Decimal::from_whole(alloc, *other)?))
-        }
+        (Value::Whole(number), Value::Whole(other)) => Ok(are_in_order(*number, *other)),
+        (Value::Whole(number), Value::Decimal(other)) => is_whole_at_most(alloc, *number, other),
+        (Value::Decimal(number), Value::Whole(other)) => is_at_most_whole(alloc, number, *other),
         (Value::Decimal(number), Value::Decimal(other)) => Ok(is_not_above(number, other)),
         _ => Ok(true),
     }

@@ -1,18 +1,48 @@
 //! The members of objects. Of equal keys the last counts.
 
-ghost use Rattle.std.specs.Prelude.{◌≡◌, if◌then◌else◌, None, reverse, MatchResult};
+ghost use Rattle.std.specs.Prelude.{◌≡◌, if◌then◌else◌, nat_eq, None, reverse, MatchResult};
+ghost use Rattle.std.specs.Cmp.Lexicographic.{pointwise};
 ghost use Rattle.std.specs.Str.{chars};
 ghost use Rattle.json5_types.specs.ValueMeanings.{value_of, items_view, fields_view};
+ghost use Rattle.json5_types.specs.ValueLookups.{last_named};
 ghost use Rattle.json5_schema.specs.Conformance.{has_name, has_names, has_required, has_dependent, has_dependents, has_all_dependents, latest};
 ghost use Rattle.json5_numbers.specs.Sameness.{is_named};
 ghost use Rattle.json5_types.specs.Errors.{LacksMemory};
 ghost use Rattle.json5_schema.specs.Views.{members_view, part_view};
 
-use json5_numbers::members::is_named;
 use json5_types::error::Result;
 use json5_types::value::Value;
 use std::alloc::Global;
 use std::collections::BTreeSet;
+
+/// Whether the two texts are equal. Most that aren't differ in length.
+fn is_same(text: &str, other: &str) -> bool
+    ensures { result ≡ pointwise nat_eq text.now other.now }
+{
+    text.len() == other.len() && text == other
+}
+
+/// The value of the last member with this key, looked for from the end on.
+pub fn find<'v>(members: &'v [(String, Value)], key: &str) -> Option<&'v Value>
+    ensures { part_view result ≡ last_named (chars key.now) (fields_view members.now) }
+{
+    let mut index = members.len();
+    while index > 0 {
+        index -= 1;
+        let member = &members[index];
+        if is_same(member.0.as_str(), key) {
+            return Some(&member.1);
+        }
+    }
+    None
+}
+
+/// Whether a member has this key.
+pub fn is_named(members: &[(String, Value)], key: &str) -> bool
+    ensures { result ≡ is_named (chars key.now) (fields_view members.now) }
+{
+    find(members, key).is_some()
+}
 
 /// What was found in a member, unless one after it has the same key.
 pub fn unless_named<'a>(

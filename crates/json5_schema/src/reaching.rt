@@ -10,8 +10,8 @@ ghost use Rattle.json5_schema.specs.Views.{part_view, question_of, reaches_named
 use crate::asked::{Child, is_additional, is_matched_in, schemas_in_front};
 use crate::keyword::Applicator;
 use crate::limits::elements_len;
+use crate::members::{find, is_named};
 use crate::patterns::Pattern;
-use json5_numbers::members::{find, is_named};
 use json5_types::error::Result;
 use json5_types::value::Value;
 use std::alloc::Global;

@@ -1,7 +1,6 @@
 //! What the argument of a keyword has to be.
 
 ghost use Rattle.std.specs.Prelude.{◌≡◌, ◌&&◌, ◌^◌, pos, int_le, int_lt};
-ghost use Rattle.json5_grammar.specs.Language.Characters.{is_digit, Each};
 ghost use Rattle.json5_grammar.specs.Language.Numbers.{decimal};
 ghost use Rattle.json5_types.specs.NumberDecimals.{digits_in};
 ghost use Rattle.json5_types.specs.ValueMeanings.{number, value_of, items_view, fields_view};
@@ -316,14 +315,6 @@ fn is_divisor(argument: &Value) -> bool
     }
 }
 
-/// Whether digits are below 2^64.
-fn are_few_digits(digits: &str) -> bool
-    requires { Each is_digit digits.now }
-    ensures { result ≡ are_few_digits digits.now }
-{
-    digits.parse::<u64>().is_ok()
-}
-
 /// Whether a whole number isn't below zero, but below 2^64.
 fn is_small(number: Whole) -> bool
     ensures { result ≡ (int_le (pos 0) number && int_lt number (pos (2 ^ 64))) }
@@ -338,7 +329,7 @@ fn is_small(number: Whole) -> bool
 fn is_short(number: &Decimal) -> bool
     ensures { result ≡ are_few_digits (digits_in number.now) }
 {
-    are_few_digits(number.digits())
+    number.digits().parse::<u64>().is_ok()
 }
 
 /// Whether the digits of a number are below 2^64.

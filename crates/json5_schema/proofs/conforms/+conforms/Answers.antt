@@ -9,7 +9,7 @@ use Rattle.std.specs.Str.{chars}
 use Rattle.std.specs.declared.alloc.Global.{Global}
 use Rattle.json5_types.specs.declared.value.Value.{Value}
 use Rattle.json5_schema.proofs.Conforming.{rest_is, keywords_first, next, few_left, enough_left, pair_from}
-use Rattle.json5_schema.proofs.Parts.{chosen_then, chosen_else, boolean_schema, object_schema, other_schema, asked_keyword}
+use Rattle.json5_schema.proofs.Parts.{chosen_then, chosen_else, boolean_schema, object_schema, other_schema, asked_keyword, asserted_keyword, passed_keyword}
 use Rattle.json5_types.proofs.ValuesCompared.{view-Array}
 use Rattle.json5_schema.proofs.Evaluating.{keyword_at, left_elements, named_evaluates, named_other, object_evaluated, other_evaluated}
 use Rattle.json5_schema.proofs.conforms.+conforms.Goals as goal
@@ -51,10 +51,20 @@ conforms_within-returns-in-None t c = λ v.
     let no_object : fields_in (value_of c.args.schema.now) ≡ None = sym c.as_object.ensures ∙ ap (λ o. option_map (λ fields. fields_view fields.now) o) c.in-None.is in
     other_schema c.args.depth v (value_of c.args.root.now) (value_of c.args.schema.now) (value_of c.args.value.now) (omega arith) no_boolean no_object
 
-pub keyword_holds-returns : goal.keyword_holds-returns
-keyword_holds-returns t c =
+pub keyword_holds-returns-in-Assertion : goal.keyword_holds-returns-in-Assertion
+keyword_holds-returns-in-Assertion t c =
+    asserted_keyword c.asserts.result c.args.depth (value_of c.args.root.now) (value_of c.args.member.now.1) (value_of c.args.value.now) c.as_str-name.result.now (string_bytes c.args.member.now.0) (fields_view c.args.members.now) (fields_view c.args.after.now)
+    c.keyword_named.result c.in-Assertion.assertion (sym c.is_named.ensures ∙ c.if-is_named.false) c.as_str-name.utf8 c.as_str-name.ensures.value c.keyword_named.ensures c.in-Assertion.is c.asserts.ensures
+
+pub keyword_holds-returns-in_ok-asked-in-Applicator : goal.keyword_holds-returns-in_ok-asked-in-Applicator
+keyword_holds-returns-in_ok-asked-in-Applicator t c =
     asked_keyword c.satisfied.result c.args.depth (value_of c.args.root.now) (value_of c.args.member.now.1) (value_of c.args.value.now) c.as_str-name.result.now (string_bytes c.args.member.now.0) (fields_view c.args.members.now) (fields_view c.args.after.now)
-    c.keyword_named.result (asked_view c.in_ok-asked.asked) (sym c.is_named.ensures ∙ c.if-is_named.false) c.as_str-name.utf8 c.as_str-name.ensures.value c.keyword_named.ensures c.in_ok-asked.ensures c.satisfied.ensures
+    c.keyword_named.result (asked_view c.in_ok-asked-in-Applicator.asked) (sym c.is_named.ensures ∙ c.if-is_named.false) c.as_str-name.utf8 c.as_str-name.ensures.value c.keyword_named.ensures (rw c.in-Applicator.is c.in_ok-asked-in-Applicator.ensures) c.satisfied.ensures
+
+pub keyword_holds-returns-in-Annotation : goal.keyword_holds-returns-in-Annotation
+keyword_holds-returns-in-Annotation t c = λ v.
+    passed_keyword c.args.depth v (value_of c.args.root.now) (value_of c.args.member.now.1) (value_of c.args.value.now) c.as_str-name.result.now (string_bytes c.args.member.now.0) (fields_view c.args.members.now) (fields_view c.args.after.now)
+    c.keyword_named.result (sym c.is_named.ensures ∙ c.if-is_named.false) c.as_str-name.utf8 c.as_str-name.ensures.value c.keyword_named.ensures c.in-Annotation.is
 
 pub keywords_hold-returns-then-not-branch : goal.keywords_hold-returns-then-not-branch
 keywords_hold-returns-then-not-branch t c = λ v.
