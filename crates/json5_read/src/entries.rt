@@ -7,9 +7,11 @@ ghost use Rattle.json5_grammar.specs.Language.Characters.{colon_sign};
 ghost use Rattle.json5_grammar.specs.Model.ReadBlanks.{skip, between};
 ghost use Rattle.json5_grammar.specs.Model.ReadSteps.{forget, colon_after, next_value};
 ghost use Rattle.json5_grammar.specs.Model.ReadTexts.{key};
+ghost use Rattle.json5_tokens.specs.TokenCalls.{PassesName, PassesString};
 ghost use Rattle.json5_tokens.specs.ShortWays.{TakesShortSign};
-ghost use Rattle.json5_read.specs.Brackets.{bracket_of};
+ghost use Rattle.json5_read.specs.Brackets.{bracket_of, brackets_of};
 ghost use Rattle.json5_read.specs.Entries.{IsVisible, next_entry};
+ghost use Rattle.json5_read.specs.FoundEntries.{FindsColon, FindsEntry};
 ghost use Rattle.json5_read.specs.ModelSteps.{IsInside, Steps, answered};
 
 use crate::brackets::BracketKind;
@@ -39,14 +41,12 @@ fn is_visible(c: char) -> bool
     c > ' ' && c <= '~' && c != '/'
 }
 
-/// The same as `skip_colon`, whatever is in front.
+/// Takes the colon after a key, and the blanks before it, whatever is in front.
 #[inline(never)]
-fn skip_colon_slowly<I: Input>(scanner: &mut Scanner<I>, fault: &mut Error) -> Option<()>
-    requires { IsInside scanner.old }
-    ensures { Steps (colon_after scanner.old.unread) scanner.old scanner.new (answered result fault.new) }
+fn find_colon<I: Input>(scanner: &mut Scanner<I>, fault: &mut Error) -> Option<()>
+    ensures { FindsColon scanner.old scanner.new (answered result fault.new) }
 {
-    leave_error(pass_colon(scanner), fault)?;
-    skip_blank(scanner, fault)
+    leave_error(pass_colon(scanner), fault)
 }
 
 /// Takes ASCII blanks and a colon, and says whether they were in front. Else takes nothing. Most colons follow a key at once.
@@ -67,7 +67,8 @@ pub(crate) fn skip_colon<I: Input>(scanner: &mut Scanner<I>, fault: &mut Error) 
     ensures { Steps (colon_after scanner.old.unread) scanner.old scanner.new (answered result fault.new) }
 {
     if !short_colon(scanner) {
-        return skip_colon_slowly(scanner, fault);
+        find_colon(scanner, fault)?;
+        return skip_blank(scanner, fault);
     }
     // Most often one space follows, and then the value.
     let _ = scanner.eat(' ');
@@ -77,19 +78,19 @@ pub(crate) fn skip_colon<I: Input>(scanner: &mut Scanner<I>, fault: &mut Error) 
     }
 }
 
-/// The same as `skip_key`, whatever is in front.
+/// Passes over a string.
 #[inline(never)]
-fn skip_key_slowly<I: Input>(scanner: &mut Scanner<I>, fault: &mut Error) -> Option<()>
-    requires { IsInside scanner.old }
-    ensures { Steps (forget (key scanner.old.unread)) scanner.old scanner.new (answered result fault.new) }
+pub(crate) fn skip_string<I: Input>(scanner: &mut Scanner<I>, fault: &mut Error) -> Option<()>
+    ensures { PassesString scanner.old scanner.new (answered result fault.new) }
 {
-    let Some(c) = scanner.peek() else {
-        leave_code(ErrorCode::EofParsingObject, fault);
-        return None;
-    };
-    if is_quote(c) {
-        return leave_error(scanner.skip_string(), fault);
-    }
+    leave_error(scanner.skip_string(), fault)
+}
+
+/// Passes over an identifier.
+#[inline(never)]
+fn skip_identifier<I: Input>(scanner: &mut Scanner<I>, fault: &mut Error) -> Option<()>
+    ensures { PassesName scanner.old scanner.new (answered result fault.new) }
+{
     leave_error(scanner.skip_identifier(), fault)
 }
 
@@ -100,29 +101,30 @@ fn skip_key<I: Input>(scanner: &mut Scanner<I>, fault: &mut Error) -> Option<()>
     requires solid { Solid scanner.old.unread }
     ensures { Steps (forget (key scanner.old.unread)) scanner.old scanner.new (answered result fault.new) }
 {
-    match scanner.short_key() {
-        Some(_) => Some(()),
-        None => skip_key_slowly(scanner, fault),
+    if let Some(_) = scanner.short_key() {
+        return Some(());
     }
+    let Some(c) = scanner.peek() else {
+        leave_code(ErrorCode::EofParsingObject, fault);
+        return None;
+    };
+    if is_quote(c) {
+        return skip_string(scanner, fault);
+    }
+    skip_identifier(scanner, fault)
 }
 
-/// The same as `next_entry`, whatever is in front.
+/// Goes to the next entry and returns true, or to the closing bracket and returns false, whatever is in front.
 #[inline(never)]
-fn next_entry_slowly<I: Input>(
+fn find_entry<I: Input>(
     scanner: &mut Scanner<I>,
     kind: BracketKind,
     comma_due: bool,
     fault: &mut Error,
 ) -> Option<bool>
-    requires { IsInside scanner.old }
-    ensures { Steps (next_entry (bracket_of kind) comma_due scanner.old.unread) scanner.old scanner.new (answered result fault.new) }
+    ensures { FindsEntry (brackets_of kind) comma_due scanner.old scanner.new (answered result fault.new) }
 {
-    let more = leave_error(advance_to_entry(scanner, kind, comma_due), fault)?;
-    if more {
-        return Some(true);
-    }
-    let _ = scanner.eat(kind.brackets().closing);
-    Some(false)
+    leave_error(advance_to_entry(scanner, kind, comma_due), fault)
 }
 
 /// Goes to the next entry, after a comma if one is due, and returns true; or passes over the closing bracket and returns false.
@@ -138,13 +140,18 @@ pub(crate) fn next_entry<I: Input>(
 {
     let closing = kind.brackets().closing;
     match scanner.short_step(closing as u8, comma_due) {
-        ShortStep::Entry => Some(true),
+        ShortStep::Entry => return Some(true),
         ShortStep::Closing => {
             let _ = scanner.eat(closing);
-            Some(false)
+            return Some(false);
         }
-        ShortStep::Other => next_entry_slowly(scanner, kind, comma_due, fault),
+        ShortStep::Other => {}
     }
+    let more = find_entry(scanner, kind, comma_due, fault)?;
+    if !more {
+        let _ = scanner.eat(closing);
+    }
+    Some(more)
 }
 
 /// Goes to the next entry as `next_entry` does, but on to its value: over the key and the colon of a member too.

@@ -2,6 +2,7 @@
 
 ghost use Rattle.json5_grammar.specs.Language.Blanks.{Solid};
 ghost use Rattle.json5_grammar.specs.Model.ReadTexts.{key};
+ghost use Rattle.json5_tokens.specs.TokenCalls.{TakesKey};
 ghost use Rattle.json5_read.specs.OwnedReads.{Keeps, OwnsKey, OwnsText, IsFoundKey};
 ghost use Rattle.json5_read.specs.ModelSteps.{IsInside, answered};
 
@@ -63,16 +64,9 @@ pub(crate) fn own_key<I: Input>(
 
 /// Takes a key, whatever it is.
 #[inline(never)]
-fn take_key_slowly<I: Input>(scanner: &mut Scanner<I>, fault: &mut Error) -> Option<TextToken>
-    requires { IsInside scanner.old }
-    ensures { Keeps (IsFoundKey scanner.old.input) (key scanner.old.unread) scanner.old scanner.new (answered result fault.new) }
+fn find_key<I: Input>(scanner: &mut Scanner<I>, fault: &mut Error) -> Option<TextToken>
+    ensures { TakesKey scanner.old scanner.new (answered result fault.new) }
 {
-    if scanner.peek().is_none() {
-        leave_code(ErrorCode::EofParsingObject, fault);
-        return None;
-    }
-    // Goals below need what `offset` promises: what is unread is of scalar values.
-    let _offset = scanner.offset();
     leave_error(scanner.key(), fault)
 }
 
@@ -85,8 +79,12 @@ pub(crate) fn take_key<I: Input>(scanner: &mut Scanner<I>, fault: &mut Error) ->
 {
     // Goals below need what `offset` promises: what is unread is of scalar values.
     let _offset = scanner.offset();
-    match scanner.short_key() {
-        Some(span) => Some(TextToken::EscapeFree(span)),
-        None => take_key_slowly(scanner, fault),
+    if let Some(span) = scanner.short_key() {
+        return Some(TextToken::EscapeFree(span));
     }
+    if scanner.peek().is_none() {
+        leave_code(ErrorCode::EofParsingObject, fault);
+        return None;
+    }
+    find_key(scanner, fault)
 }

@@ -5,9 +5,9 @@ ghost use Rattle.std.specs.Prelude.{◌≡◌, ℕ};
 ghost use Rattle.json5_types.specs.NumberMeanings.{number_of};
 ghost use Rattle.json5_types.specs.ValueMeanings as datum;
 ghost use Rattle.json5_types.specs.ValueMeanings.{value_of};
-ghost use Rattle.json5_read.specs.declared.kinds.ValueKind.TheVariants as kind;
+ghost use Rattle.json5_tokens.specs.ShortWays.{TakesShortDecimal};
 ghost use Rattle.json5_read.specs.OwnedReads.{KeepsShort, ReadsScalar, datum_of_literal};
-ghost use Rattle.json5_read.specs.Opening.{AtKind, AtScalar};
+ghost use Rattle.json5_read.specs.Opening.{AtScalar};
 ghost use Rattle.json5_read.specs.SkipSteps.{PassesShort};
 ghost use Rattle.json5_read.specs.ModelSteps.{Steps, answered, value_at};
 
@@ -16,6 +16,7 @@ use crate::kinds::{Literal, ValueKind, kind_at, short_literal, skip_literal};
 use json5_tokens::input::Input;
 use json5_tokens::scanner::Scanner;
 use json5_types::ErrorCode;
+use json5_types::decimal::Decimal;
 use json5_types::error::Error;
 use json5_types::number::Number;
 use json5_types::value::Value;
@@ -75,53 +76,12 @@ pub(crate) fn read_scalar<I: Input>(
     }
 }
 
-/// Takes a string.
-#[inline(always)]
-fn short_text<I: Input>(scanner: &mut Scanner<I>) -> Option<Value>
-    requires { AtKind kind.String scanner.old }
-    ensures { KeepsShort scanner.old scanner.new result }
-{
-    // Goals below need what `offset` promises: what is unread is of scalar values.
-    let _offset = scanner.offset();
-    match scanner.short_string_owned() {
-        Some(text) => Some(Value::String(text)),
-        None => None,
-    }
-}
-
 /// Takes a decimal whose digits take no memory. It isn't inlined, since it has more locals than the loops that need it.
 #[inline(never)]
-fn short_decimal<I: Input>(scanner: &mut Scanner<I>) -> Option<Value>
-    requires { AtKind kind.Number scanner.old }
-    ensures { KeepsShort scanner.old scanner.new result }
+fn short_decimal<I: Input>(scanner: &mut Scanner<I>) -> Option<Decimal>
+    ensures { TakesShortDecimal scanner.old scanner.new result }
 {
-    match scanner.short_decimal() {
-        Some(decimal) => Some(Value::Decimal(decimal)),
-        None => None,
-    }
-}
-
-/// Takes a number of few digits.
-#[inline(always)]
-fn short_number<I: Input>(scanner: &mut Scanner<I>) -> Option<Value>
-    requires { AtKind kind.Number scanner.old }
-    ensures { KeepsShort scanner.old scanner.new result }
-{
-    match scanner.short_whole(i128::MIN, i128::MAX) {
-        Some(number) => Some(Value::Whole(Whole::from_i128(number))),
-        None => short_decimal(scanner),
-    }
-}
-
-/// Takes the literal.
-#[inline(always)]
-fn kept_literal<I: Input>(scanner: &mut Scanner<I>, literal: Literal) -> Option<Value>
-    ensures { KeepsShort scanner.old scanner.new result }
-{
-    if short_literal(scanner, literal) {
-        return Some(value_of_literal(literal));
-    }
-    None
+    scanner.short_decimal()
 }
 
 /// Takes a value that is no collection and begins with the character, if it has a short way. The result holds no error, so a loop over
@@ -131,10 +91,26 @@ pub(crate) fn short_value<I: Input>(scanner: &mut Scanner<I>, c: char) -> Option
     requires { AtScalar c scanner.old }
     ensures { KeepsShort scanner.old scanner.new result }
 {
+    // Goals below need what `offset` promises: what is unread is of scalar values.
+    let _offset = scanner.offset();
     match kind_at(c) {
-        ValueKind::Literal(literal) => kept_literal(scanner, literal),
-        ValueKind::String => short_text(scanner),
-        ValueKind::Number => short_number(scanner),
+        ValueKind::Literal(literal) => {
+            if short_literal(scanner, literal) {
+                return Some(value_of_literal(literal));
+            }
+            None
+        }
+        ValueKind::String => {
+            let text = scanner.short_string_owned()?;
+            Some(Value::String(text))
+        }
+        ValueKind::Number => match scanner.short_whole(i128::MIN, i128::MAX) {
+            Some(number) => Some(Value::Whole(Whole::from_i128(number))),
+            None => {
+                let decimal = short_decimal(scanner)?;
+                Some(Value::Decimal(decimal))
+            }
+        },
         ValueKind::Other => None,
     }
 }

@@ -3,7 +3,6 @@
 
 ghost use Rattle.json5_read.specs.BuildSteps.{ArrayGoesOn, BeginsValue, GoesOnAfter, ObjectGoesOn};
 ghost use Rattle.json5_read.specs.TakenEntries.{TakesElements, TakesMembers};
-ghost use Rattle.json5_read.specs.Opening.{AtScalar};
 ghost use Rattle.json5_read.specs.ModelSteps.{IsInside, answered};
 
 use crate::brackets::{BracketKind, kind_opened};
@@ -42,17 +41,6 @@ pub(crate) enum Next {
     Opens(BracketKind),
 }
 
-/// Takes the value in front, which is no collection and begins with the character, whether or not it has a short way. What
-/// is out of line is `read_scalar`.
-#[inline(always)]
-fn begin_slowly<I: Input>(scanner: &mut Scanner<I>, c: char, fault: &mut Error) -> Option<Next>
-    requires { AtScalar c scanner.old }
-    ensures { BeginsValue scanner.old scanner.new (answered result fault.new) }
-{
-    let value = read_scalar(scanner, c, fault)?;
-    Some(Next::Ended(value))
-}
-
 /// Takes the value in front, if it is no collection.
 #[inline(always)]
 pub(crate) fn begin_value<I: Input>(scanner: &mut Scanner<I>, fault: &mut Error) -> Option<Next>
@@ -66,10 +54,11 @@ pub(crate) fn begin_value<I: Input>(scanner: &mut Scanner<I>, fault: &mut Error)
     if let Some(kind) = kind_opened(c) {
         return Some(Next::Opens(kind));
     }
-    match short_value(scanner, c) {
-        Some(value) => Some(Next::Ended(value)),
-        None => begin_slowly(scanner, c, fault),
+    if let Some(value) = short_value(scanner, c) {
+        return Some(Next::Ended(value));
     }
+    let value = read_scalar(scanner, c, fault)?;
+    Some(Next::Ended(value))
 }
 
 /// Takes the elements of an array that follow these, after a comma if one is due, up to one that is a collection, and returns its

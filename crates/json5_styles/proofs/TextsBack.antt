@@ -1,5 +1,5 @@
 -- What is returned of a value reads back, and what is JSON is in its grammar.
-use Rattle.std.proofs.Common.{◌≡◌, ◌≤◌, ℕ, nat_le, true, Result, Ok, Err, refl, sym, subst, arith}
+use Rattle.std.proofs.Common.{◌≡◌, ◌≤◌, ℕ, nat_le, true, List, Result, Ok, Err, refl, sym, subst, arith}
 use Rattle.std.specs.Prelude.{IfOk, IsOk, String, string_bytes}
 use Rattle.std.specs.declared.alloc.Global.{Global}
 use Rattle.std.specs.Str.{chars}
@@ -13,7 +13,7 @@ use Rattle.json5_styles.specs.JsonTexts.{is_json}
 use Rattle.json5_styles.specs.LaidBack.{HasNumbers, ReadsAs}
 use Rattle.json5_styles.specs.Layouts.{laid_out, json_text}
 use Rattle.json5_styles.specs.Styles.{Style, laid}
-use Rattle.json5_styles.specs.WholeTexts.{LaysOut}
+use Rattle.json5_styles.specs.WholeTexts.{LaysOut, WritesJson}
 use Rattle.json5_styles.proofs.Documents.{document}
 use Rattle.json5_styles.proofs.JsonWritten.{text_is}
 use Rattle.json5_styles.proofs.ReadBack.{IsStyle}
@@ -35,3 +35,8 @@ json_reads l x result h n = reads _ (json_style l) x result h n
 pub json_is : (l : Layout) (x : Datum) (result : Result (String Global) Error) → LaysOut (json_text l x) x result → (IsOk result → HasNumbers x) → is_json x ≡ true → IfOk result (λ v. JsonText (chars (string_bytes v)))
 json_is l x (Ok v) h n j = subst JsonText (sym h.1.characters) (text_is l x (n refl) j)
 json_is l x (Err e) h n j = tt
+
+-- what a text of JSON is, where there is one
+pub json_back : (t : List ℕ) (x : Datum) (result : Result (String Global) Error) → WritesJson t x result → IfOk result (λ s. JsonText (chars (string_bytes s))) × IfOk result (λ s. ReadsAs max_depth (chars (string_bytes s)) x)
+json_back t x (Ok s) h = (h.3.is_json, h.3.reads_back)
+json_back t x (Err e) h = (tt, tt)

@@ -17,7 +17,9 @@ use Rattle.json5_write.specs.Writes.{SerializerState}
 use Rattle.json5_write.specs.declared.refusal.Refused.{Refused}
 use Rattle.json5_write.specs.declared.refusal.Refused.TheVariants as refused
 use Rattle.json5_write.proofs.TextsWhole.{text_returned}
+use Rattle.json5_styles.specs.Json.{JsonText}
 use Rattle.json5_styles.specs.JsonTexts.{is_json}
+use Rattle.json5_styles.specs.LaidBack.{ReadsAs}
 use Rattle.json5_styles.specs.WholeTexts.{LaysOut, WritesJson}
 
 -- the writer of a string fails only for want of memory
@@ -53,6 +55,7 @@ numbers_returned P items (Err r) (Ok s) h p ok = absurd (let x = h.wrote in cc)
 numbers_returned P items printed (Err e) h p ok = absurd (cc)
 
 -- the text of a value that JSON has
-pub written_json : (t : List ℕ) (x : Datum) (result : Result (String Global) Error) → fits x ≡ true → is_json x ≡ true → LaysOut t x result → WritesJson t x result
-written_json t x (Ok s) f j h = (h.0, j, h.1)
-written_json t x (Err e) f j h = rw (f, j) (let k = rw f at h in record { kind = k.kind; place = k.place })
+pub written_json : (t : List ℕ) (x : Datum) (result : Result (String Global) Error) → fits x ≡ true → is_json x ≡ true → LaysOut t x result
+    → IfOk result (λ s. JsonText (chars (string_bytes s))) → IfOk result (λ s. ReadsAs max_depth (chars (string_bytes s)) x) → WritesJson t x result
+written_json t x (Ok s) f j h is reads = (h.0, j, h.1, record { is_json = is; reads_back = reads })
+written_json t x (Err e) f j h is reads = rw (f, j) (let k = rw f at h in record { kind = k.kind; place = k.place })

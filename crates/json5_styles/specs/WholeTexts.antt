@@ -2,8 +2,9 @@
 -- A promise rests on this.
 use Rattle.std.specs.Prelude.{◌≡◌, ◌⊎◌, ℕ, Bool, true, false, if◌then◌else◌, List, Option, None, Result, Ok, Err, ⊤, String, string_bytes}
 use Rattle.std.specs.Io.KnownBytes.{Appends, Keeps}
-use Rattle.std.specs.Str.{all_scalars, encode_utf8_all}
+use Rattle.std.specs.Str.{all_scalars, chars, encode_utf8_all}
 use Rattle.std.specs.declared.alloc.Global.{Global}
+use Rattle.json5_grammar.specs.Language.Documents.{max_depth}
 use Rattle.json5_grammar.specs.declared.error_code.ErrorCode.TheVariants as codes
 use Rattle.json5_types.specs.declared.error.Error.{Error}
 use Rattle.json5_types.specs.Errors.{code, failed_write, SaysAt, IsCustomAt, LacksMemory}
@@ -12,7 +13,9 @@ use Rattle.json5_types.specs.ValueMeanings.{Datum}
 use Rattle.json5_write.specs.Out.{piece}
 use Rattle.json5_write.specs.Pieces.{AppendsFront}
 use Rattle.json5_write.specs.WholeOutputs.{IsText}
+use Rattle.json5_styles.specs.Json.{JsonText}
 use Rattle.json5_styles.specs.JsonTexts.{is_json}
+use Rattle.json5_styles.specs.LaidBack.{ReadsAs}
 
 -- these bytes are the text of a value that fits; another is TooDeep, and one that fits is refused only for want of memory
 abbrev pub LaysOutAs : {A : Type 0} → (A → List ℕ) → List ℕ → Datum → Result A Error → Type 0
@@ -31,8 +34,13 @@ abbrev pub RefusesText : Bool → Bool → Error → Type 0
 RefusesText true json e = RefusesJson json e
 RefusesText false json e = SaysAt (code codes.TooDeep) None e
 
+-- the text is in JSON's grammar, and reads back as the value
+pub record IsJsonOf (text : List ℕ) (x : Datum) : Type 0 where
+  pub is_json : JsonText text
+  pub reads_back : ReadsAs max_depth text x
+
 abbrev pub WritesJson : List ℕ → Datum → Result (String Global) Error → Type 0
-WritesJson t x (Ok s) = (fits x ≡ true) × (is_json x ≡ true) × IsText (piece t) (string_bytes s)
+WritesJson t x (Ok s) = (fits x ≡ true) × (is_json x ≡ true) × IsText (piece t) (string_bytes s) × IsJsonOf (chars (string_bytes s)) x
 WritesJson t x (Err e) = RefusesText (fits x) (is_json x) e
 
 -- ---- writers, of which these bytes are known before and after

@@ -79,7 +79,8 @@ fn are_plain(items: &[Value]) -> bool
     true
 }
 
-/// Whether the brackets are within the room, and the spelling has the numbers. It is one walk for both.
+/// Whether the brackets are within the room, and the spelling has the numbers. It is one walk for both, which doesn't go
+/// into an array of plain elements.
 #[cycle(writable)]
 #[inline(always)]
 fn is_writable(value: &Value, spelling: Spelling, room: Room) -> bool
@@ -87,25 +88,19 @@ fn is_writable(value: &Value, spelling: Spelling, room: Room) -> bool
 {
     match value {
         Value::Decimal(number) => has_number(spelling, number),
-        Value::Array(items) => array_is_writable(items, spelling, room),
+        Value::Array(items) => {
+            if are_plain(items) {
+                inside(room).is_some()
+            } else {
+                items_are_writable(items, spelling, room)
+            }
+        }
         Value::Object(fields) => fields_are_writable(fields, spelling, room),
         _ => true,
     }
 }
 
-/// The same of an array of these elements. No call is made for plain ones.
-#[cycle(writable)]
-#[inline(always)]
-fn array_is_writable(items: &[Value], spelling: Spelling, room: Room) -> bool
-    ensures { result ≡ is_writable spelling room (array (items_view items.now)) }
-{
-    if are_plain(items) {
-        return inside(room).is_some();
-    }
-    items_are_writable(items, spelling, room)
-}
-
-/// The same, element by element.
+/// The same of an array of these elements.
 #[cycle(writable)]
 fn items_are_writable(items: &[Value], spelling: Spelling, room: Room) -> bool
     ensures { result ≡ is_writable spelling room (array (items_view items.now)) }

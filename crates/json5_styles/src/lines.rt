@@ -131,19 +131,6 @@ impl Line {
     }
 }
 
-/// Writes a comma if one is due.
-#[inline(always)]
-#[tactic(auto, using(crate::proofs::PiecesPut::signs))]
-pub(crate) fn put_comma<W: Write + Drop>(comma_due: bool, printer: &mut Printer<W>) -> Put
-    ensures { Puts (piece (comma_if comma_due)) printer.old result printer.new }
-{
-    if comma_due {
-        printer.put_piece(",")
-    } else {
-        printer.put_piece("")
-    }
-}
-
 /// Whether a comma follows the last element or member.
 fn has_last_comma(form: &Form) -> bool
     ensures { result ≡ has_last_comma form.now.spelling form.now.layout }

@@ -35,7 +35,10 @@ pub(crate) fn put_string<W: JoinedWrite + Drop>(
     if needs_no_escape(text, spelling) {
         return printer.put_between_quotes(text);
     }
-    put_by_parts(text, spelling, printer)
+    match spelling {
+        Spelling::Json5 => printer.put_quoted(text),
+        Spelling::Json => put_escaped_string(text, printer),
+    }
 }
 
 /// Writes what stands before an element, and a string.
@@ -52,7 +55,7 @@ pub(crate) fn put_string_after<W: JoinedWrite + Drop>(
         return printer.put_quoted_after(before, text);
     }
     printer.put_piece(before.text())?;
-    put_by_parts(text, spelling, printer)
+    put_string(text, spelling, printer)
 }
 
 /// Writes a key and the colon after it.
@@ -87,18 +90,8 @@ fn needs_no_escape(text: &str, spelling: Spelling) -> bool
     }
 }
 
-/// Writes a string that may have escapes.
-#[inline(never)]
-fn put_by_parts<W: Write + Drop>(text: &str, spelling: Spelling, printer: &mut Printer<W>) -> Put
-    ensures { Puts (piece (string_in spelling (chars text.now))) printer.old result printer.new }
-{
-    match spelling {
-        Spelling::Json5 => printer.put_quoted(text),
-        Spelling::Json => put_escaped_string(text, printer),
-    }
-}
-
 /// Writes the text between double quotes, in parts.
+#[inline(never)]
 fn put_escaped_string<W: Write + Drop>(text: &str, printer: &mut Printer<W>) -> Put
     ensures { Puts (piece (json_string (chars text.now))) printer.old result printer.new }
 {

@@ -16,7 +16,7 @@ ghost use Rattle.json5_styles.specs.LaidPuts.{PutsLaid};
 ghost use Rattle.json5_styles.specs.Layouts.{is_compact, laid_in, entry_in};
 
 use crate::layout::{Form, Layout};
-use crate::lines::{Line, end_lines, put_comma};
+use crate::lines::{Line, end_lines};
 use crate::strings::{put_key, put_string, put_string_after};
 use json5_types::value::Value;
 use json5_types::whole::Whole;
@@ -177,47 +177,7 @@ fn put_items<W: JoinedWrite + Drop>(
 
 /// Writes an object of the members, in their order.
 #[cycle(laid)]
-#[inline(always)]
 fn put_object<W: JoinedWrite + Drop>(
-    fields: &[(String, Value)],
-    form: &Form,
-    depth: usize,
-    printer: &mut Printer<W>,
-) -> Put
-    requires shallow { fields_depth (fields_view fields.now) + depth < max_depth }
-    ensures { PutsLaid form.now depth (object (fields_view fields.now)) printer.old result printer.new }
-{
-    match form.layout {
-        Layout::Compact => put_fields_on_line(fields, form, depth, printer),
-        _ => put_fields(fields, form, depth, printer),
-    }
-}
-
-/// Writes an object on one line.
-#[cycle(laid)]
-fn put_fields_on_line<W: JoinedWrite + Drop>(
-    fields: &[(String, Value)],
-    form: &Form,
-    depth: usize,
-    printer: &mut Printer<W>,
-) -> Put
-    requires shallow { fields_depth (fields_view fields.now) + depth < max_depth }
-    requires on_line { is_compact form.now.layout ≡ true }
-    ensures { PutsLaid form.now depth (object (fields_view fields.now)) printer.old result printer.new }
-{
-    printer.put_piece("{")?;
-    let mut started = false;
-    for (key, value) in fields {
-        put_comma(started, printer)?;
-        put_entry(key, value, form, depth + 1, printer)?;
-        started = true;
-    }
-    printer.put_piece("}")
-}
-
-/// Writes an object of which each member begins a line.
-#[cycle(laid)]
-fn put_fields<W: JoinedWrite + Drop>(
     fields: &[(String, Value)],
     form: &Form,
     depth: usize,

@@ -7,7 +7,6 @@ ghost use Rattle.json5_types.specs.Errors.{IsCustomAt, LacksMemory};
 ghost use Rattle.json5_types.specs.ValueLookups.{fits};
 ghost use Rattle.json5_types.specs.ValueMeanings.{value_of};
 ghost use Rattle.json5_styles.specs.Layouts.{laid_in, laid_out, json_text};
-ghost use Rattle.json5_styles.specs.Json.{JsonText};
 ghost use Rattle.json5_styles.specs.JsonTexts.{json_string};
 ghost use Rattle.json5_styles.specs.LaidBack.{HasNumbers, ReadsAs};
 ghost use Rattle.json5_styles.specs.WholeTexts.{LaysOut, LaysOutAs, RefusesText, WritesJson};
@@ -84,9 +83,7 @@ pub fn to_vec_in(alloc: Global, layout: Layout, value: &Value) -> Result<Vec<u8>
 /// - A custom fault for infinity and for not-a-number, which JSON hasn't: it names the first one's path.
 /// - `OutOfMemory` where a request for memory was refused.
 pub fn to_json_in(alloc: Global, layout: Layout, value: &Value) -> Result<String>
-    ensures text { WritesJson (json_text layout (value_of value.now)) (value_of value.now) result }
-    ensures is_json { IfOk result (λ s. JsonText (chars (string_bytes s))) }
-    ensures reads_back { IfOk result (λ s. ReadsAs max_depth (chars (string_bytes s)) (value_of value.now)) }
+    ensures { WritesJson (json_text layout (value_of value.now)) (value_of value.now) result }
 {
     let spelling = Spelling::Json;
     if !can_be_written(value, spelling) {
@@ -97,18 +94,14 @@ pub fn to_json_in(alloc: Global, layout: Layout, value: &Value) -> Result<String
 
 /// Returns a value as JSON, with two spaces a level. See [`to_json_in`].
 pub fn to_json(alloc: Global, value: &Value) -> Result<String>
-    ensures text { WritesJson (json_text (layout.Spaces 2) (value_of value.now)) (value_of value.now) result }
-    ensures is_json { IfOk result (λ s. JsonText (chars (string_bytes s))) }
-    ensures reads_back { IfOk result (λ s. ReadsAs max_depth (chars (string_bytes s)) (value_of value.now)) }
+    ensures { WritesJson (json_text (layout.Spaces 2) (value_of value.now)) (value_of value.now) result }
 {
     to_json_in(alloc, Layout::expanded(), value)
 }
 
 /// Returns a value as JSON on one line. See [`to_json_in`].
 pub fn to_json_compact(alloc: Global, value: &Value) -> Result<String>
-    ensures text { WritesJson (json_text layout.Compact (value_of value.now)) (value_of value.now) result }
-    ensures is_json { IfOk result (λ s. JsonText (chars (string_bytes s))) }
-    ensures reads_back { IfOk result (λ s. ReadsAs max_depth (chars (string_bytes s)) (value_of value.now)) }
+    ensures { WritesJson (json_text layout.Compact (value_of value.now)) (value_of value.now) result }
 {
     to_json_in(alloc, Layout::compact(), value)
 }

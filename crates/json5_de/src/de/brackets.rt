@@ -29,17 +29,9 @@ impl<I: Input> Deserializer<I> {
     pub(crate) fn open(&mut self, kind: BracketKind) -> Result<usize>
         ensures { TakesOpening (brackets_of kind) self.old self.new result }
     {
-        match self.short_open(kind) {
-            Some(start) => Ok(start),
-            None => self.open_slowly(kind),
+        if let Some(start) = self.short_open(kind) {
+            return Ok(start);
         }
-    }
-
-    /// The same as `open`, whatever is in front.
-    #[inline(never)]
-    fn open_slowly(&mut self, kind: BracketKind) -> Result<usize>
-        ensures { TakesOpening (brackets_of kind) self.old self.new result }
-    {
         self.skip_blank()?;
         let brackets = kind.brackets();
         let start = self.offset();
@@ -141,14 +133,6 @@ impl<I: Input> Deserializer<I> {
         if self.short_close(kind) {
             return Ok(());
         }
-        self.close_slowly(kind, comma_due)
-    }
-
-    /// The same as `close_or_fail`, whatever is in front.
-    #[inline(never)]
-    fn close_slowly(&mut self, kind: BracketKind, comma_due: bool) -> Result<()>
-        ensures { ClosesLast (brackets_of kind) comma_due self.old self.new result }
-    {
         match self.close(kind, comma_due) {
             Ok(()) => Ok(()),
             Err(e) => self.refuse(e),

@@ -35,15 +35,6 @@ impl<I: Input> Deserializer<I> {
         if let Some(decimal) = self.short_decimal() {
             return Ok(decimal);
         }
-        self.decimal_slowly()
-    }
-
-    /// The same of any number.
-    #[cold]
-    #[inline(never)]
-    fn decimal_slowly(&mut self) -> Result<Decimal>
-        ensures { ReadsDecimal self.old self.new result }
-    {
         self.skip_blank()?;
         let whole = match self.number()? {
             Number::Decimal(decimal) => return Ok(decimal),

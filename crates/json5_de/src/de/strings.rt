@@ -39,17 +39,9 @@ impl<I: Input> Deserializer<I> {
     pub fn deserialize_string(&mut self) -> Result<String>
         ensures { ReadsString self.old self.new result }
     {
-        match self.short_string_owned() {
-            Some(text) => Ok(text),
-            None => self.string_slowly(),
+        if let Some(text) = self.short_string_owned() {
+            return Ok(text);
         }
-    }
-
-    /// The same as `deserialize_string`, for any string.
-    #[inline(never)]
-    fn string_slowly(&mut self) -> Result<String>
-        ensures { ReadsString self.old self.new result }
-    {
         self.skip_blank()?;
         self.string_owned()
     }

@@ -1,8 +1,7 @@
-use Rattle.std.proofs.Common.{sym, subst}
-use Rattle.json5_tokens.specs.Cursor.{Cursor}
-use Rattle.json5_read.specs.Brackets.{bracket_of}
-use Rattle.json5_read.specs.Entries.{next_entry}
-use Rattle.json5_read.specs.ModelSteps.{IsInside, Steps, answered}
+use Rattle.std.proofs.Common.{refl, sym, subst}
+use Rattle.json5_read.specs.Brackets.{brackets_of}
+use Rattle.json5_read.specs.ModelSteps.{IsInside}
+use Rattle.json5_read.proofs.FoundEntries.{entry_refused}
 use Rattle.json5_read.proofs.ShortEntries.{entry_gave, closing_gave}
 use Rattle.json5_read.proofs.entries.next_entry.Goals as goal
 
@@ -16,10 +15,33 @@ returns-in-Closing g c = record {
   same_text = tt;
 }
 
-pub next_entry_slowly-requires : goal.next_entry_slowly-requires
-next_entry_slowly-requires g c = subst IsInside (sym (rw c.in-Other.is at c.short_step.ensures)) c.requires
+pub returns-in_err-more : goal.returns-in_err-more
+returns-in_err-more g c =
+    let old = c.short_step.new.self in
+    let new = c.find_entry.new.scanner in
+    let same = rw c.in-Other.is at c.short_step.ensures in
+    let k = c.in_err-more.ensures in
+    rw (← same, c.from_residual.ensures) (entry_refused c.args.kind c.args.comma_due old new c.find_entry.new.fault (subst IsInside (sym same) c.requires) k.refused k.same_text)
 
-pub returns-in-Other : goal.returns-in-Other
-returns-in-Other g c =
-    subst (λ (s : Cursor). Steps (next_entry (bracket_of c.args.kind) c.args.comma_due s.unread) s c.next_entry_slowly.new.scanner (answered c.next_entry_slowly.result c.next_entry_slowly.new.fault))
-    (rw c.in-Other.is at c.short_step.ensures) c.next_entry_slowly.ensures
+pub returns-then-not-more : goal.returns-then-not-more
+returns-then-not-more g c =
+    let old = c.short_step.new.self in
+    let mid = c.find_entry.new.scanner in
+    let b = brackets_of c.args.kind in
+    let same = rw c.in-Other.is at c.short_step.ensures in
+    let k = c.in_ok-more.ensures in
+    let ate = rw c.brackets-closing.ensures at c.eat-then-not-more.ensures in
+    rw (← same, c.if-not-more.true) (record {
+      given = closing_gave c.args.kind b c.args.comma_due old mid c.eat-then-not-more.new.self c.eat-then-not-more.result refl (rw c.if-not-more.true at k.found) ate.taken ate.kept;
+      refused = tt;
+      same_text = tt;
+    })
+
+pub returns-else-not-more : goal.returns-else-not-more
+returns-else-not-more g c =
+    let old = c.short_step.new.self in
+    let mid = c.find_entry.new.scanner in
+    let b = brackets_of c.args.kind in
+    let same = rw c.in-Other.is at c.short_step.ensures in
+    let k = c.in_ok-more.ensures in
+    rw (← same, c.if-not-more.false) (record { given = entry_gave c.args.kind b c.args.comma_due old mid refl (rw c.if-not-more.false at k.found); refused = tt; same_text = tt })

@@ -1,9 +1,6 @@
 use Rattle.std.proofs.Common.{◌∙◌, sym, subst}
-use Rattle.json5_tokens.specs.Cursor.{Cursor}
-use Rattle.json5_read.specs.BuildSteps.{BeginsValue}
 use Rattle.json5_read.specs.Opening.{AtScalar}
-use Rattle.json5_read.specs.ModelSteps.{answered}
-use Rattle.json5_read.proofs.BuildScalars.{nothing_left, bracket_in_front, value_begun}
+use Rattle.json5_read.proofs.BuildScalars.{nothing_left, bracket_in_front, value_begun, scalar_begun, scalar_not_begun}
 use Rattle.json5_read.proofs.SkipScalars.{at_scalar}
 use Rattle.json5_read.proofs.unfinished.begin_value.Goals as goal
 
@@ -19,9 +16,12 @@ short_value-requires g c = at_scalar c.args.scanner.now c.in-Some.c c.kind_opene
 pub returns-in-Some-short_value : goal.returns-in-Some-short_value
 returns-in-Some-short_value g c = value_begun c.args.scanner.now c.short_value.new.scanner c.in-Some-short_value.value c.in-Some-short_value.ensures
 
-pub begin_slowly-requires : goal.begin_slowly-requires
-begin_slowly-requires g c =
-    subst (AtScalar c.in-Some.c) (sym c.in-None.ensures) (at_scalar c.args.scanner.now c.in-Some.c c.kind_opened.result c.requires (sym c.peek.ensures ∙ c.in-Some.is) c.in_default-kind_opened.is c.kind_opened.ensures)
+pub read_scalar-requires : goal.read_scalar-requires
+read_scalar-requires g c =
+    subst (AtScalar c.in-Some.c) (sym c.in_default-short_value.ensures) (at_scalar c.args.scanner.now c.in-Some.c c.kind_opened.result c.requires (sym c.peek.ensures ∙ c.in-Some.is) c.in_default-kind_opened.is c.kind_opened.ensures)
 
-pub returns-in-None : goal.returns-in-None
-returns-in-None g c = subst (λ (s : Cursor). BeginsValue s c.begin_slowly.new.scanner (answered c.begin_slowly.result c.begin_slowly.new.fault)) c.in-None.ensures c.begin_slowly.ensures
+pub returns-in_err-value : goal.returns-in_err-value
+returns-in_err-value g c = rw (← c.in_default-short_value.ensures, c.from_residual.ensures) (scalar_not_begun c.short_value.new.scanner c.read_scalar.new.scanner c.read_scalar.new.fault c.in_err-value.ensures)
+
+pub returns : goal.returns
+returns g c = rw (← c.in_default-short_value.ensures) (scalar_begun c.short_value.new.scanner c.read_scalar.new.scanner c.in_ok-value.value c.in_ok-value.ensures)

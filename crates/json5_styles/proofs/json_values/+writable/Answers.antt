@@ -1,5 +1,5 @@
 use Rattle.std.proofs.Common.{◌<◌, ◌≤◌, length, drop_of_length-le, sym, ap, ◌∙◌, rules}
-use Rattle.json5_types.proofs.ValuesCompared.{view-Object}
+use Rattle.json5_types.proofs.ValuesCompared.{view-Array, view-Object}
 use Rattle.json5_types.specs.ValueLookups.{items_depth, fields_depth}
 use Rattle.json5_types.specs.ValueMeanings.{items_view, fields_view}
 use Rattle.json5_styles.specs.JsonTexts.{items_are_json, fields_are_json}
@@ -10,9 +10,10 @@ use Rattle.json5_styles.proofs.json_values.+writable.Goals as goal
 pub is_writable-returns-in-Object : goal.is_writable-returns-in-Object
 is_writable-returns-in-Object t c = rw (c.in-Object.is, view-Object c.in-Object.fields, ← c.deref-in-Object.ensures.value) c.fields_are_writable.ensures
 
-pub array_is_writable-returns-then-are_plain : goal.array_is_writable-returns-then-are_plain
-array_is_writable-returns-then-are_plain t c =
-    c.is_some.ensures ∙ plain_array c.args.spelling c.args.room c.inside.result (items_view c.args.items.now) c.inside.ensures (sym c.are_plain.ensures ∙ c.if-are_plain.true)
+pub is_writable-returns-then-are_plain : goal.is_writable-returns-then-are_plain
+is_writable-returns-then-are_plain t c =
+    rw (c.in-Array.is, view-Array c.in-Array.items, ← c.deref.ensures.value)
+    (c.is_some.ensures ∙ plain_array c.args.spelling c.args.room c.inside.result (items_view c.deref.result.now) c.inside.ensures (sym c.are_plain.ensures ∙ c.if-are_plain.true))
 
 pub items_are_writable-loop-item-preserved : goal.items_are_writable-loop-item-preserved
 items_are_writable-loop-item-preserved t c =

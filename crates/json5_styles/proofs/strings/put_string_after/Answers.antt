@@ -14,4 +14,4 @@ returns-in_err-put_piece g c =
 
 pub returns : goal.returns
 returns g c =
-    then_second (sign_of c.args.before ∷ []) (string_in c.args.spelling (chars c.args.text.now)) _ _ _ _ (wrote_as _ _ _ _ c.text.ensures c.in_ok-put_piece.ensures) c.put_by_parts.ensures
+    then_second (sign_of c.args.before ∷ []) (string_in c.args.spelling (chars c.args.text.now)) _ _ _ _ (wrote_as _ _ _ _ c.text.ensures c.in_ok-put_piece.ensures) c.put_string.ensures

@@ -12,7 +12,7 @@ use Rattle.json5_write.proofs.ShortWritesJoined.{Reaches-stop, Reaches-end}
 use Rattle.json5_styles.specs.LaidBack.{ItemsHaveNumbers, FieldsHaveNumbers}
 use Rattle.json5_styles.specs.Styles.{comma_if, closed, laid, items_laid, fields_laid}
 use Rattle.json5_styles.specs.Layouts.{gap_in, key_in, style_of, laid_in}
-use Rattle.json5_styles.proofs.ItemsLaid.{items_left, next_on_line, comma_alone_on_line, closed_on_line, next_item, next_field, item_within, field_within, items_numbers, fields_numbers, view-Decimal, view-Whole}
+use Rattle.json5_styles.proofs.ItemsLaid.{items_left, next_on_line, closed_on_line, next_item, next_field, item_within, field_within, items_numbers, fields_numbers, view-Decimal, view-Whole}
 use Rattle.json5_styles.proofs.PiecesPut.{chars_no_element, stop_first, then_second, put_as, wrote_as, refused_as, reaches_as, number_put, number_had, on_ok}
 use Rattle.json5_styles.proofs.value.+laid.Goals as goal
 
@@ -255,33 +255,27 @@ put_item_after-returns-in_ok-put_piece-in_default-clause-text g t c =
 
 -- ---- objects
 
-pub put_object-put_fields_on_line-requires : goal.put_object-put_fields_on_line-requires
-put_object-put_fields_on_line-requires g t c = λ κs sub. (omega (arith, c.decreases), (search rules, (c.requires.shallow, rw c.in-Compact.is refl)))
-
-pub put_object-put_fields-requires : goal.put_object-put_fields-requires
-put_object-put_fields-requires g t c = λ κs sub. (omega (arith, c.decreases), (search rules, c.requires.shallow))
-
-pub put_fields-put_entry-requires : goal.put_fields-put_entry-requires
-put_fields-put_entry-requires g t c =
+pub put_object-put_entry-requires : goal.put_object-put_entry-requires
+put_object-put_entry-requires g t c =
     let left : c.loop-key.key-index < length c.args.fields.now = search rules in
     let inside = field_within c.args.fields.now c.loop-key.key-index c.loop-key-item.result left c.loop-key-item.is in
     λ κs sub. (omega (arith, inside, c.decreases), (search rules, omega (arith, inside, c.requires)))
 
-pub put_fields-returns-in_err-put_piece : goal.put_fields-returns-in_err-put_piece
-put_fields-returns-in_err-put_piece g t c = record {
+pub put_object-returns-in_err-put_piece : goal.put_object-returns-in_err-put_piece
+put_object-returns-in_err-put_piece g t c = record {
   text =
       let s = style_of c.args.form.now.spelling c.args.form.now.layout in
       stop_first (123 ∷ []) (fields_laid s c.args.depth false (fields_view c.args.fields.now)) _ _ _ _ c.from_residual.ensures.1 (refused_as _ _ _ _ _ chars_left_brace c.in_err-put_piece.ensures);
   numbers = search rules;
 }
 
-pub put_fields-loop-key-init : goal.put_fields-loop-key-init
-put_fields-loop-key-init g t c =
+pub put_object-loop-key-init : goal.put_object-loop-key-init
+put_object-loop-key-init g t c =
     let s = style_of c.args.form.now.spelling c.args.form.now.layout in
     record { numbers = λ h. h; reaches = Reaches-first (piece (123 ∷ [])) (piece (fields_laid s c.args.depth false (fields_view c.args.fields.now))) _ _ (wrote_as _ _ _ _ chars_left_brace c.in_ok-put_piece.ensures) }
 
-pub put_fields-returns-in_err-put : goal.put_fields-returns-in_err-put
-put_fields-returns-in_err-put g t c = record {
+pub put_object-returns-in_err-put : goal.put_object-returns-in_err-put
+put_object-returns-in_err-put g t c = record {
   text =
       let l = c.loop-key in
       let s = style_of c.args.form.now.spelling c.args.form.now.layout in
@@ -292,8 +286,8 @@ put_fields-returns-in_err-put g t c = record {
   numbers = search rules;
 }
 
-pub put_fields-returns-in_err-put_entry : goal.put_fields-returns-in_err-put_entry
-put_fields-returns-in_err-put_entry g t c = record {
+pub put_object-returns-in_err-put_entry : goal.put_object-returns-in_err-put_entry
+put_object-returns-in_err-put_entry g t c = record {
   text =
       let l = c.loop-key in
       let s = style_of c.args.form.now.spelling c.args.form.now.layout in
@@ -305,8 +299,8 @@ put_fields-returns-in_err-put_entry g t c = record {
   numbers = search rules;
 }
 
-pub put_fields-loop-key-preserved : goal.put_fields-loop-key-preserved
-put_fields-loop-key-preserved g t c =
+pub put_object-loop-key-preserved : goal.put_object-loop-key-preserved
+put_object-loop-key-preserved g t c =
     let l = c.loop-key in
     let s = style_of c.args.form.now.spelling c.args.form.now.layout in
     let left : l.key-index < length c.args.fields.now = search rules in
@@ -318,8 +312,8 @@ put_fields-loop-key-preserved g t c =
       numbers = λ rest. l.invariant.numbers (fields_numbers c.args.fields.now l.key-index v left c.loop-key-item.is c.in_ok-put_entry.ensures.numbers rest);
     }
 
-pub put_fields-returns-in_err-end_lines : goal.put_fields-returns-in_err-end_lines
-put_fields-returns-in_err-end_lines g t c = record {
+pub put_object-returns-in_err-end_lines : goal.put_object-returns-in_err-end_lines
+put_object-returns-in_err-end_lines g t c = record {
   text =
       let l = c.loop-key in
       let s = style_of c.args.form.now.spelling c.args.form.now.layout in
@@ -329,87 +323,14 @@ put_fields-returns-in_err-end_lines g t c = record {
   numbers = search rules;
 }
 
-pub put_fields-returns : goal.put_fields-returns
-put_fields-returns g t c = record {
+pub put_object-returns : goal.put_object-returns
+put_object-returns g t c = record {
   text =
       let l = c.loop-key in
       let s = style_of c.args.form.now.spelling c.args.form.now.layout in
       let none : length c.args.fields.now ≤ l.key-index = search rules in
       let last = reaches_as _ _ _ _ _ (ap (λ x. fields_laid s c.args.depth l.started (fields_view x)) (drop_of_length-le c.args.fields.now none)) l.invariant.reaches in
       Reaches-end _ (piece (125 ∷ [])) _ _ _ _ (Reaches-next _ (piece (closed s c.args.depth l.started)) (piece (125 ∷ [])) _ _ _ last c.in_ok-end_lines.ensures) (put_as _ _ _ _ _ chars_right_brace c.put_piece-2.ensures);
-  numbers =
-      let l = c.loop-key in
-      let none : length c.args.fields.now ≤ l.key-index = search rules in
-      on_ok c.put_piece-2.result (l.invariant.numbers (subst (λ x. FieldsHaveNumbers (fields_view x)) (sym (drop_of_length-le c.args.fields.now none)) tt));
-}
-
--- ---- objects on one line
-
-pub put_fields_on_line-put_entry-requires : goal.put_fields_on_line-put_entry-requires
-put_fields_on_line-put_entry-requires g t c =
-    let left : c.loop-key.key-index < length c.args.fields.now = search rules in
-    let inside = field_within c.args.fields.now c.loop-key.key-index c.loop-key-item.result left c.loop-key-item.is in
-    λ κs sub. (omega (arith, inside, c.decreases), (search rules, omega (arith, inside, c.requires.shallow)))
-
-pub put_fields_on_line-returns-in_err-put_piece : goal.put_fields_on_line-returns-in_err-put_piece
-put_fields_on_line-returns-in_err-put_piece g t c = record {
-  text =
-      let s = style_of c.args.form.now.spelling c.args.form.now.layout in
-      stop_first (123 ∷ []) (fields_laid s c.args.depth false (fields_view c.args.fields.now)) _ _ _ _ c.from_residual.ensures.1 (refused_as _ _ _ _ _ chars_left_brace c.in_err-put_piece.ensures);
-  numbers = search rules;
-}
-
-pub put_fields_on_line-loop-key-init : goal.put_fields_on_line-loop-key-init
-put_fields_on_line-loop-key-init g t c =
-    let s = style_of c.args.form.now.spelling c.args.form.now.layout in
-    record { numbers = λ h. h; reaches = Reaches-first (piece (123 ∷ [])) (piece (fields_laid s c.args.depth false (fields_view c.args.fields.now))) _ _ (wrote_as _ _ _ _ chars_left_brace c.in_ok-put_piece.ensures) }
-
-pub put_fields_on_line-returns-in_err-put_comma : goal.put_fields_on_line-returns-in_err-put_comma
-put_fields_on_line-returns-in_err-put_comma g t c = record {
-  text =
-      let l = c.loop-key in
-      let s = style_of c.args.form.now.spelling c.args.form.now.layout in
-      let left : l.key-index < length c.args.fields.now = search rules in
-      let v = c.loop-key-item.result in
-      let next = reaches_as _ _ _ _ _ (next_field s c.args.depth l.started c.args.fields.now l.key-index v left c.loop-key-item.is) l.invariant.reaches in
-      Reaches-stop _ (piece (comma_if l.started ++ s.line (c.args.depth + 1))) _ _ _ _ _ _ next c.from_residual-in_err-put_comma.ensures.1 (refused_as _ _ _ _ _ (comma_alone_on_line c.args.form.now.layout l.started (c.args.depth + 1) c.requires.on_line) c.in_err-put_comma.ensures);
-  numbers = search rules;
-}
-
-pub put_fields_on_line-returns-in_err-put_entry : goal.put_fields_on_line-returns-in_err-put_entry
-put_fields_on_line-returns-in_err-put_entry g t c = record {
-  text =
-      let l = c.loop-key in
-      let s = style_of c.args.form.now.spelling c.args.form.now.layout in
-      let left : l.key-index < length c.args.fields.now = search rules in
-      let v = c.loop-key-item.result in
-      let next = reaches_as _ _ _ _ _ (next_field s c.args.depth l.started c.args.fields.now l.key-index v left c.loop-key-item.is) l.invariant.reaches in
-      let after = Reaches-next _ (piece (comma_if l.started ++ s.line (c.args.depth + 1))) _ _ _ _ next (wrote_as _ _ _ _ (comma_alone_on_line c.args.form.now.layout l.started (c.args.depth + 1) c.requires.on_line) c.in_ok-put_comma.ensures) in
-      Reaches-stop _ (piece (s.key (chars (string_bytes v.0)) ++ 58 ∷ (s.gap ++ laid s (c.args.depth + 1) (value_of v.1)))) _ _ _ _ _ _ after c.from_residual-in_err-put_entry.ensures.1 (rw c.deref.ensures at c.in_err-put_entry.ensures.text);
-  numbers = search rules;
-}
-
-pub put_fields_on_line-loop-key-preserved : goal.put_fields_on_line-loop-key-preserved
-put_fields_on_line-loop-key-preserved g t c =
-    let l = c.loop-key in
-    let s = style_of c.args.form.now.spelling c.args.form.now.layout in
-    let left : l.key-index < length c.args.fields.now = search rules in
-    let v = c.loop-key-item.result in
-    let next = reaches_as _ _ _ _ _ (next_field s c.args.depth l.started c.args.fields.now l.key-index v left c.loop-key-item.is) l.invariant.reaches in
-    let after = Reaches-next _ (piece (comma_if l.started ++ s.line (c.args.depth + 1))) _ _ _ _ next (wrote_as _ _ _ _ (comma_alone_on_line c.args.form.now.layout l.started (c.args.depth + 1) c.requires.on_line) c.in_ok-put_comma.ensures) in
-    record {
-      reaches = Reaches-next _ (piece (s.key (chars (string_bytes v.0)) ++ 58 ∷ (s.gap ++ laid s (c.args.depth + 1) (value_of v.1)))) _ _ _ _ after (rw c.deref.ensures at c.in_ok-put_entry.ensures.text);
-      numbers = λ rest. l.invariant.numbers (fields_numbers c.args.fields.now l.key-index v left c.loop-key-item.is c.in_ok-put_entry.ensures.numbers rest);
-    }
-
-pub put_fields_on_line-returns : goal.put_fields_on_line-returns
-put_fields_on_line-returns g t c = record {
-  text =
-      let l = c.loop-key in
-      let s = style_of c.args.form.now.spelling c.args.form.now.layout in
-      let none : length c.args.fields.now ≤ l.key-index = search rules in
-      let closes = ap (λ x. fields_laid s c.args.depth l.started (fields_view x)) (drop_of_length-le c.args.fields.now none) ∙ ap (λ x. x ++ 125 ∷ []) (closed_on_line c.args.form.now.spelling c.args.form.now.layout c.args.depth l.started c.requires.on_line) in
-      Reaches-end _ (piece (125 ∷ [])) _ _ _ _ (reaches_as _ _ _ _ _ closes l.invariant.reaches) (put_as _ _ _ _ _ chars_right_brace c.put_piece-2.ensures);
   numbers =
       let l = c.loop-key in
       let none : length c.args.fields.now ≤ l.key-index = search rules in

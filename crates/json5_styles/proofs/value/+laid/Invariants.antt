@@ -21,14 +21,8 @@ invariant-put_items_on_line-loop-item g l = record {
   numbers : ItemsHaveNumbers (items_view (drop l.item-index l.items)) → ItemsHaveNumbers (items_view l.items);
 }
 
-abbrev pub invariant-put_fields-loop-key : goal.invariant-put_fields-loop-key
-invariant-put_fields-loop-key g l = record {
-  reaches : Reaches (piece (laid_in l.fn.form l.fn.depth (object (fields_view l.fields)))) l.fn.printer l.printer (piece (fields_laid (style_of l.fn.form.spelling l.fn.form.layout) l.fn.depth l.started (fields_view (drop l.key-index l.fields))));
-  numbers : FieldsHaveNumbers (fields_view (drop l.key-index l.fields)) → FieldsHaveNumbers (fields_view l.fields);
-}
-
-abbrev pub invariant-put_fields_on_line-loop-key : goal.invariant-put_fields_on_line-loop-key
-invariant-put_fields_on_line-loop-key g l = record {
+abbrev pub invariant-put_object-loop-key : goal.invariant-put_object-loop-key
+invariant-put_object-loop-key g l = record {
   reaches : Reaches (piece (laid_in l.fn.form l.fn.depth (object (fields_view l.fields)))) l.fn.printer l.printer (piece (fields_laid (style_of l.fn.form.spelling l.fn.form.layout) l.fn.depth l.started (fields_view (drop l.key-index l.fields))));
   numbers : FieldsHaveNumbers (fields_view (drop l.key-index l.fields)) → FieldsHaveNumbers (fields_view l.fields);
 }
@@ -44,8 +38,8 @@ decreases-put_item_after g l = 4 * datum_depth (value_of l.item.now) + 3
 abbrev pub decreases-put_items : goal.decreases-put_items
 decreases-put_items g l = 4 * items_depth (items_view l.items.now) + 4
 
-abbrev pub decreases-put_fields : goal.decreases-put_fields
-decreases-put_fields g l = 4 * fields_depth (fields_view l.fields.now) + 4
+abbrev pub decreases-put_object : goal.decreases-put_object
+decreases-put_object g l = 4 * fields_depth (fields_view l.fields.now) + 4
 
 abbrev pub decreases-put_entry : goal.decreases-put_entry
 decreases-put_entry g l = 4 * datum_depth (value_of l.value.now) + 3
@@ -53,11 +47,6 @@ decreases-put_entry g l = 4 * datum_depth (value_of l.value.now) + 3
 abbrev pub decreases-put_array : goal.decreases-put_array
 decreases-put_array g l = 4 * items_depth (items_view l.items.now) + 5
 
-abbrev pub decreases-put_object : goal.decreases-put_object
-decreases-put_object g l = 4 * fields_depth (fields_view l.fields.now) + 5
-
 abbrev pub decreases-put_items_on_line : goal.decreases-put_items_on_line
 decreases-put_items_on_line g l = 4 * items_depth (items_view l.items.now) + 4
 
-abbrev pub decreases-put_fields_on_line : goal.decreases-put_fields_on_line
-decreases-put_fields_on_line g l = 4 * fields_depth (fields_view l.fields.now) + 4

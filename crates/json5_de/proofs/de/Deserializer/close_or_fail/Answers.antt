@@ -1,11 +1,26 @@
-use Rattle.std.proofs.Common.{subst}
+use Rattle.std.proofs.Common.{subst, ◌∙◌}
 use Rattle.json5_read.specs.Brackets.{brackets_of}
 use Rattle.json5_de.specs.ShortWays.{ClosesShort}
-use Rattle.json5_de.proofs.OpenClose.{closes_at_once}
+use Rattle.json5_de.proofs.OpenClose.{closes_at_once, closes, refuses_closing}
 use Rattle.json5_de.proofs.ObjectMembers.{signs_of}
+use Rattle.json5_de.proofs.BracketSteps.{failed_of}
+use Rattle.json5_de.proofs.ReadSteps.{input_of}
 use Rattle.json5_de.proofs.de.Deserializer.close_or_fail.Goals as goal
 
 pub returns-then-short_close : goal.returns-then-short_close
 returns-then-short_close g c =
     closes_at_once (brackets_of c.args.kind) (signs_of c.args.kind) c.args.comma_due c.args.self.now c.short_close.new.self
     (subst (ClosesShort (brackets_of c.args.kind) c.args.self.now c.short_close.new.self) c.if-short_close.true c.short_close.ensures)
+
+pub returns-in-Ok : goal.returns-in-Ok
+returns-in-Ok g c = rw (← (subst (ClosesShort (brackets_of c.args.kind) c.args.self.now c.short_close.new.self) c.if-short_close.false c.short_close.ensures)) (record { closes = closes (brackets_of c.args.kind) (signs_of c.args.kind) c.args.comma_due c.short_close.new.self c.close.new.self c.in-Ok.ensures.closed; same_text = c.in-Ok.ensures.same_text; failed = tt })
+
+pub returns-in-Err : goal.returns-in-Err
+returns-in-Err g c =
+    rw (← (subst (ClosesShort (brackets_of c.args.kind) c.args.self.now c.short_close.new.self) c.if-short_close.false c.short_close.ensures)) (
+      let k = c.in-Err.ensures in
+      rw c.refuse.ensures.result (record {
+        closes = refuses_closing (brackets_of c.args.kind) (signs_of c.args.kind) c.args.comma_due c.short_close.new.self c.refuse.new.self c.in-Err.e k.refused k.complete k.before;
+        same_text = input_of c.refuse.ensures.state ∙ k.same_text;
+        failed = failed_of c.refuse.ensures.state;
+      }))
