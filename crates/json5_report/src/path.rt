@@ -1,16 +1,13 @@
 //! The path of the value that an offset lies in: `server.routes[1].methods`.
 
 ghost use Rattle.std.specs.Prelude.{◌≡◌, ◌++◌, IfOk, OnOk, string_bytes};
-ghost use Rattle.std.specs.List.{list_all};
-ghost use Rattle.std.specs.Str.{chars};
-ghost use Rattle.json5_grammar.specs.Language.Characters.{is_identifier_part};
-ghost use Rattle.json5_grammar.specs.Written.Quoting.{is_name};
 ghost use Rattle.json5_report.specs.Courses.{crumb_of, open_in};
 ghost use Rattle.json5_report.specs.Paths.{crumb_text, path_text, point_after, shown_key};
 
 use crate::course::{Course, Crumb, Open};
 use crate::lexemes::Lexeme;
-use json5_tokens::char::{is_json5_identifier, is_json5_identifier_start};
+use json5_tokens::char::is_json5_identifier;
+use json5_write::identifiers::is_identifier;
 use std::alloc::{AllocError, Global};
 
 /// The path of what is open; nothing for the document itself.
@@ -43,33 +40,10 @@ fn push_key(path: &mut String, key: &str) -> Result<(), AllocError>
     if !path.is_empty() {
         path.push('.')?;
     }
-    if is_name(key) {
+    if is_identifier(key) {
         return path.push_str(key);
     }
     write!(path, "'{key}'")
-}
-
-/// Whether the text can be a key without quotes.
-fn is_name(text: &str) -> bool
-    ensures { result ≡ is_name (chars text.now) }
-{
-    let mut rest = text.chars();
-    match rest.next() {
-        Some(first) => is_json5_identifier_start(first) && are_parts(rest.as_str()),
-        None => false,
-    }
-}
-
-/// Whether each character can go on a name.
-fn are_parts(text: &str) -> bool
-    ensures { result ≡ list_all is_identifier_part (chars text.now) }
-{
-    for c in text.chars() {
-        if !is_json5_identifier(c) {
-            return false;
-        }
-    }
-    true
 }
 
 /// A string without its quotes; any other token as it is.

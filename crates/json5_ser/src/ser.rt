@@ -3,12 +3,12 @@
 ghost use Rattle.std.specs.Prelude.{◌≡◌, ◌+◌, ◌-◌, true, false, None, IsErr, IfErr, OnOk};
 ghost use Rattle.std.specs.Str.{chars};
 ghost use Rattle.json5_write.specs.WrittenTrees.{Written, named};
-ghost use Rattle.json5_write.specs.Writes.{WritesTree, SerializerState, Writes, fresh, fresh_within, at_depth, after_closing};
-ghost use Rattle.json5_write.specs.ShortWrites.{PutsTree, Puts};
-ghost use Rattle.json5_write.specs.Out.{piece, stopped, line, opened_by, closed_by, invalid_key, key_out};
+ghost use Rattle.json5_write.specs.Writes.{WritesTree, SerializerState, Writes, fresh, fresh_within, after_closing};
+ghost use Rattle.json5_write.specs.ShortWrites.{OpensBrackets, PutsTree, Puts};
+ghost use Rattle.json5_write.specs.Out.{piece, stopped, line, closed_by, invalid_key, key_out};
 ghost use Rattle.json5_grammar.specs.declared.error_code.ErrorCode.TheVariants as codes;
 ghost use Rattle.json5_types.specs.Errors.{code, kind_of, error_position};
-ghost use Rattle.json5_grammar.specs.Faults.Fronts.{opening, closing};
+ghost use Rattle.json5_grammar.specs.Faults.Fronts.{closing};
 ghost use Rattle.json5_write.specs.Brackets.{bracket_of};
 ghost use Rattle.json5_write.specs.Commas.{comma_before, closed_after};
 ghost use Rattle.json5_ser.specs.Stages.{is_started};
@@ -219,8 +219,7 @@ impl<W: Write + Drop> Serializer<W> {
     /// Opens a collection.
     #[inline(always)]
     pub(crate) fn open_brackets(&mut self, brackets: Brackets) -> Put
-        ensures opens { Puts (opened_by self.old.limit self.old.depth (opening (bracket_of brackets))) self.old result (at_depth self.old.depth self.new) }
-        ensures deeper { OnOk result (self.new.depth ≡ self.old.depth + 1) }
+        ensures { OpensBrackets brackets self.old result self.new }
     {
         self.printer.open_brackets(brackets)
     }

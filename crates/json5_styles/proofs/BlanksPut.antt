@@ -57,6 +57,16 @@ without_comma b false part rest n h e f = ap chars (f ∙ ap (drop 1) e) ∙ cha
 pub blanks_alone : (b : Blank) (part rest : List ℕ) (n : ℕ) → part ≡ after_comma b n → rest ≡ drop 2 part → chars rest ≡ replicate n (blank_of b)
 blanks_alone b part rest n e f = ap chars (f ∙ ap (drop 2) e) ∙ chars_blanks b n
 
+-- ---- the row of 256 blanks
+
+pub row_boundary : (b : Blank) (s : List ℕ) (n : ℕ) → s ≡ replicate 256 (blank_of b) → n ≤ 256 → IsCharBoundary s n
+row_boundary b s n e h =
+    let k = length-replicate 256 (blank_of b) in
+    subst (λ t. IsCharBoundary t n) (sym e) (IsCharBoundary-from_ascii (replicate 256 (blank_of b)) n (all_ascii (blank_of b) 256 (blank_small b)) (omega (arith, k, h)))
+
+pub row_front : (b : Blank) (s part : List ℕ) (n : ℕ) → s ≡ replicate 256 (blank_of b) → part ≡ take n s → n ≤ 256 → chars part ≡ replicate n (blank_of b)
+row_front b s part n e f h = ap chars (f ∙ ap (take n) e ∙ take-replicate n 256 (blank_of b) h) ∙ chars_blanks b n
+
 -- ---- a line's pieces
 
 -- the piece without a comma or the one with it

@@ -8,7 +8,8 @@ use Rattle.json5_tokens.proofs.TextCuts.{one_scalar}
 use Rattle.json5_write.proofs.OutputsJoined.{scalars-append}
 use Rattle.json5_styles.specs.Json.{is_unescaped}
 use Rattle.json5_styles.specs.JsonTexts.{json_escaped, json_escaped_all}
-use Rattle.json5_styles.specs.JsonEscapes.{StartsWithScalar, SplitsAtChar, StandsBefore}
+use Rattle.json5_write.specs.Escaping.{StartsWithScalar}
+use Rattle.json5_styles.specs.JsonEscapes.{SplitsAtChar, StandsBefore}
 
 escaped-append : (s t : List ℕ) → json_escaped_all (s ++ t) ≡ json_escaped_all s ++ json_escaped_all t
 escaped-append [] t = refl

@@ -1,7 +1,6 @@
 -- How a text is split at a character that is escaped in JSON. Private clauses and proofs alone cite it.
 -- A promise rests on this.
 use Rattle.std.specs.Prelude.{◌≡◌, ◌<◌, ℕ, List, ◌++◌, Bool, true, false, nat_lt, ◌||◌, ◌==◌, length}
-use Rattle.std.specs.Char.{encode_utf8, IsScalar}
 use Rattle.std.specs.Str.{chars, encode_utf8_all, all_scalars, IsUtf8}
 use Rattle.json5_grammar.specs.Language.Characters.{space, double_quote, backslash}
 use Rattle.json5_tokens.specs.Scan.{SkipsAll}
@@ -11,12 +10,6 @@ use Rattle.json5_styles.specs.JsonTexts.{json_escaped, json_escaped_all}
 -- a byte at which a run of them ends
 abbrev pub ends_unescaped : ℕ → Bool
 ends_unescaped x = nat_lt x space || ((x == double_quote) || (x == backslash))
-
--- the bytes begin with the character c, and rest follows it
-pub record StartsWithScalar (t : List ℕ) (c : ℕ) (rest : List ℕ) : Type 0 where
-  pub bytes : t ≡ encode_utf8 c ++ rest
-  pub scalar : IsScalar c
-  pub utf8 : IsUtf8 rest
 
 -- the text is raw, an escaped character, and what follows
 pub record SplitsAtChar (t raw : List ℕ) (c : ℕ) (after : List ℕ) : Type 0 where

@@ -1,7 +1,7 @@
 -- Layouts: how lines begin. A style is a layout with a spelling of strings and keys, that of JSON5 or that of JSON.
 -- A promise rests on this.
-use Rattle.std.specs.Prelude.{ℕ, ◌*◌, Bool, true, false, List, [], ◌∷◌, ◌++◌, replicate}
-use Rattle.json5_grammar.specs.Language.Characters.{line_feed, space, tab, colon_sign}
+use Rattle.std.specs.Prelude.{ℕ, ◌*◌, Bool, true, false, List, [], ◌∷◌, replicate}
+use Rattle.json5_grammar.specs.Language.Characters.{line_feed, space, tab}
 use Rattle.json5_grammar.specs.Written.Quoting.{quoted_text, key_text}
 use Rattle.json5_types.specs.ValueMeanings.{Datum}
 use Rattle.json5_styles.specs.declared.layout.Layout.{Layout}
@@ -58,7 +58,3 @@ json_text l = laid (style_of spelling.Json l) 0
 
 abbrev pub laid_in : Form → ℕ → Datum → List ℕ
 laid_in f = laid (style_of f.spelling f.layout)
-
--- a member's key, colon and value
-abbrev pub entry_in : Form → ℕ → List ℕ → Datum → List ℕ
-entry_in f d u x = key_in f.spelling u ++ colon_sign ∷ (gap_in f.layout ++ laid_in f d x)

@@ -46,27 +46,19 @@ impl Blank {
         }
         after_comma.split_at(1).1
     }
-
-    /// So many of it.
-    fn run(self, count: usize) -> &'static str
-        requires { count ≤ 256 }
-        ensures { chars result.now ≡ replicate count (blank_of self) }
-    {
-        let (after_comma, _) = self.longest_line().split_at(2 + count);
-        after_comma.split_at(2).1
-    }
 }
 
 /// Writes so many of it.
 fn put_blanks<W: Write + Drop>(blank: Blank, count: usize, printer: &mut Printer<W>) -> Put
     ensures { Puts (piece (replicate count (blank_of blank))) printer.old result printer.new }
 {
+    let (_, blanks) = blank.longest_line().split_at(2);
     let mut left = count;
     while left > 256 {
-        printer.put_piece(blank.run(256))?;
+        printer.put_piece(blanks)?;
         left -= 256;
     }
-    printer.put_piece(blank.run(left))
+    printer.put_piece(blanks.split_at(left).0)
 }
 
 /// How a line begins: the piece without a comma, the one with it, and how many more blanks follow than the pieces have.

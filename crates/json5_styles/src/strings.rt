@@ -11,7 +11,7 @@ ghost use Rattle.json5_write.specs.ShortWrites.{Puts};
 ghost use Rattle.json5_styles.specs.Json.{is_unescaped};
 ghost use Rattle.json5_styles.specs.JsonTexts.{control_code, json_escaped, json_escaped_all, json_string};
 ghost use Rattle.json5_styles.specs.Layouts.{gap_in, string_in, key_in};
-ghost use Rattle.json5_styles.specs.JsonEscapes.{StartsWithScalar, SplitsAtChar};
+ghost use Rattle.json5_styles.specs.JsonEscapes.{SplitsAtChar};
 
 use crate::json_runs::skip_unescaped;
 use crate::layout::{Form, Spelling};
@@ -20,6 +20,7 @@ use json5_write::Printer;
 use json5_write::brackets::BeforeElement;
 use json5_write::escape_free::is_escape_free;
 use json5_write::joined_write::JoinedWrite;
+use json5_write::quoting::front;
 use json5_write::refusal::Put;
 use std::io::Write;
 
@@ -170,15 +171,6 @@ fn is_unescaped(c: char) -> bool
     ensures { result ≡ is_unescaped c }
 {
     c >= ' ' && c != '"' && c != '\\'
-}
-
-/// The first character, and what follows it.
-fn front(text: &str) -> Option<(char, &str)>
-    ensures { MatchOption result (text.now ≡ []) (λ p. StartsWithScalar text.now p.0 p.1.now) }
-{
-    let mut rest = text.chars();
-    let c = rest.next()?;
-    Some((c, rest.as_str()))
 }
 
 /// Splits the text at the first character that is escaped: what comes before it, the character, and what comes after it. None if

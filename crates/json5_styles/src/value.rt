@@ -1,7 +1,6 @@
 //! Values in a layout. Calls return small values, so that no frame holds an `Error`.
 
 ghost use Rattle.std.specs.Prelude.{◌≡◌, true, ◌+◌, ◌≤◌, ◌<◌, ◌∷◌, pos, IfSome, OnOk};
-ghost use Rattle.std.specs.Str.{chars};
 ghost use Rattle.json5_grammar.specs.Language.Documents.{max_depth};
 ghost use Rattle.json5_grammar.specs.Language.Numbers.{whole};
 ghost use Rattle.json5_grammar.specs.Written.NumberText.{number_text, IsNumber};
@@ -13,7 +12,7 @@ ghost use Rattle.json5_write.specs.ShortWrites.{Puts, PutsTree};
 ghost use Rattle.json5_write.specs.WrittenTrees.{integer};
 ghost use Rattle.json5_styles.specs.LaidBack.{HasNumbers};
 ghost use Rattle.json5_styles.specs.LaidPuts.{PutsLaid};
-ghost use Rattle.json5_styles.specs.Layouts.{is_compact, laid_in, entry_in};
+ghost use Rattle.json5_styles.specs.Layouts.{is_compact, laid_in};
 
 use crate::layout::{Form, Layout};
 use crate::lines::{Line, end_lines};
@@ -191,27 +190,10 @@ fn put_object<W: JoinedWrite + Drop>(
     let mut started = false;
     for (key, value) in fields {
         line.put(started, printer)?;
-        put_entry(key, value, form, depth + 1, printer)?;
+        put_key(key, form, printer)?;
+        put_value(value, form, depth + 1, printer)?;
         started = true;
     }
     end_lines(form, depth, started, printer)?;
     printer.put_piece("}")
-}
-
-/// Writes a key, a colon and a value.
-#[cycle(laid)]
-#[inline(always)]
-fn put_entry<W: JoinedWrite + Drop>(
-    key: &str,
-    value: &Value,
-    form: &Form,
-    depth: usize,
-    printer: &mut Printer<W>,
-) -> Put
-    requires shallow { datum_depth (value_of value.now) + depth ≤ max_depth }
-    ensures text { Puts (piece (entry_in form.now depth (chars key.now) (value_of value.now))) printer.old result printer.new }
-    ensures numbers { OnOk result (HasNumbers (value_of value.now)) }
-{
-    put_key(key, form, printer)?;
-    put_value(value, form, depth, printer)
 }

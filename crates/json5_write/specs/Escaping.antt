@@ -1,5 +1,5 @@
--- How a string is split at a character that is escaped. Private clauses and proofs alone cite it.
--- Private.
+-- How a string is split at a character that is escaped.
+-- A promise rests on this.
 use Rattle.std.specs.Prelude.{◌≡◌, ◌<◌, ℕ, List, ◌++◌, true, length}
 use Rattle.std.specs.Char.{encode_utf8, IsScalar}
 use Rattle.std.specs.Str.{chars, encode_utf8_all, all_scalars, IsUtf8}

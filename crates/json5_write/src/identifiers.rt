@@ -62,8 +62,12 @@ fn are_parts(text: &str) -> bool
     true
 }
 
-/// Whether the string is an identifier (ECMAScript 5.1 section 7.6), so that a key needs no quotes.
-pub(crate) fn is_identifier(text: &str) -> bool
+/// Says whether the string is an identifier (ECMAScript 5.1 section 7.6), so that a key needs no quotes.
+///
+/// ```text
+/// is_identifier("port")    // true; false of `max-age` and of an empty string
+/// ```
+pub fn is_identifier(text: &str) -> bool
     ensures { result ≡ is_name (chars text.now) }
 {
     match front(text) {

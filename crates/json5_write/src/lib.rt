@@ -7,13 +7,13 @@
 pub mod brackets;
 mod byte_copies;
 pub mod escape_free;
-mod identifiers;
+pub mod identifiers;
 pub mod joined_write;
 pub mod lent;
 mod line_starts;
 pub mod literals;
 pub mod printer;
-mod quoting;
+pub mod quoting;
 pub mod refusal;
 pub mod string_writer;
 pub mod value;

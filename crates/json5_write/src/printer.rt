@@ -1,15 +1,15 @@
 //! Writing the parts of a text to a writer.
 
-ghost use Rattle.std.specs.Prelude.{◌≡◌, ◌≤◌, ◌+◌, ◌-◌, [], ◌∷◌, ◌++◌, OnOk};
+ghost use Rattle.std.specs.Prelude.{◌≡◌, ◌≤◌, ◌-◌};
 ghost use Rattle.std.specs.Str.{chars};
 ghost use Rattle.json5_grammar.specs.Language.Documents.{max_depth};
-ghost use Rattle.json5_grammar.specs.Faults.Fronts.{opening, closing};
+ghost use Rattle.json5_grammar.specs.Faults.Fronts.{closing};
 ghost use Rattle.json5_write.specs.Brackets.{bracket_of};
 ghost use Rattle.json5_write.specs.Commas.{comma_before, closed_after};
-ghost use Rattle.json5_write.specs.Out.{piece, stopped, line, opened_by, closed_by, too_deep, key_out};
-ghost use Rattle.json5_write.specs.ShortWrites.{Puts};
+ghost use Rattle.json5_write.specs.Out.{piece, stopped, line, closed_by, too_deep, key_out};
+ghost use Rattle.json5_write.specs.ShortWrites.{OpensBrackets, Puts};
 ghost use Rattle.json5_write.specs.WrittenTrees.{named};
-ghost use Rattle.json5_write.specs.Writes.{SerializerState, fresh_within, at_depth, after_closing};
+ghost use Rattle.json5_write.specs.Writes.{SerializerState, fresh_within, after_closing};
 
 mod joined;
 mod numbers;
@@ -133,8 +133,7 @@ impl<W: Write + Drop> Printer<W> {
 
     /// Opens a collection.
     pub fn open_brackets(&mut self, brackets: Brackets) -> Put
-        ensures opens { Puts (opened_by self.old.limit self.old.depth (opening (bracket_of brackets))) self.old result (at_depth self.old.depth self.new) }
-        ensures deeper { OnOk result (self.new.depth ≡ self.old.depth + 1) }
+        ensures { OpensBrackets brackets self.old result self.new }
     {
         if self.depth >= self.limit.get() {
             return self.refuse_bracket();

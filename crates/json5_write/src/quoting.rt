@@ -50,8 +50,12 @@ impl Quote {
     }
 }
 
-/// The first character, and what follows it.
-pub(crate) fn front(text: &str) -> Option<(char, &str)>
+/// Returns the first character, and what follows it.
+///
+/// ```text
+/// front("80")    // Some(('8', "0"))
+/// ```
+pub fn front(text: &str) -> Option<(char, &str)>
     ensures { MatchOption result (text.now ≡ []) (λ p. StartsWithScalar text.now p.0 p.1.now) }
 {
     let mut rest = text.chars();

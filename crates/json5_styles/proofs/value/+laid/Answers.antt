@@ -1,4 +1,4 @@
-use Rattle.std.proofs.Common.{◌≡◌, ◌+◌, ◌<◌, ◌≤◌, suc, true, false, [], ◌∷◌, ◌++◌, length, drop_of_length-le, refl, sym, ap, ◌∙◌, subst, rules, arith, append_assoc, string_bytes}
+use Rattle.std.proofs.Common.{◌≡◌, ◌+◌, ◌<◌, ◌≤◌, suc, true, false, [], ◌∷◌, ◌++◌, length, drop_of_length-le, refl, sym, ap, subst, rules, arith, append_assoc, string_bytes, Ok, Err}
 use Rattle.std.specs.Str.{chars}
 use Rattle.json5_grammar.specs.Language.Numbers.{decimal, whole}
 use Rattle.json5_types.proofs.ValuesCompared.{view-Null, view-String, view-Array, view-Object}
@@ -11,7 +11,7 @@ use Rattle.json5_write.proofs.PiecesWritten.{chars_null, chars_left_bracket, cha
 use Rattle.json5_write.proofs.ShortWritesJoined.{Reaches-stop, Reaches-end}
 use Rattle.json5_styles.specs.LaidBack.{ItemsHaveNumbers, FieldsHaveNumbers}
 use Rattle.json5_styles.specs.Styles.{comma_if, closed, laid, items_laid, fields_laid}
-use Rattle.json5_styles.specs.Layouts.{gap_in, key_in, style_of, laid_in}
+use Rattle.json5_styles.specs.Layouts.{style_of, laid_in}
 use Rattle.json5_styles.proofs.ItemsLaid.{items_left, next_on_line, closed_on_line, next_item, next_field, item_within, field_within, items_numbers, fields_numbers, view-Decimal, view-Whole}
 use Rattle.json5_styles.proofs.PiecesPut.{chars_no_element, stop_first, then_second, put_as, wrote_as, refused_as, reaches_as, number_put, number_had, on_ok}
 use Rattle.json5_styles.proofs.value.+laid.Goals as goal
@@ -255,8 +255,8 @@ put_item_after-returns-in_ok-put_piece-in_default-clause-text g t c =
 
 -- ---- objects
 
-pub put_object-put_entry-requires : goal.put_object-put_entry-requires
-put_object-put_entry-requires g t c =
+pub put_object-put_value-requires : goal.put_object-put_value-requires
+put_object-put_value-requires g t c =
     let left : c.loop-key.key-index < length c.args.fields.now = search rules in
     let inside = field_within c.args.fields.now c.loop-key.key-index c.loop-key-item.result left c.loop-key-item.is in
     λ κs sub. (omega (arith, inside, c.decreases), (search rules, omega (arith, inside, c.requires)))
@@ -286,8 +286,8 @@ put_object-returns-in_err-put g t c = record {
   numbers = search rules;
 }
 
-pub put_object-returns-in_err-put_entry : goal.put_object-returns-in_err-put_entry
-put_object-returns-in_err-put_entry g t c = record {
+pub put_object-returns-in_err-put_key : goal.put_object-returns-in_err-put_key
+put_object-returns-in_err-put_key g t c = record {
   text =
       let l = c.loop-key in
       let s = style_of c.args.form.now.spelling c.args.form.now.layout in
@@ -295,7 +295,26 @@ put_object-returns-in_err-put_entry g t c = record {
       let v = c.loop-key-item.result in
       let next = reaches_as _ _ _ _ _ (next_field s c.args.depth l.started c.args.fields.now l.key-index v left c.loop-key-item.is) l.invariant.reaches in
       let after = Reaches-next _ (piece (comma_if l.started ++ s.line (c.args.depth + 1))) _ _ _ _ next (wrote_as _ _ _ _ (c.within-line.ensures l.started) c.in_ok-put.ensures) in
-      Reaches-stop _ (piece (s.key (chars (string_bytes v.0)) ++ 58 ∷ (s.gap ++ laid s (c.args.depth + 1) (value_of v.1)))) _ _ _ _ _ _ after c.from_residual-in_err-put_entry.ensures.1 (rw c.deref.ensures at c.in_err-put_entry.ensures.text);
+      let key = s.key (chars (string_bytes v.0)) in
+      let value = laid s (c.args.depth + 1) (value_of v.1) in
+      let stop = put_as _ _ _ _ (Err _) (append_assoc key (58 ∷ s.gap) value) (stop_first (key ++ 58 ∷ s.gap) value _ _ _ (Err _) refl (rw c.deref.ensures at c.in_err-put_key.ensures)) in
+      Reaches-stop _ (piece (key ++ 58 ∷ (s.gap ++ value))) _ _ _ _ _ _ after c.from_residual-in_err-put_key.ensures.1 stop;
+  numbers = search rules;
+}
+
+pub put_object-returns-in_err-put_value : goal.put_object-returns-in_err-put_value
+put_object-returns-in_err-put_value g t c = record {
+  text =
+      let l = c.loop-key in
+      let s = style_of c.args.form.now.spelling c.args.form.now.layout in
+      let left : l.key-index < length c.args.fields.now = search rules in
+      let v = c.loop-key-item.result in
+      let next = reaches_as _ _ _ _ _ (next_field s c.args.depth l.started c.args.fields.now l.key-index v left c.loop-key-item.is) l.invariant.reaches in
+      let after = Reaches-next _ (piece (comma_if l.started ++ s.line (c.args.depth + 1))) _ _ _ _ next (wrote_as _ _ _ _ (c.within-line.ensures l.started) c.in_ok-put.ensures) in
+      let key = s.key (chars (string_bytes v.0)) in
+      let value = laid s (c.args.depth + 1) (value_of v.1) in
+      let stop = put_as _ _ _ _ (Err _) (append_assoc key (58 ∷ s.gap) value) (then_second (key ++ 58 ∷ s.gap) value _ _ _ (Err _) (rw c.deref.ensures at c.in_ok-put_key.ensures) c.in_err-put_value.ensures.text) in
+      Reaches-stop _ (piece (key ++ 58 ∷ (s.gap ++ value))) _ _ _ _ _ _ after c.from_residual-in_err-put_value.ensures.1 stop;
   numbers = search rules;
 }
 
@@ -307,9 +326,12 @@ put_object-loop-key-preserved g t c =
     let v = c.loop-key-item.result in
     let next = reaches_as _ _ _ _ _ (next_field s c.args.depth l.started c.args.fields.now l.key-index v left c.loop-key-item.is) l.invariant.reaches in
     let after = Reaches-next _ (piece (comma_if l.started ++ s.line (c.args.depth + 1))) _ _ _ _ next (wrote_as _ _ _ _ (c.within-line.ensures l.started) c.in_ok-put.ensures) in
+    let key = s.key (chars (string_bytes v.0)) in
+    let value = laid s (c.args.depth + 1) (value_of v.1) in
+    let entry = put_as _ _ _ _ (Ok tt) (append_assoc key (58 ∷ s.gap) value) (then_second (key ++ 58 ∷ s.gap) value _ _ _ (Ok tt) (rw c.deref.ensures at c.in_ok-put_key.ensures) c.in_ok-put_value.ensures.text) in
     record {
-      reaches = Reaches-next _ (piece (s.key (chars (string_bytes v.0)) ++ 58 ∷ (s.gap ++ laid s (c.args.depth + 1) (value_of v.1)))) _ _ _ _ after (rw c.deref.ensures at c.in_ok-put_entry.ensures.text);
-      numbers = λ rest. l.invariant.numbers (fields_numbers c.args.fields.now l.key-index v left c.loop-key-item.is c.in_ok-put_entry.ensures.numbers rest);
+      reaches = Reaches-next _ (piece (key ++ 58 ∷ (s.gap ++ value))) _ _ _ _ after entry;
+      numbers = λ rest. l.invariant.numbers (fields_numbers c.args.fields.now l.key-index v left c.loop-key-item.is c.in_ok-put_value.ensures.numbers rest);
     }
 
 pub put_object-returns-in_err-end_lines : goal.put_object-returns-in_err-end_lines
@@ -336,22 +358,3 @@ put_object-returns g t c = record {
       let none : length c.args.fields.now ≤ l.key-index = search rules in
       on_ok c.put_piece-2.result (l.invariant.numbers (subst (λ x. FieldsHaveNumbers (fields_view x)) (sym (drop_of_length-le c.args.fields.now none)) tt));
 }
-
--- ---- members
-
-pub put_entry-returns-in_err-put_key-clause-text : goal.put_entry-returns-in_err-put_key-clause-text
-put_entry-returns-in_err-put_key-clause-text g t c =
-    let f = c.args.form.now in
-    let front = key_in f.spelling (chars c.args.key.now) ++ 58 ∷ gap_in f.layout in
-    let value = laid_in f c.args.depth (value_of c.args.value.now) in
-    put_as _ _ _ _ _ (append_assoc (key_in f.spelling (chars c.args.key.now)) (58 ∷ gap_in f.layout) value) (stop_first front value _ _ _ _ c.from_residual.ensures.1 c.in_err-put_key.ensures)
-
-pub put_entry-returns-clause-text : goal.put_entry-returns-clause-text
-put_entry-returns-clause-text g t c =
-    let f = c.args.form.now in
-    let front = key_in f.spelling (chars c.args.key.now) ++ 58 ∷ gap_in f.layout in
-    let value = laid_in f c.args.depth (value_of c.args.value.now) in
-    put_as _ _ _ _ _ (append_assoc (key_in f.spelling (chars c.args.key.now)) (58 ∷ gap_in f.layout) value) (then_second front value _ _ _ _ c.in_ok-put_key.ensures c.put_value.ensures.text)
-
-pub put_entry-returns-clause-numbers : goal.put_entry-returns-clause-numbers
-put_entry-returns-clause-numbers g t c = c.put_value.ensures.numbers

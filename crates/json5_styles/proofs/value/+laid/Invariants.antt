@@ -41,9 +41,6 @@ decreases-put_items g l = 4 * items_depth (items_view l.items.now) + 4
 abbrev pub decreases-put_object : goal.decreases-put_object
 decreases-put_object g l = 4 * fields_depth (fields_view l.fields.now) + 4
 
-abbrev pub decreases-put_entry : goal.decreases-put_entry
-decreases-put_entry g l = 4 * datum_depth (value_of l.value.now) + 3
-
 abbrev pub decreases-put_array : goal.decreases-put_array
 decreases-put_array g l = 4 * items_depth (items_view l.items.now) + 5
 
