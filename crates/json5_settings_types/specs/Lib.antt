@@ -2,6 +2,7 @@
 pub mod Addresses
 pub mod Bounds
 pub mod Defaults
+pub mod Derived
 pub mod Durations
 pub mod Floats
 pub mod Keys

@@ -83,7 +83,7 @@ impl Duration {
     }
 
     /// The text of the duration, the greatest units first.
-    fn written(self) -> ArrayString<192>
+    pub(crate) fn written(self) -> ArrayString<192>
         ensures { result.bytes ≡ duration_text self.nanoseconds }
     {
         if self.nanoseconds == 0 {

@@ -7,10 +7,12 @@
 //! let port: Within<1024, 65535> = json5::from_str(alloc, "8080")?;
 //! ```
 //!
-//! A value that isn't taken is refused where it stands, with a message that says what is expected.
+//! A value that isn't taken is refused where it stands, with a message that says what is expected. `Duration`, `Size`,
+//! `AsSpelled`, `FilePath`, `Within` and `NotEmpty` are fields of derived structs too.
 #![tactic(auto)]
 
 mod addresses;
+mod derived;
 mod durations;
 mod faults;
 mod floats;

@@ -14,6 +14,9 @@ use json5_tokens::input::Input;
 use json5_types::error::Result;
 use std::io::Write;
 
+/// What is said of an empty list.
+pub(crate) const EMPTY: &str = "expected one element at least, found an empty list";
+
 /// A list of one element at least.
 #[derive(Drop)]
 pub struct NotEmpty<T> {
@@ -67,8 +70,7 @@ impl<I: Input, T: Deserialize<I>> Deserialize<I> for NotEmpty<T> {
             Err(e) => return Err(e),
         };
         let Some(list_of_some) = NotEmpty::new(list.value) else {
-            let message = "expected one element at least, found an empty list";
-            return Err(fault_at(de, list.start, message));
+            return Err(fault_at(de, list.start, EMPTY));
         };
         Ok(list_of_some)
     }

@@ -15,6 +15,9 @@ use json5_tokens::input::Input;
 use json5_types::error::Result;
 use std::io::Write;
 
+/// What is said of a text that is no path.
+pub(crate) const NO_PATH: &str = "expected the path of a file, found an empty text or a NUL";
+
 /// The path of a file or a folder: a text that isn't empty and has no NUL, which no system takes in a path.
 #[derive(Drop)]
 pub struct FilePath {
@@ -55,8 +58,7 @@ impl<I: Input> Deserialize<I> for FilePath {
             Err(e) => return Err(e),
         };
         let Some(path) = FilePath::new(read.value) else {
-            let message = "expected the path of a file, found an empty text or a NUL";
-            return Err(fault_at(de, read.start, message));
+            return Err(fault_at(de, read.start, NO_PATH));
         };
         Ok(path)
     }

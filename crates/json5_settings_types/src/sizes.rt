@@ -78,7 +78,7 @@ pub struct Size {
 
 impl Size {
     /// The text of the size, in the greatest unit of which it is a whole number.
-    fn written(self) -> ArrayString<192>
+    pub(crate) fn written(self) -> ArrayString<192>
         ensures { result.bytes ≡ size_text self.bytes }
     {
         if self.bytes == 0 {

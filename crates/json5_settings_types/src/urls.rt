@@ -17,10 +17,10 @@ use std::alloc::Global;
 use url::{ParseError, Url};
 
 /// What is expected where another text stands.
-const EXPECTED: &str = "a URL such as 'https://shop.example/'";
+pub(crate) const EXPECTED: &str = "a URL such as 'https://shop.example/'";
 
 /// The URL that the text spells, if it spells one.
-fn url_in(alloc: Global, text: &str) -> Result<Option<Url>>
+pub(crate) fn url_in(alloc: Global, text: &str) -> Result<Option<Url>>
     ensures { MatchResult result (λ url. url ≡ url_of text.now) LacksMemory }
 {
     match Url::parse(alloc, text) {
