@@ -7,7 +7,7 @@ ghost use Rattle.cli_files.specs.Inputs.{IsReadFault, NoText};
 use crate::failure::Failure;
 use simdutf8::is_utf8;
 use std::alloc::Global;
-use std::io::{ErrorKind, Read};
+use std::io::{self, ErrorKind, Read};
 
 /// How many bytes are asked for at first.
 const FIRST_ROOM: usize = 16 * 1024;
@@ -32,7 +32,10 @@ pub fn read_whole<R: Read>(alloc: Global, r: &mut R) -> Result<Vec<u8>, Failure>
     let mut bytes = Vec::new(alloc);
     let mut filled = 0;
     for _ in 0..u64::MAX {
-        let count = read_after(r, &mut bytes, filled)?;
+        let count = match read_after(r, &mut bytes, filled) {
+            Ok(count) => count,
+            Err(error) => return Err(fault_of(&error)),
+        };
         if count == 0 {
             bytes.truncate(filled);
             return Ok(bytes);
@@ -64,23 +67,26 @@ pub fn read_text<R: Read>(alloc: Global, r: &mut R) -> Result<String, Failure>
 
 /// Reads once, after so many of the bytes, and returns how many there were. What follows those is room, which is made if there
 /// is none.
-fn read_after<R: Read>(r: &mut R, bytes: &mut Vec<u8>, filled: usize) -> Result<usize, Failure>
+fn read_after<R: Read>(r: &mut R, bytes: &mut Vec<u8>, filled: usize) -> io::Result<usize>
     requires { filled ≤ vec_len bytes.old }
     ensures front { take filled bytes.new.items ≡ take filled bytes.old.items }
     ensures within { IfOk result (λ count. filled + count ≤ vec_len bytes.new) }
     ensures read { IfOk result (λ count. Consumes (R.remaining r.old) (R.remaining r.new) (take count (drop filled bytes.new.items))) }
     ensures end { IfOk result (λ count. count ≡ 0 → IsAtEnd (R.remaining r.new)) }
-    ensures stopped { IfErr result IsReadFault }
 {
     if filled == bytes.len() {
         let room = filled.clamp(FIRST_ROOM, MOST_ROOM);
-        if bytes.resize(filled.saturating_add(room), 0).is_err() {
-            return Err(Failure::NoMemory);
-        }
+        bytes.resize(filled.saturating_add(room), 0)?;
     }
-    match r.read(&mut bytes[filled..]) {
-        Ok(count) => Ok(count),
-        Err(e) if e.kind() == ErrorKind::OutOfMemory => Err(Failure::NoMemory),
-        Err(_) => Err(Failure::Read),
+    r.read(&mut bytes[filled..])
+}
+
+/// Why nothing more is read.
+fn fault_of(error: &io::Error) -> Failure
+    ensures { IsReadFault result }
+{
+    match error.kind() {
+        ErrorKind::OutOfMemory => Failure::NoMemory,
+        _ => Failure::Read,
     }
 }

@@ -39,7 +39,7 @@ pub(crate) fn begins_word(text: &str) -> bool
 
 /// The same for any character.
 #[inline(never)]
-fn front_is_part(text: &str) -> bool
+pub(crate) fn front_is_part(text: &str) -> bool
     ensures { (result ≡ false) ↔ NotBegun is_word_part (chars text.now) }
 {
     match front(text) {

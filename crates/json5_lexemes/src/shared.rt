@@ -9,6 +9,7 @@ ghost use Rattle.json5_lexemes.specs.SameLexemes.{is_word_part};
 ghost use Rattle.json5_lexemes.specs.SharedTokens.{PassesBlanks, PassesBoth, PassesEscaped, PassesName, PassesPart, PassesSame, PassesToken, ends_words, is_mark};
 
 use crate::byte_runs::blanks_len;
+use crate::json_words::front_is_part;
 use crate::rest::{front, past_byte};
 use crate::runs::Run;
 use crate::same::is_word_part;
@@ -154,7 +155,7 @@ pub fn ends_word(text: &str) -> bool
     if bytes.is_empty() {
         return true;
     }
-    ends_words(bytes[0]) || ends_slowly(text)
+    ends_words(bytes[0]) || !front_is_part(text)
 }
 
 /// Whether the byte is a character that mostly follows a word.
@@ -163,16 +164,6 @@ fn ends_words(byte: u8) -> bool
     ensures { result ≡ ends_words byte }
 {
     is_mark(byte) || matches!(byte, b' ' | b'\t' | b'\n' | b'\r')
-}
-
-#[inline(never)]
-fn ends_slowly(text: &str) -> bool
-    ensures { IsTrue result → NotBegun is_word_part (chars text.now) }
-{
-    match front(text) {
-        Some((c, _)) => !is_word_part(c),
-        None => true,
-    }
 }
 
 /// What follows a character of a word, which is in front of both texts.
