@@ -115,19 +115,6 @@ fn skip_bracket<I: Input>(
     }
 }
 
-/// The same as `skip_value`, with the error of a refusal left in `fault`.
-#[inline(always)]
-fn pass_value<I: Input>(scanner: &mut Scanner<I>, room: usize, fault: &mut Error) -> Option<()>
-    requires ready { IsInside scanner.old }
-    requires room { room ≤ max_depth }
-    ensures { SkipsValue room scanner.old scanner.new (answered result fault.new) }
-{
-    match skip_or_open(scanner, room, fault)? {
-        Some(bracket) => skip_bracket(scanner, room, bracket, fault),
-        None => Some(()),
-    }
-}
-
 /// Passes over the value in front, in which so many brackets may be open at once (JSON5 sections 2 to 6). Takes no memory where
 /// it succeeds.
 ///
@@ -141,8 +128,12 @@ pub fn skip_value<I: Input>(scanner: &mut Scanner<I>, room: usize) -> Result<()>
     // Goals below need what `offset` promises: what is unread is the end of the input.
     let _offset = scanner.offset();
     let mut fault = Error::new(ErrorCode::Failed);
-    match pass_value(scanner, room, &mut fault) {
-        Some(()) => Ok(()),
+    match skip_or_open(scanner, room, &mut fault) {
         None => Err(fault),
+        Some(None) => Ok(()),
+        Some(Some(bracket)) => match skip_bracket(scanner, room, bracket, &mut fault) {
+            None => Err(fault),
+            Some(()) => Ok(()),
+        },
     }
 }
