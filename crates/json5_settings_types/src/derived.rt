@@ -1,4 +1,15 @@
-//! The types as fields of derived structs: `serde` reads and writes them, and refuses the same with the same words.
+//! The types as fields of derived structs: `serde` reads and writes them.
+//!
+//! ```text
+//! #[derive(Drop, Serialize, Deserialize)]
+//! struct Settings { timeout: Duration, port: Within<1024, 65535>, hosts: NotEmpty<String> }
+//! ```
+//!
+//! # Errors
+//!
+//! - As the format's, where no text, number or list stands.
+//! - What json5 says of one that isn't taken, by `custom`: `expected a number from 1024 to 65535, found 80`. Where it has
+//!   what was found, it is cut at 128 bytes.
 
 ghost use Rattle.std.specs.Prelude.{IfOk, string_bytes};
 ghost use Rattle.serde.specs.Event.{Logs, WritesSeq, signed, text};
