@@ -39,9 +39,17 @@ impl<I: Input> Deserializer<I> {
     pub fn deserialize_string(&mut self) -> Result<String>
         ensures { ReadsString self.old self.new result }
     {
-        if let Some(text) = self.short_string_owned() {
-            return Ok(text);
+        match self.short_string_owned() {
+            Some(text) => Ok(text),
+            None => self.string_slowly(),
         }
+    }
+
+    /// The same as `deserialize_string`, for any string.
+    #[inline(never)]
+    fn string_slowly(&mut self) -> Result<String>
+        ensures { ReadsString self.old self.new result }
+    {
         self.skip_blank()?;
         self.string_owned()
     }

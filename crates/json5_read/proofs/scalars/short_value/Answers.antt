@@ -42,4 +42,4 @@ returns-in_ok-decimal-in-None g c room =
     let same = rw c.in-None.is at c.short_whole.ensures in
     let here : AtKind kind.Number c.args.scanner.now = record { char = c.args.c; ready = c.requires.ready; first = c.requires.first; is = sym c.kind_at.ensures ∙ c.in-Number.is } in
     rw (← same) (datum_kept room now c.short_decimal.new.scanner (value.Decimal number)
-      (number_kept room now c.short_decimal.new.scanner (decimal number) (value.Decimal number) (kind_front kind.Number c.args.scanner.now now same here) c.in_ok-decimal-in-None.ensures (view_decimal number)))
+    (number_kept room now c.short_decimal.new.scanner (decimal number) (value.Decimal number) (kind_front kind.Number c.args.scanner.now now same here) c.in_ok-decimal-in-None.ensures (view_decimal number)))

@@ -46,4 +46,3 @@ decreases-put_array g l = 4 * items_depth (items_view l.items.now) + 5
 
 abbrev pub decreases-put_items_on_line : goal.decreases-put_items_on_line
 decreases-put_items_on_line g l = 4 * items_depth (items_view l.items.now) + 4
-

@@ -18,9 +18,9 @@ returns-in-Ok g c = rw (← (subst (ClosesShort (brackets_of c.args.kind) c.args
 pub returns-in-Err : goal.returns-in-Err
 returns-in-Err g c =
     rw (← (subst (ClosesShort (brackets_of c.args.kind) c.args.self.now c.short_close.new.self) c.if-short_close.false c.short_close.ensures)) (
-      let k = c.in-Err.ensures in
-      rw c.refuse.ensures.result (record {
-        closes = refuses_closing (brackets_of c.args.kind) (signs_of c.args.kind) c.args.comma_due c.short_close.new.self c.refuse.new.self c.in-Err.e k.refused k.complete k.before;
-        same_text = input_of c.refuse.ensures.state ∙ k.same_text;
-        failed = failed_of c.refuse.ensures.state;
-      }))
+    let k = c.in-Err.ensures in
+    rw c.refuse.ensures.result (record {
+      closes = refuses_closing (brackets_of c.args.kind) (signs_of c.args.kind) c.args.comma_due c.short_close.new.self c.refuse.new.self c.in-Err.e k.refused k.complete k.before;
+      same_text = input_of c.refuse.ensures.state ∙ k.same_text;
+      failed = failed_of c.refuse.ensures.state;
+    }))
