@@ -5,13 +5,17 @@ ghost use Rattle.std.specs.Str.{chars};
 ghost use Rattle.std.specs.Float.{binary64};
 ghost use Rattle.json5_numbers.specs.Floats.{nearest_to};
 ghost use Rattle.json5_types.specs.Errors.{LacksMemory};
-ghost use Rattle.json5_numbers.specs.NumberTexts.{IsTextOf, LacksMemoryFor, decimal_of_whole};
+ghost use Rattle.json5_types.specs.NumberMeanings.{number_of};
+ghost use Rattle.json5_numbers.specs.NumberTexts.{IsTextOf, LacksMemoryFor, decimal_of, decimal_of_whole};
 ghost use Rattle.json5_numbers.specs.Orders.{decimal_cmp};
 
 use crate::order::order;
-use crate::texts::{decimal, exact, whole_text};
+use crate::texts::whole_text;
+use crate::wholes::sign_and_size;
+use itoa::Buffer;
 use json5_types::decimal::Decimal;
 use json5_types::error::Result;
+use json5_types::number::Number;
 use json5_types::whole::Whole;
 use std::alloc::Global;
 use std::cmp::Ordering;
@@ -94,7 +98,11 @@ impl DecimalExt for Decimal {
     fn from_whole(alloc: Global, number: Whole) -> Result<Decimal>
         ensures { MatchResult result (λ d. d ≡ decimal_of_whole number) LacksMemory }
     {
-        exact(alloc, number)
+        let (negative, size) = sign_and_size(number);
+        let mut buffer = Buffer::new();
+        let digits = buffer.format(size);
+        let found = Decimal::finite(alloc, negative, digits, 0)?;
+        Ok(found.unwrap())
     }
 
     fn to_f64(&self, alloc: Global) -> Result<f64>
@@ -117,5 +125,15 @@ impl DecimalExt for Decimal {
         } else {
             Some(order(self, other))
         }
+    }
+}
+
+/// The decimal with the value of a number.
+fn decimal(alloc: Global, number: Number) -> Result<Decimal>
+    ensures { MatchResult result (λ d. d ≡ decimal_of (number_of number)) LacksMemory }
+{
+    match number {
+        Number::Whole(whole) => Decimal::from_whole(alloc, whole),
+        Number::Decimal(decimal) => Ok(decimal),
     }
 }

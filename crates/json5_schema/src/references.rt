@@ -355,30 +355,14 @@ fn check_ends(
     let left = left_of(alloc, seen, links)?;
     for (place, reference) in seen.references.iter().enumerate() {
         if left.get(place).is_some_and(|left| *left > 0) {
-            return check_round(
-                alloc,
-                rules,
-                root,
-                reference,
-                &round_from(alloc, seen, links, &left, place)?,
-            );
+            let round = round_from(alloc, seen, links, &left, place)?;
+            return match round.as_slice() {
+                [first, rest @ ..] if leads_round(root, first, rest) => {
+                    Err(fault(alloc, reference.pointer.as_str(), Problem::Endless))
+                }
+                _ => Ok(()),
+            };
         }
-    }
-    Ok(())
-}
-
-/// Refuses a reference that leads to this round.
-fn check_round(
-    alloc: Global,
-    rules: Rules,
-    root: &Value,
-    reference: &Reference,
-    round: &[&str],
-) -> Looked<()>
-    ensures { RefusedFor (IsRefusedFor rules (value_of root.now)) result }
-{
-    if leads_back(root, round) {
-        return Err(fault(alloc, reference.pointer.as_str(), Problem::Endless));
     }
     Ok(())
 }
@@ -421,17 +405,7 @@ fn round_from<'s>(
     Ok(round)
 }
 
-/// Whether each of these references leads on to the next one, and the last one to the first.
-fn leads_back(root: &Value, round: &[&str]) -> bool
-    ensures { result ≡ true → LeadsBack (value_of root.now) }
-{
-    match round {
-        [first, rest @ ..] => leads_round(root, first, rest),
-        [] => false,
-    }
-}
-
-/// The same of the first one and those behind it.
+/// Whether the first reference and the rest each lead on to the next one, and the last one to the first.
 fn leads_round(root: &Value, first: &str, rest: &[&str]) -> bool
     ensures { result ≡ true → LeadsBack (value_of root.now) }
 {

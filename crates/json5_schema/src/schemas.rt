@@ -251,18 +251,11 @@ fn whole_fault(alloc: Global, value: &Value) -> error::Result<Fault> {
     })
 }
 
-/// Whether the name of a draft is that of the fourth or of the fifth.
-fn is_fourth_or_fifth(draft: &str) -> bool
-    ensures { result ≡ true → IsOldName draft.now }
-{
-    draft.contains("draft-04") || draft.contains("draft-05")
-}
-
 /// Whether the name of a draft is that of one before 6.
 fn is_old(draft: &str) -> bool
     ensures { result ≡ true → IsOldName draft.now }
 {
-    draft.contains("draft-03") || is_fourth_or_fifth(draft)
+    draft.contains("draft-03") || draft.contains("draft-04") || draft.contains("draft-05")
 }
 
 /// Whether the name of a draft is that of one in which keywords beside `$ref` count: drafts 6 and 7 pass over them.

@@ -5,7 +5,6 @@ use Rattle.std.specs.Prelude.{String, string_bytes, Result, Ok, Err, IfOk}
 use Rattle.std.specs.Str.{chars}
 use Rattle.json5_grammar.specs.Language.Documents.{Doc, max_depth}
 use Rattle.json5_grammar.specs.Language.Trees.{Tree}
-use Rattle.json5_types.specs.declared.error.Error.{Error}
 use Rattle.json5_lexemes.specs.Plain.{PlainText}
 use Rattle.json5_lexemes.proofs.PlainTokens.{bare_plain}
 use Rattle.json5_lexemes.proofs.SameTrees.{alike_tree, document_alike, same_alike}
@@ -24,7 +23,7 @@ keeps move x y (t, d) (inr (inr laid)) =
       lexemes = laid.lexemes;
     }
 
-pub kept : (move : Bool) (x : List ℕ) (result : Result (String Global) Error) → (t : Tree) × Doc max_depth x t → IfOk result (λ s. IsAlike move x (chars (string_bytes s)))
+pub kept : {E : Type 0} (move : Bool) (x : List ℕ) (result : Result (String Global) E) → (t : Tree) × Doc max_depth x t → IfOk result (λ s. IsAlike move x (chars (string_bytes s)))
     → IfOk result (λ s. Keeps move x (chars (string_bytes s)))
 kept move x (Ok s) document alike = keeps move x (chars (string_bytes s)) document alike
 kept move x (Err e) document alike = tt

@@ -46,7 +46,7 @@ abbrev pub RefusesText : (text : List ℕ) → Result (String Global) Error → 
 RefusesText text result = IfErr result (IsRefused (chars text))
 
 -- JSON stays JSON, and JSON but for comments stays so, unless last commas are to come anyhow
-abbrev pub KeepsJson : Style → (text : List ℕ) → Result (String Global) Error → Type 0
+abbrev pub KeepsJson : {E : Type 0} → Style → (text : List ℕ) → Result (String Global) E → Type 0
 KeepsJson style text result = style.last_commas ≢ commas.Always → IfOk result (λ s. KeepsPlain text (string_bytes s))
 
 -- what the tidied text of a text is, or why there is none

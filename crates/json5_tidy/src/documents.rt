@@ -1,8 +1,7 @@
 //! Tidies a document.
 
-ghost use Rattle.std.specs.Prelude.{◌≡◌, IfOk, IfErr, IsTrue, string_bytes};
+ghost use Rattle.std.specs.Prelude.{IfOk, IsTrue, string_bytes};
 ghost use Rattle.std.specs.Str.{chars};
-ghost use Rattle.json5_tokens.specs.Cursor.{IsOutOfMemory};
 ghost use Rattle.json5_tidy.specs.Styles.{may_move, usual_style};
 ghost use Rattle.json5_tidy.specs.Tidied.{IsAlike, IsLaidOut, KeepsJson, TidiesText};
 
@@ -14,7 +13,7 @@ use json5_lexemes::alike_lexemes;
 use json5_read::check_document;
 use json5_types::ErrorCode;
 use json5_types::error::{Error, Result};
-use std::alloc::Global;
+use std::alloc::{AllocError, Global};
 
 /// Tidies a document in the usual style. It is [`tidy_with`] in [`Style::usual`].
 ///
@@ -57,31 +56,36 @@ pub fn tidy_with(alloc: Global, style: Style, text: &str) -> Result<String>
     ensures { TidiesText style text.now result }
 {
     match check_document(alloc, text) {
-        Ok(()) => laid_out_document(alloc, style, text),
-        Err(e) => Err(e),
+        Ok(()) => {}
+        Err(e) => return Err(e),
+    }
+    match laid_out_document(alloc, style, text) {
+        Ok(tidy) => Ok(tidy),
+        Err(_) => Err(Error::new(ErrorCode::OutOfMemory)),
     }
 }
 
 /// The document laid out, if it is the same document and as plain, or the text itself.
 #[tactic(auto, using(crate::proofs::KeptLexemes::text_kept))]
-fn laid_out_document(alloc: Global, style: Style, text: &str) -> Result<String>
+fn laid_out_document(
+    alloc: Global,
+    style: Style,
+    text: &str,
+) -> std::result::Result<String, AllocError>
     ensures laid_out { IfOk result (λ s. IsAlike (may_move style.stars) (chars text.now) (chars (string_bytes s))) }
     ensures plain { KeepsJson style text.now result }
-    ensures memory { IfErr result IsOutOfMemory }
 {
     if leaves_text(text.as_bytes()) {
-        return copied(alloc, text);
+        return String::from_str(alloc, text);
     }
     let plainness = Plainness::in_style(style, text);
     let spacing = spacing_in(style, has_last_commas(style, plainness, text));
-    let Ok(bytes) = laid_out(alloc, spacing, text.as_bytes()) else {
-        return Err(Error::new(ErrorCode::OutOfMemory));
-    };
+    let bytes = laid_out(alloc, spacing, text.as_bytes())?;
     if bytes.as_slice() == text.as_bytes() {
-        return copied(alloc, text);
+        return String::from_str(alloc, text);
     }
     let Ok(tidy) = String::from_utf8(bytes) else {
-        return copied(alloc, text);
+        return String::from_str(alloc, text);
     };
     if have_same_tokens(text, tidy.as_str()) {
         return Ok(tidy);
@@ -89,7 +93,7 @@ fn laid_out_document(alloc: Global, style: Style, text: &str) -> Result<String>
     if is_laid_out(alloc, style.stars, text, tidy.as_str()) && plainness.is_kept(tidy.as_str()) {
         return Ok(tidy);
     }
-    copied(alloc, text)
+    String::from_str(alloc, text)
 }
 
 /// The style, with last commas or without.
@@ -106,17 +110,6 @@ fn spacing_in(style: Style, last_comma: bool) -> Spacing {
             LineEnds::CrLf => Some(true),
         },
         final_line_end: style.final_line_end,
-    }
-}
-
-/// A copy of the text.
-fn copied(alloc: Global, text: &str) -> Result<String>
-    ensures same { IfOk result (λ s. string_bytes s ≡ text.now) }
-    ensures memory { IfErr result IsOutOfMemory }
-{
-    match String::from_str(alloc, text) {
-        Ok(copy) => Ok(copy),
-        Err(_) => Err(Error::new(ErrorCode::OutOfMemory)),
     }
 }
 

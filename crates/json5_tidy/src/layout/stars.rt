@@ -1,6 +1,5 @@
 //! The lines of star comments: `/* */` comments whose lines but the first all begin with a star, behind spaces and tabs.
 
-ghost use Rattle.std.specs.Prelude.{◌≤◌, length};
 ghost use Rattle.json5_tidy.specs.Lexemes.{IsNextLine};
 
 use crate::layout::blanks::line_end_len;
@@ -30,20 +29,9 @@ pub(crate) fn next_line(comment: &[u8], from: usize) -> (usize, usize)
         return (end, end);
     }
     let line = end + line_end_len(comment, end).max(1);
-    (
-        line,
-        line + blanks_in_front(part_of(comment, line, comment.len())),
-    )
-}
-
-/// How many spaces and tabs are in front.
-fn blanks_in_front(bytes: &[u8]) -> usize
-    ensures { result ≤ length bytes.now }
-{
-    match bytes.iter().position(|byte| !matches!(*byte, b' ' | b'\t')) {
-        Some(index) => index,
-        None => bytes.len(),
-    }
+    let rest = part_of(comment, line, comment.len());
+    let solid = rest.iter().position(|byte| !matches!(*byte, b' ' | b'\t'));
+    (line, line + solid.unwrap_or(rest.len()))
 }
 
 /// What stands before the end of the text on its last line.

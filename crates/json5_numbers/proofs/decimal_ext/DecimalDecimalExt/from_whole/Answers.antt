@@ -4,7 +4,7 @@ use Rattle.json5_grammar.specs.Language.Characters.{is_digit, Each}
 use Rattle.json5_grammar.specs.Language.Numbers.{normal_exponent, InExponents}
 use Rattle.json5_types.specs.NumberWholes.{distance}
 use Rattle.json5_numbers.proofs.ParsedNumbers.{whole_digits}
-use Rattle.json5_numbers.proofs.texts.exact.Goals as goal
+use Rattle.json5_numbers.proofs.decimal_ext.DecimalDecimalExt.from_whole.Goals as goal
 
 pub unwrap-requires : goal.unwrap-requires
 unwrap-requires c =
