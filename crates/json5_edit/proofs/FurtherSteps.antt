@@ -1,11 +1,9 @@
 -- A path with further steps, from the part that it leads to.
-use denote.Ref.{Bor}
 use Rattle.std.proofs.Common.{◌≡◌, ℕ, zero, suc, Bool, true, false, List, [], ◌∷◌, ◌++◌, refl, ap, sym, ◌∙◌, Option, Some, None, nat_eq}
 use Rattle.std.specs.Cmp.Lexicographic.{pointwise}
 use Rattle.std.specs.Str.{encode_utf8_all}
 use Rattle.json5_grammar.specs.Language.Trees.{Tree, null, boolean, number, text, array, object, Trees, Members, no_more, more, no_member, member}
 use Rattle.json5_edit.specs.Parts.{part, part_at, part_under, element_of, later_or, member_of, under, in_element, in_member, positions_of}
-use Rattle.json5_edit.specs.Refusals.{HasKey}
 use Rattle.json5_edit.specs.declared.paths.Step.{Step}
 use Rattle.json5_edit.specs.declared.paths.Step.TheVariants as step
 
@@ -111,17 +109,3 @@ nowhere_on (step.Key k ∷ outer) rest (number q) e = refl
 nowhere_on (step.Key k ∷ outer) rest (text u b) e = refl
 nowhere_on (step.Key k ∷ outer) rest (array ts) e = refl
 nowhere_on (step.Key k ∷ outer) rest (object ps) e = member_nowhere outer rest (member_of k.now ps) (λ s f. nowhere_on outer rest s f) e
-
--- ---- a step to a key
-
-is_member : (r : Option (ℕ × Tree)) (js : List ℕ) → in_member (positions_of []) r ≡ Some js → (found : ℕ × Tree) × (r ≡ Some found)
-is_member None js e = absurd (cc)
-is_member (Some found) js e = (found, refl)
-
-pub has_key : (k : Bor (List ℕ)) (t : Tree) (js : List ℕ) → positions_of (step.Key k ∷ []) t ≡ Some js → HasKey k.now t
-has_key k null js e = absurd (cc)
-has_key k (boolean b) js e = absurd (cc)
-has_key k (number q) js e = absurd (cc)
-has_key k (text u b) js e = absurd (cc)
-has_key k (array ts) js e = absurd (cc)
-has_key k (object ps) js e = is_member (member_of k.now ps) js e

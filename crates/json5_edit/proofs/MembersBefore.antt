@@ -1,7 +1,7 @@
 -- One more member before another.
 use denote.Ref.{Bor}
 use Rattle.std.proofs.Common.{◌≡◌, ℕ, ◌≤◌, ◌-◌, false, List, [], ◌∷◌, ◌++◌, refl, ap, sym, ◌∙◌, append_assoc, subst, inl, Some, Result, Ok, Err, arith}
-use Rattle.std.specs.Prelude.{IfOk, String, string_bytes}
+use Rattle.std.specs.Prelude.{String, string_bytes}
 use Rattle.std.specs.declared.alloc.Global.{Global}
 use Rattle.std.specs.Str.{chars, IsUtf8, encode_utf8_all}
 use Rattle.json5_grammar.specs.Language.Documents.{max_depth}
@@ -18,14 +18,14 @@ use Rattle.json5_walk.specs.declared.entry.EntryKey.{EntryKey}
 use Rattle.json5_walk.specs.Entries.{AwaitsEntry, BeginsEntry}
 use Rattle.json5_walk.specs.Moves.{EndsEntries, Opens}
 use Rattle.json5_walk.specs.Walks.{Walked, at_start, AwaitsValue, IsHopeless, Moved, NeedsMemory, NotOpened, PassesValue}
-use Rattle.json5_edit.specs.Changes.{Gains, GainsMember, StaysPlainQuoted}
+use Rattle.json5_edit.specs.Changes.{GainsMember}
 use Rattle.json5_edit.specs.Comparing.{ComesBetween}
 use Rattle.json5_edit.specs.Entries.{entries, empty_of}
 use Rattle.json5_edit.specs.Pieces.{IsNameAlone, SpellsKey}
 use Rattle.json5_walk.specs.declared.place.Place.{Place}
 use Rattle.json5_edit.specs.Places.{IsPart, IsValue, Leads}
 use Rattle.json5_edit.specs.Refusals.{RefusesBefore, RefusesInsert, RefusesStart, RefusesStep}
-use Rattle.json5_edit.specs.Spots.{Adds, AddsMember, Goes, HasEntry, HasMember, Inside, IsObject, PutsMember, PutsThere, SpellsEntry, spells_member, joined}
+use Rattle.json5_edit.specs.Spots.{Adds, AddsLast, AddsMember, Goes, HasEntry, HasMember, Inside, IsObject, PutsMember, PutsThere, SpellsEntry, spells_member, joined}
 use Rattle.json5_edit.specs.declared.faults.EditError.{EditError}
 use Rattle.json5_edit.specs.declared.faults.EditError.TheVariants as error
 use Rattle.json5_edit.specs.declared.paths.Before.{Before}
@@ -209,9 +209,9 @@ pub puts_there : {E : Type 0} (b : Before) (key value : List ℕ) (limit : ℕ) 
 puts_there b key value limit c old r made = ok_then r (λ new k. (k.0, λ quoted. k.1)) made
 
 -- the first one of an object that has none
-pub first_of_none : {E : Type 0} (limit : ℕ) (c : Collection) (old key value : List ℕ) (r : Result (String Global) E) → Val (chars old) (object no_member) → IfOk r (λ new. Adds kind.Object value (Gains kind.Object key value) limit old (string_bytes new)) → IfOk r (λ new. StaysPlainQuoted c.names c.document.now value (string_bytes new)) → PutsThere before_place.First key value limit c old r
-first_of_none limit c old key value (Err e) none adds plain = tt
-first_of_none limit c old key value (Ok new) none ((t, w, was, now, (v, val, with_last)), grows, fits) plain =
+pub first_of_none : {E : Type 0} (limit : ℕ) (c : Collection) (old key value : List ℕ) (r : Result (String Global) E) → Val (chars old) (object no_member) → AddsLast kind.Object key value limit c old r → PutsThere before_place.First key value limit c old r
+first_of_none limit c old key value (Err e) none adds = tt
+first_of_none limit c old key value (Ok new) none (((t, w, was, now, (v, val, with_last)), grows, fits), plain) =
     let same : t ≡ object no_member = tree_of (chars old) t (object no_member) was none in (
       (
         (

@@ -1,6 +1,6 @@
 -- What is known where an edit is refused.
 use denote.Ref.{Bor}
-use Rattle.std.proofs.Common.{◌≡◌, ◌⊎◌, inl, inr, ℕ, ◌+◌, ◌-◌, ◌≤◌, true, false, List, [], ◌∷◌, ◌++◌, length, refl, ap, sym, ◌∙◌, subst, Some, None, nat_eq, arith}
+use Rattle.std.proofs.Common.{◌≡◌, ◌⊎◌, inl, inr, ℕ, ◌+◌, ◌-◌, true, false, List, [], ◌∷◌, ◌++◌, length, refl, ap, sym, ◌∙◌, subst, Some, None, nat_eq, arith}
 use Rattle.std.specs.Prelude.{slice_get, IfErr, Result, Ok, Err}
 use Rattle.std.specs.Str.{chars, IsUtf8, all_scalars, encode_utf8_all}
 use Rattle.std.proofs.lemmas.Bool.{eqb-false}
@@ -8,7 +8,7 @@ use Rattle.std.proofs.lemmas.Str.{chars-encodes, scalars-chars}
 use Rattle.json5_grammar.specs.declared.error_code.ErrorCode.TheVariants as codes
 use Rattle.json5_grammar.specs.Language.Blanks.{Blanks}
 use Rattle.json5_grammar.specs.Language.Documents.{Doc, max_depth}
-use Rattle.json5_grammar.specs.Language.Trees.{Tree, null, boolean, number, text, array, object, depth}
+use Rattle.json5_grammar.specs.Language.Trees.{Tree, null, boolean, number, text, array, object}
 use Rattle.json5_grammar.specs.Language.Values.{Val}
 use Rattle.json5_grammar.specs.Model.Reading.{got}
 use Rattle.json5_grammar.specs.Model.ReadSteps.{forget}
@@ -30,15 +30,14 @@ use Rattle.json5_walk.proofs.Rests.{append_nil}
 use Rattle.json5_edit.specs.Entries.{kind_of as kind_of_tree}
 use Rattle.json5_edit.specs.Parts.{in_member, positions_of}
 use Rattle.json5_edit.specs.Places.{Fits, IsValue, IsPart, Leads, LeadsNowhere}
-use Rattle.json5_edit.specs.Refusals.{IsFaulty, Reaches, Misfits, IsNo, HasKey, RefusesText, RefusesPath, RefusesSet, RefusesRemove, RefusesSort, RefusesPush, RefusesPutIn, RefusesInsert, RefusesRename, IsFree, IsOwn, RefusesStep, RefusesKey, RefusesKind, RefusesFree, RefusesValue, BeginsNo}
+use Rattle.json5_edit.specs.Refusals.{IsFaulty, Reaches, Misfits, IsNo, HasKey, RefusesText, RefusesPath, RefusesSet, RefusesRemove, RefusesSort, RefusesPush, RefusesPutIn, RefusesInsert, RefusesRename, IsFree, IsOwn, RefusesStep, RefusesKind, RefusesFree, RefusesValue, BeginsNo}
 use Rattle.json5_edit.specs.declared.faults.EditError.{EditError}
 use Rattle.json5_edit.specs.declared.faults.EditError.TheVariants as error
 use Rattle.json5_edit.specs.declared.paths.Step.{Step}
 use Rattle.json5_edit.specs.declared.paths.Step.TheVariants as step
 use Rattle.json5_edit.proofs.Changed.{tree_of}
-use Rattle.json5_edit.proofs.Compared.{alone}
 use Rattle.json5_edit.proofs.Depths.{fits_there}
-use Rattle.json5_edit.proofs.FurtherSteps.{led_nowhere, nowhere_on, has_key}
+use Rattle.json5_edit.proofs.FurtherSteps.{led_nowhere, nowhere_on}
 use Rattle.json5_edit.proofs.Placed.{scalars_left, scalars_right, nothing_next}
 use Rattle.json5_edit.proofs.Seeks.{array_begins, object_begins}
 
@@ -147,17 +146,6 @@ at_step P old s error.NoKey n m k = absurd k
 at_step P old s error.NoMemory n m k = m
 at_step P old s error.Failed n m k = absurd k
 
-at_key : (P : EditError → Type 0) (old key : List ℕ) (e : EditError) → ((t : Tree) → Doc max_depth (chars old) t → HasKey key t → P error.Taken) → P error.NoMemory → RefusesKey old key e → P e
-at_key P old key (error.Text x) n m k = absurd k
-at_key P old key error.Nowhere n m k = absurd k
-at_key P old key (error.Value x) n m k = absurd k
-at_key P old key error.Taken n m k = n k.0 k.1 k.2
-at_key P old key error.NotObject n m k = absurd k
-at_key P old key error.NotArray n m k = absurd k
-at_key P old key error.NoKey n m k = absurd k
-at_key P old key error.NoMemory n m k = m
-at_key P old key error.Failed n m k = absurd k
-
 at_array : (P : EditError → Type 0) (old : List ℕ) (e : EditError) → (BeginsNo kind.Array (chars old) → P error.NotArray) → P error.NoMemory → RefusesKind kind.Array old e → P e
 at_array P old (error.Text x) n m k = absurd k
 at_array P old error.Nowhere n m k = absurd k
@@ -250,9 +238,6 @@ module _ (bytes : List ℕ) (path : List Step) (p : Place) (leads : Leads bytes 
   pub new_insert : (key value : List ℕ) (e : EditError) → RefusesValue (p.room - 1) value e → RefusesInsert bytes path key value e
   new_insert key value e k = at_new (RefusesInsert bytes path key value) (p.room - 1) value e (λ x n. misfits 1 (p.room - 1) value refl n) tt k
 
-shallower : {x : List ℕ} {t : Tree} {limit : ℕ} → Doc (depth t) x t → depth t ≤ limit → Doc limit x t
-shallower d l = record { before = d.before; text = d.text; after = d.after; whole = d.whole; blank = d.blank; value = d.value; last = d.last; shallow = l }
-
 -- the same with the text in the place
 module _ (bytes old : List ℕ) (path : List Step) (p : Place) (u : IsUtf8 bytes) (leads : Leads bytes path (Some p)) (is_part : (before o after : List ℕ) → IsPart bytes p before o after → old ≡ encode_utf8_all o) where
   pub value_there : Val (chars old) leads.placed.tree
@@ -291,8 +276,9 @@ module _ (bytes old : List ℕ) (path : List Step) (p : Place) (u : IsUtf8 bytes
   pub step_put_in : (value : List ℕ) (i : ℕ) (e : EditError) → RefusesStep old (step.Index i) e → RefusesPutIn bytes path i value e
   step_put_in value i e k = at_step (RefusesPutIn bytes path i value) old (step.Index i) e (λ n. nowhere_in (path ++ (step.Index i ∷ [])) (step.Index i) refl n) tt k
 
-  pub key_rename : (whole : List Step) (key : List ℕ) (s : Step) (e : EditError) → whole ≡ path ++ (s ∷ []) → RefusesKey old key e → RefusesRename bytes whole key e
-  key_rename whole key s e is k = at_key (RefusesRename bytes whole key) old key e (λ t d h. (path, s, is, reaches_key key t d h)) tt k
+  -- of a text that is an object
+  pub free_rename : (whole : List Step) (key : List ℕ) (s : Step) (e : EditError) → whole ≡ path ++ (s ∷ []) → (BeginsNo kind.Object (chars old) → ⊥) → RefusesFree old key e → RefusesRename bytes whole key e
+  free_rename whole key s e is of_kind k = at_free (RefusesRename bytes whole key) old key e (λ t d h. (path, s, is, reaches_key key t d h)) (λ n. absurd (of_kind n)) tt k
 
   pub free_insert : (key value : List ℕ) (e : EditError) → RefusesFree old key e → RefusesInsert bytes path key value e
   free_insert key value e k = at_free (RefusesInsert bytes path key value) old key e (λ t d h. reaches_key key t d h) (λ n. reaches_no kind.Object n) tt k
@@ -304,16 +290,7 @@ module _ (bytes old : List ℕ) (path : List Step) (p : Place) (u : IsUtf8 bytes
   pub value_fits : Fits p.room old
   value_fits = let r = leads.placed.room in (omega (arith, r), (leads.placed.tree, value_there, fits_there leads))
 
-  pub old_document : IsDocument old
-  old_document =
-      let r = leads.placed.room in
-      let d = fits_there leads in
-      (leads.placed.tree, shallower (alone (chars old) leads.placed.tree value_there) (omega (arith, r, d)))
-
 -- ---- a step to a key of the collection
-
-pub is_taken : (old : List ℕ) (k : Bor (List ℕ)) (p : Place) → Leads old (step.Key k ∷ []) (Some p) → (t : Tree) × Doc max_depth (chars old) t × HasKey k.now t
-is_taken old k p leads = (leads.tree, leads.document, has_key k leads.tree leads.placed.positions leads.placed.led)
 
 -- where it leads nowhere no member has the key
 no_key : (k : Bor (List ℕ)) (t : Tree) → positions_of (step.Key k ∷ []) t ≡ None → HasKey k.now t → ⊥
@@ -329,6 +306,3 @@ no_key k (text u b) none h = h
 
 pub key_free : (old : List ℕ) (k : Bor (List ℕ)) → LeadsNowhere old (step.Key k ∷ []) → IsFree k.now old
 key_free old k (t, d, none) u v h = no_key k u (subst (λ z. positions_of (step.Key k ∷ []) z ≡ None) (tree_of (chars old) t u d v) none) h
-
-pub leads_free : (old : List ℕ) (k : Bor (List ℕ)) → Leads old (step.Key k ∷ []) None → IsFree k.now old
-leads_free old k leads = key_free old k (leads.tree, leads.document, leads.placed)

@@ -120,6 +120,10 @@ ReadsBetween text w after = (inside : List ℕ) × (text ≡ inside ++ right_bra
 abbrev pub ReadsInside : (text : List ℕ) → Written → (after : List ℕ) → Type 0
 ReadsInside text w after = (inside : List ℕ) × (text ≡ inside ++ after) × SpellsInside w inside
 
+-- an index is in front
+abbrev pub ReadsIndex : (text : List ℕ) → ℕ → (after : List ℕ) → Type 0
+ReadsIndex text n after = ReadsInside text (written.Index n) after
+
 -- after the quote q, which stands before the text
 abbrev pub ReadsQuoted : ℕ → (text : List ℕ) → Written → (after : List ℕ) → Type 0
 ReadsQuoted q text w after = is_quote q ≡ true → ReadsInside (q ∷ text) w after

@@ -3,7 +3,7 @@
 use Rattle.std.specs.Prelude.{⊤, ◌≡◌, ◌⊎◌, ℕ, Bool, true, List, [], ◌∷◌, ◌++◌, length}
 use Rattle.std.specs.Str.{chars, encode_utf8_all}
 use Rattle.json5_edit_style.specs.Comments.{IsLead, IsTrail}
-use Rattle.json5_grammar.specs.Language.Blanks.{Blanks, LastBlanks}
+use Rattle.json5_grammar.specs.Language.Blanks.{Blanks, Gap, LastBlanks, Solid}
 use Rattle.json5_grammar.specs.Language.Characters.{comma_sign, colon_sign}
 use Rattle.json5_grammar.specs.Language.Trees.{Tree}
 use Rattle.json5_grammar.specs.Language.Values.{KeyText, Val}
@@ -44,6 +44,17 @@ pub record IsEntryText (x : List ℕ) : Type 0 where
   pub is_name : (name ≡ []) ⊎ IsName name
   pub is_value : Val value tree
   pub is_end : IsEnd end
+
+-- the blanks and comments in front of a text, and what follows them
+pub record SplitsBlanks (text front rest : List ℕ) : Type 0 where
+  pub split : text ≡ front ++ rest
+  pub blank : Gap (chars front) (chars rest)
+  pub solid : Solid (chars rest)
+
+-- the entry in front of a text, if no blank and no comment comes before it, and what follows it
+pub record SplitsEntry (text front rest : List ℕ) : Type 0 where
+  pub split : text ≡ front ++ rest
+  pub entry : Solid (chars text) → IsEntryText (chars front)
 
 -- between these texts an entry goes, with the comments that belong to it and no others
 pub record IsWithComments (before gone after : List ℕ) : Type 0 where

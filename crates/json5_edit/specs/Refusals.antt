@@ -151,12 +151,6 @@ RefusesStart (before_place.Key k) old error.Nowhere = LeadsNowhere old (step.Key
 RefusesStart b old error.NoMemory = ⊤
 RefusesStart b old _ = ⊥
 
--- a key that a member has
-abbrev pub RefusesKey : List ℕ → List ℕ → EditError → Type 0
-RefusesKey old key error.Taken = (t : Tree) × Doc max_depth (chars old) t × HasKey key t
-RefusesKey old key error.NoMemory = ⊤
-RefusesKey old key _ = ⊥
-
 -- no member of the object that this text spells has the key
 abbrev pub IsFree : List ℕ → List ℕ → Type 0
 IsFree key old = (t : Tree) → Val (chars old) t → HasKey key t → ⊥

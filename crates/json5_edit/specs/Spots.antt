@@ -18,7 +18,7 @@ use Rattle.json5_walk.specs.Frames.{Frame, value_end, Spells, At, at_value, at_e
 use Rattle.json5_walk.specs.Entries.{is_inside}
 use Rattle.json5_walk.specs.Seams.{WholeTokens}
 use Rattle.json5_walk.specs.Walks.{Walked, IsAt}
-use Rattle.json5_edit.specs.Changes.{ChangesBy, GainsMember, StaysPlainQuoted}
+use Rattle.json5_edit.specs.Changes.{ChangesBy, Gains, GainsMember, StaysPlainQuoted}
 use Rattle.json5_edit.specs.Comparing.{LacksKey, GoesTo, ComesBetween, IsWithout, IsWithLast, step_kind, step_key}
 use Rattle.json5_edit.specs.Entries.{entries, kind_of, read_in, around}
 use Rattle.json5_edit.specs.Pieces.{CutsWith, Grows, IsEnd, IsEntryText, IsName}
@@ -168,6 +168,15 @@ Removes s l limit old new = ChangesBy (IsWithout s) old new × CutsWith l old ne
 -- so changed, by one entry more, with this value
 abbrev pub Adds : Kind → List ℕ → (Tree → Tree → Type 0) → ℕ → List ℕ → List ℕ → Type 0
 Adds k value Change limit old new = ChangesBy Change old new × Grows k value old new × IsValue limit (chars new)
+
+-- what a call answers: with one entry more, the last, as plain as the document where the value is; a name as its first
+-- key may make it less plain
+abbrev pub AddsLast : {E : Type 0} → Kind → (key value : List ℕ) → ℕ → Collection → (old : List ℕ) → Result (String Global) E → Type 0
+AddsLast k key value limit c old result = IfOk result (λ made. Adds k value (Gains k key value) limit old (string_bytes made) × StaysPlainQuoted c.names c.document.now value (string_bytes made))
+
+-- the value may be put there, at the end
+abbrev pub MayComeLast : Kind → ℕ → Collection → List ℕ → End → List ℕ → Type 0
+MayComeLast k limit c old end value = HasEnd k limit old end × IsValue (limit - 1) (chars value) × KeepsPlain c.document.now old
 
 -- the text is an object that fits
 abbrev pub IsObject : ℕ → List ℕ → Type 0

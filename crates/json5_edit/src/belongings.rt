@@ -1,9 +1,7 @@
 //! What goes with an entry: the comments that belong to it, and no others.
 
-ghost use Rattle.std.specs.Prelude.{◌≡◌, ◌++◌, IfOk, IsTrue, OnOk};
-ghost use Rattle.std.specs.Str.{chars};
-ghost use Rattle.json5_edit.specs.Pieces.{GoesWith, IsEntryText, MayGo};
-ghost use Rattle.json5_grammar.specs.Language.Blanks.{Gap, Solid};
+ghost use Rattle.std.specs.Prelude.{IfOk, IsTrue, OnOk};
+ghost use Rattle.json5_edit.specs.Pieces.{GoesWith, MayGo, SplitsBlanks, SplitsEntry};
 
 use crate::faults::{Result, Unmade};
 use crate::pieces::{is_blank, split};
@@ -59,9 +57,7 @@ fn may_go(leads: Lead, lead: &str) -> bool
 
 /// The blanks and comments in front of the text, and what follows them.
 pub(crate) fn split_blanks(alloc: Global, text: &str) -> Result<(&str, &str), Unmade>
-    ensures split { IfOk result (λ parts. text.now ≡ parts.0.now ++ parts.1.now) }
-    ensures blank { IfOk result (λ parts. Gap (chars parts.0.now) (chars parts.1.now)) }
-    ensures solid { IfOk result (λ parts. Solid (chars parts.1.now)) }
+    ensures { IfOk result (λ parts. SplitsBlanks text.now parts.0.now parts.1.now) }
 {
     let mut scanner = Scanner::new(alloc, text);
     scanner.skip_blank()?;
@@ -75,8 +71,7 @@ fn split_entry(
     kind: BracketKind,
     room: Limit,
 ) -> Result<(&str, &str), Unmade>
-    ensures split { IfOk result (λ parts. text.now ≡ parts.0.now ++ parts.1.now) }
-    ensures entry { IfOk result (λ parts. Solid (chars text.now) → IsEntryText (chars parts.0.now)) }
+    ensures { IfOk result (λ parts. SplitsEntry text.now parts.0.now parts.1.now) }
 {
     let len = entry_len(alloc, text, kind, room)?;
     split(text, len.whole)

@@ -1,25 +1,22 @@
 //! Adds, removes and renames the entries of a collection.
 
-ghost use Rattle.std.specs.Prelude.{◌≡◌, ◌≤◌, ◌-◌, ℕ, List, [], false, IfOk, IfErr, OnOk, string_bytes};
-ghost use Rattle.json5_edit.specs.Changes.{Gains, GainsAt, IsRemoved, IsRemovedAlone, RemovesWith, IsPushed, IsPutIn, IsInserted, IsRekeyed, StaysPlainQuoted};
-ghost use Rattle.json5_edit.specs.Places.{HasPlace, IsPart, IsValue};
-ghost use Rattle.json5_edit.specs.Refusals.{RefusesRemove, RefusesPush, RefusesPutIn, RefusesInsert, RefusesRename, RefusesKey, RefusesValue, IsFree, BeginsNo};
-ghost use Rattle.json5_edit.specs.Spots.{Adds, HasEnd, HasEntry, HasFound, Removes, due_at};
+ghost use Rattle.std.specs.Prelude.{◌≡◌, ◌-◌, ℕ, List, [], false, IfOk, IfErr, OnOk, string_bytes};
+ghost use Rattle.json5_edit.specs.Changes.{GainsAt, IsRemoved, IsRemovedAlone, RemovesWith, IsPushed, IsPutIn, IsInserted, IsRekeyed, StaysPlainQuoted};
+ghost use Rattle.json5_edit.specs.Places.{IsPart, IsValue};
+ghost use Rattle.json5_edit.specs.Refusals.{RefusesRemove, RefusesPush, RefusesPutIn, RefusesInsert, RefusesRename, RefusesValue, BeginsNo};
+ghost use Rattle.json5_edit.specs.Spots.{Adds, AddsLast, EndTokens, HasEnd, HasEntry, HasFound, MayComeLast, Removes, due_at};
 ghost use Rattle.json5_edit.specs.declared.paths.Step.TheVariants as step;
 ghost use Rattle.json5_edit_style.specs.declared.habits.Names.TheVariants as layout_names;
 ghost use Rattle.json5_lexemes.specs.Plain.{KeepsPlain, StaysPlain};
 ghost use Rattle.json5_read.specs.declared.brackets.BracketKind.TheVariants as kind;
-ghost use Rattle.json5_grammar.specs.Language.Documents.{max_depth};
-ghost use Rattle.json5_walk.specs.Walks.{IsDocument};
 ghost use Rattle.std.specs.Str.{chars, encode_utf8_all};
 
 use crate::as_plain::check_as_plain;
 use crate::belongings::Lead;
 use crate::comparing::{check_added, check_put_in, check_removed, kind};
-use crate::faults::{EditError, Result, Unmade, lack};
+use crate::faults::{EditError, Result, Unmade};
 use crate::paths::Step;
 use crate::pieces::{cut, grown};
-use crate::places::walked_place;
 use crate::plain::{End, array_end, entry_found, free_end, join_four, with_last, without_entry};
 use crate::renaming::renamed;
 use crate::setting::{check_value, join, place_of, splice};
@@ -83,7 +80,7 @@ fn removed_with(alloc: Global, text: &str, path: &[Step<'_>], leads: Lead) -> Re
         return Err(EditError::Nowhere);
     };
     let place = place_of(alloc, text, outer)?;
-    let room = limit_of(place.room);
+    let room = limit_of(place);
     let old = part_text(text, place);
     let found = entry_found(alloc, old, *step, room)?;
     let new = removed(alloc, old, *step, found, leads, room)?;
@@ -111,10 +108,10 @@ pub fn push(alloc: Global, text: &str, path: &[Step<'_>], value: &str) -> Result
     ensures refused { IfErr result (RefusesPush text.now path.now value.now) }
 {
     let place = place_of(alloc, text, path)?;
-    let room = limit_of(place.room);
+    let room = limit_of(place);
     let old = part_text(text, place);
     let end = array_end(alloc, old, room)?;
-    check_entry(alloc, value, place)?;
+    check_entry(alloc, value, room)?;
     let collection = collection(text, place);
     let new = pushed(alloc, &collection, old, end, value, room)?;
     splice(alloc, text, place, new.as_str())
@@ -147,13 +144,13 @@ pub fn insert_element(
     ensures refused { IfErr result (RefusesPutIn text.now path.now index value.now) }
 {
     let place = place_of(alloc, text, path)?;
-    let room = limit_of(place.room);
+    let room = limit_of(place);
     let old = part_text(text, place);
     if !begins(alloc, old, BracketKind::Array) {
         return Err(EditError::NotArray);
     }
     let found = entry_found(alloc, old, Step::Index(index), room)?;
-    check_entry(alloc, value, place)?;
+    check_entry(alloc, value, room)?;
     let collection = collection(text, place);
     let new = put_in(alloc, &collection, old, index, found.start, value, room)?;
     splice(alloc, text, place, new.as_str())
@@ -213,10 +210,10 @@ pub fn insert_in(
     ensures refused { IfErr result (RefusesInsert text.now path.now key.now value.now) }
 {
     let place = place_of(alloc, text, path)?;
-    let room = limit_of(place.room);
+    let room = limit_of(place);
     let old = part_text(text, place);
     let end = free_end(alloc, old, key, room)?;
-    check_entry(alloc, value, place)?;
+    check_entry(alloc, value, room)?;
     let mut collection = collection(text, place);
     collection.names = names;
     let new = inserted(alloc, &collection, old, end, key, value, room)?;
@@ -249,10 +246,11 @@ pub fn rename(alloc: Global, text: &str, path: &[Step<'_>], key: &str) -> Result
         return Err(EditError::NoKey);
     };
     let place = place_of(alloc, text, outer)?;
-    let room = limit_of(place.room);
+    let room = limit_of(place);
     let old = part_text(text, place);
     let found = entry_found(alloc, old, *step, room)?;
-    check_key(alloc, old, key)?;
+    // Where one more may end doesn't matter: no member may have the key.
+    free_end(alloc, old, key, room)?;
     let collection = collection(text, place);
     let new = renamed(alloc, &collection, old, room, found.start, name, key)?;
     splice(alloc, text, place, new.as_str())
@@ -260,7 +258,6 @@ pub fn rename(alloc: Global, text: &str, path: &[Step<'_>], key: &str) -> Result
 
 /// The text in the place.
 pub(crate) fn part_text(text: &str, place: Place) -> &str
-    requires { HasPlace text.now place }
     ensures { (before old after : List ℕ) → IsPart text.now place before old after → result.now ≡ encode_utf8_all old }
 {
     match text.get(place.start..place.end) {
@@ -285,19 +282,6 @@ pub(crate) fn which(step: Step<'_>) -> Which<'_> {
     match step {
         Step::Key(key) => Which::Key(key),
         Step::Index(index) => Which::Index(index),
-    }
-}
-
-/// Refuses a key that a member of the object has.
-fn check_key(alloc: Global, old: &str, key: &str) -> Result<()>
-    requires { IsDocument old.now }
-    ensures free { OnOk result (IsFree key.now old.now) }
-    ensures refused { IfErr result (RefusesKey old.now key.now) }
-{
-    match walked_place(alloc, old, &[Step::Key(key)]) {
-        Ok(None) => Ok(()),
-        Ok(Some(_)) => Err(EditError::Taken),
-        Err(error) => Err(lack(error).into()),
     }
 }
 
@@ -330,7 +314,7 @@ fn removed_by_lines(
     leads: Lead,
     room: Limit,
 ) -> Result<String, Unmade>
-    requires { HasFound step room old.now found }
+    requires { EndTokens old.now found.before }
     ensures { IfOk result (λ new. Removes step.entry leads room old.now (string_bytes new)) }
 {
     let gone = cut_with(alloc, old, which(step), leads)?;
@@ -359,7 +343,7 @@ fn cut_with(
 pub(crate) fn check_fits(alloc: Global, new: &str, room: Limit) -> Result<(), Unmade>
     ensures { OnOk result (IsValue room (chars new.now)) }
 {
-    check_value(alloc, new, usize::from(room.get()))?;
+    check_value(alloc, new, room, 0)?;
     Ok(())
 }
 
@@ -382,11 +366,8 @@ fn pushed(
     value: &str,
     room: Limit,
 ) -> Result<String, AllocError>
-    requires end { HasEnd kind.Array room old.now end }
-    requires value { IsValue (room - 1) (chars value.now) }
-    requires plain { KeepsPlain collection.now.document.now old.now }
-    ensures pushed { IfOk result (λ new. Adds kind.Array value.now (Gains kind.Array [] value.now) room old.now (string_bytes new)) }
-    ensures plain { IfOk result (λ new. StaysPlainQuoted collection.now.names collection.now.document.now value.now (string_bytes new)) }
+    requires { MayComeLast kind.Array room collection.now old.now end value.now }
+    ensures { AddsLast kind.Array [] value.now room collection.now old.now result }
 {
     let kind = BracketKind::Array;
     match added_by_lines(alloc, collection, old, end, kind, "", value, room) {
@@ -406,11 +387,8 @@ pub(crate) fn inserted(
     value: &str,
     room: Limit,
 ) -> Result<String, AllocError>
-    requires end { HasEnd kind.Object room old.now end }
-    requires value { IsValue (room - 1) (chars value.now) }
-    requires plain { KeepsPlain collection.now.document.now old.now }
-    ensures inserted { IfOk result (λ new. Adds kind.Object value.now (Gains kind.Object key.now value.now) room old.now (string_bytes new)) }
-    ensures plain { IfOk result (λ new. StaysPlainQuoted collection.now.names collection.now.document.now value.now (string_bytes new)) }
+    requires { MayComeLast kind.Object room collection.now old.now end value.now }
+    ensures { AddsLast kind.Object key.now value.now room collection.now old.now result }
 {
     let kind = BracketKind::Object;
     match added_by_lines(alloc, collection, old, end, kind, key, value, room) {
@@ -436,8 +414,7 @@ fn added_by_lines(
     room: Limit,
 ) -> Result<String, Unmade>
     requires { HasEnd kind room old.now end }
-    ensures added { IfOk result (λ new. Adds kind value.now (Gains kind key.now value.now) room old.now (string_bytes new)) }
-    ensures plain { IfOk result (λ new. StaysPlainQuoted collection.now.names collection.now.document.now value.now (string_bytes new)) }
+    ensures { AddsLast kind key.now value.now room collection.now old.now result }
 {
     let added = Added { kind, key, value };
     let growth = growth_for(alloc, collection, added)?;
@@ -504,13 +481,12 @@ fn put_in_by_lines(
     Ok(new)
 }
 
-/// Refuses what isn't a value alone that fits within the place.
-pub(crate) fn check_entry(alloc: Global, value: &str, place: Place) -> Result<()>
-    requires { place.room ≤ max_depth }
-    ensures value { OnOk result (IsValue (place.room - 1) (chars value.now)) }
-    ensures refused { IfErr result (RefusesValue (place.room - 1) value.now) }
+/// Refuses what isn't a value alone that fits within a collection with so much room.
+pub(crate) fn check_entry(alloc: Global, value: &str, room: Limit) -> Result<()>
+    ensures value { OnOk result (IsValue (room - 1) (chars value.now)) }
+    ensures refused { IfErr result (RefusesValue (room - 1) value.now) }
 {
-    match check_value(alloc, value, place.room.saturating_sub(1)) {
+    match check_value(alloc, value, room, 1) {
         Ok(()) => Ok(()),
         Err(error) => Err(EditError::of_value(error)),
     }

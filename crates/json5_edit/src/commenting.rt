@@ -46,7 +46,7 @@ pub fn comment(alloc: Global, text: &str, path: &[Step<'_>], comment: &str) -> R
         return Err(EditError::Nowhere);
     };
     let place = place_of(alloc, text, outer)?;
-    let room = limit_of(place.room);
+    let room = limit_of(place);
     let old = part_text(text, place);
     let start = entry_found(alloc, old, *step, room)?.start;
     let collection = collection(text, place);
@@ -71,7 +71,7 @@ pub fn comment_of(alloc: Global, text: &str, path: &[Step<'_>]) -> Result<String
         return Err(EditError::Nowhere);
     };
     let place = place_of(alloc, text, outer)?;
-    let room = limit_of(place.room);
+    let room = limit_of(place);
     let old = part_text(text, place);
     let start = entry_found(alloc, old, *step, room)?.start;
     let from = comments_start(alloc, old, *step, start)?;

@@ -51,10 +51,10 @@ pub fn insert_before(
     ensures refused { IfErr result (RefusesBefore before.entry text.now path.now key.now value.now) }
 {
     let place = place_of(alloc, text, path)?;
-    let room = limit_of(place.room);
+    let room = limit_of(place);
     let old = part_text(text, place);
     let end = free_end(alloc, old, key, room)?;
-    check_entry(alloc, value, place)?;
+    check_entry(alloc, value, room)?;
     let start = start_before(alloc, old, before, room)?;
     let mut collection = collection(text, place);
     collection.names = names;

@@ -6,7 +6,6 @@ ghost use Rattle.json5_grammar.specs.Language.Blanks.{Solid};
 ghost use Rattle.json5_grammar.specs.Language.Trees.{Tree, depth};
 ghost use Rattle.json5_types.specs.Errors.{LacksMemory};
 ghost use Rattle.json5_read.specs.declared.brackets.BracketKind.TheVariants as kind;
-ghost use Rattle.json5_read.specs.SkipSteps.{SkipsValue};
 ghost use Rattle.json5_edit.specs.Pieces.{IsNameAlone};
 ghost use Rattle.json5_edit.specs.Places.{Fits};
 ghost use Rattle.json5_edit.specs.Refusals.{IsFree, RefusesFree, RefusesKind, RefusesStep};
@@ -264,7 +263,7 @@ pub(crate) fn entry_len(
     let mut scanner = Scanner::new(alloc, rest);
     scanner.skip_blank()?;
     pass_name(&mut scanner, kind)?;
-    skip_within(&mut scanner, room)?;
+    skip_value(&mut scanner, usize::from(room.get()))?;
     let bare = scanner.offset();
     scanner.skip_blank()?;
     if scanner.eat(',') {
@@ -272,13 +271,6 @@ pub(crate) fn entry_len(
         return Ok(EntryLen { bare, whole });
     }
     Ok(EntryLen { bare, whole: bare })
-}
-
-/// Passes over a value, in which so many brackets may be open at once.
-fn skip_within(scanner: &mut Scanner<&str>, room: Limit) -> error::Result<()>
-    ensures { SkipsValue room scanner.old scanner.new result }
-{
-    skip_value(scanner, usize::from(room.get()))
 }
 
 /// Passes over the key of a member and the colon with the blanks around it, or over nothing in an array.

@@ -42,7 +42,7 @@ pub fn sort(alloc: Global, text: &str, path: &[Step<'_>]) -> Result<String>
     ensures refused { IfErr result (RefusesSort text.now path.now) }
 {
     let place = place_of(alloc, text, path)?;
-    let room = limit_of(place.room);
+    let room = limit_of(place);
     let old = part_text(text, place);
     if !begins(alloc, old, BracketKind::Object) {
         return Err(EditError::NotObject);

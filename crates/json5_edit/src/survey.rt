@@ -17,6 +17,7 @@ use crate::paths::Step;
 use crate::places::is_sought;
 use json5_types::error::Result;
 use json5_types::nesting::Limit;
+use json5_walk::place::Place;
 use json5_walk::walk::Walk;
 use std::alloc::{AllocError, Global};
 
@@ -92,12 +93,12 @@ fn latest(same: bool, now: Found, before: Option<Found>) -> Option<Found>
     if same { Some(now) } else { before }
 }
 
-/// The limit with so much room.
-pub(crate) fn limit_of(room: usize) -> Limit
-    requires { room ≤ max_depth }
-    ensures { result ≡ room }
+/// The limit with the room of the place.
+pub(crate) fn limit_of(place: Place) -> Limit
+    requires { place.room ≤ max_depth }
+    ensures { result ≡ place.room }
 {
-    match Limit::new(room as u8) {
+    match Limit::new(place.room as u8) {
         Some(limit) => limit,
         None => unreachable!(),
     }

@@ -1,23 +1,27 @@
 -- Entries that are put in for the steps of a path.
 use Rattle.std.proofs.Common.{◌≡◌, ◌≢◌, inl, inr, ℕ, ◌<◌, ◌+◌, zero, suc, List, [], ◌∷◌, ◌++◌, length, take, drop, refl, sym, ap, ◌∙◌, subst, arith}
 use Rattle.std.specs.declared.alloc.Global.{Global}
-use Rattle.std.specs.Prelude.{true, false, Option, Some, None, is_some, IfErr, IfOk, Result, Ok, Err, String, string_bytes}
+use Rattle.std.specs.Prelude.{⊤, true, false, Option, Some, None, is_some, IfErr, IfOk, Result, Ok, Err, String, string_bytes}
 use Rattle.std.specs.Str.{chars}
 use Rattle.json5_edit.specs.Changes.{IsPushed}
 use Rattle.json5_edit.specs.Parts.{positions_of}
 use Rattle.json5_edit.specs.Places.{LeadsNowhere, LeadsTo}
-use Rattle.json5_edit.specs.Refusals.{RefusesPath, RefusesPush, RefusesSet}
+use Rattle.json5_edit.specs.Refusals.{Reaches, RefusesPath, RefusesPush, RefusesSet}
 use Rattle.json5_edit.specs.declared.faults.EditError.{EditError}
 use Rattle.json5_edit.specs.declared.faults.EditError.TheVariants as error
 use Rattle.json5_edit.specs.declared.paths.Step.{Step}
 use Rattle.json5_edit.specs.declared.paths.Step.TheVariants as step
 use Rattle.json5_edit.specs.declared.places.ValueSpan.{ValueSpan}
 use Rattle.json5_edit_values.specs.News.{HasCount, LeadsSo}
-use Rattle.json5_edit_values.specs.Puts.{EndsAfter, GetsAlong, GetsText, IsAdded, RefusesAlong, RefusesEntry, RefusesPut, first_in}
+use Rattle.json5_edit_values.specs.Puts.{GetsAlong, GetsText, IsAdded, RefusesAlong, RefusesEntry, RefusesPut, first_in}
 use Rattle.json5_edit_values.proofs.MergesMade.{leads_so}
 use Rattle.json5_edit_values.proofs.PatchesMade.{one_document}
 use Rattle.json5_edit_values.proofs.PutsMade.{along_added}
 use Rattle.json5_edit_values.proofs.PutsRefused.{Ends, ends_at, refused_from, refused_whole, too_deep}
+
+-- so many steps lead somewhere, and one more leads nowhere
+abbrev pub EndsAfter : List ℕ → List Step → ℕ → Type 0
+EndsAfter text path n = (n < length path) × Reaches (λ t. ⊤) text (take n path) × LeadsNowhere text (take (n + 1) path)
 
 more_taken : (n : ℕ) (xs ys : List Step) (s : Step) → drop n xs ≡ s ∷ ys → take (suc n) xs ≡ take n xs ++ (s ∷ [])
 more_taken zero [] ys s e = absurd (cc)

@@ -1,6 +1,6 @@
 -- A value that is put where a path leads, whether one was there or not.
 -- A promise rests on this.
-use Rattle.std.specs.Prelude.{⊤, ◌≡◌, ◌≢◌, ◌⊎◌, ℕ, ◌+◌, ◌<◌, List, [], ◌∷◌, ◌++◌, length, take, None}
+use Rattle.std.specs.Prelude.{⊤, ◌≡◌, ◌≢◌, ◌⊎◌, ℕ, ◌+◌, ◌<◌, List, [], ◌∷◌, ◌++◌, length, None}
 use Rattle.std.specs.Str.{chars}
 use lib.Chars.{codes}
 use Rattle.json5_grammar.specs.Language.Documents.{Doc, max_depth}
@@ -105,10 +105,6 @@ RefusesPut text path value error.NoMemory = ⊤
 RefusesPut text path value e = (t : Tree) × Doc max_depth (chars text) t × RefusesSteps path t e
 
 -- ---- private clauses alone cite these
-
--- so many steps lead somewhere, and one more leads nowhere
-abbrev pub EndsAfter : List ℕ → List Step → ℕ → Type 0
-EndsAfter text path n = (n < length path) × Reaches (λ t. ⊤) text (take n path) × LeadsNowhere text (take (n + 1) path)
 
 abbrev pub RefusesEntry : Step → List ℕ → (outer : List Step) → (value : List ℕ) → EditError → Type 0
 RefusesEntry (step.Key k) text outer value e = RefusesInsert text outer k.now value e

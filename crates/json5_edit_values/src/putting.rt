@@ -1,12 +1,11 @@
 //! A value that is put where a path leads, whether one was there or not.
 
-ghost use Rattle.std.specs.Prelude.{◌≡◌, ◌≤◌, [], drop, length, take, IfErr, IfOk, string_bytes};
+ghost use Rattle.std.specs.Prelude.{◌≡◌, ◌≤◌, drop, length, take, IfErr, IfOk, string_bytes};
 ghost use Rattle.json5_edit.specs.Changes.{StaysPlainQuoted};
 ghost use Rattle.json5_edit.specs.Places.{LeadsNowhere};
-ghost use Rattle.json5_edit.specs.Refusals.{RefusesPath};
 ghost use Rattle.json5_edit.specs.declared.paths.Step.TheVariants as steps;
 ghost use Rattle.json5_lexemes.specs.Plain.{StaysPlain};
-ghost use Rattle.json5_edit_values.specs.Puts.{EndsAfter, GetsAlong, GetsText, IsAdded, IsPut, IsPutIfAbsent, RefusesAlong, RefusesEntry, RefusesPut, first_in};
+ghost use Rattle.json5_edit_values.specs.Puts.{GetsAlong, GetsText, IsAdded, IsPut, IsPutIfAbsent, RefusesAlong, RefusesEntry, RefusesPut, first_in};
 
 use crate::patch::adding::count_at;
 use json5_edit::{EditError, Names, Result, Step, find, insert_in, push, set};
@@ -103,20 +102,10 @@ fn add_missing(
     ensures plain { IfOk result (λ made. StaysPlainQuoted names text.now value.now (string_bytes made)) }
     ensures refused { IfErr result (RefusesPut text.now path.now value.now) }
 {
-    let count = steps_that_lead(alloc, text, path)?;
-    add_along(alloc, text, path, count, value, names)
-}
-
-/// How many steps lead somewhere, where one more leads nowhere.
-fn steps_that_lead(alloc: Global, text: &str, path: &[Step<'_>]) -> Result<usize>
-    requires { LeadsNowhere text.now path.now }
-    ensures count { IfOk result (EndsAfter text.now path.now) }
-    ensures refused { IfErr result (RefusesPath text.now []) }
-{
     for count in 0..path.len() {
         match find(alloc, text, &path[..count + 1]) {
             Ok(Some(_)) => {}
-            Ok(None) => return Ok(count),
+            Ok(None) => return add_along(alloc, text, path, count, value, names),
             Err(error) => return Err(EditError::of_text(error)),
         }
     }

@@ -1,11 +1,9 @@
 //! How a value is spelled where it goes.
 
-ghost use Rattle.std.specs.Prelude.{◌≡◌, IfOk, IfErr, OnOk, string_bytes};
+ghost use Rattle.std.specs.Prelude.{IfOk, IfErr, string_bytes};
 ghost use Rattle.std.specs.Str.{chars};
 ghost use Rattle.json5_edit_values.specs.Refusals.{RefusesWriting};
 ghost use Rattle.json5_edit_values.specs.Spelled.{Spells};
-ghost use Rattle.json5_grammar.specs.Language.Values.{Val};
-ghost use Rattle.json5_write.specs.EscapeFreeMarks.{marks, unmarked};
 ghost use Rattle.json5_write.specs.Out.{Out, written_text};
 ghost use Rattle.json5_write.specs.WholeOutputs.{RefusesToString};
 
@@ -31,21 +29,12 @@ pub(crate) fn spelled<T: Serialize>(
     ensures value { IfOk result (λ new. Spells (T.tree value.now) text.now (chars (string_bytes new))) }
     ensures refused { IfErr result (RefusesWriting (written_text (T.tree value.now))) }
 {
-    let written = written(alloc, value)?;
+    let written = match to_string(alloc, value) {
+        Ok(written) => written,
+        Err(error) => return Err(unwritten(error)),
+    };
     let alike = spelled_like(alloc, text, written)?;
     Ok(laid_out(alloc, text, path, goes, layout, alike)?)
-}
-
-/// The value as json5 writes it.
-fn written<T: Serialize>(alloc: Global, value: &T) -> Result<String>
-    ensures value { IfOk result (λ new. Val (chars (string_bytes new)) (marks (T.tree value.now))) }
-    ensures again { OnOk result (unmarked (marks (T.tree value.now)) ≡ T.tree value.now) }
-    ensures refused { IfErr result (RefusesWriting (written_text (T.tree value.now))) }
-{
-    match to_string(alloc, value) {
-        Ok(text) => Ok(text),
-        Err(error) => Err(unwritten(error)),
-    }
 }
 
 /// Why the value can't be written.

@@ -2,7 +2,7 @@
 
 ghost use Rattle.std.specs.Prelude.{◌≡◌, ◌++◌, true, IfOk};
 ghost use Rattle.std.specs.List.{prefix_len};
-ghost use Rattle.json5_edit.specs.PathTexts.{ReadsBetween, ReadsInside, ReadsQuoted, ReadsStep, SpellsDotted, SplitsName, dot_unless, is_in_name};
+ghost use Rattle.json5_edit.specs.PathTexts.{ReadsBetween, ReadsIndex, ReadsInside, ReadsQuoted, ReadsStep, SpellsDotted, SplitsName, dot_unless, is_in_name};
 
 use crate::path_texts::faults::{Expected, PathError};
 use crate::path_texts::parsed::{Written, expected};
@@ -23,7 +23,7 @@ pub(crate) fn read_dotted(alloc: Global, text: &str) -> Result<Vec<Written>, Pat
     Ok(steps)
 }
 
-/// The step in front, and what follows it.
+/// The step in front, and what follows it: one between brackets, or a name, behind a dot but at the start of the path.
 fn read_step<'t>(
     alloc: Global,
     text: &str,
@@ -32,21 +32,9 @@ fn read_step<'t>(
 ) -> Result<(Written, &'t str), PathError>
     ensures { IfOk result (λ p. ReadsStep is_first rest.now p.0 p.1.now) }
 {
-    match rest.strip_prefix('[') {
-        Some(inner) => read_bracketed(alloc, text, inner),
-        None => read_name(alloc, text, rest, is_first),
+    if let Some(inner) = rest.strip_prefix('[') {
+        return read_bracketed(alloc, text, inner);
     }
-}
-
-/// The name in front, behind a dot but at the start of the path, and what follows it.
-fn read_name<'t>(
-    alloc: Global,
-    text: &str,
-    rest: &'t str,
-    is_first: bool,
-) -> Result<(Written, &'t str), PathError>
-    ensures { IfOk result (λ p. ReadsStep is_first rest.now p.0 p.1.now) }
-{
     let begun = skip_dot(text, rest, is_first)?;
     let (name, after) = split_name(begun);
     if name.is_empty() {
@@ -98,7 +86,8 @@ fn read_inside<'t>(
     if let Some(begun) = inner.strip_prefix('\'') {
         return read_quoted(alloc, text, begun, '\'');
     }
-    read_index(text, inner)
+    let (index, after) = read_index(text, inner)?;
+    Ok((Written::Index(index), after))
 }
 
 /// The key after a quote, and what follows the next one.
@@ -118,15 +107,15 @@ fn read_quoted<'t>(
 }
 
 /// The index in front, and what follows it.
-fn read_index<'t>(text: &str, inner: &'t str) -> Result<(Written, &'t str), PathError>
-    ensures { IfOk result (λ p. ReadsInside inner.now p.0 p.1.now) }
+fn read_index<'t>(text: &str, inner: &'t str) -> Result<(usize, &'t str), PathError>
+    ensures { IfOk result (λ p. ReadsIndex inner.now p.0 p.1.now) }
 {
     let (digits, after) = split_digits(inner);
     if digits.is_empty() {
         return Err(expected(text, after, Expected::IndexOrKey));
     }
     match digits.parse::<usize>() {
-        Ok(index) => Ok((Written::Index(index), after)),
+        Ok(index) => Ok((index, after)),
         Err(_) => Err(expected(text, inner, Expected::SmallerIndex)),
     }
 }

@@ -116,19 +116,6 @@ fn add_element(
     if count == index {
         return push_at(alloc, text, steps, new);
     }
-    put_in_at(alloc, text, steps, index, new)
-}
-
-/// The text with the value before the element with the index of the array to which the steps lead.
-fn put_in_at(
-    alloc: Global,
-    text: &str,
-    steps: &[Step<'_>],
-    index: usize,
-    new: New<'_>,
-) -> Result<String>
-    ensures { IfOk result (λ made. ChangesBy (BringsAt new.entry (IsWithAt index) steps.now) text.now (string_bytes made)) }
-{
     let value = new_text(alloc, new, text, steps, Goes::Before(index))?;
     insert_element(alloc, text, steps, index, value.as_str())
 }

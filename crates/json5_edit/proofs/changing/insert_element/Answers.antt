@@ -16,14 +16,8 @@ use Rattle.json5_edit.proofs.changing.insert_element.Goals as goal
 pub limit_of-room-requires : goal.limit_of-room-requires
 limit_of-room-requires c = is_small c.in_ok-place.ensures.found
 
-pub part_text-old-requires : goal.part_text-old-requires
-part_text-old-requires c = has_place c.in_ok-place.ensures.found
-
 pub splice-requires : goal.splice-requires
 splice-requires c = has_place c.in_ok-place.ensures.found
-
-pub check_entry-requires : goal.check_entry-requires
-check_entry-requires c = is_small c.in_ok-place.ensures.found
 
 pub entry_found-requires : goal.entry_found-requires
 entry_found-requires c = rw c.limit_of-room.ensures (value_fits c.args.text.now c.part_text-old.result.now c.args.path.now c.in_ok-place.place c.utf8.text c.in_ok-place.ensures.found c.part_text-old.ensures)
@@ -32,7 +26,7 @@ pub put_in-requires-clause-entry : goal.put_in-requires-clause-entry
 put_in-requires-clause-entry c = found_entry c.in_ok-found.ensures.found
 
 pub put_in-requires-clause-value : goal.put_in-requires-clause-value
-put_in-requires-clause-value c = rw c.limit_of-room.ensures c.in_ok-check_entry.ensures.value
+put_in-requires-clause-value c = c.in_ok-check_entry.ensures.value
 
 pub put_in-requires-clause-plain : goal.put_in-requires-clause-plain
 put_in-requires-clause-plain c = subst (λ z. KeepsPlain z c.part_text-old.result.now) (sym c.collection-collection.ensures.document) (part_stays c.args.text.now c.part_text-old.result.now c.args.path.now c.in_ok-place.place c.utf8.text c.in_ok-place.ensures.found c.part_text-old.ensures)
@@ -53,7 +47,7 @@ returns-in_err-found-clause-refused c =
 pub returns-in_err-check_entry-clause-refused : goal.returns-in_err-check_entry-clause-refused
 returns-in_err-check_entry-clause-refused c =
     let (y, is, from) = err_from_is_err_and c.from_residual-in_err-check_entry.result c.from_residual-in_err-check_entry.ensures.1 in
-    rw (is, from) (new_put_in c.args.text.now c.args.path.now c.in_ok-place.place c.in_ok-place.ensures.found c.args.index c.args.value.now c.in_err-check_entry.field-0.0 c.in_err-check_entry.ensures.refused)
+    rw (is, from) (new_put_in c.args.text.now c.args.path.now c.in_ok-place.place c.in_ok-place.ensures.found c.args.index c.args.value.now c.in_err-check_entry.field-0.0 (rw c.limit_of-room.ensures at c.in_err-check_entry.ensures.refused))
 
 pub returns-in_err-new-clause-refused : goal.returns-in_err-new-clause-refused
 returns-in_err-new-clause-refused c =

@@ -5,4 +5,4 @@ pub returns-in-Some : goal.returns-in-Some
 returns-in-Some c = λ before old after cut. part_there c.utf8.text c.in-Some.ensures.cases.0 cut
 
 pub returns-in-None : goal.returns-in-None
-returns-in-None c = λ before old after cut. absurd (is_part_text c.utf8.text c.requires c.in-None.ensures.cases)
+returns-in-None c = λ before old after cut. absurd (is_part_text c.utf8.text (before, old, after, cut) c.in-None.ensures.cases)

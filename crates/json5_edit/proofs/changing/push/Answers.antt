@@ -14,20 +14,15 @@ use Rattle.json5_edit.proofs.changing.push.Goals as goal
 pub limit_of-room-requires : goal.limit_of-room-requires
 limit_of-room-requires c = is_small c.in_ok-place.ensures.found
 
-pub part_text-old-requires : goal.part_text-old-requires
-part_text-old-requires c = has_place c.in_ok-place.ensures.found
-
 pub splice-requires : goal.splice-requires
 splice-requires c = has_place c.in_ok-place.ensures.found
 
-pub check_entry-requires : goal.check_entry-requires
-check_entry-requires c = is_small c.in_ok-place.ensures.found
-
-pub pushed-requires-clause-value : goal.pushed-requires-clause-value
-pushed-requires-clause-value c = rw c.limit_of-room.ensures c.in_ok-check_entry.ensures.value
-
-pub pushed-requires-clause-plain : goal.pushed-requires-clause-plain
-pushed-requires-clause-plain c = subst (λ z. KeepsPlain z c.part_text-old.result.now) (sym c.collection-collection.ensures.document) (part_stays c.args.text.now c.part_text-old.result.now c.args.path.now c.in_ok-place.place c.utf8.text c.in_ok-place.ensures.found c.part_text-old.ensures)
+pub pushed-requires : goal.pushed-requires
+pushed-requires c = (
+  c.in_ok-end.ensures.found,
+  c.in_ok-check_entry.ensures.value,
+  subst (λ z. KeepsPlain z c.part_text-old.result.now) (sym c.collection-collection.ensures.document) (part_stays c.args.text.now c.part_text-old.result.now c.args.path.now c.in_ok-place.place c.utf8.text c.in_ok-place.ensures.found c.part_text-old.ensures),
+)
 
 pub array_end-requires : goal.array_end-requires
 array_end-requires c = rw c.limit_of-room.ensures (value_fits c.args.text.now c.part_text-old.result.now c.args.path.now c.in_ok-place.place c.utf8.text c.in_ok-place.ensures.found c.part_text-old.ensures)
@@ -45,7 +40,7 @@ returns-in_err-end-clause-refused c =
 pub returns-in_err-check_entry-clause-refused : goal.returns-in_err-check_entry-clause-refused
 returns-in_err-check_entry-clause-refused c =
     let (y, is, from) = err_from_is_err_and c.from_residual-in_err-check_entry.result c.from_residual-in_err-check_entry.ensures.1 in
-    rw (is, from) (new_push c.args.text.now c.args.path.now c.in_ok-place.place c.in_ok-place.ensures.found c.args.value.now c.in_err-check_entry.field-0.0 c.in_err-check_entry.ensures.refused)
+    rw (is, from) (new_push c.args.text.now c.args.path.now c.in_ok-place.place c.in_ok-place.ensures.found c.args.value.now c.in_err-check_entry.field-0.0 (rw c.limit_of-room.ensures at c.in_err-check_entry.ensures.refused))
 
 pub returns-in_err-new-clause-refused : goal.returns-in_err-new-clause-refused
 returns-in_err-new-clause-refused c =
@@ -53,10 +48,10 @@ returns-in_err-new-clause-refused c =
     rw (is, from) tt
 
 pub returns-clause-pushed : goal.returns-clause-pushed
-returns-clause-pushed c = ok_then c.splice.result (λ made k. changed_within (Grows kind.Array c.args.value.now) (Gains kind.Array [] c.args.value.now) c.args.text.now c.part_text-old.result.now c.as_str.result.now (string_bytes c.in_ok-new.new) (string_bytes made) c.args.path.now c.in_ok-place.place c.utf8.text c.as_str.utf8 c.as_str.ensures.value c.in_ok-place.ensures.found c.part_text-old.ensures (rw c.limit_of-room.ensures at c.in_ok-new.ensures.pushed) k) c.splice.ensures.spliced
+returns-clause-pushed c = ok_then c.splice.result (λ made k. changed_within (Grows kind.Array c.args.value.now) (Gains kind.Array [] c.args.value.now) c.args.text.now c.part_text-old.result.now c.as_str.result.now (string_bytes c.in_ok-new.new) (string_bytes made) c.args.path.now c.in_ok-place.place c.utf8.text c.as_str.utf8 c.as_str.ensures.value c.in_ok-place.ensures.found c.part_text-old.ensures (rw c.limit_of-room.ensures at c.in_ok-new.ensures.0) k) c.splice.ensures.spliced
 
 pub returns-clause-plain : goal.returns-clause-plain
-returns-clause-plain c = ok_then c.splice.result (λ made k. plain_within c.args.text.now c.args.value.now c.as_str.result.now (string_bytes c.in_ok-new.new) (string_bytes made) c.args.path.now c.in_ok-place.place c.utf8.text c.as_str.utf8 c.as_str.ensures.value c.in_ok-place.ensures.found (rw c.limit_of-room.ensures at c.in_ok-new.ensures.pushed.2) (subst (λ z. StaysPlain z c.args.value.now (string_bytes c.in_ok-new.new)) c.collection-collection.ensures.document (c.in_ok-new.ensures.plain c.collection-collection.ensures.names)) k) c.splice.ensures.spliced
+returns-clause-plain c = ok_then c.splice.result (λ made k. plain_within c.args.text.now c.args.value.now c.as_str.result.now (string_bytes c.in_ok-new.new) (string_bytes made) c.args.path.now c.in_ok-place.place c.utf8.text c.as_str.utf8 c.as_str.ensures.value c.in_ok-place.ensures.found (rw c.limit_of-room.ensures at c.in_ok-new.ensures.0.2) (subst (λ z. StaysPlain z c.args.value.now (string_bytes c.in_ok-new.new)) c.collection-collection.ensures.document (c.in_ok-new.ensures.1 c.collection-collection.ensures.names)) k) c.splice.ensures.spliced
 
 pub returns-clause-refused : goal.returns-clause-refused
 returns-clause-refused c = lacking (RefusesPush c.args.text.now c.args.path.now c.args.value.now) c.splice.result tt c.splice.ensures.full

@@ -4,11 +4,7 @@ use Rattle.json5_edit.specs.Changes.{ChangesBy}
 use Rattle.json5_edit.specs.Comparing.{IsWithout}
 use Rattle.json5_edit.specs.Places.{IsValue}
 use Rattle.json5_lexemes.specs.Plain.{KeepsPlain}
-use Rattle.json5_edit.proofs.Removed.{end_tokens}
 use Rattle.json5_edit.proofs.changing.removed_by_lines.Goals as goal
-
-pub cut-requires : goal.cut-requires
-cut-requires c = end_tokens c.args.found c.utf8.old c.requires
 
 pub returns : goal.returns
 returns c =

@@ -8,20 +8,17 @@ use Rattle.json5_edit.proofs.Placed.{ok_then}
 use Rattle.json5_edit.proofs.Removed.{found_entry}
 use Rattle.json5_edit.proofs.PlainCuts.{keeps_within}
 use Rattle.json5_edit.proofs.Changed.{has_place, is_small, changed_within}
-use Rattle.json5_edit.proofs.Refused.{no_steps, lacking, path_rename, step_rename, key_rename, value_fits, old_document}
+use Rattle.json5_edit.proofs.Refused.{no_steps, lacking, path_rename, step_rename, free_rename, value_fits}
 use Rattle.json5_edit.proofs.changing.rename.Goals as goal
 
 pub limit_of-room-requires : goal.limit_of-room-requires
 limit_of-room-requires c = is_small c.in_ok-place.ensures.found
 
-pub part_text-old-requires : goal.part_text-old-requires
-part_text-old-requires c = has_place c.in_ok-place.ensures.found
-
 pub entry_found-requires : goal.entry_found-requires
 entry_found-requires c = rw c.limit_of-room.ensures (value_fits c.args.text.now c.part_text-old.result.now c.in-Some.outer.now c.in_ok-place.place c.utf8.text c.in_ok-place.ensures.found c.part_text-old.ensures)
 
-pub check_key-requires : goal.check_key-requires
-check_key-requires c = old_document c.args.text.now c.part_text-old.result.now c.in-Some.outer.now c.in_ok-place.place c.utf8.text c.in_ok-place.ensures.found c.part_text-old.ensures
+pub free_end-requires : goal.free_end-requires
+free_end-requires c = rw c.limit_of-room.ensures (value_fits c.args.text.now c.part_text-old.result.now c.in-Some.outer.now c.in_ok-place.place c.utf8.text c.in_ok-place.ensures.found c.part_text-old.ensures)
 
 pub renamed-requires : goal.renamed-requires
 renamed-requires c = (c.in-Key.name, refl, subst (λ s. HasEntry s c.limit_of-room.result c.part_text-old.result.now c.in_ok-found.found.start) c.in-Key.is (found_entry c.in_ok-found.ensures.found))
@@ -42,10 +39,11 @@ returns-in_err-found-clause-refused c =
     let (y, is, from) = err_from_is_err_and c.from_residual-in_err-found.result c.from_residual-in_err-found.ensures.1 in
     rw (is, from) (step_rename c.args.text.now c.part_text-old.result.now c.in-Some.outer.now c.in_ok-place.place c.utf8.text c.in_ok-place.ensures.found c.part_text-old.ensures c.args.path.now c.args.key.now c.in-Some.step.now c.in_err-found.field-0.0 c.in-Some.ensures.cases.0 c.in_err-found.ensures.refused)
 
-pub returns-in_err-check_key-clause-refused : goal.returns-in_err-check_key-clause-refused
-returns-in_err-check_key-clause-refused c =
-    let (y, is, from) = err_from_is_err_and c.from_residual-in_err-check_key.result c.from_residual-in_err-check_key.ensures.1 in
-    rw (is, from) (key_rename c.args.text.now c.part_text-old.result.now c.in-Some.outer.now c.in_ok-place.place c.utf8.text c.in_ok-place.ensures.found c.part_text-old.ensures c.args.path.now c.args.key.now c.in-Some.step.now c.in_err-check_key.field-0.0 c.in-Some.ensures.cases.0 c.in_err-check_key.ensures.refused)
+pub returns-in_err-free_end-clause-refused : goal.returns-in_err-free_end-clause-refused
+returns-in_err-free_end-clause-refused c =
+    let (y, is, from) = err_from_is_err_and c.from_residual-in_err-free_end.result c.from_residual-in_err-free_end.ensures.1 in
+    let there = subst (λ s. HasEntry s c.limit_of-room.result c.part_text-old.result.now c.in_ok-found.found.start) c.in-Key.is (found_entry c.in_ok-found.ensures.found) in
+    rw (is, from) (free_rename c.args.text.now c.part_text-old.result.now c.in-Some.outer.now c.in_ok-place.place c.utf8.text c.in_ok-place.ensures.found c.part_text-old.ensures c.args.path.now c.args.key.now c.in-Some.step.now c.in_err-free_end.field-0.0 c.in-Some.ensures.cases.0 (λ n. n there.tree there.value there.kind) c.in_err-free_end.ensures.refused)
 
 pub returns-in_err-new-clause-refused : goal.returns-in_err-new-clause-refused
 returns-in_err-new-clause-refused c =
@@ -53,7 +51,7 @@ returns-in_err-new-clause-refused c =
     rw (is, from) tt
 
 pub returns-clause-rekeyed : goal.returns-clause-rekeyed
-returns-clause-rekeyed c = ok_then c.splice.result (λ made k. let q = changed_within (λ x y. Respells x y × IsFree c.args.key.now x) (IsRenamed c.in-Key.name.now c.args.key.now) c.args.text.now c.part_text-old.result.now c.as_str.result.now (string_bytes c.in_ok-new.new) (string_bytes made) c.in-Some.outer.now c.in_ok-place.place c.utf8.text c.as_str.utf8 c.as_str.ensures.value c.in_ok-place.ensures.found c.part_text-old.ensures (let m = rw c.limit_of-room.ensures at c.in_ok-new.ensures in (m.0, (m.1, c.in_ok-check_key.ensures.free), m.2)) k in (c.in-Some.outer.now, c.in-Key.name, c.in-Some.ensures.cases.0 ∙ ap (λ s. c.in-Some.outer.now ++ (s ∷ [])) c.in-Key.is, q.0, q.1.0, q.1.1)) c.splice.ensures.spliced
+returns-clause-rekeyed c = ok_then c.splice.result (λ made k. let q = changed_within (λ x y. Respells x y × IsFree c.args.key.now x) (IsRenamed c.in-Key.name.now c.args.key.now) c.args.text.now c.part_text-old.result.now c.as_str.result.now (string_bytes c.in_ok-new.new) (string_bytes made) c.in-Some.outer.now c.in_ok-place.place c.utf8.text c.as_str.utf8 c.as_str.ensures.value c.in_ok-place.ensures.found c.part_text-old.ensures (let m = rw c.limit_of-room.ensures at c.in_ok-new.ensures in (m.0, (m.1, c.in_ok-free_end.ensures.free), m.2)) k in (c.in-Some.outer.now, c.in-Key.name, c.in-Some.ensures.cases.0 ∙ ap (λ s. c.in-Some.outer.now ++ (s ∷ [])) c.in-Key.is, q.0, q.1.0, q.1.1)) c.splice.ensures.spliced
 
 pub returns-clause-plain : goal.returns-clause-plain
 returns-clause-plain c = ok_then c.splice.result (λ made k. let q = rw c.limit_of-room.ensures at c.in_ok-new.ensures in keeps_within c.args.text.now c.part_text-old.result.now c.as_str.result.now (string_bytes c.in_ok-new.new) (string_bytes made) c.in-Some.outer.now c.in_ok-place.place c.utf8.text c.as_str.utf8 c.as_str.ensures.value c.in_ok-place.ensures.found c.part_text-old.ensures q.2 q.3 k) c.splice.ensures.spliced

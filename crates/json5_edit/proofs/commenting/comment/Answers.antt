@@ -12,9 +12,6 @@ use Rattle.json5_edit.proofs.commenting.comment.Goals as goal
 pub limit_of-room-requires : goal.limit_of-room-requires
 limit_of-room-requires c = is_small c.in_ok-place.ensures.found
 
-pub part_text-old-requires : goal.part_text-old-requires
-part_text-old-requires c = has_place c.in_ok-place.ensures.found
-
 pub splice-requires : goal.splice-requires
 splice-requires c = has_place c.in_ok-place.ensures.found
 

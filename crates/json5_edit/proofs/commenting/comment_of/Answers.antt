@@ -1,15 +1,12 @@
 use Rattle.std.proofs.Common.{inr}
 use Rattle.std.proofs.lemmas.Result.{err_from_is_err_and}
-use Rattle.json5_edit.proofs.Changed.{has_place, is_small}
+use Rattle.json5_edit.proofs.Changed.{is_small}
 use Rattle.json5_edit.proofs.Recommented.{as_own, as_removal}
 use Rattle.json5_edit.proofs.Refused.{no_steps, path_remove, step_remove, value_fits}
 use Rattle.json5_edit.proofs.commenting.comment_of.Goals as goal
 
 pub limit_of-room-requires : goal.limit_of-room-requires
 limit_of-room-requires c = is_small c.in_ok-place.ensures.found
-
-pub part_text-old-requires : goal.part_text-old-requires
-part_text-old-requires c = has_place c.in_ok-place.ensures.found
 
 pub entry_found-requires : goal.entry_found-requires
 entry_found-requires c = rw c.limit_of-room.ensures (value_fits c.args.text.now c.part_text-old.result.now c.in-Some.outer.now c.in_ok-place.place c.utf8.text c.in_ok-place.ensures.found c.part_text-old.ensures)

@@ -15,14 +15,8 @@ use Rattle.json5_edit.proofs.inserting.insert_before.Goals as goal
 pub limit_of-room-requires : goal.limit_of-room-requires
 limit_of-room-requires c = is_small c.in_ok-place.ensures.found
 
-pub part_text-old-requires : goal.part_text-old-requires
-part_text-old-requires c = has_place c.in_ok-place.ensures.found
-
 pub splice-requires : goal.splice-requires
 splice-requires c = has_place c.in_ok-place.ensures.found
-
-pub check_entry-requires : goal.check_entry-requires
-check_entry-requires c = is_small c.in_ok-place.ensures.found
 
 pub free_end-requires : goal.free_end-requires
 free_end-requires c = rw c.limit_of-room.ensures (value_fits c.args.text.now c.part_text-old.result.now c.args.path.now c.in_ok-place.place c.utf8.text c.in_ok-place.ensures.found c.part_text-old.ensures)
@@ -31,7 +25,7 @@ pub start_before-requires : goal.start_before-requires
 start_before-requires c = let h = c.in_ok-end.ensures.found in (h.small, h.tree, h.value, h.shallow, h.kind)
 
 pub put_there-requires : goal.put_there-requires
-put_there-requires c = (c.in_ok-end.ensures.found.small, c.in_ok-start.ensures.found, c.in_ok-end.ensures.found, (rw c.limit_of-room.ensures c.in_ok-check_entry.ensures.value), subst (λ z. KeepsPlain z c.part_text-old.result.now) (sym c.collection-collection.ensures.document) (part_stays c.args.text.now c.part_text-old.result.now c.args.path.now c.in_ok-place.place c.utf8.text c.in_ok-place.ensures.found c.part_text-old.ensures))
+put_there-requires c = (c.in_ok-end.ensures.found.small, c.in_ok-start.ensures.found, c.in_ok-end.ensures.found, c.in_ok-check_entry.ensures.value, subst (λ z. KeepsPlain z c.part_text-old.result.now) (sym c.collection-collection.ensures.document) (part_stays c.args.text.now c.part_text-old.result.now c.args.path.now c.in_ok-place.place c.utf8.text c.in_ok-place.ensures.found c.part_text-old.ensures))
 
 pub returns-in_err-place-clause-refused : goal.returns-in_err-place-clause-refused
 returns-in_err-place-clause-refused c =
@@ -46,7 +40,7 @@ returns-in_err-end-clause-refused c =
 pub returns-in_err-check_entry-clause-refused : goal.returns-in_err-check_entry-clause-refused
 returns-in_err-check_entry-clause-refused c =
     let (y, is, from) = err_from_is_err_and c.from_residual-in_err-check_entry.result c.from_residual-in_err-check_entry.ensures.1 in
-    rw (is, from) (before_refused c.args.before c.args.text.now c.args.key.now c.args.value.now c.args.path.now c.in_err-check_entry.field-0.0 (new_insert c.args.text.now c.args.path.now c.in_ok-place.place c.in_ok-place.ensures.found c.args.key.now c.args.value.now c.in_err-check_entry.field-0.0 c.in_err-check_entry.ensures.refused))
+    rw (is, from) (before_refused c.args.before c.args.text.now c.args.key.now c.args.value.now c.args.path.now c.in_err-check_entry.field-0.0 (new_insert c.args.text.now c.args.path.now c.in_ok-place.place c.in_ok-place.ensures.found c.args.key.now c.args.value.now c.in_err-check_entry.field-0.0 (rw c.limit_of-room.ensures at c.in_err-check_entry.ensures.refused)))
 
 pub returns-in_err-start-clause-refused : goal.returns-in_err-start-clause-refused
 returns-in_err-start-clause-refused c =

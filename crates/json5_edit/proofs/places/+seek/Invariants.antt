@@ -8,8 +8,5 @@ decreases-seek l = 3 * length l.path.now
 abbrev pub decreases-seek_entry : goal.decreases-seek_entry
 decreases-seek_entry l = 3 * length l.path.now + 2
 
-abbrev pub decreases-seek_or_skip : goal.decreases-seek_or_skip
-decreases-seek_or_skip l = 3 * length l.path.now + 1
-
 abbrev pub invariant-seek_entry-loop-count : goal.invariant-seek_entry-loop-count
 invariant-seek_entry-loop-count l = Passed l.fn.step l.fn.path l.fn.walk l.walk l.count

@@ -10,9 +10,6 @@ use Rattle.json5_edit.proofs.Changed.{has_place, is_small, changed_within}
 use Rattle.json5_edit.proofs.Refused.{lacking, own, path_sort, reaches_no}
 use Rattle.json5_edit.proofs.sorting.sort.Goals as goal
 
-pub part_text-old-requires : goal.part_text-old-requires
-part_text-old-requires c = has_place c.in_ok-place.ensures.found
-
 pub limit_of-room-requires : goal.limit_of-room-requires
 limit_of-room-requires c = is_small c.in_ok-place.ensures.found
 

@@ -1,9 +1,10 @@
 use Rattle.std.proofs.Common.{length}
+use Rattle.std.specs.Str.{chars}
 use Rattle.json5_edit_style.proofs.CommentsPassed.{LinesOn}
 use Rattle.json5_edit_style.proofs.comments.comment_lines.Given as goal
 
-abbrev pub invariant-loop-c : goal.invariant-loop-c
-invariant-loop-c l = LinesOn l.has l.one l.scanner.unread l.fn.scanner.unread
+abbrev pub invariant-loop-piece : goal.invariant-loop-piece
+invariant-loop-piece l = LinesOn l.has l.one l.pieces (chars l.fn.text)
 
-abbrev pub decreases-loop-c : goal.decreases-loop-c
-decreases-loop-c l = length l.scanner.unread
+abbrev pub decreases-loop-piece : goal.decreases-loop-piece
+decreases-loop-piece l = length l.pieces

@@ -1,6 +1,6 @@
 use Rattle.std.proofs.Common.{sym, subst}
 use Rattle.json5_edit_style.specs.Comments.{CommentLines}
-use Rattle.json5_edit_style.specs.Passing.{IsPiece}
+use Rattle.json5_lexemes.specs.Pieces.{IsPiece}
 use Rattle.json5_edit_style.proofs.CommentsPassed.{blank_after, end_after, line_after, block_after}
 use Rattle.json5_edit_style.proofs.comments.has_after.Goals as goal
 
