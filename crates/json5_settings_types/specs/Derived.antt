@@ -6,10 +6,14 @@ use Rattle.serde.specs.Steps.{Gives}
 use Rattle.serde.specs.declared.deserializer.Deserializer.{Deserializer}
 use Rattle.json5_settings_types.specs.Bounds.{if_within}
 
--- a text was read, which means this
-abbrev pub GivesMeaning : {F E M C : Type 0} → (F → List ℕ → Event → F → Type 0) → (List ℕ → Option C) → Deserializer F E M → C → Deserializer F E M → Type 0
-GivesMeaning gives means old c new = (bytes : List ℕ) × Gives gives old (text bytes) new × (means bytes ≡ Some c)
+-- the format gave this between two states
+abbrev pub given : {F E M : Type 0} → (F → List ℕ → Event → F → Type 0) → (old new : Deserializer F E M) → Event → Type 0
+given gives old new event = Gives gives old event new
 
--- this number was read, and it is within the bounds
-abbrev pub GivesWithin : {F E M : Type 0} → (F → List ℕ → Event → F → Type 0) → ℤ → ℤ → Deserializer F E M → ℤ → Deserializer F E M → Type 0
-GivesWithin gives low high old z new = Gives gives old (signed z) new × (if_within low high z ≡ Some z)
+-- it gave a text, which means this
+abbrev pub MeansText : {C : Type 0} → (Event → Type 0) → (List ℕ → Option C) → C → Type 0
+MeansText gave means c = (bytes : List ℕ) × gave (text bytes) × (means bytes ≡ Some c)
+
+-- it gave this number, which is within the bounds
+abbrev pub IsNumberWithin : (Event → Type 0) → (low high z : ℤ) → Type 0
+IsNumberWithin gave low high z = gave (signed z) × (if_within low high z ≡ Some z)

@@ -13,7 +13,7 @@
 
 ghost use Rattle.std.specs.Prelude.{IfOk, string_bytes};
 ghost use Rattle.serde.specs.Event.{Logs, WritesSeq, signed, text};
-ghost use Rattle.json5_settings_types.specs.Derived.{GivesMeaning, GivesWithin};
+ghost use Rattle.json5_settings_types.specs.Derived.{IsNumberWithin, MeansText, given};
 ghost use Rattle.json5_settings_types.specs.Durations.{duration_of, duration_text};
 ghost use Rattle.json5_settings_types.specs.Paths.{if_path, path_bytes};
 ghost use Rattle.json5_settings_types.specs.Sizes.{size_of, size_text};
@@ -46,7 +46,7 @@ fn spelled<T: Spelled, F: Format>(
     alloc: Global,
     from: &mut Deserializer<'_, '_, F>,
 ) -> Result<T, F::Error>
-    ensures { IfOk result (λ v. GivesMeaning F.gives T.spells from.old (T.meaning v) from.new) }
+    ensures { IfOk result (λ v. MeansText (given F.gives from.old from.new) T.spells (T.meaning v)) }
 {
     let text = from.string(alloc)?;
     match T::parse(text.as_str()) {
@@ -60,7 +60,7 @@ fn with_text<T: Spelled, F: Format>(
     alloc: Global,
     from: &mut Deserializer<'_, '_, F>,
 ) -> Result<AsSpelled<T>, F::Error>
-    ensures { IfOk result (λ s. GivesMeaning F.gives (if_spelled T.spells) from.old (value_and_text T.meaning s) from.new) }
+    ensures { IfOk result (λ s. MeansText (given F.gives from.old from.new) (if_spelled T.spells) (value_and_text T.meaning s)) }
 {
     let text = from.string(alloc)?;
     match T::parse(text.as_str()) {
@@ -74,7 +74,7 @@ fn url_with_text<F: Format>(
     alloc: Global,
     from: &mut Deserializer<'_, '_, F>,
 ) -> Result<AsSpelled<Url>, F::Error>
-    ensures { IfOk result (λ s. GivesMeaning F.gives (if_spelled url_of) from.old (value_and_text (λ url. url) s) from.new) }
+    ensures { IfOk result (λ s. MeansText (given F.gives from.old from.new) (if_spelled url_of) (value_and_text (λ url. url) s)) }
 {
     let text = from.string(alloc)?;
     match url_in(alloc, text.as_str()) {
@@ -86,7 +86,7 @@ fn url_with_text<F: Format>(
 
 /// Reads the path of a file.
 fn path<F: Format>(alloc: Global, from: &mut Deserializer<'_, '_, F>) -> Result<FilePath, F::Error>
-    ensures { IfOk result (λ p. GivesMeaning F.gives if_path from.old (path_bytes p) from.new) }
+    ensures { IfOk result (λ p. MeansText (given F.gives from.old from.new) if_path (path_bytes p)) }
 {
     match FilePath::new(from.string(alloc)?) {
         Some(path) => Ok(path),
@@ -98,7 +98,7 @@ fn path<F: Format>(alloc: Global, from: &mut Deserializer<'_, '_, F>) -> Result<
 fn within<F: Format, const LOW: i64, const HIGH: i64>(
     from: &mut Deserializer<'_, '_, F>,
 ) -> Result<Within<LOW, HIGH>, F::Error>
-    ensures { IfOk result (λ w. GivesWithin F.gives LOW HIGH from.old w.number from.new) }
+    ensures { IfOk result (λ w. IsNumberWithin (given F.gives from.old from.new) LOW HIGH w.number) }
 {
     let found = from.i64()?;
     match Within::new(found) {
@@ -110,13 +110,25 @@ fn within<F: Format, const LOW: i64, const HIGH: i64>(
     }
 }
 
+/// What it says of a value that it is read, whatever holds the input.
+trait FromFormat {
+    ghost use Rattle.serde.specs.Event.{Event};
+
+    // The value, from what the format gave.
+    ghost reads: { (Event → Type 0) → Self → Type 0 };
+}
+
+impl FromFormat for Duration {
+    ghost reads = { λ gave d. MeansText gave duration_of d.nanoseconds };
+}
+
 /// A text that is a duration.
 impl<'de> Deserialize<'de> for Duration {
     fn deserialize<F: Format>(
         alloc: Global,
         from: &mut Deserializer<'de, '_, F>,
     ) -> Result<Self, F::Error>
-        ensures { IfOk result (λ d. GivesMeaning F.gives duration_of from.old d.nanoseconds from.new) }
+        ensures { IfOk result (⟦<Self as FromFormat>⟧.reads (given F.gives from.old from.new)) }
     {
         spelled(alloc, from)
     }
@@ -127,7 +139,7 @@ impl DeserializeOwned for Duration {
         alloc: Global,
         from: &mut Deserializer<'_, '_, F>,
     ) -> Result<Self, F::Error>
-        ensures { IfOk result (λ owned. GivesMeaning F.gives duration_of from.old owned.nanoseconds from.new) }
+        ensures { IfOk result (⟦<Self as FromFormat>⟧.reads (given F.gives from.old from.new)) }
     {
         spelled(alloc, from)
     }
@@ -145,13 +157,17 @@ impl Serialize for Duration {
     }
 }
 
+impl FromFormat for Size {
+    ghost reads = { λ gave s. MeansText gave size_of s.bytes };
+}
+
 /// A text that is a size.
 impl<'de> Deserialize<'de> for Size {
     fn deserialize<F: Format>(
         alloc: Global,
         from: &mut Deserializer<'de, '_, F>,
     ) -> Result<Self, F::Error>
-        ensures { IfOk result (λ s. GivesMeaning F.gives size_of from.old s.bytes from.new) }
+        ensures { IfOk result (⟦<Self as FromFormat>⟧.reads (given F.gives from.old from.new)) }
     {
         spelled(alloc, from)
     }
@@ -162,7 +178,7 @@ impl DeserializeOwned for Size {
         alloc: Global,
         from: &mut Deserializer<'_, '_, F>,
     ) -> Result<Self, F::Error>
-        ensures { IfOk result (λ owned. GivesMeaning F.gives size_of from.old owned.bytes from.new) }
+        ensures { IfOk result (⟦<Self as FromFormat>⟧.reads (given F.gives from.old from.new)) }
     {
         spelled(alloc, from)
     }
@@ -180,13 +196,17 @@ impl Serialize for Size {
     }
 }
 
+impl<T: Spelled> FromFormat for AsSpelled<T> {
+    ghost reads = { λ gave s. MeansText gave (if_spelled T.spells) (value_and_text T.meaning s) };
+}
+
 /// A text that spells a value.
 impl<'de, T: Spelled> Deserialize<'de> for AsSpelled<T> {
     fn deserialize<F: Format>(
         alloc: Global,
         from: &mut Deserializer<'de, '_, F>,
     ) -> Result<Self, F::Error>
-        ensures { IfOk result (λ v. GivesMeaning F.gives (if_spelled T.spells) from.old (value_and_text T.meaning v) from.new) }
+        ensures { IfOk result (⟦<Self as FromFormat>⟧.reads (given F.gives from.old from.new)) }
     {
         with_text(alloc, from)
     }
@@ -197,10 +217,14 @@ impl<T: Spelled> DeserializeOwned for AsSpelled<T> {
         alloc: Global,
         from: &mut Deserializer<'_, '_, F>,
     ) -> Result<Self, F::Error>
-        ensures { IfOk result (λ owned. GivesMeaning F.gives (if_spelled T.spells) from.old (value_and_text T.meaning owned) from.new) }
+        ensures { IfOk result (⟦<Self as FromFormat>⟧.reads (given F.gives from.old from.new)) }
     {
         with_text(alloc, from)
     }
+}
+
+impl FromFormat for AsSpelled<Url> {
+    ghost reads = { λ gave s. MeansText gave (if_spelled url_of) (value_and_text (λ url. url) s) };
 }
 
 /// A text that is a URL.
@@ -209,7 +233,7 @@ impl<'de> Deserialize<'de> for AsSpelled<Url> {
         alloc: Global,
         from: &mut Deserializer<'de, '_, F>,
     ) -> Result<Self, F::Error>
-        ensures { IfOk result (λ v. GivesMeaning F.gives (if_spelled url_of) from.old (value_and_text (λ url. url) v) from.new) }
+        ensures { IfOk result (⟦<Self as FromFormat>⟧.reads (given F.gives from.old from.new)) }
     {
         url_with_text(alloc, from)
     }
@@ -220,7 +244,7 @@ impl DeserializeOwned for AsSpelled<Url> {
         alloc: Global,
         from: &mut Deserializer<'_, '_, F>,
     ) -> Result<Self, F::Error>
-        ensures { IfOk result (λ owned. GivesMeaning F.gives (if_spelled url_of) from.old (value_and_text (λ url. url) owned) from.new) }
+        ensures { IfOk result (⟦<Self as FromFormat>⟧.reads (given F.gives from.old from.new)) }
     {
         url_with_text(alloc, from)
     }
@@ -237,13 +261,17 @@ impl<T> Serialize for AsSpelled<T> {
     }
 }
 
+impl FromFormat for FilePath {
+    ghost reads = { λ gave p. MeansText gave if_path (path_bytes p) };
+}
+
 /// A text that may be a path.
 impl<'de> Deserialize<'de> for FilePath {
     fn deserialize<F: Format>(
         alloc: Global,
         from: &mut Deserializer<'de, '_, F>,
     ) -> Result<Self, F::Error>
-        ensures { IfOk result (λ v. GivesMeaning F.gives if_path from.old (path_bytes v) from.new) }
+        ensures { IfOk result (⟦<Self as FromFormat>⟧.reads (given F.gives from.old from.new)) }
     {
         path(alloc, from)
     }
@@ -254,7 +282,7 @@ impl DeserializeOwned for FilePath {
         alloc: Global,
         from: &mut Deserializer<'_, '_, F>,
     ) -> Result<Self, F::Error>
-        ensures { IfOk result (λ owned. GivesMeaning F.gives if_path from.old (path_bytes owned) from.new) }
+        ensures { IfOk result (⟦<Self as FromFormat>⟧.reads (given F.gives from.old from.new)) }
     {
         path(alloc, from)
     }
@@ -271,13 +299,17 @@ impl Serialize for FilePath {
     }
 }
 
+impl<const LOW: i64, const HIGH: i64> FromFormat for Within<LOW, HIGH> {
+    ghost reads = { λ gave w. IsNumberWithin gave LOW HIGH w.number };
+}
+
 /// A number within the bounds.
 impl<'de, const LOW: i64, const HIGH: i64> Deserialize<'de> for Within<LOW, HIGH> {
     fn deserialize<F: Format>(
         _alloc: Global,
         from: &mut Deserializer<'de, '_, F>,
     ) -> Result<Self, F::Error>
-        ensures { IfOk result (λ v. GivesWithin F.gives LOW HIGH from.old v.number from.new) }
+        ensures { IfOk result (⟦<Self as FromFormat>⟧.reads (given F.gives from.old from.new)) }
     {
         within(from)
     }
@@ -288,7 +320,7 @@ impl<const LOW: i64, const HIGH: i64> DeserializeOwned for Within<LOW, HIGH> {
         _alloc: Global,
         from: &mut Deserializer<'_, '_, F>,
     ) -> Result<Self, F::Error>
-        ensures { IfOk result (λ owned. GivesWithin F.gives LOW HIGH from.old owned.number from.new) }
+        ensures { IfOk result (⟦<Self as FromFormat>⟧.reads (given F.gives from.old from.new)) }
     {
         within(from)
     }
