@@ -1,8 +1,7 @@
 //! Writing a text part by part, in any order of calls.
 
-ghost use Rattle.std.specs.Prelude.{◌≡◌, [], true, OnOk, OnErr, IfOk, string_bytes};
+ghost use Rattle.std.specs.Prelude.{◌≡◌, [], true, OnOk, OnErr};
 ghost use Rattle.json5_serde_write.specs.Pens.{kinds_onto, kinds_in, is_innermost};
-ghost use Rattle.json5_serde_write.specs.WrittenTexts.{IsWrittenWithin};
 
 use crate::fault::{Fault, Step};
 use crate::scalar::{Scalar, put_scalar};
@@ -41,6 +40,24 @@ impl Model for Pen {
     ghost view = { λ a. a.value_due };
 
     ghost invariant = { λ a. IsPen a.limit a.printer (kinds_in a.inner a.outer.items) a.value_due a.comma_due };
+}
+
+/// A text that is whole: the written text of a tree, with no more brackets open at once than the limit that its pen had.
+#[derive(Drop)]
+pub(crate) struct WholeText {
+    pub(crate) text: String,
+    pub(crate) limit: Limit,
+}
+
+impl Model for WholeText {
+    ghost use Rattle.std.specs.Prelude.{ℕ, List, string_bytes};
+    ghost use Rattle.json5_serde_write.specs.WrittenTexts.{IsWrittenWithin};
+
+    ghost Value = { ℕ × List ℕ };
+
+    ghost view = { λ a. (a.limit, string_bytes a.text) };
+
+    ghost invariant = { λ a. IsWrittenWithin a.limit (string_bytes a.text) };
 }
 
 impl Pen {
@@ -116,13 +133,11 @@ impl Pen {
         Ok(())
     }
 
-    /// Returns the text, if it is whole and was begun with this limit.
-    pub(crate) fn finish(self, limit: Limit) -> Result<String, Fault>
-        ensures { IfOk result (λ s. IsWrittenWithin limit (string_bytes s)) }
-    {
+    /// Returns the text, if it is whole.
+    pub(crate) fn finish(self) -> Result<WholeText, Fault> {
         let Pen {
             printer,
-            limit: begun_with,
+            limit,
             inner,
             outer,
             value_due,
@@ -131,11 +146,12 @@ impl Pen {
         if printer.has_failed() {
             return Err(Fault::Refused(Refused::Before));
         }
-        if value_due || inner.is_some() || !outer.is_empty() || begun_with.get() != limit.get() {
+        if value_due || inner.is_some() || !outer.is_empty() {
             return Err(Fault::Misplaced);
         }
         let bytes = printer.into_inner().into_bytes();
-        Ok(unsafe { String::from_utf8_unchecked(bytes) })
+        let text = unsafe { String::from_utf8_unchecked(bytes) };
+        Ok(WholeText { text, limit })
     }
 }
 

@@ -5,6 +5,7 @@ ghost use Rattle.json5_grammar.specs.Language.Documents.{max_depth};
 ghost use Rattle.json5_serde_write.specs.WrittenTexts.{IsWrittenWithin, WritesNone, WritesSome};
 
 use crate::fault::{Fault, told};
+use crate::pen::WholeText;
 use crate::writer::Json5;
 use json5_types::error::{Error, Result};
 use json5_types::nesting::Limit;
@@ -46,19 +47,30 @@ pub fn to_string<T: Serialize>(alloc: Global, value: &T) -> Result<String>
 pub fn to_string_within<T: Serialize>(alloc: Global, limit: Limit, value: &T) -> Result<String>
     ensures { IfOk result (λ s. IsWrittenWithin limit (string_bytes s)) }
 {
-    match sent(alloc, limit, value) {
-        Ok(text) => Ok(text),
-        Err(fault) => Err(told(alloc, fault)),
+    let whole = match sent(alloc, limit, value) {
+        Ok(whole) => whole,
+        Err(fault) => return Err(told(alloc, fault)),
+    };
+    // A type may put another writer in the place of its own.
+    let WholeText {
+        text,
+        limit: begun_with,
+    } = whole;
+    if begun_with.get() == limit.get() {
+        return Ok(text);
     }
+    Err(told(alloc, Fault::Misplaced))
 }
 
 /// The text of what a type sends.
-fn sent<T: Serialize>(alloc: Global, limit: Limit, value: &T) -> std::result::Result<String, Fault>
-    ensures { IfOk result (λ s. IsWrittenWithin limit (string_bytes s)) }
-{
+fn sent<T: Serialize>(
+    alloc: Global,
+    limit: Limit,
+    value: &T,
+) -> std::result::Result<WholeText, Fault> {
     let mut writer = Json5::new(alloc, limit);
     value.serialize(&mut writer)?;
-    writer.finish(limit)
+    writer.finish()
 }
 
 /// Returns the bytes of the text of what a type sends, which are UTF-8.

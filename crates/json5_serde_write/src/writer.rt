@@ -1,10 +1,7 @@
 //! The writer behind the steps of a serializer.
 
-ghost use Rattle.std.specs.Prelude.{IfOk, string_bytes};
-ghost use Rattle.json5_serde_write.specs.WrittenTexts.{IsWrittenWithin};
-
 use crate::fault::{Fault, Step};
-use crate::pen::Pen;
+use crate::pen::{Pen, WholeText};
 use crate::scalar::Scalar;
 use json5_tokens::scanner::Scanner;
 use json5_types::decimal::Decimal;
@@ -55,10 +52,8 @@ impl Json5 {
         }
     }
 
-    /// Returns the text, if it is whole and was begun with this limit.
-    pub(crate) fn finish(self, limit: Limit) -> Result<String, Fault>
-        ensures { IfOk result (λ s. IsWrittenWithin limit (string_bytes s)) }
-    {
+    /// Returns the text, if it is whole.
+    pub(crate) fn finish(self) -> Result<WholeText, Fault> {
         let Json5 {
             alloc: _,
             pen,
@@ -67,7 +62,7 @@ impl Json5 {
             flat: _,
             name: _,
         } = self;
-        pen.finish(limit)
+        pen.finish()
     }
 
     /// Writes a value without brackets, or as a key what it prints.
