@@ -47,7 +47,7 @@ use Rattle.json5_lexemes.proofs.OneList.{part_apart, each_head}
 use Rattle.json5_lexemes.proofs.PlainSeams.{json_blank}
 use Rattle.json5_lexemes.proofs.SharedSteps.{quoted_run}
 use Rattle.json5_lexemes.proofs.WordParts.{IsToken, a_word, a_string, scalar_token, key_token}
-use Rattle.json5_convert.specs.SpelledAnew.{BeginsNumber, IsBlankBefore, IsComment, IsKeyAt, IsNumberAt, IsStringAt, PassesGap, PassesOn, PassesShort, Repeats, SameKeys, SameScalars, SpelledAnew, TokenBefore, Unquotes, begins_number, left_of}
+use Rattle.json5_convert.specs.SpelledAnew.{BeginsNumber, IsBlankBefore, IsComment, IsKeyAt, IsNumberAt, IsStringAt, PassesAnew, PassesComma, in_first, in_second, PassesGap, PassesNumbers, PassesOn, PassesShort, Repeats, SameKeys, SameScalars, SpelledAnew, TokenBefore, Unquotes, begins_number, left_of}
 use Rattle.json5_convert.specs.SpelledAnew as anew
 use Rattle.json5_convert.proofs.AnewTokens.{itself_keys, itself_scalars, one_key_text, one_scalar}
 
@@ -256,13 +256,13 @@ right_blank_on left right after b = record {
   fewer = fewer_right left right left after (omega arith) (shorter_by b.blank [] (chars right) (chars after) b.split);
 }
 
-pub left_comma_on : (left right after : List ℕ) → StartsWith left comma_sign after → PassesShort left right after right
+left_comma_on : (left right after : List ℕ) → StartsWith left comma_sign after → PassesShort left right after right
 left_comma_on left right after a stay = record {
   same = λ k. put_back left right (comma_sign ∷ chars after) (chars right) a.chars refl (anew.left_comma k);
   fewer = fewer_left left right after right (shorter_by comma_sign [] (chars left) (chars after) a.chars) (omega arith);
 }
 
-pub right_comma_on : (left right after : List ℕ) → StartsWith right comma_sign after → PassesShort left right left after
+right_comma_on : (left right after : List ℕ) → StartsWith right comma_sign after → PassesShort left right left after
 right_comma_on left right after a stay = record {
   same = λ k. put_back left right (chars left) (comma_sign ∷ chars after) refl a.chars (anew.right_comma k);
   fewer = fewer_right left right left after (omega arith) (shorter_by comma_sign [] (chars right) (chars after) a.chars);
@@ -322,6 +322,10 @@ repeats_comment comment other text rest is d y t k = subst (λ z. IsComment z (c
 
 pub gap_on : {stay : Bool} (left right after after_right : List ℕ) → PassesGap stay left right after after_right → PassesOn stay false left right after after_right
 gap_on left right after after_right g = record { same = λ k. g.same false k; fewer = g.fewer }
+
+pub comma_on : (left right after after_right : List ℕ) → PassesComma left right after after_right → PassesShort left right after after_right
+comma_on left right after after_right (in_first a) = left_comma_on left right after a
+comma_on left right after after_right (in_second a) = right_comma_on left right after_right a
 
 -- ---- tokens that are spelled anew
 
@@ -403,22 +407,36 @@ number_no_key x s r n e i u f k =
     heads : {a b : ℕ} {y z : List ℕ} → a ∷ y ≡ b ∷ z → a ≡ b
     heads e = cc
 
-pub numbers_on : (left right after after_right : List ℕ) (x y : Number) → number_of y ≡ number_of x → BeginsNumber (chars left) → IsNumberAt (chars left) x (chars after) → IsNumberAt (chars right) y (chars after_right) → PassesShort left right after after_right
-numbers_on left right after after_right x y is begun a b =
+numbers_short : (left right after after_right : List ℕ) (x y : Number) → number_of y ≡ number_of x → BeginsNumber (chars left) → IsNumberAt (chars left) x (chars after) → IsNumberAt (chars right) y (chars after_right) → PassesShort left right after after_right
+numbers_short left right after after_right x y is begun a b =
     values_on left right after after_right a.spelled b.spelled (scalar_token (tokens.is_number a.number)) (scalar_token (tokens.is_number b.number)) a.split b.split a.ended b.ended
     (λ t u i j. ap datum_of (one_scalar i (tokens.is_number a.number)) ∙ ap datum.number (sym is) ∙ sym (ap datum_of (one_scalar j (tokens.is_number b.number))))
     (λ u v e f i j. absurd (number_no_key (chars left) a.spelled (chars after) begun a.split (scalar_token (tokens.is_number a.number)) u e i))
 
-pub keys_on : {stay : Bool} (left right rest rest_right after after_right : List ℕ) (x y : CowStr) → cow_bytes x ≡ cow_bytes y → IsKeyAt (chars left) x (chars rest) → IsKeyAt (chars right) y (chars rest_right) → PassesOn stay true rest rest_right after after_right
-    → PassesOn stay false left right after after_right
-keys_on left right rest rest_right after after_right x y is a b g =
+pub numbers_on : (left right after after_right : List ℕ) → BeginsNumber (chars left) → PassesNumbers left right after after_right → PassesAnew false left right after after_right
+numbers_on left right after after_right begun (x, y, is, a, b) =
+    let k = numbers_short left right after after_right x y is begun a b in record { same = λ stay. (k stay).same; fewer = (k true).fewer }
+
+pub keys_on : (left right after after_right : List ℕ) (x y : CowStr) → cow_bytes x ≡ cow_bytes y → IsKeyAt (chars left) x (chars after) → IsKeyAt (chars right) y (chars after_right) → PassesAnew true left right after after_right
+keys_on left right after after_right x y is a b =
     let texts : a.text_of ≡ b.text_of = a.is_text ∙ ap chars is ∙ sym b.is_text in
     record {
-      same = λ k.
-          put_back left right (a.spelled ++ chars rest) (b.spelled ++ chars rest_right) a.split b.split
-          (anew.key (token_before (key_token a.key) a.ended) (token_before (key_token b.key) b.ended) (λ u v e f i j. one_key_text i a.key ∙ texts ∙ sym (one_key_text j b.key)) (g.same k));
-      fewer = let h = some_token (chars rest) (chars left) (key_token a.key) a.split in let i = some_token (chars rest_right) (chars right) (key_token b.key) b.split in let j = g.fewer in omega (arith, h, i, j);
+      same = λ stay k.
+          put_back left right (a.spelled ++ chars after) (b.spelled ++ chars after_right) a.split b.split
+          (anew.key (token_before (key_token a.key) a.ended) (token_before (key_token b.key) b.ended) (λ u v e f i j. one_key_text i a.key ∙ texts ∙ sym (one_key_text j b.key)) k);
+      fewer = fewer_left left right after after_right (some_token (chars after) (chars left) (key_token a.key) a.split) (let h = some_token (chars after_right) (chars right) (key_token b.key) b.split in omega (arith, h));
     }
+
+-- nothing is due after a token
+pub token_on : (due stay : Bool) (left right after after_right : List ℕ) → due ≡ false → PassesAnew due left right after after_right → PassesOn stay false left right after after_right
+token_on due stay left right after after_right is g = record { same = λ k. g.same stay (subst (λ d. SpelledAnew stay d (chars after) (chars after_right)) (sym is) k); fewer = g.fewer }
+
+-- the colon after a key
+pub key_on : (due stay : Bool) (left right rest rest_right after after_right : List ℕ) → due ≡ true → PassesAnew due left right rest rest_right → PassesOn stay true rest rest_right after after_right → PassesOn stay false left right after after_right
+key_on due stay left right rest rest_right after after_right is g h = record {
+  same = λ k. g.same stay (subst (λ d. SpelledAnew stay d (chars rest) (chars rest_right)) (sym is) (h.same k));
+  fewer = let i = g.fewer in let j = h.fewer in omega (arith, i, j);
+}
 
 -- ---- up to a colon
 

@@ -14,6 +14,7 @@ use Rattle.json5_types.specs.declared.number.Number.{Number}
 use Rattle.json5_types.specs.Cows.{cow_bytes}
 use Rattle.json5_types.specs.NumberMeanings.{number_of}
 use Rattle.json5_read.specs.TreeMeanings.{datum_of}
+use Rattle.json5_tokens.specs.Scan.{StartsWith}
 use Rattle.json5_lexemes.specs.Lexemes.{Quoted}
 use Rattle.json5_lexemes.specs.Runs.{is_text_byte}
 use Rattle.json5_lexemes.specs.SameLexemes.{is_sign, is_word_part, is_line_part}
@@ -64,6 +65,16 @@ pub record PassesOn (stay due : Bool) (left right after after_right : List ℕ) 
 -- the same where no comment was passed, and no colon was due
 abbrev pub PassesShort : (left right after after_right : List ℕ) → Type 0
 PassesShort left right after after_right = (stay : Bool) → PassesOn stay false left right after after_right
+
+-- a token was passed that each text has, spelled anew; after a key a colon is due
+pub record PassesAnew (colon_due : Bool) (left right after after_right : List ℕ) : Type 0 where
+  pub same : (stay : Bool) → SpelledAnew stay colon_due (chars after) (chars after_right) → SpelledAnew stay false (chars left) (chars right)
+  pub fewer : left_of after after_right < left_of left right
+
+-- a comma of one text was passed
+pub data PassesComma (left right : List ℕ) : (after after_right : List ℕ) → Type 0 where
+  in_first : {after : List ℕ} → StartsWith left comma_sign after → PassesComma left right after right
+  in_second : {after : List ℕ} → StartsWith right comma_sign after → PassesComma left right left after
 
 -- a blank or a comment was passed
 pub record PassesGap (stay : Bool) (left right after after_right : List ℕ) : Type 0 where
@@ -126,6 +137,10 @@ pub record IsNumberAt (x : List ℕ) (n : Number) (r : List ℕ) : Type 0 where
   pub split : x ≡ spelled ++ r
   pub number : Num spelled (number_of n)
   pub ended : NotBegun is_word_part r
+
+-- both texts begin with this number
+abbrev pub PassesNumbers : (left right after after_right : List ℕ) → Type 0
+PassesNumbers left right after after_right = (n m : Number) × (number_of m ≡ number_of n) × IsNumberAt (chars left) n (chars after) × IsNumberAt (chars right) m (chars after_right)
 
 -- x is a key of this text and then r
 pub record IsKeyAt (x : List ℕ) (t : CowStr) (r : List ℕ) : Type 0 where

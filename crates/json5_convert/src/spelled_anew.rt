@@ -1,12 +1,12 @@
 //! Compares a document with what was made of it, token by token: no values are made of them.
 
-ghost use Rattle.std.specs.Prelude.{◌≡◌, IfOk, IfSome, IsTrue, OnOk, true, false};
+ghost use Rattle.std.specs.Prelude.{◌≡◌, ◌↔◌, IfOk, IfSome, IsTrue, OnOk, true, false};
 ghost use Rattle.std.specs.Str.{chars, IsUtf8};
 ghost use Rattle.json5_grammar.specs.Language.Characters.{NotBegun};
 ghost use Rattle.json5_grammar.specs.Language.Strings.{is_quote};
 ghost use Rattle.json5_lexemes.specs.SameLexemes.{is_line_part, is_word_part};
 ghost use Rattle.json5_types.specs.NumberMeanings.{number_of};
-ghost use Rattle.json5_convert.specs.SpelledAnew.{BeginsComment, BeginsNumber, IsBlankBefore, IsComment, IsKeyAt, IsNumberAt, IsStringAt, PassesGap, PassesOn, PassesShort, Repeats, SpelledAnew, Unquotes, begins_number};
+ghost use Rattle.json5_convert.specs.SpelledAnew.{BeginsComment, BeginsNumber, IsBlankBefore, IsComment, IsKeyAt, IsNumberAt, IsStringAt, PassesAnew, PassesComma, PassesGap, PassesNumbers, PassesOn, PassesShort, Repeats, SpelledAnew, Unquotes, begins_number};
 
 use crate::faults::{RespellError, Result};
 use json5_lexemes::{
@@ -36,25 +36,14 @@ pub(crate) fn check_spelled_anew<'x>(
         if left_solid.is_empty() && right_solid.is_empty() {
             return Ok(());
         }
-        let (left_after, right_after) = past_next(alloc, stay, left_solid, right_solid)?;
+        if let Some((left_after, right_after)) = past_short(left_solid, right_solid) {
+            left = left_after;
+            right = right_after;
+            continue;
+        }
+        let (left_after, right_after) = past_long(alloc, stay, left_solid, right_solid)?;
         left = left_after;
         right = right_after;
-    }
-}
-
-/// What follows what is next in both texts.
-#[inline(always)]
-fn past_next<'x>(
-    alloc: Global,
-    stay: bool,
-    left: &'x str,
-    right: &'x str,
-) -> Result<(&'x str, &'x str)>
-    ensures { IfOk result (λ p. PassesOn stay false left.now right.now p.0.now p.1.now) }
-{
-    match past_short(left, right) {
-        Some((left_after, right_after)) => Ok((left_after, right_after)),
-        None => past_long(alloc, stay, left, right),
     }
 }
 
@@ -124,7 +113,12 @@ fn past_long<'x>(
     if let Some((left_after, right_after)) = past_comma(left, right) {
         return Ok((left_after, right_after));
     }
-    past_respelled(alloc, stay, left, right)
+    let (colon_due, left_rest, right_rest) = past_respelled(alloc, left, right)?;
+    if colon_due {
+        let (left_end, right_end) = past_colon(stay, left_rest, right_rest)?;
+        return Ok((left_end, right_end));
+    }
+    Ok((left_rest, right_rest))
 }
 
 /// What follows a blank in one text, or a comment of the first, which the second has too if it stays.
@@ -175,7 +169,7 @@ fn past_repeated<'x>(comment: &str, text: &'x str) -> Option<&'x str>
 
 /// Whether nothing follows, or a line end.
 fn ends_line(text: &str) -> bool
-    ensures { IsTrue result → NotBegun is_line_part (chars text.now) }
+    ensures { IsTrue result ↔ NotBegun is_line_part (chars text.now) }
 {
     match front(text) {
         Some((c, _)) => is_json5_line_terminator(c),
@@ -207,7 +201,7 @@ fn skip_comment(text: &str) -> Option<&str>
 
 /// What follows a comma of one text.
 fn past_comma<'x>(left: &'x str, right: &'x str) -> Option<(&'x str, &'x str)>
-    ensures { IfSome result (λ p. PassesShort left.now right.now p.0.now p.1.now) }
+    ensures { IfSome result (λ p. PassesComma left.now right.now p.0.now p.1.now) }
 {
     if let Some(left_after) = past_byte(left, b',') {
         return Some((left_after, right));
@@ -218,20 +212,20 @@ fn past_comma<'x>(left: &'x str, right: &'x str) -> Option<(&'x str, &'x str)>
     Some((left, right_after))
 }
 
-/// What follows a number or a key that is spelled anew. After a key that is its colon.
+/// What follows a number or a key that is spelled anew, and whether a colon is due, as after a key.
 fn past_respelled<'x>(
     alloc: Global,
-    stay: bool,
     left: &'x str,
     right: &'x str,
-) -> Result<(&'x str, &'x str)>
-    ensures { IfOk result (λ p. PassesOn stay false left.now right.now p.0.now p.1.now) }
+) -> Result<(bool, &'x str, &'x str)>
+    ensures { IfOk result (λ p. PassesAnew p.0 left.now right.now p.1.now p.2.now) }
 {
     if begins_number(left) {
         let (left_after, right_after) = past_numbers(alloc, left, right)?;
-        return Ok((left_after, right_after));
+        return Ok((false, left_after, right_after));
     }
-    past_keys(alloc, stay, left, right)
+    let (left_rest, right_rest) = past_keys(alloc, left, right)?;
+    Ok((true, left_rest, right_rest))
 }
 
 /// Whether a sign, a point or a digit is in front, with which no key begins.
@@ -275,8 +269,7 @@ fn split_string<'x>(alloc: Global, text: &'x str) -> Result<(CowStr<'x>, &'x str
 
 /// What follows a number that both texts have.
 fn past_numbers<'x>(alloc: Global, left: &'x str, right: &'x str) -> Result<(&'x str, &'x str)>
-    requires { BeginsNumber (chars left.now) }
-    ensures { IfOk result (λ p. PassesShort left.now right.now p.0.now p.1.now) }
+    ensures { IfOk result (λ p. PassesNumbers left.now right.now p.0.now p.1.now) }
 {
     let (number, left_after) = split_number(alloc, left)?;
     let (other, right_after) = split_number(alloc, right)?;
@@ -308,22 +301,16 @@ fn is_same_number(number: &Number, other: &Number) -> bool
     }
 }
 
-/// What follows a key that both texts have, and its colon.
-fn past_keys<'x>(
-    alloc: Global,
-    stay: bool,
-    left: &'x str,
-    right: &'x str,
-) -> Result<(&'x str, &'x str)>
-    ensures { IfOk result (λ p. PassesOn stay false left.now right.now p.0.now p.1.now) }
+/// What follows a key that both texts have.
+fn past_keys<'x>(alloc: Global, left: &'x str, right: &'x str) -> Result<(&'x str, &'x str)>
+    ensures { IfOk result (λ p. PassesAnew true left.now right.now p.0.now p.1.now) }
 {
-    let (key, left_rest) = split_key(alloc, left)?;
-    let (other, right_rest) = split_key(alloc, right)?;
-    if !(key == other) {
-        return Err(RespellError::Failed);
+    let (key, left_after) = split_key(alloc, left)?;
+    let (other, right_after) = split_key(alloc, right)?;
+    if key == other {
+        return Ok((left_after, right_after));
     }
-    let (left_after, right_after) = past_colon(stay, left_rest, right_rest)?;
-    Ok((left_after, right_after))
+    Err(RespellError::Failed)
 }
 
 /// The text of the key in front, and what follows it.
