@@ -2,7 +2,7 @@
 -- A promise rests on this.
 use denote.Ref.{Bor}
 use Rattle.std.specs.declared.alloc.Global.{Global}
-use Rattle.std.specs.Prelude.{⊤, ◌≡◌, ◌⊎◌, ℕ, List, [], ◌∷◌, ◌++◌, Result, Ok, Err, String, string_bytes}
+use Rattle.std.specs.Prelude.{⊤, ◌≡◌, ◌⊎◌, ℕ, Bool, true, false, List, [], ◌∷◌, ◌++◌, Result, Ok, Err, String, string_bytes}
 use Rattle.std.specs.Fmt.{decimal}
 use Rattle.std.specs.Str.{chars}
 use Rattle.json5_grammar.specs.Language.Documents.{Doc, max_depth}
@@ -54,7 +54,11 @@ InsertsAhead b text steps value made = (outer : List Step) × (k : Bor (List ℕ
 abbrev pub RefusesAhead : Before → List ℕ → List Step → List ℕ → EditError → Type 0
 RefusesAhead b text steps value e = (EndsInNoKey steps × (e ≡ error.NoKey)) ⊎ ((outer : List Step) × (k : Bor (List ℕ)) × (steps ≡ outer ++ (step.Key k ∷ [])) × RefusesBefore b text outer k.now value e)
 
--- without the entry at the steps: the whole value is none
+-- without the entry at the steps, alone or with the comments before it: the whole value is none
+abbrev pub RemovesEntry : (alone : Bool) → (text : List ℕ) → List Step → (made : List ℕ) → Type 0
+RemovesEntry true text steps made = IsRemovedAlone text steps made
+RemovesEntry false text steps made = IsRemoved text steps made
+
 abbrev pub RefusesRemoving : List ℕ → List Step → EditError → Type 0
 RefusesRemoving text steps error.NoKey = steps ≡ []
 RefusesRemoving text steps e = RefusesPath text steps e

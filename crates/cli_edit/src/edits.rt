@@ -1,8 +1,7 @@
 //! What is made of a text.
 
 ghost use Rattle.std.specs.Prelude.{◌≡◌, IfErr, IfOk, string_bytes};
-ghost use Rattle.cli_edit.specs.Makes.{Inserts, InsertsAhead, Makes, MakesLaid, RefusesAhead, RefusesCommenting, RefusesInserting, RefusesRemoving, RefusesWork, edited};
-ghost use Rattle.json5_edit.specs.Changes.{IsRemoved, IsRemovedAlone};
+ghost use Rattle.cli_edit.specs.Makes.{Inserts, InsertsAhead, Makes, MakesLaid, RefusesAhead, RefusesCommenting, RefusesInserting, RefusesRemoving, RefusesWork, RemovesEntry, edited};
 ghost use Rattle.json5_edit.specs.Commented.{IsCommented};
 
 use crate::parts::shown_at;
@@ -42,8 +41,8 @@ pub(crate) fn made(
         Command::Rename => edited(rename(alloc, text, steps, value)),
         Command::Move => moved(alloc, text, steps, value, names),
         Command::Copy => copied(alloc, text, steps, value, names),
-        Command::Remove => edited(removed(alloc, text, steps)),
-        Command::RemoveAlone => edited(removed_alone(alloc, text, steps)),
+        Command::Remove => edited(removed(alloc, text, steps, false)),
+        Command::RemoveAlone => edited(removed(alloc, text, steps, true)),
         Command::ShowComment => edited(comment_line(alloc, text, steps)),
         Command::Comment => edited(commented(alloc, text, steps, value)),
         Command::Sort => edited(sort(alloc, text, steps)),
@@ -123,26 +122,19 @@ fn inserted_before(
     }
 }
 
-/// The text without the entry to which the steps lead; the whole value is none.
-fn removed(alloc: Global, text: &str, steps: &[Step<'_>]) -> Result<String>
-    ensures removed { IfOk result (λ new. IsRemoved text.now steps.now (string_bytes new)) }
+/// The text without the entry to which the steps lead, and without the comments before it unless it goes alone; the whole value is
+/// no entry.
+fn removed(alloc: Global, text: &str, steps: &[Step<'_>], alone: bool) -> Result<String>
+    ensures removed { IfOk result (λ new. RemovesEntry alone text.now steps.now (string_bytes new)) }
     ensures refused { IfErr result (RefusesRemoving text.now steps.now) }
 {
     if steps.is_empty() {
         return Err(EditError::NoKey);
+    }
+    if alone {
+        return remove_alone(alloc, text, steps);
     }
     remove(alloc, text, steps)
-}
-
-/// The same, but with the comments before the entry.
-fn removed_alone(alloc: Global, text: &str, steps: &[Step<'_>]) -> Result<String>
-    ensures removed { IfOk result (λ new. IsRemovedAlone text.now steps.now (string_bytes new)) }
-    ensures refused { IfErr result (RefusesRemoving text.now steps.now) }
-{
-    if steps.is_empty() {
-        return Err(EditError::NoKey);
-    }
-    remove_alone(alloc, text, steps)
 }
 
 /// What the comments say before the entry to which the steps lead, with a line end; nothing, if there are none.

@@ -16,7 +16,7 @@ returns-in-Rename-clause-made c =
 
 pub returns-in-RemoveAlone-clause-made : goal.returns-in-RemoveAlone-clause-made
 returns-in-RemoveAlone-clause-made c =
-    made_by work.RemoveAlone c.args.task.now.work c.args.text.now c.args.steps.now c.args.value.now c.removed_alone.result c.edited-in-RemoveAlone.result c.in-RemoveAlone.is c.edited-in-RemoveAlone.ensures c.removed_alone.ensures.removed
+    made_by work.RemoveAlone c.args.task.now.work c.args.text.now c.args.steps.now c.args.value.now c.removed-in-RemoveAlone.result c.edited-in-RemoveAlone.result c.in-RemoveAlone.is c.edited-in-RemoveAlone.ensures c.removed-in-RemoveAlone.ensures.removed
 
 pub returns-in-Comment-clause-made : goal.returns-in-Comment-clause-made
 returns-in-Comment-clause-made c =
