@@ -62,9 +62,9 @@ impl<W: Write + Drop> Serializer<W> {
     fn write_element<T: Serialize>(&mut self, value: &T) -> Result<()>
         ensures { Writes (element_out self.old.depth (out self.old.limit (T.tree value.now) self.old.depth)) self.old result self.new }
     {
-        self.start_line(false)?;
+        self.printer.start_line(false)?;
         value.put(self)?;
-        Ok(self.put_piece(",")?)
+        Ok(self.printer.put_piece(",")?)
     }
 }
 

@@ -107,7 +107,7 @@ impl<W: Write + Drop> MapKey<'_, W> {
         ensures { WritesKey (named (chars value.now)) (serializer_of_key self.entry) result self.exit.0.now }
     {
         let MapKey { ser } = self;
-        Ok(ser.put_key(value)?)
+        Ok(ser.printer.put_key(value)?)
     }
 
     /// Writes the text of one character as a key.

@@ -2,15 +2,15 @@
 
 ghost use Rattle.std.specs.Prelude.{◌≡◌, ◌+◌, ◌-◌, true, false, None, IsErr, IfErr, OnOk};
 ghost use Rattle.std.specs.Str.{chars};
-ghost use Rattle.json5_write.specs.WrittenTrees.{Written, named};
+ghost use Rattle.json5_write.specs.WrittenTrees.{Written};
 ghost use Rattle.json5_write.specs.Writes.{WritesTree, SerializerState, Writes, fresh, fresh_within, after_closing};
-ghost use Rattle.json5_write.specs.ShortWrites.{OpensBrackets, PutsTree, Puts};
-ghost use Rattle.json5_write.specs.Out.{piece, stopped, line, closed_by, invalid_key, key_out};
+ghost use Rattle.json5_write.specs.ShortWrites.{PutsTree};
+ghost use Rattle.json5_write.specs.Out.{piece, stopped, closed_by, invalid_key};
 ghost use Rattle.json5_grammar.specs.declared.error_code.ErrorCode.TheVariants as codes;
 ghost use Rattle.json5_types.specs.Errors.{code, kind_of, error_position};
 ghost use Rattle.json5_grammar.specs.Faults.Fronts.{closing};
 ghost use Rattle.json5_write.specs.Brackets.{bracket_of};
-ghost use Rattle.json5_write.specs.Commas.{comma_before, closed_after};
+ghost use Rattle.json5_write.specs.Commas.{closed_after};
 ghost use Rattle.json5_ser.specs.Stages.{is_started};
 
 mod bytes;
@@ -181,47 +181,15 @@ impl<W: Write + Drop> Serializer<W> {
         Err(Error::new(ErrorCode::InvalidKey))
     }
 
-    /// Writes a piece, unless a call was refused before.
-    #[inline(always)]
-    pub(crate) fn put_piece(&mut self, text: &str) -> Put
-        ensures { Puts (piece (chars text.now)) self.old result self.new }
-    {
-        self.printer.put_piece(text)
-    }
-
     /// Writes a piece; returns `Failed` if a call was refused before.
     #[inline(always)]
     pub(crate) fn put(&mut self, text: &str) -> Result<()>
         ensures { Writes (piece (chars text.now)) self.old result self.new }
     {
-        match self.put_piece(text) {
-            Ok(()) => Ok(()),
-            Err(refused) => refusal(refused),
+        if let Err(refused) = self.printer.put_piece(text) {
+            return refusal(refused);
         }
-    }
-
-    /// Writes a key's text, between quotes if it is no identifier.
-    #[inline(always)]
-    pub(crate) fn put_key(&mut self, text: &str) -> Put
-        ensures { Puts (key_out (named (chars text.now))) self.old result self.new }
-    {
-        self.printer.put_key(text)
-    }
-
-    /// Starts the line of a member, or of the bracket that closes, after a comma where one is due.
-    #[inline(always)]
-    pub(crate) fn start_line(&mut self, comma_due: bool) -> Put
-        ensures { Puts (comma_before comma_due (piece (line self.old.depth))) self.old result self.new }
-    {
-        self.printer.start_line(comma_due)
-    }
-
-    /// Opens a collection.
-    #[inline(always)]
-    pub(crate) fn open_brackets(&mut self, brackets: Brackets) -> Put
-        ensures { OpensBrackets brackets self.old result self.new }
-    {
-        self.printer.open_brackets(brackets)
+        Ok(())
     }
 
     /// Closes a collection; its bracket is on its own line if something was written in it.
@@ -232,17 +200,9 @@ impl<W: Write + Drop> Serializer<W> {
     }
 
     /// Closes a collection whose last member lacks its comma, if it has one.
-    #[inline(always)]
-    pub(crate) fn close_brackets(&mut self, comma_due: bool, brackets: Brackets) -> Put
-        ensures { Puts (closed_after comma_due (self.old.depth - 1) (closing (bracket_of brackets))) (after_closing self.old) result self.new }
-    {
-        self.printer.close_brackets(comma_due, brackets)
-    }
-
-    /// Closes a collection as `close_brackets` does, for a call that may be refused otherwise too.
     pub(crate) fn close_after(&mut self, comma_due: bool, brackets: Brackets) -> Result<()>
         ensures { Writes (closed_after comma_due (self.old.depth - 1) (closing (bracket_of brackets))) (after_closing self.old) result self.new }
     {
-        Ok(self.close_brackets(comma_due, brackets)?)
+        Ok(self.printer.close_brackets(comma_due, brackets)?)
     }
 }

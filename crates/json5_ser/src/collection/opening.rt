@@ -31,7 +31,7 @@ impl<W: Write + Drop> Serializer<W> {
         ensures* lends { sem 𝓛 (lends_list W.row W.Write self.entry result) }
         ensures begun { IfOk result (ListBegun self.entry) }
     {
-        self.open_brackets(Brackets::Square)?;
+        self.printer.open_brackets(Brackets::Square)?;
         self.set_failed(true);
         Ok(SerializeCollection {
             ser: self,
@@ -96,7 +96,7 @@ impl<W: Write + Drop> Serializer<W> {
         ensures* lends { sem 𝓛 (lends_object W.row W.Write self.entry result) }
         ensures begun { IfOk result (ObjectBegun self.entry) }
     {
-        self.open_brackets(Brackets::Curly)?;
+        self.printer.open_brackets(Brackets::Curly)?;
         self.set_failed(true);
         Ok(SerializeCollection {
             ser: self,

@@ -19,7 +19,7 @@ fn put_item<T: Serialize, W: Write + Drop>(
 ) -> Put
     ensures { Puts (comma_before comma_due (element_line ser.old.limit ser.old.depth (T.tree item.now))) ser.old result ser.new }
 {
-    ser.start_line(comma_due)?;
+    ser.printer.start_line(comma_due)?;
     item.put(ser)
 }
 
@@ -27,13 +27,13 @@ fn put_item<T: Serialize, W: Write + Drop>(
 fn put_items<T: Serialize, W: Write + Drop>(items: &[T], ser: &mut Serializer<W>) -> Put
     ensures { PutsTree (array (elements_of T.tree items.now)) ser.old result ser.new }
 {
-    ser.open_brackets(Brackets::Square)?;
+    ser.printer.open_brackets(Brackets::Square)?;
     let mut comma_due = false;
     for item in items {
         put_item(comma_due, item, ser)?;
         comma_due = true;
     }
-    ser.close_brackets(comma_due, Brackets::Square)
+    ser.printer.close_brackets(comma_due, Brackets::Square)
 }
 
 /// Writes an array of the elements.
@@ -61,9 +61,9 @@ impl<A: Serialize> Printable for (A,) {
     ghost tree = { λ t. array (element (A.tree t.0) no_element) };
 
     fn print<W: Write + Drop>(&self, ser: &mut Serializer<W>) -> Put {
-        ser.open_brackets(Brackets::Square)?;
+        ser.printer.open_brackets(Brackets::Square)?;
         put_item(false, &self.0, ser)?;
-        ser.close_brackets(true, Brackets::Square)
+        ser.printer.close_brackets(true, Brackets::Square)
     }
 }
 
@@ -74,10 +74,10 @@ impl<A: Serialize, B: Serialize> Printable for (A, B) {
     ghost tree = { λ t. array (element (A.tree t.0) (element (B.tree t.1) no_element)) };
 
     fn print<W: Write + Drop>(&self, ser: &mut Serializer<W>) -> Put {
-        ser.open_brackets(Brackets::Square)?;
+        ser.printer.open_brackets(Brackets::Square)?;
         put_item(false, &self.0, ser)?;
         put_item(true, &self.1, ser)?;
-        ser.close_brackets(true, Brackets::Square)
+        ser.printer.close_brackets(true, Brackets::Square)
     }
 }
 
@@ -88,11 +88,11 @@ impl<A: Serialize, B: Serialize, C: Serialize> Printable for (A, B, C) {
     ghost tree = { λ t. array (element (A.tree t.0) (element (B.tree t.1) (element (C.tree t.2) no_element))) };
 
     fn print<W: Write + Drop>(&self, ser: &mut Serializer<W>) -> Put {
-        ser.open_brackets(Brackets::Square)?;
+        ser.printer.open_brackets(Brackets::Square)?;
         put_item(false, &self.0, ser)?;
         put_item(true, &self.1, ser)?;
         put_item(true, &self.2, ser)?;
-        ser.close_brackets(true, Brackets::Square)
+        ser.printer.close_brackets(true, Brackets::Square)
     }
 }
 
@@ -103,11 +103,11 @@ impl<A: Serialize, B: Serialize, C: Serialize, D: Serialize> Printable for (A, B
     ghost tree = { λ t. array (element (A.tree t.0) (element (B.tree t.1) (element (C.tree t.2) (element (D.tree t.3) no_element)))) };
 
     fn print<W: Write + Drop>(&self, ser: &mut Serializer<W>) -> Put {
-        ser.open_brackets(Brackets::Square)?;
+        ser.printer.open_brackets(Brackets::Square)?;
         put_item(false, &self.0, ser)?;
         put_item(true, &self.1, ser)?;
         put_item(true, &self.2, ser)?;
         put_item(true, &self.3, ser)?;
-        ser.close_brackets(true, Brackets::Square)
+        ser.printer.close_brackets(true, Brackets::Square)
     }
 }

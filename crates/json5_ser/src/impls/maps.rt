@@ -16,13 +16,13 @@ impl<K: SerializeKey + Ord, V: Serialize> Printable for BTreeMap<K, V> {
     ghost tree = { λ m. object (fields_of K.as_key V.tree m.entries) };
 
     fn print<W: Write + Drop>(&self, ser: &mut Serializer<W>) -> Put {
-        ser.open_brackets(Brackets::Curly)?;
+        ser.printer.open_brackets(Brackets::Curly)?;
         let mut comma_due = false;
         for (key, value) in self {
             ser.put_member(comma_due, key, value)?;
             comma_due = true;
         }
-        ser.close_brackets(comma_due, Brackets::Curly)
+        ser.printer.close_brackets(comma_due, Brackets::Curly)
     }
 }
 
@@ -33,12 +33,12 @@ impl<K: SerializeKey + Eq + Hash, V: Serialize> Printable for IndexMap<K, V> {
     ghost tree = { λ m. object (fields_of K.as_key V.tree m.entries) };
 
     fn print<W: Write + Drop>(&self, ser: &mut Serializer<W>) -> Put {
-        ser.open_brackets(Brackets::Curly)?;
+        ser.printer.open_brackets(Brackets::Curly)?;
         let mut comma_due = false;
         for (key, value) in self {
             ser.put_member(comma_due, key, value)?;
             comma_due = true;
         }
-        ser.close_brackets(comma_due, Brackets::Curly)
+        ser.printer.close_brackets(comma_due, Brackets::Curly)
     }
 }

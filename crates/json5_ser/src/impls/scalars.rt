@@ -25,7 +25,7 @@ impl Printable for () {
     ghost tree = { λ _. null };
 
     fn print<W: Write + Drop>(&self, ser: &mut Serializer<W>) -> Put {
-        ser.put_piece("null")
+        ser.printer.put_piece("null")
     }
 }
 
@@ -34,7 +34,7 @@ impl Printable for bool {
     ghost tree = { boolean };
 
     fn print<W: Write + Drop>(&self, ser: &mut Serializer<W>) -> Put {
-        ser.put_piece(bool_name(*self))
+        ser.printer.put_piece(bool_name(*self))
     }
 }
 

@@ -20,7 +20,7 @@ impl<W: Write + Drop> Serializer<W> {
     pub(crate) fn write_key<K: SerializeKey>(&mut self, key: &K) -> Result<()>
         ensures { Writes (key_part self.old.depth (K.as_key key.now)) self.old result self.new }
     {
-        self.start_line(false)?;
+        self.printer.start_line(false)?;
         key.serialize_key(MapKey { ser: self })
     }
 
@@ -43,8 +43,8 @@ impl<W: Write + Drop> Serializer<W> {
     fn put_field_key(&mut self, name: &str) -> Put
         ensures { Puts (key_part self.old.depth (named (chars name.now))) self.old result self.new }
     {
-        self.start_line(false)?;
-        self.put_key(name)
+        self.printer.start_line(false)?;
+        self.printer.put_key(name)
     }
 
     /// The name of a field, and its value.
@@ -60,10 +60,10 @@ impl<W: Write + Drop> Serializer<W> {
         ensures opens { Writes (variant_of self.old (chars variant.now) brackets) self.old result (at_depth self.old.depth self.new) }
         ensures deeper { OnOk result (self.new.depth ≡ self.old.depth + 1 + 1) }
     {
-        self.open_brackets(Brackets::Curly)?;
+        self.printer.open_brackets(Brackets::Curly)?;
         self.write_key(&variant)?;
         self.put(": ")?;
-        self.open_brackets(brackets)?;
+        self.printer.open_brackets(brackets)?;
         Ok(())
     }
 
@@ -86,9 +86,9 @@ impl<W: Write + Drop> Serializer<W> {
     ) -> Put
         ensures { Puts (comma_before comma_due (member_line self.old.limit self.old.depth (K.as_key key.now) (T.tree value.now))) self.old result self.new }
     {
-        self.start_line(comma_due)?;
+        self.printer.start_line(comma_due)?;
         self.put_map_key(key)?;
-        self.put_piece(": ")?;
+        self.printer.put_piece(": ")?;
         value.put(self)
     }
 
@@ -96,8 +96,8 @@ impl<W: Write + Drop> Serializer<W> {
     pub(crate) fn write_value<T: Serialize>(&mut self, value: &T) -> Result<()>
         ensures { Writes (value_part (out self.old.limit (T.tree value.now) self.old.depth)) self.old result self.new }
     {
-        self.put_piece(": ")?;
+        self.printer.put_piece(": ")?;
         value.put(self)?;
-        Ok(self.put_piece(",")?)
+        Ok(self.printer.put_piece(",")?)
     }
 }

@@ -9,12 +9,12 @@ pub returns-in_err-start_line : goal.returns-in_err-start_line
 returns-in_err-start_line g c =
     let d = c.args.ser.now.depth in
     let o = out c.args.ser.now.limit (g.T.Serialize.tree c.args.item.now) d in
-    Puts-as _ _ _ _ _ (comma_before_then c.args.comma_due (piece (line d)) o) (Puts-stop (comma_before c.args.comma_due (piece (line d))) o _ _ _ _ c.from_residual.ensures.1 c.in_err-start_line.ensures)
+    Puts-as _ _ _ _ _ (comma_before_then c.args.comma_due (piece (line d)) o) (Puts-stop (comma_before c.args.comma_due (piece (line d))) o _ _ _ _ c.from_residual.ensures.1 (rw c.ser.view_is at c.in_err-start_line.ensures))
 
 pub returns : goal.returns
 returns g c =
     let d = c.args.ser.now.depth in
     let u = g.T.Serialize.tree c.args.item.now in
     let o = out c.args.ser.now.limit u d in
-    let first = Reaches-first (comma_before c.args.comma_due (piece (line d))) o _ _ c.in_ok-start_line.ensures in
-    Puts-as _ _ _ _ _ (comma_before_then c.args.comma_due (piece (line d)) o) (Reaches-end _ o _ _ _ _ first (tree_put _ _ _ u c.in_ok-start_line.ensures c.put.ensures))
+    let first = Reaches-first (comma_before c.args.comma_due (piece (line d))) o _ _ (rw c.ser.view_is at c.in_ok-start_line.ensures) in
+    Puts-as _ _ _ _ _ (comma_before_then c.args.comma_due (piece (line d)) o) (Reaches-end _ o _ _ _ _ first (tree_put _ _ _ u (rw c.ser.view_is at c.in_ok-start_line.ensures) c.put.ensures))

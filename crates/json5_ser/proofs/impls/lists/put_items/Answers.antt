@@ -9,10 +9,10 @@ use Rattle.json5_ser.proofs.impls.lists.put_items.Goals as goal
 pub returns-in_err-open_brackets : goal.returns-in_err-open_brackets
 returns-in_err-open_brackets g c =
     let at = c.args.ser.now in
-    open_stop left_bracket (elements_out at.limit (elements_of g.T.Serialize.tree c.args.items.now) at.depth false) at _ _ _ c.in_err-open_brackets.ensures.opens c.from_residual.ensures.1
+    open_stop left_bracket (elements_out at.limit (elements_of g.T.Serialize.tree c.args.items.now) at.depth false) at _ _ _ (rw c.ser.view_is at c.in_err-open_brackets.ensures.opens) c.from_residual.ensures.1
 
 pub loop-item-init : goal.loop-item-init
-loop-item-init g c = record { left = left_first left_bracket _ _ _ c.in_ok-open_brackets.ensures.opens c.in_ok-open_brackets.ensures.deeper }
+loop-item-init g c = record { left = left_first left_bracket _ _ _ (rw c.ser.view_is at c.in_ok-open_brackets.ensures.opens) (rw c.ser.view_is at c.in_ok-open_brackets.ensures.deeper) }
 
 pub returns-in_err-put_item : goal.returns-in_err-put_item
 returns-in_err-put_item g c =
@@ -30,4 +30,4 @@ pub returns : goal.returns
 returns g c =
     let none : length c.args.items.now ≤ c.loop-item.item-index = search rules in
     let last = elements_as c.loop-item.comma_due (ap (elements_of g.T.Serialize.tree) (drop_of_length-le c.args.items.now none)) c.loop-item.invariant.left in
-    left_closed right_bracket _ _ c.loop-item.comma_due last c.close_brackets.ensures
+    left_closed right_bracket _ _ c.loop-item.comma_due last (rw c.ser-2.view_is at c.close_brackets.ensures)

@@ -10,14 +10,14 @@ returns-in_err-open_brackets g c =
     let at = c.args.ser.now in
     let one = g.A.Serialize.tree c.args.self.now.0 in
     let two = g.B.Serialize.tree c.args.self.now.1 in
-    open_stop left_bracket (elements_out at.limit (element one (element two no_element)) at.depth false) at _ _ _ c.in_err-open_brackets.ensures.opens c.from_residual.ensures.1
+    open_stop left_bracket (elements_out at.limit (element one (element two no_element)) at.depth false) at _ _ _ (rw c.ser.view_is at c.in_err-open_brackets.ensures.opens) c.from_residual.ensures.1
 
 pub returns-in_err-put_item : goal.returns-in_err-put_item
 returns-in_err-put_item g c =
     let at = c.args.ser.now in
     let one = g.A.Serialize.tree c.args.self.now.0 in
     let two = g.B.Serialize.tree c.args.self.now.1 in
-    let opened = left_first left_bracket (elements_out at.limit (element one (element two no_element)) at.depth false) _ _ c.in_ok-open_brackets.ensures.opens c.in_ok-open_brackets.ensures.deeper in
+    let opened = left_first left_bracket (elements_out at.limit (element one (element two no_element)) at.depth false) _ _ (rw c.ser.view_is at c.in_ok-open_brackets.ensures.opens) (rw c.ser.view_is at c.in_ok-open_brackets.ensures.deeper) in
     element_stop _ _ one (element two no_element) _ false opened c.in_err-put_item.ensures c.from_residual-in_err-put_item.ensures.1
 
 pub returns-in_err-put_item-2 : goal.returns-in_err-put_item-2
@@ -25,7 +25,7 @@ returns-in_err-put_item-2 g c =
     let at = c.args.ser.now in
     let one = g.A.Serialize.tree c.args.self.now.0 in
     let two = g.B.Serialize.tree c.args.self.now.1 in
-    let opened = left_first left_bracket (elements_out at.limit (element one (element two no_element)) at.depth false) _ _ c.in_ok-open_brackets.ensures.opens c.in_ok-open_brackets.ensures.deeper in
+    let opened = left_first left_bracket (elements_out at.limit (element one (element two no_element)) at.depth false) _ _ (rw c.ser.view_is at c.in_ok-open_brackets.ensures.opens) (rw c.ser.view_is at c.in_ok-open_brackets.ensures.deeper) in
     let after_one = element_line_on one (element two no_element) false opened c.in_ok-put_item.ensures in
     element_stop _ _ two no_element _ true after_one c.in_err-put_item-2.ensures c.from_residual-in_err-put_item-2.ensures.1
 
@@ -34,7 +34,7 @@ returns g c =
     let at = c.args.ser.now in
     let one = g.A.Serialize.tree c.args.self.now.0 in
     let two = g.B.Serialize.tree c.args.self.now.1 in
-    let opened = left_first left_bracket (elements_out at.limit (element one (element two no_element)) at.depth false) _ _ c.in_ok-open_brackets.ensures.opens c.in_ok-open_brackets.ensures.deeper in
+    let opened = left_first left_bracket (elements_out at.limit (element one (element two no_element)) at.depth false) _ _ (rw c.ser.view_is at c.in_ok-open_brackets.ensures.opens) (rw c.ser.view_is at c.in_ok-open_brackets.ensures.deeper) in
     let after_one = element_line_on one (element two no_element) false opened c.in_ok-put_item.ensures in
     let after_two = element_line_on two no_element true after_one c.in_ok-put_item-2.ensures in
-    left_closed right_bracket _ _ true after_two c.close_brackets.ensures
+    left_closed right_bracket _ _ true after_two (rw c.ser-2.view_is at c.close_brackets.ensures)

@@ -12,7 +12,7 @@ returns-in_err-open_brackets g c =
     let two = g.B.Serialize.tree c.args.self.now.1 in
     let three = g.C.Serialize.tree c.args.self.now.2 in
     let four = g.D.Serialize.tree c.args.self.now.3 in
-    open_stop left_bracket (elements_out at.limit (element one (element two (element three (element four no_element)))) at.depth false) at _ _ _ c.in_err-open_brackets.ensures.opens c.from_residual.ensures.1
+    open_stop left_bracket (elements_out at.limit (element one (element two (element three (element four no_element)))) at.depth false) at _ _ _ (rw c.ser.view_is at c.in_err-open_brackets.ensures.opens) c.from_residual.ensures.1
 
 pub returns-in_err-put_item : goal.returns-in_err-put_item
 returns-in_err-put_item g c =
@@ -21,7 +21,7 @@ returns-in_err-put_item g c =
     let two = g.B.Serialize.tree c.args.self.now.1 in
     let three = g.C.Serialize.tree c.args.self.now.2 in
     let four = g.D.Serialize.tree c.args.self.now.3 in
-    let opened = left_first left_bracket (elements_out at.limit (element one (element two (element three (element four no_element)))) at.depth false) _ _ c.in_ok-open_brackets.ensures.opens c.in_ok-open_brackets.ensures.deeper in
+    let opened = left_first left_bracket (elements_out at.limit (element one (element two (element three (element four no_element)))) at.depth false) _ _ (rw c.ser.view_is at c.in_ok-open_brackets.ensures.opens) (rw c.ser.view_is at c.in_ok-open_brackets.ensures.deeper) in
     element_stop _ _ one (element two (element three (element four no_element))) _ false opened c.in_err-put_item.ensures c.from_residual-in_err-put_item.ensures.1
 
 pub returns-in_err-put_item-2 : goal.returns-in_err-put_item-2
@@ -31,7 +31,7 @@ returns-in_err-put_item-2 g c =
     let two = g.B.Serialize.tree c.args.self.now.1 in
     let three = g.C.Serialize.tree c.args.self.now.2 in
     let four = g.D.Serialize.tree c.args.self.now.3 in
-    let opened = left_first left_bracket (elements_out at.limit (element one (element two (element three (element four no_element)))) at.depth false) _ _ c.in_ok-open_brackets.ensures.opens c.in_ok-open_brackets.ensures.deeper in
+    let opened = left_first left_bracket (elements_out at.limit (element one (element two (element three (element four no_element)))) at.depth false) _ _ (rw c.ser.view_is at c.in_ok-open_brackets.ensures.opens) (rw c.ser.view_is at c.in_ok-open_brackets.ensures.deeper) in
     let after_one = element_line_on one (element two (element three (element four no_element))) false opened c.in_ok-put_item.ensures in
     element_stop _ _ two (element three (element four no_element)) _ true after_one c.in_err-put_item-2.ensures c.from_residual-in_err-put_item-2.ensures.1
 
@@ -42,7 +42,7 @@ returns-in_err-put_item-3 g c =
     let two = g.B.Serialize.tree c.args.self.now.1 in
     let three = g.C.Serialize.tree c.args.self.now.2 in
     let four = g.D.Serialize.tree c.args.self.now.3 in
-    let opened = left_first left_bracket (elements_out at.limit (element one (element two (element three (element four no_element)))) at.depth false) _ _ c.in_ok-open_brackets.ensures.opens c.in_ok-open_brackets.ensures.deeper in
+    let opened = left_first left_bracket (elements_out at.limit (element one (element two (element three (element four no_element)))) at.depth false) _ _ (rw c.ser.view_is at c.in_ok-open_brackets.ensures.opens) (rw c.ser.view_is at c.in_ok-open_brackets.ensures.deeper) in
     let after_one = element_line_on one (element two (element three (element four no_element))) false opened c.in_ok-put_item.ensures in
     let after_two = element_line_on two (element three (element four no_element)) true after_one c.in_ok-put_item-2.ensures in
     element_stop _ _ three (element four no_element) _ true after_two c.in_err-put_item-3.ensures c.from_residual-in_err-put_item-3.ensures.1
@@ -54,7 +54,7 @@ returns-in_err-put_item-4 g c =
     let two = g.B.Serialize.tree c.args.self.now.1 in
     let three = g.C.Serialize.tree c.args.self.now.2 in
     let four = g.D.Serialize.tree c.args.self.now.3 in
-    let opened = left_first left_bracket (elements_out at.limit (element one (element two (element three (element four no_element)))) at.depth false) _ _ c.in_ok-open_brackets.ensures.opens c.in_ok-open_brackets.ensures.deeper in
+    let opened = left_first left_bracket (elements_out at.limit (element one (element two (element three (element four no_element)))) at.depth false) _ _ (rw c.ser.view_is at c.in_ok-open_brackets.ensures.opens) (rw c.ser.view_is at c.in_ok-open_brackets.ensures.deeper) in
     let after_one = element_line_on one (element two (element three (element four no_element))) false opened c.in_ok-put_item.ensures in
     let after_two = element_line_on two (element three (element four no_element)) true after_one c.in_ok-put_item-2.ensures in
     let after_three = element_line_on three (element four no_element) true after_two c.in_ok-put_item-3.ensures in
@@ -67,9 +67,9 @@ returns g c =
     let two = g.B.Serialize.tree c.args.self.now.1 in
     let three = g.C.Serialize.tree c.args.self.now.2 in
     let four = g.D.Serialize.tree c.args.self.now.3 in
-    let opened = left_first left_bracket (elements_out at.limit (element one (element two (element three (element four no_element)))) at.depth false) _ _ c.in_ok-open_brackets.ensures.opens c.in_ok-open_brackets.ensures.deeper in
+    let opened = left_first left_bracket (elements_out at.limit (element one (element two (element three (element four no_element)))) at.depth false) _ _ (rw c.ser.view_is at c.in_ok-open_brackets.ensures.opens) (rw c.ser.view_is at c.in_ok-open_brackets.ensures.deeper) in
     let after_one = element_line_on one (element two (element three (element four no_element))) false opened c.in_ok-put_item.ensures in
     let after_two = element_line_on two (element three (element four no_element)) true after_one c.in_ok-put_item-2.ensures in
     let after_three = element_line_on three (element four no_element) true after_two c.in_ok-put_item-3.ensures in
     let after_four = element_line_on four no_element true after_three c.in_ok-put_item-4.ensures in
-    left_closed right_bracket _ _ true after_four c.close_brackets.ensures
+    left_closed right_bracket _ _ true after_four (rw c.ser-2.view_is at c.close_brackets.ensures)

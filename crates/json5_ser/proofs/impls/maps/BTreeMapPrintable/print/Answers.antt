@@ -8,12 +8,12 @@ use Rattle.json5_ser.proofs.impls.maps.BTreeMapPrintable.print.Goals as goal
 pub returns-in_err-open_brackets : goal.returns-in_err-open_brackets
 returns-in_err-open_brackets g c =
     let at = c.args.ser.now in
-    open_stop left_brace (fields_out at.limit (fields_of g.K.SerializeKey.as_key g.V.Serialize.tree c.args.self.now.entries) at.depth false) at _ _ _ c.in_err-open_brackets.ensures.opens c.from_residual.ensures.1
+    open_stop left_brace (fields_out at.limit (fields_of g.K.SerializeKey.as_key g.V.Serialize.tree c.args.self.now.entries) at.depth false) at _ _ _ (rw c.ser.view_is at c.in_err-open_brackets.ensures.opens) c.from_residual.ensures.1
 
 pub loop-key-init : goal.loop-key-init
 loop-key-init g c =
     let all : c.into_iter-key-iterator.result ≡ c.args.self.now.entries = c.into_iter-key-iterator.ensures.into_iter_gives.0 in
-    record { left = fields_as false (ap (fields_of g.K.SerializeKey.as_key g.V.Serialize.tree) (sym all)) (left_first left_brace _ _ _ c.in_ok-open_brackets.ensures.opens c.in_ok-open_brackets.ensures.deeper) }
+    record { left = fields_as false (ap (fields_of g.K.SerializeKey.as_key g.V.Serialize.tree) (sym all)) (left_first left_brace _ _ _ (rw c.ser.view_is at c.in_ok-open_brackets.ensures.opens) (rw c.ser.view_is at c.in_ok-open_brackets.ensures.deeper)) }
 
 pub returns-in_err-put_member : goal.returns-in_err-put_member
 returns-in_err-put_member g c =
@@ -28,4 +28,4 @@ loop-key-preserved g c =
 pub returns : goal.returns
 returns g c =
     let last = fields_as c.loop-key.comma_due (ap (fields_of g.K.SerializeKey.as_key g.V.Serialize.tree) c.in-None.ensures.steps.0) c.loop-key.invariant.left in
-    left_closed right_brace _ _ c.loop-key.comma_due last c.close_brackets.ensures
+    left_closed right_brace _ _ c.loop-key.comma_due last (rw c.ser-2.view_is at c.close_brackets.ensures)
