@@ -30,9 +30,9 @@ use Rattle.json5_schema.specs.declared.shape.Shape.TheVariants as shape
 use Rattle.json5_schema.specs.Conformance.{asserts_formats, behind_sign}
 use Rattle.json5_schema.specs.Patterns.{in_rust}
 use Rattle.json5_schema.specs.Refusals.{asks_beside, begins_with_sign, gives, is_by_name, is_each, has_few_digits, inner, is_signed, times, times_among, times_at, times_named, IsLaterName, NamesDraft, is_followed, is_format, names_schema, shape_in, IsFaulty, beside, wrong, further, IsFaultySchema, IsFor, IsOfMemory, IsRefused, IsRefusedBy, IsTextNot, IsWrong, LeadsOn, here, inside, LeadsTo, step, steps, Refers, RefusedFor, StandsInPlace}
-use Rattle.json5_schema.specs.RefusalSteps.{members_by, CountsBeside, IsDraft, IsFaultyArgument, IsFaultyBy, IsFaultyKeyword, IsFaultyMember, IsFormatFault, IsKeyFault, IsNoFormat, IsNoName, IsNoReference, IsOfOldDraft, IsOutOfShape, IsPatternFault, IsProblemOf, IsUnknownIn, IsUnknownThrough, LeadsAmong, LeadsBack, LeadsBy, LeadsNamed}
+use Rattle.json5_schema.specs.RefusalSteps.{members_by, CountsBeside, IsDraft, IsFaultyArgument, IsFaultyBy, IsFaultyKeyword, IsFaultyMember, IsFormatFault, IsKeyFault, IsNoFormat, IsNoName, IsNoReference, IsOfOldDraft, IsOutOfShape, IsPatternFault, IsProblemOf, IsUnknownAmong, IsUnknownIn, IsUnknownNamed, IsUnknownThrough, LeadsAmong, LeadsBack, LeadsBy, LeadsNamed}
 use Rattle.json5_schema.specs.Shapes.{are_named_schemas, are_schemas, are_schemas_or_names, holding_of, is_names, is_schema, IsElementOf, IsMemberOf}
-use Rattle.json5_schema.specs.Subschemas.{IsElement, IsMember, itself, within}
+use Rattle.json5_schema.specs.Subschemas.{alone, element, member, itself, takes_named, takes_schema, takes_schemas, within, IsElement, IsMember}
 use Rattle.json5_schema.proofs.Knowing.{value_from}
 
 -- ---- a fault
@@ -299,6 +299,26 @@ unknown_in fs name bytes a p has spelled (inr (s, stands, (none, (t, b, word, su
 pub unknown_of : (xs : List (String Global × Value)) (i : ℕ) (f : String Global × Value) (bytes : List ℕ) (p : Problem) → i < length xs → f ≡ get_or xs i f → bytes ≡ string_bytes f.0 → IsUtf8 bytes
     → IsUnknownThrough bytes (value_of f.1) p → IsUnknownIn (object (fields_view xs)) p
 unknown_of xs i f bytes p h is b u it = unknown_in (fields_view xs) (chars (string_bytes f.0)) bytes (value_of f.1) p (member_at xs i f h is) (spelled f bytes b u) it
+
+-- of the argument, of an element and of a member
+pub alone_of : (name : List ℕ) (a : Datum) (p : Problem) → (takes_schema name ≡ true) × IsUnknownIn a p → IsUnknownThrough name a p
+alone_of name a p (takes, k) = inr (a, alone takes refl, k)
+
+pub element_of : (name : List ℕ) (a : Datum) (p : Problem) → (takes_schemas name ≡ true) × IsUnknownAmong a p → IsUnknownThrough name a p
+element_of name (array xs) p (takes, (s, there, k)) = inr (s, element xs takes refl there, k)
+element_of name null p (takes, (s, there, k)) = absurd there
+element_of name (boolean b) p (takes, (s, there, k)) = absurd there
+element_of name (number n) p (takes, (s, there, k)) = absurd there
+element_of name (text t) p (takes, (s, there, k)) = absurd there
+element_of name (object fs) p (takes, (s, there, k)) = absurd there
+
+pub member_of : (name : List ℕ) (a : Datum) (p : Problem) → (takes_named name ≡ true) × IsUnknownNamed a p → IsUnknownThrough name a p
+member_of name (object fs) p (takes, (s, (u, there), k)) = inr (s, member u fs takes refl there, k)
+member_of name null p (takes, (s, there, k)) = absurd there
+member_of name (boolean b) p (takes, (s, there, k)) = absurd there
+member_of name (number n) p (takes, (s, there, k)) = absurd there
+member_of name (text t) p (takes, (s, there, k)) = absurd there
+member_of name (array xs) p (takes, (s, there, k)) = absurd there
 
 -- ---- the whole
 

@@ -6,7 +6,7 @@ ghost use Rattle.std.specs.List.{list_any};
 ghost use Rattle.json5_types.specs.ValueMeanings.{array, object, value_of, items_view, fields_view};
 ghost use Rattle.json5_schema.specs.Subschemas.{is_known, takes_schema, takes_schemas, takes_named, HasOnlyKeywords, IsKnownThrough, AllKnownAmong, AllKnownNamed};
 ghost use Rattle.json5_schema.specs.Refusals.{IsFor, IsNoKeyword, RefusedFor};
-ghost use Rattle.json5_schema.specs.RefusalSteps.{IsUnknownAmong, IsUnknownBelow, IsUnknownIn, IsUnknownNamed, IsUnknownThrough};
+ghost use Rattle.json5_schema.specs.RefusalSteps.{IsUnknownAmong, IsUnknownIn, IsUnknownNamed, IsUnknownThrough};
 
 use crate::faults::{Problem, SchemaFault};
 use crate::looking::{Looked, behind, fault};
@@ -217,7 +217,7 @@ fn check_keyword(alloc: Global, name: &str, argument: &Value, pointer: &str) -> 
 #[cycle(known)]
 fn check_alone(alloc: Global, name: &str, argument: &Value, pointer: &str) -> Looked<()>
     ensures known { OnOk result (takes_schema name.now ≡ true → HasOnlyKeywords (value_of argument.now)) }
-    ensures unknown { RefusedFor (IsUnknownBelow name.now (value_of argument.now)) result }
+    ensures unknown { RefusedFor (λ p. (takes_schema name.now ≡ true) × IsUnknownIn (value_of argument.now) p) result }
 {
     if !takes_schema(name) {
         return Ok(());
@@ -229,7 +229,7 @@ fn check_alone(alloc: Global, name: &str, argument: &Value, pointer: &str) -> Lo
 #[cycle(known)]
 fn check_elements(alloc: Global, name: &str, argument: &Value, pointer: &str) -> Looked<()>
     ensures known { OnOk result (takes_schemas name.now ≡ true → AllKnownAmong (value_of argument.now)) }
-    ensures unknown { RefusedFor (IsUnknownBelow name.now (value_of argument.now)) result }
+    ensures unknown { RefusedFor (λ p. (takes_schemas name.now ≡ true) × IsUnknownAmong (value_of argument.now) p) result }
 {
     if !takes_schemas(name) {
         return Ok(());
@@ -244,7 +244,7 @@ fn check_elements(alloc: Global, name: &str, argument: &Value, pointer: &str) ->
 #[cycle(known)]
 fn check_members(alloc: Global, name: &str, argument: &Value, pointer: &str) -> Looked<()>
     ensures known { OnOk result (takes_named name.now ≡ true → AllKnownNamed (value_of argument.now)) }
-    ensures unknown { RefusedFor (IsUnknownBelow name.now (value_of argument.now)) result }
+    ensures unknown { RefusedFor (λ p. (takes_named name.now ≡ true) × IsUnknownNamed (value_of argument.now) p) result }
 {
     if !takes_named(name) {
         return Ok(());

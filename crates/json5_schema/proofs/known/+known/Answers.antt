@@ -1,4 +1,4 @@
-use Rattle.std.proofs.Common.{◌∙◌, ◌+◌, ◌≡◌, drop, arith, ap, sym, refl, inl, inr, None, string_bytes, rules}
+use Rattle.std.proofs.Common.{◌∙◌, ◌+◌, ◌≡◌, drop, arith, ap, subst, sym, true, inl, None, string_bytes, rules}
 use Rattle.std.proofs.lemmas.Grind.{common_steps}
 use Rattle.std.proofs.lemmas.Result.{err_from_is_err_and}
 use Rattle.std.specs.Str.{chars}
@@ -8,10 +8,10 @@ use Rattle.json5_types.specs.ValueLookups.{items_in, fields_in}
 use Rattle.json5_types.proofs.ValuesCompared.{view-Array, view-Object}
 use Rattle.json5_types.proofs.LookedUp.{from_here}
 use Rattle.json5_schema.specs.Refusals.{IsNoKeyword}
-use Rattle.json5_schema.specs.RefusalSteps.{IsUnknownAmong, IsUnknownBelow, IsUnknownIn, IsUnknownNamed, IsUnknownThrough}
-use Rattle.json5_schema.specs.Subschemas.{alone, element, member}
+use Rattle.json5_schema.specs.RefusalSteps.{IsUnknownAmong, IsUnknownIn, IsUnknownNamed, IsUnknownThrough}
+use Rattle.json5_schema.specs.Subschemas.{takes_named, takes_schema, takes_schemas}
 use Rattle.json5_schema.proofs.Knowing.{map_ok, none_known, none_among, none_named, through, keywords_done, each_done, named_done, first_known, value_from, first_of_each, first_named}
-use Rattle.json5_schema.proofs.Refusing.{widened, refused, element_at, member_at, unknown_of}
+use Rattle.json5_schema.proofs.Refusing.{widened, refused, alone_of, element_at, element_of, member_at, member_of, unknown_of}
 use Rattle.json5_schema.proofs.known.+known.Goals as goal
 
 pub check_schema-returns-in-Object-clause-known : goal.check_schema-returns-in-Object-clause-known
@@ -55,12 +55,12 @@ check_keyword-returns-then-not-is_known-clause-unknown t c =
 pub check_keyword-returns-in_err-check_alone-clause-unknown : goal.check_keyword-returns-in_err-check_alone-clause-unknown
 check_keyword-returns-in_err-check_alone-clause-unknown t c =
     let (y, is, from) = err_from_is_err_and c.from_residual-in_err-check_alone.result c.from_residual-in_err-check_alone.ensures.1 in
-    rw (is, from) (widened _ (IsUnknownBelow c.args.name.now (value_of c.args.argument.now)) (IsUnknownThrough c.args.name.now (value_of c.args.argument.now)) (λ p k. inr k) c.in_err-check_alone.ensures.unknown)
+    rw (is, from) (widened _ (λ p. (takes_schema c.args.name.now ≡ true) × IsUnknownIn (value_of c.args.argument.now) p) (IsUnknownThrough c.args.name.now (value_of c.args.argument.now)) (alone_of c.args.name.now (value_of c.args.argument.now)) c.in_err-check_alone.ensures.unknown)
 
 pub check_keyword-returns-in_err-check_elements-clause-unknown : goal.check_keyword-returns-in_err-check_elements-clause-unknown
 check_keyword-returns-in_err-check_elements-clause-unknown t c =
     let (y, is, from) = err_from_is_err_and c.from_residual-in_err-check_elements.result c.from_residual-in_err-check_elements.ensures.1 in
-    rw (is, from) (widened _ (IsUnknownBelow c.args.name.now (value_of c.args.argument.now)) (IsUnknownThrough c.args.name.now (value_of c.args.argument.now)) (λ p k. inr k) c.in_err-check_elements.ensures.unknown)
+    rw (is, from) (widened _ (λ p. (takes_schemas c.args.name.now ≡ true) × IsUnknownAmong (value_of c.args.argument.now) p) (IsUnknownThrough c.args.name.now (value_of c.args.argument.now)) (element_of c.args.name.now (value_of c.args.argument.now)) c.in_err-check_elements.ensures.unknown)
 
 pub check_keyword-returns-clause-known : goal.check_keyword-returns-clause-known
 check_keyword-returns-clause-known t c =
@@ -68,14 +68,14 @@ check_keyword-returns-clause-known t c =
     map_ok c.check_members.result (λ named. through c.args.name.now (value_of c.args.argument.now) known c.in_ok-check_alone.ensures.known c.in_ok-check_elements.ensures.known named) c.check_members.ensures.known
 
 pub check_keyword-returns-clause-unknown : goal.check_keyword-returns-clause-unknown
-check_keyword-returns-clause-unknown t c = refused c.check_members.result (IsUnknownBelow c.args.name.now (value_of c.args.argument.now)) _ (λ p k. inr k) c.check_members.ensures.unknown
+check_keyword-returns-clause-unknown t c = refused c.check_members.result (λ p. (takes_named c.args.name.now ≡ true) × IsUnknownNamed (value_of c.args.argument.now) p) _ (member_of c.args.name.now (value_of c.args.argument.now)) c.check_members.ensures.unknown
 
 pub check_alone-returns-clause-known : goal.check_alone-returns-clause-known
 check_alone-returns-clause-known t c = map_ok c.check_schema.result (λ h e. h) c.check_schema.ensures.known
 
 pub check_alone-returns-clause-unknown : goal.check_alone-returns-clause-unknown
 check_alone-returns-clause-unknown t c =
-    refused c.check_schema.result (IsUnknownIn (value_of c.args.argument.now)) _ (λ p k. (value_of c.args.argument.now, alone (sym c.takes_schema.ensures ∙ c.if-not-takes_schema.false) refl, k)) c.check_schema.ensures.unknown
+    refused c.check_schema.result (IsUnknownIn (value_of c.args.argument.now)) _ (λ p k. (sym c.takes_schema.ensures ∙ c.if-not-takes_schema.false, k)) c.check_schema.ensures.unknown
 
 pub check_elements-returns-in-Array-clause-known : goal.check_elements-returns-in-Array-clause-known
 check_elements-returns-in-Array-clause-known t c =
@@ -85,7 +85,7 @@ pub check_elements-returns-in-Array-clause-unknown : goal.check_elements-returns
 check_elements-returns-in-Array-clause-unknown t c =
     let is = ap value_of c.in-Array.is ∙ (view-Array c.in-Array.schemas ∙ ap (λ z. array (items_view z)) (sym c.deref.ensures.value)) in
     let takes = sym c.takes_schemas.ensures ∙ c.if-not-takes_schemas.false in
-    refused c.check_each.result (IsUnknownAmong (array (items_view c.deref.result.now))) _ (λ p (s, there, k). (s, element (items_view c.deref.result.now) takes is there, k)) c.check_each.ensures.unknown
+    refused c.check_each.result (IsUnknownAmong (array (items_view c.deref.result.now))) _ (λ p k. (takes, subst (λ z. IsUnknownAmong z p) (sym is) k)) c.check_each.ensures.unknown
 
 pub check_elements-returns-in_default-clause-known : goal.check_elements-returns-in_default-clause-known
 check_elements-returns-in_default-clause-known t c =
@@ -100,7 +100,7 @@ pub check_members-returns-in-Object-clause-unknown : goal.check_members-returns-
 check_members-returns-in-Object-clause-unknown t c =
     let is = ap value_of c.in-Object.is ∙ (view-Object c.in-Object.schemas ∙ ap (λ z. object (fields_view z)) (sym c.deref.ensures.value)) in
     let takes = sym c.takes_named.ensures ∙ c.if-not-takes_named.false in
-    refused c.check_named.result (IsUnknownNamed (object (fields_view c.deref.result.now))) _ (λ p (s, (u, there), k). (s, member u (fields_view c.deref.result.now) takes is there, k)) c.check_named.ensures.unknown
+    refused c.check_named.result (IsUnknownNamed (object (fields_view c.deref.result.now))) _ (λ p k. (takes, subst (λ z. IsUnknownNamed z p) (sym is) k)) c.check_named.ensures.unknown
 
 pub check_members-returns-in_default-clause-known : goal.check_members-returns-in_default-clause-known
 check_members-returns-in_default-clause-known t c =
