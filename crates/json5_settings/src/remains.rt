@@ -53,7 +53,7 @@ impl Remains {
         let Some(left) = left else {
             return Ok(false);
         };
-        self.note(spot)?;
+        note(self.text.as_str(), &mut self.passed, spot)?;
         self.text = left;
         Ok(true)
     }
@@ -86,19 +86,16 @@ impl Remains {
         }
         true
     }
+}
 
-    /// Notes the entry as passed over.
-    fn note(&mut self, spot: Spot) -> std::result::Result<(), AllocError>
-        ensures text { self.new.text ≡ self.old.text }
-        ensures told { self.new.told ≡ self.old.told }
-    {
-        let begins = position_of(self.text.as_str(), spot.from);
-        let Spot { mut steps, .. } = spot;
-        if let Some(step) = steps.pop() {
-            self.passed.push(Passed { begins, step })?;
-        }
-        Ok(())
+/// Notes an entry of the text as passed over.
+fn note(text: &str, passed: &mut Vec<Passed>, spot: Spot) -> std::result::Result<(), AllocError> {
+    let begins = position_of(text, spot.from);
+    let Spot { mut steps, .. } = spot;
+    if let Some(step) = steps.pop() {
+        passed.push(Passed { begins, step })?;
     }
+    Ok(())
 }
 
 /// The entry that the fault is in; the text where it is in none.
