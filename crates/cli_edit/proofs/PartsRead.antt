@@ -2,7 +2,7 @@
 use Rattle.std.proofs.Common.{◌≡◌, ◌≤◌, ◌<◌, ◌+◌, ◌⊎◌, append-nil, append_assoc, get_or, length, take, inl, inr, ℕ, zero, suc, true, false, Bool, List, [], ◌∷◌, ◌++◌, Some, refl, ap, sym, ◌∙◌, subst, arith}
 use Rattle.std.proofs.Math.Nat.{le-max_left, le-max_right}
 use Rattle.std.specs.declared.alloc.Global.{Global}
-use Rattle.std.specs.Prelude.{IfErr, IfOk, Result, Ok, Err, String, string_bytes, slice_range}
+use Rattle.std.specs.Prelude.{IfErr, IfOk, Result, Ok, Err, String, string_bytes}
 use Rattle.std.specs.Str.{chars, IsUtf8, all_scalars}
 use Rattle.std.proofs.lemmas.Str.{chars-encodes, scalars-chars}
 use Rattle.json5_grammar.specs.Language.Characters.{line_feed}
@@ -19,17 +19,16 @@ use Rattle.json5_types.specs.declared.value.Value.{Value}
 use Rattle.json5_read.specs.TreeMeanings.{datum_of}
 use Rattle.json5_styles.specs.JsonTexts.{is_json}
 use Rattle.json5_styles.specs.WholeTexts.{RefusesText}
-use Rattle.json5_walk.specs.declared.place.Place.{Place}
 use Rattle.json5_edit.specs.Parts.{part, part_at, part_under}
-use Rattle.json5_edit.specs.Places.{HasPlace, IsValue, Leads}
+use Rattle.json5_edit.specs.Places.{IsPartAt, IsValue}
 use Rattle.json5_edit.specs.declared.paths.Step.{Step}
-use Rattle.json5_edit.proofs.Placed.{part_there, scalars_left, scalars_right}
+use Rattle.json5_edit.proofs.Placed.{scalars_left, scalars_right}
 use Rattle.cli_edit.specs.declared.trouble.TextTrouble.{TextTrouble}
 use Rattle.cli_edit.specs.declared.trouble.TextTrouble.TheVariants as trouble
 use Rattle.json5_edit.specs.declared.faults.EditError.TheVariants as error
 use Rattle.cli_edit.specs.declared.requests.View.{View}
 use Rattle.cli_edit.specs.declared.requests.View.TheVariants as view
-use Rattle.cli_edit.specs.Parts.{IsNoJson, IsPartAt, IsShownAt, IsShownOf, KeyLines, RefusesShowing, RefusesShownOf, Shows, ShowsNone}
+use Rattle.cli_edit.specs.Parts.{IsNoJson, IsShownAt, IsShownOf, KeyLines, RefusesShowing, RefusesShownOf, Shows, ShowsNone}
 
 itself : (n : ℕ) → n ≤ n
 itself n = omega arith
@@ -63,10 +62,6 @@ mutual
   part_depth_under (suc i) is (member k b t ps) u e = within (part_depth_under i is ps u e) (le-max_right (depth t) (member_depths ps))
 
 -- ---- the value's text
-
-pub part_found : (bytes spelled : List ℕ) (steps : List Step) (p : Place) → IsUtf8 bytes → Leads bytes steps (Some p) → spelled ≡ slice_range bytes p.start p.end → IsPartAt bytes steps spelled
-part_found bytes spelled steps p u leads is =
-    record { tree = leads.tree; document = leads.document; place = p; there = leads.placed; same = part_there u is leads.placed.cut }
 
 -- the characters of what is spelled are those of the place
 part_value : (bytes spelled : List ℕ) (steps : List Step) → IsUtf8 bytes → (p : IsPartAt bytes steps spelled) → Val (chars spelled) p.there.tree
@@ -152,10 +147,6 @@ json_none x e (trouble.NoPatch f) k n = elim n [ ]
 json_none x e (trouble.Operation f) k n = elim n [ ]
 json_none x e (trouble.NoPath f) k n = elim n [ ]
 json_none x e trouble.IntoItself k n = elim n [ ]
-
--- the place is in the text
-pub place_there : (bytes : List ℕ) (steps : List Step) (p : Place) → Leads bytes steps (Some p) → HasPlace bytes p
-place_there bytes steps p leads = let q = leads.placed in (q.before, q.old, q.after, q.cut)
 
 -- ---- the keys of an object
 

@@ -17,8 +17,7 @@ use Rattle.json5_read.specs.TreeMeanings.{datum_of}
 use Rattle.json5_styles.specs.declared.layout.Layout.TheVariants as layout
 use Rattle.json5_styles.specs.JsonTexts.{is_json}
 use Rattle.json5_styles.specs.Layouts.{json_text}
-use Rattle.json5_walk.specs.declared.place.Place.{Place}
-use Rattle.json5_edit.specs.Places.{IsPlace}
+use Rattle.json5_edit.specs.Places.{IsPartAt}
 use Rattle.json5_edit.specs.Refusals.{RefusesPath}
 use Rattle.json5_edit.specs.declared.faults.EditError.{EditError}
 use Rattle.json5_edit.specs.declared.faults.EditError.TheVariants as error
@@ -27,14 +26,6 @@ use Rattle.cli_edit.specs.declared.requests.View.{View}
 use Rattle.cli_edit.specs.declared.requests.View.TheVariants as view
 use Rattle.cli_edit.specs.declared.trouble.TextTrouble.{TextTrouble}
 use Rattle.cli_edit.specs.declared.trouble.TextTrouble.TheVariants as trouble
-
--- the text is a document, and at the place to which the steps lead in it the value is spelled so
-pub record IsPartAt (text : List ℕ) (steps : List Step) (spelled : List ℕ) : Type 0 where
-  pub tree : Tree
-  pub document : Doc max_depth (chars text) tree
-  pub place : Place
-  pub there : IsPlace text steps tree place
-  pub same : spelled ≡ encode_utf8_all there.old
 
 -- the value as JSON over lines that are indented by two spaces a level, and a line feed
 abbrev pub json_line : Datum → List ℕ

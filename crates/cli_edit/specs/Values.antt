@@ -7,7 +7,7 @@ use Rattle.json5_grammar.specs.Language.Documents.{max_depth}
 use Rattle.json5_types.specs.ValueMeanings.{text}
 use Rattle.json5_styles.specs.LaidBack.{ReadsAs}
 use Rattle.json5_walk.specs.Walks.{IsDocument}
-use Rattle.cli_edit.specs.Parts.{IsPartAt}
+use Rattle.json5_edit.specs.Places.{IsPartAt}
 use Rattle.cli_edit.specs.declared.requests.Command.{Command}
 use Rattle.cli_edit.specs.declared.requests.Command.TheVariants as work
 use Rattle.cli_edit.specs.declared.requests.Source.{Source}

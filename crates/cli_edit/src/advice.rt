@@ -4,9 +4,9 @@
 
 ghost use Rattle.std.specs.Prelude.{◌≤◌, length};
 
-use crate::parts::{kind_name, part_at};
+use crate::parts::kind_name;
 use crate::requests::Command;
-use json5_edit::{Before, EditError, Path, Step, find};
+use json5_edit::{Before, EditError, Path, Step, find, part_at};
 use json5_read::{check_document, read_document};
 use json5_types::value::Value;
 use std::alloc::{AllocError, Global};

@@ -2,10 +2,9 @@
 
 ghost use Rattle.std.specs.Prelude.{◌++◌, ◌∷◌, [], ◌≡◌, IfErr, IfOk, string_bytes};
 ghost use Rattle.json5_edit.specs.Places.{IsValue};
-ghost use Rattle.json5_edit.specs.Refusals.{RefusesPath};
 ghost use Rattle.json5_edit.specs.declared.faults.EditError.TheVariants as edit_errors;
 ghost use Rattle.json5_types.specs.ValueMeanings.{value_of};
-ghost use Rattle.cli_edit.specs.Parts.{IsNoJson, IsPartAt, IsShownAt, IsShownOf, RefusesShowing, RefusesShownOf, Shows, ShowsNone, kind_word};
+ghost use Rattle.cli_edit.specs.Parts.{IsNoJson, IsShownAt, IsShownOf, RefusesShowing, RefusesShownOf, Shows, ShowsNone, kind_word};
 ghost use Rattle.cli_edit.specs.declared.requests.View.TheVariants as views;
 ghost use Rattle.cli_edit.specs.declared.trouble.TextTrouble.TheVariants as troubles;
 ghost use Rattle.json5_grammar.specs.Language.Characters.{line_feed};
@@ -14,7 +13,7 @@ ghost use Rattle.std.specs.Str.{chars};
 
 use crate::requests::View;
 use crate::trouble::TextTrouble;
-use json5_edit::{EditError, Step, find_place};
+use json5_edit::{EditError, Step, part_at};
 use json5_read::read_document;
 use json5_styles::to_json;
 use json5_types::ErrorCode;
@@ -35,25 +34,6 @@ pub(crate) fn shown_at(
     match part_at(alloc, text, steps) {
         Ok(part) => shown(alloc, view, part),
         Err(error) => Err(TextTrouble::Edit(error)),
-    }
-}
-
-/// The text of the value that the steps lead to.
-pub(crate) fn part_at<'t>(
-    alloc: Global,
-    text: &'t str,
-    steps: &[Step<'_>],
-) -> json5_edit::Result<&'t str>
-    ensures part { IfOk result (λ part. IsPartAt text.now steps.now part.now) }
-    ensures refused { IfErr result (RefusesPath text.now steps.now) }
-{
-    match find_place(alloc, text, steps) {
-        Ok(Some(place)) => match text.get(place.start..place.end) {
-            Some(part) => Ok(part),
-            None => unreachable!(),
-        },
-        Ok(None) => Err(EditError::Nowhere),
-        Err(error) => Err(EditError::of_text(error)),
     }
 }
 

@@ -5,9 +5,8 @@ ghost use Rattle.json5_edit.specs.Changes.{ChangesBy};
 ghost use Rattle.json5_edit_values.specs.Patches.{Performs};
 ghost use Rattle.cli_edit.specs.Makes.{AreTokensOf, IsCopied, IsMerged, IsMoved, IsPatched, IsTokenOf};
 
-use crate::parts::part_at;
 use crate::trouble::TextTrouble;
-use json5_edit::{EditError, Names, Path, Result as EditResult, Step};
+use json5_edit::{EditError, Names, Path, Result as EditResult, Step, part_at};
 use json5_edit_values::patch::{
     Operation, Patch, PatchFault, Pointer, Trouble, apply_patch_in, merge_patch_in,
 };

@@ -7,9 +7,8 @@ ghost use Rattle.json5_styles.specs.LaidBack.{ReadsAs};
 ghost use Rattle.std.specs.Str.{chars};
 ghost use Rattle.cli_edit.specs.Values.{IsContent, IsTextOf, Means, Strips};
 
-use crate::parts::part_at;
 use crate::requests::{Command, Source, Task};
-use json5_edit::{EditError, Names, Result};
+use json5_edit::{EditError, Names, Result, part_at};
 use json5_edit_style::{Collection, Respelling, Which, respelling_for};
 use json5_read::brackets::BracketKind;
 use json5_read::read_document;

@@ -1,14 +1,17 @@
 -- The text with a collection changed.
-use Rattle.std.proofs.Common.{◌≡◌, ℕ, ◌≤◌, List, ◌++◌, sym, ◌∙◌, subst, Some, arith}
+use Rattle.std.proofs.Common.{◌≡◌, ℕ, ◌≤◌, List, ◌++◌, sym, ◌∙◌, subst, string_bytes, Some, arith}
+use Rattle.std.specs.declared.alloc.Global.{Global}
+use Rattle.std.specs.Prelude.{Err, Ok, Result, String}
 use Rattle.std.specs.Str.{chars, IsUtf8, encode_utf8_all}
 use Rattle.json5_grammar.specs.Language.Documents.{Doc, max_depth}
 use Rattle.json5_grammar.specs.Language.Trees.{Tree, depth}
 use Rattle.json5_grammar.specs.Language.Values.{Val}
 use Rattle.json5_grammar.proofs.OneTree.{one_tree}
 use Rattle.json5_walk.specs.declared.place.Place.{Place}
-use Rattle.json5_edit.specs.Changes.{ChangesBy, IsChanged}
+use Rattle.json5_edit.specs.Changes.{ChangesBy, Edits, IsChanged}
 use Rattle.json5_edit.specs.Places.{IsValue, IsPart, HasPlace, Leads}
 use Rattle.json5_edit.specs.Sets.{Puts}
+use Rattle.json5_edit.specs.declared.faults.EditError.{EditError}
 use Rattle.json5_edit.specs.declared.paths.Step.{Step}
 use Rattle.json5_edit.proofs.Compared.{alone}
 use Rattle.json5_edit.proofs.Placed.{set_at}
@@ -57,3 +60,13 @@ changed_by Bytes Change bytes old new made path p u leads there (t, w, was, now,
 pub changed_within : (Bytes : List ℕ → List ℕ → Type 0) (Change : Tree → Tree → Type 0) (bytes old new text made : List ℕ) (path : List Step) (p : Place) → IsUtf8 bytes → IsUtf8 new → new ≡ text → Leads bytes path (Some p) → ((before o after : List ℕ) → IsPart bytes p before o after → old ≡ encode_utf8_all o) → ChangesBy Change old text × Bytes old text × IsValue p.room (chars text) → ((before o after : List ℕ) → IsPart bytes p before o after → made ≡ encode_utf8_all before ++ (new ++ encode_utf8_all after)) → (c : IsChanged Change bytes path made) × Bytes c.old c.new
 changed_within Bytes Change bytes old new text made path p u v is leads there (change, how, value) puts =
     changed_by Bytes Change bytes old new made path p u leads there (subst (ChangesBy Change old) (sym is) change) (subst (Bytes old) (sym is) how) (v, subst (λ x. IsValue p.room (chars x)) (sym is) value, puts)
+
+-- ---- what a call answers
+
+pub not_edited : {Plain Made : List ℕ → Type 0} {Refuses : EditError → Type 0} {e : EditError} → Refuses e → Edits Plain Made Refuses (Err e)
+not_edited h = record { made = tt; plain = tt; refused = h }
+
+-- the same, said otherwise
+pub edited_as : {P Q M N : List ℕ → Type 0} {R S : EditError → Type 0} (r : Result (String Global) EditError) → ((new : List ℕ) → M new → N new) → ((new : List ℕ) → P new → Q new) → ((e : EditError) → R e → S e) → Edits P M R r → Edits Q N S r
+edited_as (Ok a) made plain refused h = record { made = made (string_bytes a) h.made; plain = plain (string_bytes a) h.plain; refused = tt }
+edited_as (Err e) made plain refused h = record { made = tt; plain = tt; refused = refused e h.refused }

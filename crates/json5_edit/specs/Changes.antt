@@ -1,7 +1,8 @@
 -- A text with a collection changed.
 -- A promise rests on this.
 use denote.Ref.{Bor}
-use Rattle.std.specs.Prelude.{◌≡◌, ℕ, ◌+◌, ◌≤◌, List, [], ◌∷◌, ◌++◌, length, Some}
+use Rattle.std.specs.declared.alloc.Global.{Global}
+use Rattle.std.specs.Prelude.{◌≡◌, ℕ, ◌+◌, ◌≤◌, List, [], ◌∷◌, ◌++◌, length, IfErr, IfOk, Result, Some, String, string_bytes}
 use Rattle.std.specs.Str.{chars}
 use Rattle.json5_grammar.specs.Language.Documents.{Doc, max_depth}
 use Rattle.json5_grammar.specs.Language.Trees.{Tree}
@@ -15,9 +16,10 @@ use Rattle.json5_edit.specs.Entries.{entries}
 use Rattle.json5_edit.specs.Comparing.{IsWithout, IsWithLast, IsWithAt, IsWithMember, IsRenamed}
 use Rattle.json5_edit.specs.Parts.{part, put, positions_of}
 use Rattle.json5_edit.specs.Pieces.{Cuts, CutsWith, Grows, Respells}
-use Rattle.json5_edit.specs.Refusals.{IsFree}
+use Rattle.json5_edit.specs.Refusals.{IsFree, RefusesInsert}
 use Rattle.json5_edit.specs.declared.belongings.Lead.{Lead}
 use Rattle.json5_edit.specs.declared.belongings.Lead.TheVariants as leads
+use Rattle.json5_edit.specs.declared.faults.EditError.{EditError}
 use Rattle.json5_edit.specs.declared.paths.Before.{Before}
 use Rattle.json5_edit.specs.declared.paths.Step.{Step}
 use Rattle.json5_edit.specs.declared.paths.Step.TheVariants as step
@@ -102,3 +104,19 @@ StaysPlainQuoted first text value made = first ≡ names.Quoted → StaysPlain t
 -- with one more member that comes before others, where none had the key; as plain as the text, as said above
 abbrev pub InsertsBefore : Before → Names → List ℕ → List Step → List ℕ → List ℕ → List ℕ → Type 0
 InsertsBefore b first text path key value made = ((c : IsChanged (GainsMember b key value) text path made) × Grows kind.Object value c.old c.new × IsFree key c.old) × StaysPlainQuoted first text value made
+
+-- ---- what a call answers
+
+-- a text that is so plain and so made, or why there is none
+pub record Edits (Plain Made : List ℕ → Type 0) (Refuses : EditError → Type 0) (result : Result (String Global) EditError) : Type 0 where
+  pub made : IfOk result (λ new. Made (string_bytes new))
+  pub plain : IfOk result (λ new. Plain (string_bytes new))
+  pub refused : IfErr result Refuses
+
+-- the same of a value that is brought in, where a name stands so as the first key
+abbrev pub EditsWith : Names → (text value : List ℕ) → (Made : List ℕ → Type 0) → (Refuses : EditError → Type 0) → Result (String Global) EditError → Type 0
+EditsWith first text value Made Refuses result = Edits (StaysPlainQuoted first text value) Made Refuses result
+
+-- `insert` and `insert_in`
+abbrev pub Inserts : Names → List ℕ → List Step → (key value : List ℕ) → Result (String Global) EditError → Type 0
+Inserts first text path key value result = EditsWith first text value (IsInserted text path key value) (RefusesInsert text path key value) result

@@ -1,7 +1,7 @@
 -- Where a path leads in a text.
 -- A promise rests on this.
 use Rattle.std.specs.Prelude.{◌≡◌, ◌⊎◌, ◌||◌, ◌==◌, ℕ, ◌≤◌, ◌-◌, Bool, true, false, List, ◌++◌, length, Option, Some, None, MatchOption, option_map}
-use Rattle.std.specs.Str.{chars}
+use Rattle.std.specs.Str.{chars, encode_utf8_all}
 use Rattle.json5_grammar.specs.Language.Blanks.{LastBlanks}
 use Rattle.json5_grammar.specs.Language.Characters.{comma_sign}
 use Rattle.json5_grammar.specs.Language.Documents.{Doc, max_depth}
@@ -68,6 +68,14 @@ pub record Leads (text : List ℕ) (path : List Step) (place : Option Place) : T
   pub tree : Tree
   pub document : Doc max_depth (chars text) tree
   pub placed : MatchOption place (positions_of path tree ≡ None) (IsPlace text path tree)
+
+-- the text is a document, and the value that the path leads to in it is spelled so
+pub record IsPartAt (text : List ℕ) (path : List Step) (spelled : List ℕ) : Type 0 where
+  pub tree : Tree
+  pub document : Doc max_depth (chars text) tree
+  pub place : Place
+  pub there : IsPlace text path tree place
+  pub same : spelled ≡ encode_utf8_all there.old
 
 -- the text is a document, and the path leads nowhere in it
 abbrev pub LeadsNowhere : List ℕ → List Step → Type 0

@@ -1,9 +1,9 @@
 //! Adds, removes and renames the entries of a collection.
 
 ghost use Rattle.std.specs.Prelude.{◌≡◌, ◌-◌, ℕ, List, [], false, IfOk, IfErr, OnOk, string_bytes};
-ghost use Rattle.json5_edit.specs.Changes.{GainsAt, IsRemoved, IsRemovedAlone, RemovesWith, IsPushed, IsPutIn, IsInserted, IsRekeyed, StaysPlainQuoted};
+ghost use Rattle.json5_edit.specs.Changes.{Edits, GainsAt, Inserts, IsRemoved, IsRemovedAlone, RemovesWith, IsPushed, IsPutIn, IsRekeyed};
 ghost use Rattle.json5_edit.specs.Places.{IsPart, IsValue};
-ghost use Rattle.json5_edit.specs.Refusals.{RefusesRemove, RefusesPush, RefusesPutIn, RefusesInsert, RefusesRename, RefusesValue, BeginsNo};
+ghost use Rattle.json5_edit.specs.Refusals.{RefusesRemove, RefusesPush, RefusesPutIn, RefusesRename, RefusesValue, BeginsNo};
 ghost use Rattle.json5_edit.specs.Spots.{Adds, AddsLast, EndTokens, HasEnd, HasEntry, HasFound, MayComeLast, Removes, due_at};
 ghost use Rattle.json5_edit.specs.declared.paths.Step.TheVariants as step;
 ghost use Rattle.json5_edit_style.specs.declared.habits.Names.TheVariants as layout_names;
@@ -47,9 +47,7 @@ use std::alloc::{AllocError, Global};
 /// - `Nowhere`, if the path leads nowhere or has no step.
 /// - `NoMemory` where there is no memory for the text, or for a key with an escape.
 pub fn remove(alloc: Global, text: &str, path: &[Step<'_>]) -> Result<String>
-    ensures removed { IfOk result (λ made. IsRemoved text.now path.now (string_bytes made)) }
-    ensures plain { IfOk result (λ made. KeepsPlain text.now (string_bytes made)) }
-    ensures refused { IfErr result (RefusesRemove text.now path.now) }
+    ensures { Edits (KeepsPlain text.now) (IsRemoved text.now path.now) (RefusesRemove text.now path.now) result }
 {
     removed_with(alloc, text, path, Lead::Goes)
 }
@@ -65,16 +63,14 @@ pub fn remove(alloc: Global, text: &str, path: &[Step<'_>]) -> Result<String>
 ///
 /// As [`remove`].
 pub fn remove_alone(alloc: Global, text: &str, path: &[Step<'_>]) -> Result<String>
-    ensures removed { IfOk result (λ made. IsRemovedAlone text.now path.now (string_bytes made)) }
-    ensures refused { IfErr result (RefusesRemove text.now path.now) }
+    ensures { Edits (KeepsPlain text.now) (IsRemovedAlone text.now path.now) (RefusesRemove text.now path.now) result }
 {
     removed_with(alloc, text, path, Lead::Stays)
 }
 
 /// The text without the entry that the path leads to.
 fn removed_with(alloc: Global, text: &str, path: &[Step<'_>], leads: Lead) -> Result<String>
-    ensures removed { IfOk result (λ made. RemovesWith leads text.now path.now (string_bytes made)) }
-    ensures refused { IfErr result (RefusesRemove text.now path.now) }
+    ensures { Edits (KeepsPlain text.now) (RemovesWith leads text.now path.now) (RefusesRemove text.now path.now) result }
 {
     let Some((step, outer)) = path.split_last() else {
         return Err(EditError::Nowhere);
@@ -103,9 +99,7 @@ fn removed_with(alloc: Global, text: &str, path: &[Step<'_>], leads: Lead) -> Re
 /// - `Value` with the fault of reading, if `value` is no value or is nested too deep for its place.
 /// - `NoMemory` where there is no memory for the text, or for a key with an escape.
 pub fn push(alloc: Global, text: &str, path: &[Step<'_>], value: &str) -> Result<String>
-    ensures pushed { IfOk result (λ made. IsPushed text.now path.now value.now (string_bytes made)) }
-    ensures plain { IfOk result (λ made. StaysPlain text.now value.now (string_bytes made)) }
-    ensures refused { IfErr result (RefusesPush text.now path.now value.now) }
+    ensures { Edits (StaysPlain text.now value.now) (IsPushed text.now path.now value.now) (RefusesPush text.now path.now value.now) result }
 {
     let place = place_of(alloc, text, path)?;
     let room = limit_of(place);
@@ -139,9 +133,7 @@ pub fn insert_element(
     index: usize,
     value: &str,
 ) -> Result<String>
-    ensures put_in { IfOk result (λ made. IsPutIn text.now path.now index value.now (string_bytes made)) }
-    ensures plain { IfOk result (λ made. StaysPlain text.now value.now (string_bytes made)) }
-    ensures refused { IfErr result (RefusesPutIn text.now path.now index value.now) }
+    ensures { Edits (StaysPlain text.now value.now) (IsPutIn text.now path.now index value.now) (RefusesPutIn text.now path.now index value.now) result }
 {
     let place = place_of(alloc, text, path)?;
     let room = limit_of(place);
@@ -180,9 +172,7 @@ pub fn insert(
     key: &str,
     value: &str,
 ) -> Result<String>
-    ensures inserted { IfOk result (λ made. IsInserted text.now path.now key.now value.now (string_bytes made)) }
-    ensures plain { IfOk result (λ made. StaysPlain text.now value.now (string_bytes made)) }
-    ensures refused { IfErr result (RefusesInsert text.now path.now key.now value.now) }
+    ensures { Inserts layout_names.Quoted text.now path.now key.now value.now result }
 {
     insert_in(alloc, text, path, key, value, Names::Quoted)
 }
@@ -205,9 +195,7 @@ pub fn insert_in(
     value: &str,
     names: Names,
 ) -> Result<String>
-    ensures inserted { IfOk result (λ made. IsInserted text.now path.now key.now value.now (string_bytes made)) }
-    ensures plain { IfOk result (λ made. StaysPlainQuoted names text.now value.now (string_bytes made)) }
-    ensures refused { IfErr result (RefusesInsert text.now path.now key.now value.now) }
+    ensures { Inserts names text.now path.now key.now value.now result }
 {
     let place = place_of(alloc, text, path)?;
     let room = limit_of(place);
@@ -235,9 +223,7 @@ pub fn insert_in(
 /// - `Taken`, if the object has a member with the new key.
 /// - `NoMemory` where there is no memory for the text, or for a key with an escape.
 pub fn rename(alloc: Global, text: &str, path: &[Step<'_>], key: &str) -> Result<String>
-    ensures rekeyed { IfOk result (λ made. IsRekeyed text.now path.now key.now (string_bytes made)) }
-    ensures plain { IfOk result (λ made. KeepsPlain text.now (string_bytes made)) }
-    ensures refused { IfErr result (RefusesRename text.now path.now key.now) }
+    ensures { Edits (KeepsPlain text.now) (IsRekeyed text.now path.now key.now) (RefusesRename text.now path.now key.now) result }
 {
     let Some((step, outer)) = path.split_last() else {
         return Err(EditError::NoKey);

@@ -1,7 +1,7 @@
 //! Sorts the members of an object.
 
-ghost use Rattle.std.specs.Prelude.{IfOk, IfErr, OnOk, string_bytes};
-ghost use Rattle.json5_edit.specs.Changes.{ChangesBy};
+ghost use Rattle.std.specs.Prelude.{IfOk, OnOk, string_bytes};
+ghost use Rattle.json5_edit.specs.Changes.{ChangesBy, Edits};
 ghost use Rattle.json5_edit.specs.Refusals.{RefusesSort};
 ghost use Rattle.json5_edit.specs.Sorted.{AreInOrder, HasMembersSorted, IsOrdered, ListsMembers, PassesAll, Sorts};
 ghost use Rattle.json5_lexemes.specs.Plain.{KeepsPlain};
@@ -37,9 +37,7 @@ use std::alloc::Global;
 /// - `Nowhere`, if the path leads nowhere; `NotObject`, if it leads to another value than an object.
 /// - `NoMemory` where there is no memory for the text, for its members, or for a key with an escape.
 pub fn sort(alloc: Global, text: &str, path: &[Step<'_>]) -> Result<String>
-    ensures sorted { IfOk result (λ made. IsOrdered text.now path.now (string_bytes made)) }
-    ensures plain { IfOk result (λ made. KeepsPlain text.now (string_bytes made)) }
-    ensures refused { IfErr result (RefusesSort text.now path.now) }
+    ensures { Edits (KeepsPlain text.now) (IsOrdered text.now path.now) (RefusesSort text.now path.now) result }
 {
     let place = place_of(alloc, text, path)?;
     let room = limit_of(place);

@@ -2,7 +2,7 @@
 use denote.Ref.{Bor}
 use Rattle.std.proofs.Common.{◌≡◌, ◌⊎◌, ◌≤◌, ◌<◌, ◌+◌, ℕ, zero, suc, List, [], ◌∷◌, ◌++◌, append-nil, length, take, get_or, refl, sym, ap, ◌∙◌, subst, arith, inl, inr}
 use Rattle.std.specs.declared.alloc.Global.{Global}
-use Rattle.std.specs.Prelude.{Bool, true, false, IfErr, IfOk, IfNone, IfSome, Option, Some, None, Result, Ok, Err, String, string_bytes, slice_range}
+use Rattle.std.specs.Prelude.{Bool, true, false, IfErr, IfOk, IfNone, IfSome, Option, Some, None, Result, Ok, Err, String, string_bytes}
 use Rattle.std.specs.Str.{chars, IsUtf8, all_scalars}
 use Rattle.std.proofs.lemmas.Str.{chars-encodes, scalars-chars}
 use lib.Chars.{codes}
@@ -20,9 +20,8 @@ use Rattle.json5_read.specs.TreeMeanings.{datum_of, items_of, fields_of}
 use Rattle.json5_read.specs.declared.brackets.BracketKind.TheVariants as kind
 use Rattle.json5_write.specs.EscapeFreeMarks.{unmarked}
 use Rattle.json5_write.specs.ValueTrees.{value_tree}
-use Rattle.json5_walk.specs.declared.place.Place.{Place}
-use Rattle.json5_edit.proofs.Placed.{ok_then, part_there, scalars_left, scalars_right}
-use Rattle.json5_edit.specs.Places.{HasPlace, Leads}
+use Rattle.json5_edit.proofs.Placed.{ok_then, scalars_left, scalars_right}
+use Rattle.json5_edit.specs.Places.{IsPartAt}
 use Rattle.json5_edit.specs.declared.faults.EditError.{EditError}
 use Rattle.json5_edit.specs.Changes.{ChangesBy, IsChanged, IsInserted, IsPushed, IsPutIn, IsRemoved}
 use Rattle.json5_edit.specs.Comparing.{IsWithAt, IsWithLast}
@@ -96,16 +95,13 @@ pub brings_text : (n : New) (spelled : Bor (List ℕ)) → n ≡ new.Text spelle
 brings_text n spelled is r k = ok_then r (λ made z v y. subst (λ m. Brings m v) (sym is) (z v y)) k
 
 -- the text of the value to which the steps lead
-pub part_found : (bytes spelled : List ℕ) (steps : List Step) (p : Place) → IsUtf8 bytes → Leads bytes steps (Some p) → spelled ≡ slice_range bytes p.start p.end → Reaches (Val (chars spelled)) bytes steps
-part_found bytes spelled steps p u leads is =
-    let q = leads.placed in
+pub part_reached : (bytes spelled : List ℕ) (steps : List Step) → IsUtf8 bytes → IsPartAt bytes steps spelled → Reaches (Val (chars spelled)) bytes steps
+part_reached bytes spelled steps u p =
+    let q = p.there in
     let scalars : all_scalars (q.before ++ (q.old ++ q.after)) ≡ true = ap all_scalars (sym q.cut.whole) ∙ scalars-chars bytes u in
     let old_scalars : all_scalars q.old ≡ true = scalars_left q.old q.after (scalars_right q.before (q.old ++ q.after) scalars) in
-    let same : chars spelled ≡ q.old = ap chars (part_there u is q.cut) ∙ chars-encodes q.old old_scalars in
-    record { tree = leads.tree; document = leads.document; positions = q.positions; led = q.led; value = q.tree; there = q.there; such = subst (λ z. Val z q.tree) (sym same) q.value }
-
-pub place_there : (bytes : List ℕ) (steps : List Step) (p : Place) → Leads bytes steps (Some p) → HasPlace bytes p
-place_there bytes steps p leads = let q = leads.placed in (q.before, q.old, q.after, q.cut)
+    let same : chars spelled ≡ q.old = ap chars p.same ∙ chars-encodes q.old old_scalars in
+    record { tree = p.tree; document = p.document; positions = q.positions; led = q.led; value = q.tree; there = q.there; such = subst (λ z. Val z q.tree) (sym same) q.value }
 
 -- ---- edits
 

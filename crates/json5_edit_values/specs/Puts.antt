@@ -1,13 +1,14 @@
 -- A value that is put where a path leads, whether one was there or not.
 -- A promise rests on this.
-use Rattle.std.specs.Prelude.{⊤, ◌≡◌, ◌≢◌, ◌⊎◌, ℕ, ◌+◌, ◌<◌, List, [], ◌∷◌, ◌++◌, length, None}
+use Rattle.std.specs.declared.alloc.Global.{Global}
+use Rattle.std.specs.Prelude.{⊤, ◌≡◌, ◌≢◌, ◌⊎◌, ℕ, ◌+◌, ◌<◌, List, [], ◌∷◌, ◌++◌, length, None, Result, String}
 use Rattle.std.specs.Str.{chars}
 use lib.Chars.{codes}
 use Rattle.json5_grammar.specs.Language.Documents.{Doc, max_depth}
 use Rattle.json5_grammar.specs.Language.Trees.{Tree, null, depth}
 use Rattle.json5_grammar.specs.Language.Values.{Val}
 use Rattle.json5_read.specs.declared.brackets.BracketKind.TheVariants as kind
-use Rattle.json5_edit.specs.Changes.{ChangesBy, IsInserted, IsPushed}
+use Rattle.json5_edit.specs.Changes.{EditsWith, ChangesBy, IsInserted, IsPushed}
 use Rattle.json5_edit.specs.Comparing.{IsWithLast, step_key, step_kind}
 use Rattle.json5_edit.specs.Entries.{empty_of, entries}
 use Rattle.json5_edit.specs.Parts.{positions_of}
@@ -18,6 +19,7 @@ use Rattle.json5_edit.specs.declared.faults.EditError.{EditError}
 use Rattle.json5_edit.specs.declared.faults.EditError.TheVariants as error
 use Rattle.json5_edit.specs.declared.paths.Step.{Step}
 use Rattle.json5_edit.specs.declared.paths.Step.TheVariants as step
+use Rattle.json5_edit_style.specs.declared.habits.Names.{Names}
 use Rattle.json5_edit_values.specs.Locations.{ChangesAt, HasAt}
 
 -- ---- trees
@@ -104,6 +106,12 @@ RefusesPut text path value (error.Value e) = IsNoValueWithin (length path) value
 RefusesPut text path value error.NoMemory = ⊤
 RefusesPut text path value e = (t : Tree) × Doc max_depth (chars text) t × RefusesSteps path t e
 
+-- ---- what a call answers
+
+-- `put` and `put_in`, where a name stands so as the first key
+abbrev pub PutsAt : Names → List ℕ → List Step → (value : List ℕ) → Result (String Global) EditError → Type 0
+PutsAt first text path value result = EditsWith first text value (IsPut text path value) (RefusesPut text path value) result
+
 -- ---- private clauses alone cite these
 
 abbrev pub RefusesEntry : Step → List ℕ → (outer : List Step) → (value : List ℕ) → EditError → Type 0
@@ -114,3 +122,10 @@ abbrev pub RefusesAlong : List ℕ → (outer steps : List Step) → (value : Li
 RefusesAlong text outer [] value e = e ≡ error.NoMemory
 RefusesAlong text outer (s ∷ ss) value e =
     RefusesEntry s text outer (first_in ss value) e ⊎ ((between : List ℕ) × GetsText s text outer (first_in ss value) between × RefusesAlong between (outer ++ (s ∷ [])) ss value e)
+
+-- an entry is brought in, and the rest along the steps
+abbrev pub EditsEntry : Names → Step → List ℕ → (outer : List Step) → (value : List ℕ) → Result (String Global) EditError → Type 0
+EditsEntry first s text outer value result = EditsWith first text value (GetsText s text outer value) (RefusesEntry s text outer value) result
+
+abbrev pub EditsAlong : Names → List ℕ → (outer steps : List Step) → (value : List ℕ) → Result (String Global) EditError → Type 0
+EditsAlong first text outer steps value result = EditsWith first text value (GetsAlong text outer steps value) (RefusesAlong text outer steps value) result

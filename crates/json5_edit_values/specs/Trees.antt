@@ -3,10 +3,11 @@
 use Rattle.std.specs.declared.alloc.Global.{Global}
 use Rattle.std.specs.Prelude.{ℕ, List, MatchResult, Result, String, string_bytes}
 use Rattle.std.specs.Str.{chars}
-use Rattle.json5_edit.specs.Changes.{IsInserted, IsPushed, IsPutIn}
+use Rattle.json5_edit.specs.Changes.{IsInserted, IsPushed, IsPutIn, StaysPlainQuoted}
 use Rattle.json5_edit.specs.Sets.{IsSet}
 use Rattle.json5_edit.specs.declared.faults.EditError.{EditError}
 use Rattle.json5_edit.specs.declared.paths.Step.{Step}
+use Rattle.json5_edit_style.specs.declared.habits.Names.{Names}
 use Rattle.json5_edit_values.specs.Refusals.{RefusesInsertOf, RefusesPushOf, RefusesPutInOf, RefusesSetTo}
 use Rattle.json5_edit_values.specs.Spelled.{Spells}
 use Rattle.json5_write.specs.WrittenTrees.{Written}
@@ -23,9 +24,10 @@ IsPushedAs t text path made = (new : List ℕ) × Spells t text (chars new) × I
 abbrev pub IsPutInAs : Written → List ℕ → List Step → ℕ → List ℕ → Type 0
 IsPutInAs t text path i made = (new : List ℕ) × Spells t text (chars new) × IsPutIn text path i new made
 
--- with one more member, the last, of the object that the path leads to, where none had the key
-abbrev pub IsInsertedAs : Written → List ℕ → List Step → List ℕ → List ℕ → Type 0
-IsInsertedAs t text path key made = (new : List ℕ) × Spells t text (chars new) × IsInserted text path key new made
+-- with one more member, the last, of the object that the path leads to, where none had the key; as plain as the text where
+-- the value's text is so too, if a name stands between quotes as the first key
+abbrev pub IsInsertedAs : Names → Written → List ℕ → List Step → List ℕ → List ℕ → Type 0
+IsInsertedAs first t text path key made = (new : List ℕ) × Spells t text (chars new) × IsInserted text path key new made × StaysPlainQuoted first text new made
 
 -- what a call answers: the edit, or why it isn't made
 abbrev pub SetsTo : Written → List ℕ → List Step → Result (String Global) EditError → Type 0
@@ -37,5 +39,5 @@ PushesAs t text path r = MatchResult r (λ made. IsPushedAs t text path (string_
 abbrev pub PutsInAs : Written → List ℕ → List Step → ℕ → Result (String Global) EditError → Type 0
 PutsInAs t text path i r = MatchResult r (λ made. IsPutInAs t text path i (string_bytes made)) (RefusesPutInOf t text path i)
 
-abbrev pub InsertsAs : Written → List ℕ → List Step → List ℕ → Result (String Global) EditError → Type 0
-InsertsAs t text path key r = MatchResult r (λ made. IsInsertedAs t text path key (string_bytes made)) (RefusesInsertOf t text path key)
+abbrev pub InsertsAs : Names → Written → List ℕ → List Step → List ℕ → Result (String Global) EditError → Type 0
+InsertsAs first t text path key r = MatchResult r (λ made. IsInsertedAs first t text path key (string_bytes made)) (RefusesInsertOf t text path key)

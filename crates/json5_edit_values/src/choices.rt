@@ -1,5 +1,8 @@
 //! What a text leaves open to those who edit it.
 
+ghost use Rattle.std.specs.Prelude.{◌≡◌};
+ghost use Rattle.json5_edit_style.specs.declared.habits.Names.TheVariants as layout_names;
+
 use json5_edit::Names;
 use json5_styles::Layout;
 
@@ -23,7 +26,9 @@ impl Choices {
     /// ```text
     /// Choices::of_text()    // Choices { layout: None, names: Names::Quoted }
     /// ```
-    pub fn of_text() -> Choices {
+    pub fn of_text() -> Choices
+        ensures { result.names ≡ layout_names.Quoted }
+    {
         Choices {
             layout: None,
             names: Names::Quoted,

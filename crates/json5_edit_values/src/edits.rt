@@ -1,5 +1,6 @@
 //! The edits.
 
+ghost use Rattle.json5_edit_style.specs.declared.habits.Names.TheVariants as layout_names;
 ghost use Rattle.json5_edit_values.specs.Refusals.{IsPlaceless};
 ghost use Rattle.json5_edit_values.specs.Trees.{InsertsAs, PushesAs, PutsInAs, SetsTo};
 
@@ -182,7 +183,7 @@ pub fn insert_value<T: Serialize>(
     key: &str,
     value: &T,
 ) -> Result<String>
-    ensures { InsertsAs (T.tree value.now) text.now path.now key.now result }
+    ensures { InsertsAs layout_names.Quoted (T.tree value.now) text.now path.now key.now result }
 {
     insert_value_in(alloc, Choices::of_text(), text, path, key, value)
 }
@@ -204,7 +205,7 @@ pub fn insert_value_in<T: Serialize>(
     key: &str,
     value: &T,
 ) -> Result<String>
-    ensures { InsertsAs (T.tree value.now) text.now path.now key.now result }
+    ensures { InsertsAs choices.names (T.tree value.now) text.now path.now key.now result }
 {
     let new = spelled(
         alloc,

@@ -1,11 +1,11 @@
 //! A value that is put where a path leads, whether one was there or not.
 
-ghost use Rattle.std.specs.Prelude.{◌≡◌, ◌≤◌, drop, length, take, IfErr, IfOk, string_bytes};
-ghost use Rattle.json5_edit.specs.Changes.{StaysPlainQuoted};
+ghost use Rattle.std.specs.Prelude.{◌≡◌, ◌≤◌, drop, length, take};
+ghost use Rattle.json5_edit.specs.Changes.{EditsWith};
 ghost use Rattle.json5_edit.specs.Places.{LeadsNowhere};
 ghost use Rattle.json5_edit.specs.declared.paths.Step.TheVariants as steps;
-ghost use Rattle.json5_lexemes.specs.Plain.{StaysPlain};
-ghost use Rattle.json5_edit_values.specs.Puts.{GetsAlong, GetsText, IsAdded, IsPut, IsPutIfAbsent, RefusesAlong, RefusesEntry, RefusesPut, first_in};
+ghost use Rattle.json5_edit_style.specs.declared.habits.Names.TheVariants as layout_names;
+ghost use Rattle.json5_edit_values.specs.Puts.{EditsAlong, EditsEntry, IsAdded, IsPutIfAbsent, PutsAt, RefusesPut, first_in};
 
 use crate::patch::adding::count_at;
 use json5_edit::{EditError, Names, Result, Step, find, insert_in, push, set};
@@ -27,9 +27,7 @@ use std::alloc::Global;
 /// - `Value` with the fault of reading, if `value` is no value or is nested too deep for its place.
 /// - `NoMemory` where there is no memory for the text, or for a key with an escape.
 pub fn put(alloc: Global, text: &str, path: &[Step<'_>], value: &str) -> Result<String>
-    ensures put { IfOk result (λ made. IsPut text.now path.now value.now (string_bytes made)) }
-    ensures plain { IfOk result (λ made. StaysPlain text.now value.now (string_bytes made)) }
-    ensures refused { IfErr result (RefusesPut text.now path.now value.now) }
+    ensures { PutsAt layout_names.Quoted text.now path.now value.now result }
 {
     put_in(alloc, text, path, value, Names::Quoted)
 }
@@ -51,9 +49,7 @@ pub fn put_in(
     value: &str,
     names: Names,
 ) -> Result<String>
-    ensures put { IfOk result (λ made. IsPut text.now path.now value.now (string_bytes made)) }
-    ensures plain { IfOk result (λ made. StaysPlainQuoted names text.now value.now (string_bytes made)) }
-    ensures refused { IfErr result (RefusesPut text.now path.now value.now) }
+    ensures { PutsAt names text.now path.now value.now result }
 {
     match find(alloc, text, path) {
         Ok(Some(_)) => set(alloc, text, path, value),
@@ -78,9 +74,7 @@ pub fn put_if_absent(
     value: &str,
     names: Names,
 ) -> Result<String>
-    ensures put { IfOk result (λ made. IsPutIfAbsent text.now path.now value.now (string_bytes made)) }
-    ensures plain { IfOk result (λ made. StaysPlainQuoted names text.now value.now (string_bytes made)) }
-    ensures refused { IfErr result (RefusesPut text.now path.now value.now) }
+    ensures { EditsWith names text.now value.now (IsPutIfAbsent text.now path.now value.now) (RefusesPut text.now path.now value.now) result }
 {
     match find(alloc, text, path) {
         Ok(Some(_)) => Ok(String::from_str(alloc, text)?),
@@ -98,9 +92,7 @@ fn add_missing(
     names: Names,
 ) -> Result<String>
     requires { LeadsNowhere text.now path.now }
-    ensures added { IfOk result (λ made. IsAdded text.now path.now value.now (string_bytes made)) }
-    ensures plain { IfOk result (λ made. StaysPlainQuoted names text.now value.now (string_bytes made)) }
-    ensures refused { IfErr result (RefusesPut text.now path.now value.now) }
+    ensures { EditsWith names text.now value.now (IsAdded text.now path.now value.now) (RefusesPut text.now path.now value.now) result }
 {
     for count in 0..path.len() {
         match find(alloc, text, &path[..count + 1]) {
@@ -124,9 +116,7 @@ fn add_along(
     names: Names,
 ) -> Result<String>
     requires { count ≤ length path.now }
-    ensures added { IfOk result (λ made. GetsAlong text.now (take count path.now) (drop count path.now) value.now (string_bytes made)) }
-    ensures plain { IfOk result (λ made. StaysPlainQuoted names text.now value.now (string_bytes made)) }
-    ensures refused { IfErr result (RefusesAlong text.now (take count path.now) (drop count path.now) value.now) }
+    ensures { EditsAlong names text.now (take count path.now) (drop count path.now) value.now result }
 {
     let (outer, rest) = path.split_at(count);
     let Some((step, inner)) = rest.split_first() else {
@@ -159,9 +149,7 @@ fn entered(
     value: &str,
     names: Names,
 ) -> Result<String>
-    ensures added { IfOk result (λ made. GetsText step.entry text.now outer.now value.now (string_bytes made)) }
-    ensures plain { IfOk result (λ made. StaysPlainQuoted names text.now value.now (string_bytes made)) }
-    ensures refused { IfErr result (RefusesEntry step.entry text.now outer.now value.now) }
+    ensures { EditsEntry names step.entry text.now outer.now value.now result }
 {
     match step {
         Step::Key(key) => insert_in(alloc, text, outer, key, value, names),
@@ -177,9 +165,7 @@ fn appended(
     count: usize,
     value: &str,
 ) -> Result<String>
-    ensures added { IfOk result (λ made. GetsText (steps.Index count) text.now outer.now value.now (string_bytes made)) }
-    ensures plain { IfOk result (λ made. StaysPlain text.now value.now (string_bytes made)) }
-    ensures refused { IfErr result (RefusesEntry (steps.Index count) text.now outer.now value.now) }
+    ensures { EditsEntry layout_names.Quoted (steps.Index count) text.now outer.now value.now result }
 {
     let Some(found) = count_at(alloc, text, outer)? else {
         return Err(EditError::NotArray);

@@ -13,9 +13,11 @@ ghost use Rattle.json5_edit_values.specs.Patches.{Joins};
 ghost use Rattle.json5_read.specs.declared.brackets.BracketKind.TheVariants as kind;
 
 use crate::patch::new_values::{New, new_text};
-use crate::patch::steps::{is_array, part_at, steps_in};
+use crate::patch::steps::{is_array, steps_in};
 use crate::seats::Goes;
-use json5_edit::{EditError, Names, Result, Step, find, insert_element, insert_in, push, set};
+use json5_edit::{
+    EditError, Names, Result, Step, find, insert_element, insert_in, part_at, push, set,
+};
 use json5_read::read_document;
 use std::alloc::Global;
 

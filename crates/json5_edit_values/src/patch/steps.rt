@@ -1,14 +1,12 @@
 //! Which steps a pointer has in a text, and what is there.
 
 ghost use Rattle.std.specs.Prelude.{◌≡◌, ◌++◌, ◌∷◌, [], IfErr, IfOk, OnOk};
-ghost use Rattle.std.specs.Str.{chars};
-ghost use Rattle.json5_grammar.specs.Language.Values.{Val};
 ghost use Rattle.json5_types.specs.Pointers.{begins_index, index_in};
-ghost use Rattle.json5_edit.specs.Refusals.{Reaches, RefusesPath};
+ghost use Rattle.json5_edit.specs.Refusals.{RefusesPath};
 ghost use Rattle.json5_edit_values.specs.Locations.{AreSteps, IsStep};
 ghost use Rattle.json5_edit_values.specs.News.{LeadsToObject};
 
-use json5_edit::{EditError, Result, Step, find_place};
+use json5_edit::{EditError, Result, Step, find_place, part_at};
 use json5_read::read_document;
 use std::alloc::{AllocError, Global};
 
@@ -105,20 +103,5 @@ fn begins_index(token: &[u8]) -> bool
         Some(b'0') => token.len() == 1,
         Some(first) => matches!(first, b'1'..=b'9'),
         None => false,
-    }
-}
-
-/// The text of the value to which the steps lead.
-pub(crate) fn part_at<'t>(alloc: Global, text: &'t str, steps: &[Step<'_>]) -> Result<&'t str>
-    ensures part { IfOk result (λ part. Reaches (Val (chars part.now)) text.now steps.now) }
-    ensures refused { IfErr result (RefusesPath text.now steps.now) }
-{
-    match find_place(alloc, text, steps) {
-        Ok(Some(place)) => match text.get(place.start..place.end) {
-            Some(part) => Ok(part),
-            None => unreachable!(),
-        },
-        Ok(None) => Err(EditError::Nowhere),
-        Err(error) => Err(EditError::of_text(error)),
     }
 }

@@ -8,11 +8,11 @@ returns-in-Remove-clause-made c =
 
 pub returns-in-Push-clause-made : goal.returns-in-Push-clause-made
 returns-in-Push-clause-made c =
-    made_by work.Push c.args.task.now.work c.args.text.now c.args.steps.now c.args.value.now c.push.result c.edited-in-Push.result c.in-Push.is c.edited-in-Push.ensures c.push.ensures.pushed
+    made_by work.Push c.args.task.now.work c.args.text.now c.args.steps.now c.args.value.now c.push.result c.edited-in-Push.result c.in-Push.is c.edited-in-Push.ensures c.push.ensures.made
 
 pub returns-in-Rename-clause-made : goal.returns-in-Rename-clause-made
 returns-in-Rename-clause-made c =
-    made_by work.Rename c.args.task.now.work c.args.text.now c.args.steps.now c.args.value.now c.rename.result c.edited-in-Rename.result c.in-Rename.is c.edited-in-Rename.ensures c.rename.ensures.rekeyed
+    made_by work.Rename c.args.task.now.work c.args.text.now c.args.steps.now c.args.value.now c.rename.result c.edited-in-Rename.result c.in-Rename.is c.edited-in-Rename.ensures c.rename.ensures.made
 
 pub returns-in-RemoveAlone-clause-made : goal.returns-in-RemoveAlone-clause-made
 returns-in-RemoveAlone-clause-made c =
@@ -28,12 +28,12 @@ returns-in-InsertBefore-clause-made c =
 
 pub returns-in-Sort-clause-made : goal.returns-in-Sort-clause-made
 returns-in-Sort-clause-made c =
-    made_by work.Sort c.args.task.now.work c.args.text.now c.args.steps.now c.args.value.now c.sort.result c.edited-in-Sort.result c.in-Sort.is c.edited-in-Sort.ensures c.sort.ensures.sorted
+    made_by work.Sort c.args.task.now.work c.args.text.now c.args.steps.now c.args.value.now c.sort.result c.edited-in-Sort.result c.in-Sort.is c.edited-in-Sort.ensures c.sort.ensures.made
 
 pub returns-in-Put-clause-made : goal.returns-in-Put-clause-made
 returns-in-Put-clause-made c =
-    made_by work.Put c.args.task.now.work c.args.text.now c.args.steps.now c.args.value.now c.put_in.result c.edited-in-Put.result c.in-Put.is c.edited-in-Put.ensures c.put_in.ensures.put
+    made_by work.Put c.args.task.now.work c.args.text.now c.args.steps.now c.args.value.now c.put_in.result c.edited-in-Put.result c.in-Put.is c.edited-in-Put.ensures c.put_in.ensures.made
 
 pub returns-in-PutAbsent-clause-made : goal.returns-in-PutAbsent-clause-made
 returns-in-PutAbsent-clause-made c =
-    made_by work.PutAbsent c.args.task.now.work c.args.text.now c.args.steps.now c.args.value.now c.put_if_absent.result c.edited-in-PutAbsent.result c.in-PutAbsent.is c.edited-in-PutAbsent.ensures c.put_if_absent.ensures.put
+    made_by work.PutAbsent c.args.task.now.work c.args.text.now c.args.steps.now c.args.value.now c.put_if_absent.result c.edited-in-PutAbsent.result c.in-PutAbsent.is c.edited-in-PutAbsent.ensures c.put_if_absent.ensures.made

@@ -6,7 +6,7 @@ use Rattle.json5_edit.specs.Pieces.{Grows}
 use Rattle.json5_edit.specs.Refusals.{RefusesPush}
 use Rattle.json5_read.specs.declared.brackets.BracketKind.TheVariants as kind
 use Rattle.json5_edit.proofs.Placed.{ok_then}
-use Rattle.json5_edit.proofs.Changed.{has_place, is_small, changed_within}
+use Rattle.json5_edit.proofs.Changed.{has_place, is_small, changed_within, not_edited}
 use Rattle.json5_edit.proofs.PlainPlaces.{part_stays, plain_within}
 use Rattle.json5_edit.proofs.Refused.{lacking, path_push, array_push, new_push, value_fits}
 use Rattle.json5_edit.proofs.changing.push.Goals as goal
@@ -27,31 +27,29 @@ pushed-requires c = (
 pub array_end-requires : goal.array_end-requires
 array_end-requires c = rw c.limit_of-room.ensures (value_fits c.args.text.now c.part_text-old.result.now c.args.path.now c.in_ok-place.place c.utf8.text c.in_ok-place.ensures.found c.part_text-old.ensures)
 
-pub returns-in_err-place-clause-refused : goal.returns-in_err-place-clause-refused
-returns-in_err-place-clause-refused c =
+pub returns-in_err-place : goal.returns-in_err-place
+returns-in_err-place c =
     let (y, is, from) = err_from_is_err_and c.from_residual.result c.from_residual.ensures.1 in
-    rw (is, from) (path_push c.args.text.now c.args.value.now c.args.path.now c.in_err-place.field-0.0 c.in_err-place.ensures.refused)
+    rw (is, from) (not_edited (path_push c.args.text.now c.args.value.now c.args.path.now c.in_err-place.field-0.0 c.in_err-place.ensures.refused))
 
-pub returns-in_err-end-clause-refused : goal.returns-in_err-end-clause-refused
-returns-in_err-end-clause-refused c =
+pub returns-in_err-end : goal.returns-in_err-end
+returns-in_err-end c =
     let (y, is, from) = err_from_is_err_and c.from_residual-in_err-end.result c.from_residual-in_err-end.ensures.1 in
-    rw (is, from) (array_push c.args.text.now c.part_text-old.result.now c.args.path.now c.in_ok-place.place c.utf8.text c.in_ok-place.ensures.found c.part_text-old.ensures c.args.value.now c.in_err-end.field-0.0 c.in_err-end.ensures.refused)
+    rw (is, from) (not_edited (array_push c.args.text.now c.part_text-old.result.now c.args.path.now c.in_ok-place.place c.utf8.text c.in_ok-place.ensures.found c.part_text-old.ensures c.args.value.now c.in_err-end.field-0.0 c.in_err-end.ensures.refused))
 
-pub returns-in_err-check_entry-clause-refused : goal.returns-in_err-check_entry-clause-refused
-returns-in_err-check_entry-clause-refused c =
+pub returns-in_err-check_entry : goal.returns-in_err-check_entry
+returns-in_err-check_entry c =
     let (y, is, from) = err_from_is_err_and c.from_residual-in_err-check_entry.result c.from_residual-in_err-check_entry.ensures.1 in
-    rw (is, from) (new_push c.args.text.now c.args.path.now c.in_ok-place.place c.in_ok-place.ensures.found c.args.value.now c.in_err-check_entry.field-0.0 (rw c.limit_of-room.ensures at c.in_err-check_entry.ensures.refused))
+    rw (is, from) (not_edited (new_push c.args.text.now c.args.path.now c.in_ok-place.place c.in_ok-place.ensures.found c.args.value.now c.in_err-check_entry.field-0.0 (rw c.limit_of-room.ensures at c.in_err-check_entry.ensures.refused)))
 
-pub returns-in_err-new-clause-refused : goal.returns-in_err-new-clause-refused
-returns-in_err-new-clause-refused c =
+pub returns-in_err-new : goal.returns-in_err-new
+returns-in_err-new c =
     let (y, is, from) = err_from_is_err_and c.from_residual-in_err-new.result c.from_residual-in_err-new.ensures.1 in
-    rw (is, from) tt
+    rw (is, from) (not_edited tt)
 
-pub returns-clause-pushed : goal.returns-clause-pushed
-returns-clause-pushed c = ok_then c.splice.result (λ made k. changed_within (Grows kind.Array c.args.value.now) (Gains kind.Array [] c.args.value.now) c.args.text.now c.part_text-old.result.now c.as_str.result.now (string_bytes c.in_ok-new.new) (string_bytes made) c.args.path.now c.in_ok-place.place c.utf8.text c.as_str.utf8 c.as_str.ensures.value c.in_ok-place.ensures.found c.part_text-old.ensures (rw c.limit_of-room.ensures at c.in_ok-new.ensures.0) k) c.splice.ensures.spliced
-
-pub returns-clause-plain : goal.returns-clause-plain
-returns-clause-plain c = ok_then c.splice.result (λ made k. plain_within c.args.text.now c.args.value.now c.as_str.result.now (string_bytes c.in_ok-new.new) (string_bytes made) c.args.path.now c.in_ok-place.place c.utf8.text c.as_str.utf8 c.as_str.ensures.value c.in_ok-place.ensures.found (rw c.limit_of-room.ensures at c.in_ok-new.ensures.0.2) (subst (λ z. StaysPlain z c.args.value.now (string_bytes c.in_ok-new.new)) c.collection-collection.ensures.document (c.in_ok-new.ensures.1 c.collection-collection.ensures.names)) k) c.splice.ensures.spliced
-
-pub returns-clause-refused : goal.returns-clause-refused
-returns-clause-refused c = lacking (RefusesPush c.args.text.now c.args.path.now c.args.value.now) c.splice.result tt c.splice.ensures.full
+pub returns : goal.returns
+returns c = record {
+  made = ok_then c.splice.result (λ made k. changed_within (Grows kind.Array c.args.value.now) (Gains kind.Array [] c.args.value.now) c.args.text.now c.part_text-old.result.now c.as_str.result.now (string_bytes c.in_ok-new.new) (string_bytes made) c.args.path.now c.in_ok-place.place c.utf8.text c.as_str.utf8 c.as_str.ensures.value c.in_ok-place.ensures.found c.part_text-old.ensures (rw c.limit_of-room.ensures at c.in_ok-new.ensures.0) k) c.splice.ensures.spliced;
+  plain = ok_then c.splice.result (λ made k. plain_within c.args.text.now c.args.value.now c.as_str.result.now (string_bytes c.in_ok-new.new) (string_bytes made) c.args.path.now c.in_ok-place.place c.utf8.text c.as_str.utf8 c.as_str.ensures.value c.in_ok-place.ensures.found (rw c.limit_of-room.ensures at c.in_ok-new.ensures.0.2) (subst (λ z. StaysPlain z c.args.value.now (string_bytes c.in_ok-new.new)) c.collection-collection.ensures.document (c.in_ok-new.ensures.1 c.collection-collection.ensures.names)) k) c.splice.ensures.spliced;
+  refused = lacking (RefusesPush c.args.text.now c.args.path.now c.args.value.now) c.splice.result tt c.splice.ensures.full;
+}

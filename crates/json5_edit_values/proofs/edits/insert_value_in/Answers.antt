@@ -11,7 +11,7 @@ returns-in_err-new g c =
     rw (is, from) (insert_writing (g.T.Serialize.tree c.args.value.now) c.args.text.now c.args.path.now c.args.key.now c.in_err-new.field-0.0 c.in_err-new.ensures.refused)
 
 pub returns-in-Ok : goal.returns-in-Ok
-returns-in-Ok g c = (c.as_str.result.now, subst (λ z. Spells (g.T.Serialize.tree c.args.value.now) c.args.text.now (chars z)) (sym c.as_str.ensures.value) c.in_ok-new.ensures.value, c.in-Ok.ensures.inserted)
+returns-in-Ok g c = (c.as_str.result.now, subst (λ z. Spells (g.T.Serialize.tree c.args.value.now) c.args.text.now (chars z)) (sym c.as_str.ensures.value) c.in_ok-new.ensures.value, c.in-Ok.ensures.made, c.in-Ok.ensures.plain)
 
 pub returns : goal.returns
 returns g c = insert_refused (g.T.Serialize.tree c.args.value.now) c.args.text.now c.args.path.now c.args.key.now c.as_str.result.now c.in-Err.error c.placeless.result (subst (λ z. Spells (g.T.Serialize.tree c.args.value.now) c.args.text.now (chars z)) (sym c.as_str.ensures.value) c.in_ok-new.ensures.value) c.in-Err.ensures.refused c.placeless.ensures

@@ -1,5 +1,6 @@
 use Rattle.std.proofs.Common.{[], ◌+◌, take, true, subst}
 use Rattle.std.proofs.lemmas.List.{take_all}
+use Rattle.json5_edit.proofs.Changed.{not_edited}
 use Rattle.json5_edit_values.specs.News.{LeadsSo}
 use Rattle.json5_edit_values.proofs.PathsPut.{EndsAfter, all_added, leads_none, leads_not, leads_there, path_refused, put_refused}
 use Rattle.json5_edit_values.proofs.putting.add_missing.Goals as goal
@@ -7,20 +8,18 @@ use Rattle.json5_edit_values.proofs.putting.add_missing.Goals as goal
 pub loop-count-preserved : goal.loop-count-preserved
 loop-count-preserved c = leads_there c.args.text.now (take (c.loop-count.count + 1) c.args.path.now) _ _ c.in-Ok-Some.field-0-is c.in-Ok-Some.ensures.found
 
-pub returns-in-Ok-None-clause-added : goal.returns-in-Ok-None-clause-added
-returns-in-Ok-None-clause-added c =
+pub returns-in-Ok-None : goal.returns-in-Ok-None
+returns-in-Ok-None c =
     let n = c.loop-count.count in
     let ends : EndsAfter c.args.text.now c.args.path.now n = (c.loop-count-test.true, c.loop-count.invariant, leads_none c.args.text.now (take (n + 1) c.args.path.now) _ c.in-Ok-None.field-0-is c.in-Ok-None.ensures.found) in
-    all_added c.args.text.now c.args.value.now c.args.path.now n ends c.requires c.add_along.result c.add_along.ensures.added
+    record {
+      made = all_added c.args.text.now c.args.value.now c.args.path.now n ends c.requires c.add_along.result c.add_along.ensures.made;
+      plain = c.add_along.ensures.plain;
+      refused = put_refused c.args.text.now c.args.value.now c.args.path.now n ends c.add_along.result c.add_along.ensures.refused;
+    }
 
-pub returns-in-Ok-None-clause-refused : goal.returns-in-Ok-None-clause-refused
-returns-in-Ok-None-clause-refused c =
-    let n = c.loop-count.count in
-    let ends : EndsAfter c.args.text.now c.args.path.now n = (c.loop-count-test.true, c.loop-count.invariant, leads_none c.args.text.now (take (n + 1) c.args.path.now) _ c.in-Ok-None.field-0-is c.in-Ok-None.ensures.found) in
-    put_refused c.args.text.now c.args.value.now c.args.path.now n ends c.add_along.result c.add_along.ensures.refused
-
-pub returns-in-Err-clause-refused : goal.returns-in-Err-clause-refused
-returns-in-Err-clause-refused c = path_refused c.args.text.now c.args.value.now c.args.path.now c.of_text.result (c.of_text.ensures c.args.text.now [] c.in-Err.ensures.refused)
+pub returns-in-Err : goal.returns-in-Err
+returns-in-Err c = not_edited (path_refused c.args.text.now c.args.value.now c.args.path.now c.of_text.result (c.of_text.ensures c.args.text.now [] c.in-Err.ensures.refused))
 
 pub unreachable-requires : goal.unreachable-requires
 unreachable-requires c =

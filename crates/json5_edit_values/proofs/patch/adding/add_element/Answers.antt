@@ -15,4 +15,4 @@ returns-then-count-index c =
 
 pub returns : goal.returns
 returns c =
-    ok_then c.insert_element.result (λ made k. put_in_by c.args.new c.args.text.now c.as_str.result.now (string_bytes made) c.args.steps.now c.args.index (λ v w. c.in_ok-value.ensures v (subst (λ z. Val (chars z) v) c.as_str.ensures.value w)) k) c.insert_element.ensures.put_in
+    ok_then c.insert_element.result (λ made k. put_in_by c.args.new c.args.text.now c.as_str.result.now (string_bytes made) c.args.steps.now c.args.index (λ v w. c.in_ok-value.ensures v (subst (λ z. Val (chars z) v) c.as_str.ensures.value w)) k) c.insert_element.ensures.made

@@ -7,4 +7,4 @@ use Rattle.json5_edit_values.proofs.patch.adding.insert_at.Goals as goal
 
 pub returns : goal.returns
 returns c =
-    ok_then c.insert_in.result (λ made k. inserted_by c.args.new c.args.text.now c.as_str.result.now (string_bytes made) c.args.key.now c.args.steps.now (λ v w. c.in_ok-value.ensures v (subst (λ z. Val (chars z) v) c.as_str.ensures.value w)) k) c.insert_in.ensures.inserted
+    ok_then c.insert_in.result (λ made k. inserted_by c.args.new c.args.text.now c.as_str.result.now (string_bytes made) c.args.key.now c.args.steps.now (λ v w. c.in_ok-value.ensures v (subst (λ z. Val (chars z) v) c.as_str.ensures.value w)) k) c.insert_in.ensures.made
