@@ -1,4 +1,4 @@
--- Lists the lemmas about layers, warnings, a file to begin with and a schema.
+-- Lists the lemmas about layers, warnings, a file to begin with, and schemas of values and of types.
 pub mod Followed
 pub mod Layered
 pub mod MembersMade
@@ -12,3 +12,6 @@ pub mod WarningsTold
 pub mod OldNamesTold
 pub mod SchemasMade
 pub mod FieldsPassed
+pub mod DocumentsSound
+pub mod FieldsAdded
+pub mod KeywordsPut

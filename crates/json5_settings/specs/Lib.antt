@@ -1,4 +1,4 @@
--- Lists the definitions of layers, warnings, a file to begin with and a schema.
+-- Lists the definitions of layers, warnings, a file to begin with, and schemas of values and of types.
 pub mod Follows
 pub mod Stacks
 pub mod Texts
@@ -14,3 +14,11 @@ pub mod Schemas
 pub mod Slips
 pub mod Warnings
 pub mod AllFaults
+pub mod DescribedSchemas
+pub mod AsciiNames
+pub mod ValuesSaid
+pub mod ListsSaid
+pub mod WholesSaid
+pub mod FieldsSaid
+pub mod NotesPassed
+pub mod AddedFields

@@ -17,6 +17,12 @@
 
 mod all_faults;
 mod blanks;
+mod described;
+mod described_fields;
+pub mod described_laws;
+mod described_schemas;
+mod described_tuples;
+mod described_values;
 mod edits;
 mod faults;
 mod follow;
@@ -39,6 +45,9 @@ mod spots;
 mod warned;
 
 pub use all_faults::faults_of;
+pub use described::{Described, Keywords};
+pub use described_fields::{DescribedFields, FieldSchemas};
+pub use described_schemas::{described_schema, names_keywords, struct_only_keywords};
 pub use faults::{Result, SettingError};
 pub use known::read_known;
 pub use layers::Layers;

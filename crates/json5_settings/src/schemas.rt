@@ -17,7 +17,7 @@ use json5_types::value::Value;
 use std::alloc::{AllocError, Global};
 
 /// The draft of JSON Schema that editors know.
-const DRAFT: &str = "http://json-schema.org/draft-07/schema#";
+pub(crate) const DRAFT: &str = "http://json-schema.org/draft-07/schema#";
 
 /// Returns a JSON Schema of files with the settings of this value, for editors, which then complete and check them. It says
 /// of each setting its type, its value as the default, and the words of its path. Other members are allowed. It is JSON,

@@ -1,0 +1,5 @@
+use Rattle.json5_settings.specs.FieldsSaid.{optional_describes}
+use Rattle.json5_settings.proofs.described_fields.OptionalDescribedFieldsOption.describe.Goals as goal
+
+pub returns-clause-says : goal.returns-clause-says
+returns-clause-says g c = optional_describes c.args.self.0.now g.T.Described.keywords g.T.Deserialize.convert c.add.ensures.says

@@ -1,0 +1,33 @@
+-- What a description adds to the schemas of fields.
+-- A promise rests on this.
+use Rattle.std.specs.Prelude.{◌≡◌, codes, ℕ, Bool, false, List, [], ◌∷◌}
+use Rattle.json5_types.specs.ValueMeanings.{boolean, Items, no_item, item, Fields, no_field, field, fields_view, items_view}
+use Rattle.json5_settings.specs.declared.described_fields.FieldSchemas.{FieldSchemas}
+use Rattle.json5_settings.specs.DescribedSchemas.{FieldKind, keyword, members_keywords, named, properties_of, required_of}
+
+-- the members, and others after them
+abbrev pub members_then : Fields → Fields → Fields
+members_then no_field gs = gs
+members_then (field u x fs) gs = field u x (members_then fs gs)
+
+abbrev pub elements_then : Items → Items → Items
+elements_then no_item ys = ys
+elements_then (item x xs) ys = item x (elements_then xs ys)
+
+-- the schema of each of these fields was added, and the name of each that has to be there
+pub record AddsFields (names : List (List ℕ)) (kinds : List FieldKind) (old new : FieldSchemas) : Type 0 where
+  pub properties : fields_view new.properties.items ≡ members_then (fields_view old.properties.items) (properties_of names kinds)
+  pub required : items_view new.required.items ≡ elements_then (items_view old.required.items) (required_of names kinds)
+
+-- one field was
+abbrev pub AddsField : List ℕ → Fields → Bool → FieldSchemas → FieldSchemas → Type 0
+AddsField name keywords is_required = AddsFields (name ∷ []) (record { keywords = keywords; is_required = is_required } ∷ [])
+
+-- the name was added to those that have to be there
+pub record AddsName (name : List ℕ) (old new : FieldSchemas) : Type 0 where
+  pub properties : new.properties ≡ old.properties
+  pub required : items_view new.required.items ≡ elements_then (items_view old.required.items) (item (named name) no_item)
+
+-- the keywords of an object of them alone
+abbrev pub these_alone : FieldSchemas → Fields
+these_alone schemas = members_keywords (fields_view schemas.properties.items) (items_view schemas.required.items) (keyword (codes "additionalProperties") (boolean false) no_field)
