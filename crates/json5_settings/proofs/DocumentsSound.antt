@@ -14,7 +14,7 @@ use Rattle.json5_tokens.proofs.TextCuts.{scalar_halves}
 use Rattle.json5_tokens.proofs.UnicodeScalars.{text_scalars}
 use Rattle.json5_types.specs.ValueMeanings.{Fields}
 use Rattle.json5_settings.specs.DescribedSchemas.{IsSoundNumber, Sound, SoundElements, SoundMembers, Says, SaysOfTexts}
-use Rattle.json5_settings.specs.NotesPassed.{drafted}
+use Rattle.json5_settings.proofs.NotesPassed.{drafted}
 
 in_range : {s : List ℕ} {n : Number} → Num s n → IsSoundNumber n
 in_range (is_infinite a) = tt

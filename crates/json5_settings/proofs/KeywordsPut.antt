@@ -5,7 +5,7 @@ use Rattle.json5_grammar.specs.Language.Numbers.{whole}
 use Rattle.json5_types.specs.declared.value.Value.{the_lemmas}
 use Rattle.json5_types.specs.declared.value.Value as value
 use Rattle.json5_types.specs.ValueMeanings.{boolean, number, value_of}
-use Rattle.json5_settings.specs.ValuesSaid.{null_says, boolean_says, text_says, number_says, any_says}
+use Rattle.json5_settings.proofs.ValuesSaid.{null_says, boolean_says, text_says, number_says, any_says}
 use Rattle.json5_types.proofs.ValuesCompared.{view-Array, view-Object, view-String}
 
 pub view-Bool : (b : Bool) → value_of (value.Bool b) ≡ boolean b

@@ -12,6 +12,11 @@ pub mod WarningsTold
 pub mod OldNamesTold
 pub mod SchemasMade
 pub mod FieldsPassed
+pub mod ValuesSaid
+pub mod ListsSaid
+pub mod WholesSaid
+pub mod FieldsSaid
+pub mod NotesPassed
 pub mod DocumentsSound
 pub mod FieldsAdded
 pub mod KeywordsPut

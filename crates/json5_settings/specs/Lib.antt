@@ -16,9 +16,4 @@ pub mod Warnings
 pub mod AllFaults
 pub mod DescribedSchemas
 pub mod AsciiNames
-pub mod ValuesSaid
-pub mod ListsSaid
-pub mod WholesSaid
-pub mod FieldsSaid
-pub mod NotesPassed
 pub mod AddedFields

@@ -43,7 +43,7 @@ pub fn fields_say<I: Input, T: Deserialize<I>>()
 
 /// Those of a description and others do, if both do.
 pub fn pairs_say<I: Input, S: Drop, T: Drop, A: StructFields<I, S>, B: StructFields<I, T>>()
-    ensures { (a : A.Shape) (b : B.Shape) (ks ls : List FieldKind) → Describes (A.layout a) ks → Describes (B.layout b) ls → Describes (and_layout (A.layout a) (B.layout b)) (ks ++ ls) }
+    ensures { (a : A.Shape) (b : B.Shape) (ks ls : _) → Describes (A.layout a) ks → Describes (B.layout b) ls → Describes (and_layout (A.layout a) (B.layout b)) (ks ++ ls) }
 {}
 
 /// That of a struct of these fields alone does, if those of the fields do, and their names are ASCII and differ.

@@ -1,4 +1,4 @@
-use Rattle.json5_settings.specs.FieldsSaid.{required_describes, optional_describes, default_describes}
+use Rattle.json5_settings.proofs.FieldsSaid.{required_describes, optional_describes, default_describes}
 use Rattle.json5_settings.proofs.described_laws.fields_say.Goals as goal
 
 pub returns-clause-required : goal.returns-clause-required

@@ -1,4 +1,4 @@
-use Rattle.json5_settings.specs.ListsSaid.{list_says, option_says}
+use Rattle.json5_settings.proofs.ListsSaid.{list_says, option_says}
 use Rattle.json5_settings.proofs.described_laws.lists_say.Goals as goal
 
 pub returns-clause-list : goal.returns-clause-list

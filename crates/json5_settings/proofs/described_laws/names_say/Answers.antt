@@ -1,4 +1,4 @@
-use Rattle.json5_settings.specs.ListsSaid.{names_say}
+use Rattle.json5_settings.proofs.ListsSaid.{names_say}
 use Rattle.json5_settings.proofs.described_laws.names_say.Goals as goal
 
 pub returns : goal.returns

@@ -1,4 +1,4 @@
-use Rattle.json5_settings.specs.FieldsSaid.{both_describe}
+use Rattle.json5_settings.proofs.FieldsSaid.{both_describe}
 use Rattle.json5_settings.proofs.described_laws.pairs_say.Goals as goal
 
 pub returns : goal.returns

@@ -1,4 +1,4 @@
-use Rattle.json5_settings.specs.FieldsSaid.{fitting_struct}
+use Rattle.json5_settings.proofs.FieldsSaid.{fitting_struct}
 use Rattle.json5_settings.proofs.described_laws.structs_say.Goals as goal
 
 pub returns : goal.returns

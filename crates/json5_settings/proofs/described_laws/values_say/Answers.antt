@@ -1,5 +1,5 @@
-use Rattle.json5_settings.specs.ValuesSaid.{null_says, boolean_says, text_says, number_says, any_says}
-use Rattle.json5_settings.specs.WholesSaid.{natural_says, integer_says}
+use Rattle.json5_settings.proofs.ValuesSaid.{null_says, boolean_says, text_says, number_says, any_says}
+use Rattle.json5_settings.proofs.WholesSaid.{natural_says, integer_says}
 use Rattle.json5_settings.proofs.described_laws.values_say.Goals as goal
 
 pub returns-clause-null : goal.returns-clause-null

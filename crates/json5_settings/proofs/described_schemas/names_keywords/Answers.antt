@@ -1,7 +1,7 @@
 use Rattle.std.proofs.Common.{◌∙◌, refl}
 use Rattle.std.proofs.lemmas.List.{length-map}
 use Rattle.json5_de.specs.Convert.{names_bytes}
-use Rattle.json5_settings.specs.ListsSaid.{ascii_names_say}
+use Rattle.json5_settings.proofs.ListsSaid.{ascii_names_say}
 use Rattle.json5_settings.proofs.described_schemas.names_keywords.Goals as goal
 
 pub returns-clause-says : goal.returns-clause-says

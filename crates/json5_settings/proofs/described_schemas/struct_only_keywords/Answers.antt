@@ -1,4 +1,4 @@
-use Rattle.json5_settings.specs.FieldsSaid.{fitting_struct}
+use Rattle.json5_settings.proofs.FieldsSaid.{fitting_struct}
 use Rattle.json5_settings.proofs.described_schemas.struct_only_keywords.Goals as goal
 
 pub returns-in-Ok-clause-says : goal.returns-in-Ok-clause-says

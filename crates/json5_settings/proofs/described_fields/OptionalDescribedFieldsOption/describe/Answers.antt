@@ -1,4 +1,4 @@
-use Rattle.json5_settings.specs.FieldsSaid.{optional_describes}
+use Rattle.json5_settings.proofs.FieldsSaid.{optional_describes}
 use Rattle.json5_settings.proofs.described_fields.OptionalDescribedFieldsOption.describe.Goals as goal
 
 pub returns-clause-says : goal.returns-clause-says

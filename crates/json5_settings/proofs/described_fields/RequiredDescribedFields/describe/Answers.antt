@@ -1,4 +1,4 @@
-use Rattle.json5_settings.specs.FieldsSaid.{required_describes}
+use Rattle.json5_settings.proofs.FieldsSaid.{required_describes}
 use Rattle.json5_settings.proofs.described_fields.RequiredDescribedFields.describe.Goals as goal
 
 pub returns-clause-says : goal.returns-clause-says

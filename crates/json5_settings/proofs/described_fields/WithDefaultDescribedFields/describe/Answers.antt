@@ -1,4 +1,4 @@
-use Rattle.json5_settings.specs.FieldsSaid.{default_describes}
+use Rattle.json5_settings.proofs.FieldsSaid.{default_describes}
 use Rattle.json5_settings.proofs.described_fields.WithDefaultDescribedFields.describe.Goals as goal
 
 pub returns-clause-says : goal.returns-clause-says

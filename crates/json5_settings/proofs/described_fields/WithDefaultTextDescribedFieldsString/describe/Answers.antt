@@ -1,7 +1,7 @@
 use Rattle.json5_de.specs.Convert.{text_of}
 use Rattle.json5_settings.specs.DescribedSchemas.{text_schema}
-use Rattle.json5_settings.specs.FieldsSaid.{default_describes}
-use Rattle.json5_settings.specs.ValuesSaid.{text_says}
+use Rattle.json5_settings.proofs.FieldsSaid.{default_describes}
+use Rattle.json5_settings.proofs.ValuesSaid.{text_says}
 use Rattle.json5_settings.proofs.described_fields.WithDefaultTextDescribedFieldsString.describe.Goals as goal
 
 pub returns-clause-says : goal.returns-clause-says

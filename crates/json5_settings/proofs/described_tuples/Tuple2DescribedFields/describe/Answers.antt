@@ -1,4 +1,4 @@
-use Rattle.json5_settings.specs.FieldsSaid.{both_describe}
+use Rattle.json5_settings.proofs.FieldsSaid.{both_describe}
 use Rattle.json5_settings.proofs.FieldsAdded.{both_added, on_ok_then, when_ok}
 use Rattle.json5_settings.proofs.described_tuples.Tuple2DescribedFields.describe.Goals as goal
 

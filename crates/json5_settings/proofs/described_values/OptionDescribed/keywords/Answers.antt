@@ -1,4 +1,4 @@
-use Rattle.json5_settings.specs.ListsSaid.{option_says}
+use Rattle.json5_settings.proofs.ListsSaid.{option_says}
 use Rattle.json5_settings.proofs.described_values.OptionDescribed.keywords.Goals as goal
 
 pub returns-clause-says : goal.returns-clause-says

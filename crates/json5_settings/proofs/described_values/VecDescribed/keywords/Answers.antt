@@ -1,4 +1,4 @@
-use Rattle.json5_settings.specs.ListsSaid.{list_says}
+use Rattle.json5_settings.proofs.ListsSaid.{list_says}
 use Rattle.json5_settings.proofs.described_values.VecDescribed.keywords.Goals as goal
 
 pub returns-clause-says : goal.returns-clause-says

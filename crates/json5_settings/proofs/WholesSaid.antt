@@ -24,7 +24,7 @@ use Rattle.json5_read.specs.TreeMeanings.{datum_of}
 use Rattle.json5_de.specs.Convert.{as_number, as_whole, natural_below, integer_below, unsigned_below, signed_below}
 use Rattle.json5_schema.specs.Conformance.{Answers, at_most, is_not_above, is_integral, keywords_hold}
 use Rattle.json5_settings.specs.DescribedSchemas.{Says, Sound, Plain, whole_schema}
-use Rattle.json5_settings.specs.ValuesSaid.{after_one}
+use Rattle.json5_settings.proofs.ValuesSaid.{after_one}
 
 -- ---- digits without the zeros around them
 

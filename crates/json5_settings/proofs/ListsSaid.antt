@@ -20,7 +20,7 @@ use Rattle.json5_fields.specs.Named.{one_named, value_at}
 use Rattle.json5_schema.specs.Conformance.{Answers, conforming, unfolded, keywords_hold, count_conforming, is_within, each_item, is_among}
 use Rattle.json5_settings.specs.DescribedSchemas.{Says, Sound, Plain, SoundElements, PlainElements, AreTexts, texts_of, null_schema, list_schema, option_schema, names_schema}
 use Rattle.json5_settings.specs.AsciiNames.{are_ascii, ascii_names}
-use Rattle.json5_settings.specs.ValuesSaid.{once, after_one, null_says}
+use Rattle.json5_settings.proofs.ValuesSaid.{once, after_one, null_says}
 
 -- ---- schemas that all have to hold
 

@@ -22,7 +22,7 @@ use Rattle.json5_fields.specs.Only.{all_named, only_these}
 use Rattle.json5_schema.specs.Conformance.{Answers, conforming, unfolded, keywords_hold, is_within, by_name, with_value, has_names, latest, each_additional, is_additional}
 use Rattle.json5_settings.specs.DescribedSchemas.{Describes, Says, SaysFields, SaysStruct, FieldKind, Sound, Plain, SoundMembers, PlainMembers, AreTexts, properties_of, required_of, struct_schema, is_given, are_given}
 use Rattle.json5_settings.specs.AsciiNames.{are_ascii, ascii_names, fit_together}
-use Rattle.json5_settings.specs.ListsSaid.{after_more, all_hold, all_within, and_true, made}
+use Rattle.json5_settings.proofs.ListsSaid.{after_more, all_hold, all_within, and_true, made}
 
 -- ---- a name and a key
 

@@ -15,9 +15,9 @@ use Rattle.json5_schema.specs.declared.keyword.Keyword.TheVariants as keyword
 use Rattle.json5_schema.specs.Keywords.{keyword_named}
 use Rattle.json5_schema.specs.Conformance.{Answers, Question, conforming, evaluating_name, evaluating_index, unfolded, beside, is_additional, each_additional, applies, asks, satisfied, reaches, evaluates, applicator_evaluates, keyword_evaluates, keywords_evaluate, members_left_hold, elements_left_hold, left_holds, keyword_holds, keywords_hold, latest, Conforms}
 use Rattle.json5_settings.specs.DescribedSchemas.{Says, Sound, Plain, with_draft}
-use Rattle.json5_settings.specs.ValuesSaid.{once}
-use Rattle.json5_settings.specs.ListsSaid.{after_more, and_true}
-use Rattle.json5_settings.specs.FieldsSaid.{or_none}
+use Rattle.json5_settings.proofs.ValuesSaid.{once}
+use Rattle.json5_settings.proofs.ListsSaid.{after_more, and_true}
+use Rattle.json5_settings.proofs.FieldsSaid.{or_none}
 
 -- a name that is no keyword, and that no keyword looks for beside it
 pub record IsNote (u : List ℕ) : Type 0 where
