@@ -1,6 +1,6 @@
 -- Why parts of a schema aren't taken, step by step.
 -- A promise rests on this.
-use Rattle.std.specs.Prelude.{◌≡◌, ◌⊎◌, ℕ, Bool, true, false, List, Some}
+use Rattle.std.specs.Prelude.{◌≡◌, ◌⊎◌, ℕ, Bool, true, false, List, Some, None}
 use lib.Chars.{codes}
 use Rattle.std.specs.Str.{chars, encode_utf8_all}
 use Rattle.regex.specs.declared.error.Error as regex
@@ -13,10 +13,11 @@ use Rattle.json5_schema.specs.declared.shape.Shape.{Shape}
 use Rattle.json5_schema.specs.declared.shape.Shape.TheVariants as shape
 use Rattle.json5_schema.specs.declared.shape.Holding.{Holding}
 use Rattle.json5_schema.specs.declared.shape.Holding.TheVariants as holding
+use Rattle.json5_schema.specs.Conformance.{behind_sign}
 use Rattle.json5_schema.specs.Formats.{expression_named}
-use Rattle.json5_schema.specs.Refusals.{asks_beside, inner, is_followed, is_format, names_schema, shape_in, HasUnknown, IsFaulty, IsFaultySchema, IsLarge, IsNoKeyword, IsOldName, IsUnread, IsWrong, LeadsOn, LeadsTo, NamesDraft, StandsInPlace}
-use Rattle.json5_schema.specs.Shapes.{has_outline, holding_of, holds_schemas, is_names, IsElementOf, IsMemberOf, StandsBy}
-use Rattle.json5_schema.specs.Subschemas.{is_known, IsMember, StandsIn}
+use Rattle.json5_schema.specs.Refusals.{asks_beside, inner, is_followed, is_format, names_schema, shape_in, HasUnknown, IsFaulty, IsFaultySchema, IsLarge, IsMeant, IsNamedTwice, IsNoKeyword, IsOldName, IsUnread, IsUntaken, IsWrong, LeadsOn, LeadsTo, NamesDraft, Refers, StandsInPlace}
+use Rattle.json5_schema.specs.Shapes.{has_outline, holding_of, holds_schemas, is_names, IsElementOf, IsMemberOf, IsShaped, StandsBy}
+use Rattle.json5_schema.specs.Subschemas.{is_known, HasOnlyKeywords, IsMember, StandsIn}
 
 -- ---- texts
 
@@ -100,6 +101,27 @@ IsOfOldDraft root p = (p ≡ problem.OldDraft) × NamesDraft IsOldName root
 -- it counts what stands beside references if a draft is named in which that counts
 abbrev pub CountsBeside : Type 0 → Bool → Type 0
 CountsBeside names counts = counts ≡ false → ¬ names
+
+-- ---- references
+
+-- it is taken, and by strict rules it has no keyword but known ones
+abbrev pub IsTakenBy : Rules → Datum → Type 0
+IsTakenBy rules s = IsShaped s × (rules.is_strict ≡ true → HasOnlyKeywords s)
+
+-- what a reference means isn't taken
+abbrev pub IsOfTarget : Rules → Datum → Problem → Type 0
+IsOfTarget rules root p = (t : Datum) × IsMeant root t × IsUntaken (inner rules) t p
+
+-- some reference means nothing
+abbrev pub LeadsNowhere : Datum → Type 0
+LeadsNowhere root = (bytes : List ℕ) × Refers root bytes × (behind_sign bytes root ≡ None)
+
+abbrev pub IsOfReference : Rules → Datum → Problem → Type 0
+IsOfReference rules root p = IsOfTarget rules root p ⊎ ((p ≡ problem.NoTarget) × LeadsNowhere root)
+
+-- two places give the same name to a schema
+abbrev pub HasTwice : Datum → Type 0
+HasTwice root = (name : List ℕ) × IsNamedTwice root name
 
 -- ---- references that lead back
 

@@ -136,32 +136,28 @@ pub fn is_any(names: &[&str], name: &str) -> bool
 fn is_known(name: &str) -> bool
     ensures { result ≡ is_known name.now }
 {
-    let keywords: [&str; 73] = KEYWORDS;
-    is_any(keywords.as_slice(), name) || name.as_bytes().starts_with(b"x-")
+    is_any(&KEYWORDS, name) || name.as_bytes().starts_with(b"x-")
 }
 
 /// Whether the argument of this keyword is a schema, or may be one.
 pub fn takes_schema(name: &str) -> bool
     ensures { result ≡ takes_schema name.now }
 {
-    let names: [&str; 12] = TAKING_SCHEMA;
-    is_any(names.as_slice(), name)
+    is_any(&TAKING_SCHEMA, name)
 }
 
 /// Whether it is an array of schemas, or may be one.
 pub fn takes_schemas(name: &str) -> bool
     ensures { result ≡ takes_schemas name.now }
 {
-    let names: [&str; 5] = TAKING_SCHEMAS;
-    is_any(names.as_slice(), name)
+    is_any(&TAKING_SCHEMAS, name)
 }
 
 /// Whether it is an object of schemas.
 pub fn takes_named(name: &str) -> bool
     ensures { result ≡ takes_named name.now }
 {
-    let names: [&str; 6] = TAKING_NAMED;
-    is_any(names.as_slice(), name)
+    is_any(&TAKING_NAMED, name)
 }
 
 /// The fault of a name that is no keyword.

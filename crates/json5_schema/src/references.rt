@@ -1,10 +1,12 @@
 //! The references of a schema: each has a target, and none leads back to itself without a step into the value.
 
-ghost use Rattle.std.specs.Prelude.{◌≡◌, ◌≤◌, true, IfOk};
+ghost use Rattle.std.specs.Prelude.{◌≡◌, ◌≤◌, true, IfOk, OnOk};
 ghost use Rattle.std.specs.Str.{chars};
 ghost use Rattle.json5_types.specs.ValueMeanings.{array, object, value_of, items_view, fields_view};
 ghost use Rattle.json5_schema.specs.Refusals.{gives, is_alone, is_by_name, is_each, times, times_among, times_at, times_named, IsNamedTwice, IsRefusedFor, IsUntaken, LeadsOn, LeadsTo, Refers, RefusedFor};
-ghost use Rattle.json5_schema.specs.RefusalSteps.{LeadsAmong, LeadsBack, LeadsBy, LeadsNamed};
+ghost use Rattle.json5_schema.specs.RefusalSteps.{HasTwice, IsOfReference, IsOfTarget, IsTakenBy, IsUnknownIn, LeadsAmong, LeadsBack, LeadsBy, LeadsNamed, LeadsNowhere};
+ghost use Rattle.json5_schema.specs.declared.faults.Problem.TheVariants as problem;
+ghost use Rattle.json5_schema.specs.Subschemas.{HasOnlyKeywords};
 
 use crate::anchors::{at_fragment, target_by};
 use crate::faults::Problem;
@@ -96,8 +98,8 @@ pub fn follow(
             None => break,
         }
     }
-    check_names(alloc, rules, root, &seen)?;
-    check_ends(alloc, rules, root, &seen, &links)?;
+    check_names(alloc, root, &seen)?;
+    check_ends(alloc, root, &seen, &links)?;
     let Seen {
         references: _,
         places: _,
@@ -119,7 +121,7 @@ fn link_at<'v>(
     parts: &mut Parts<'v>,
     seen: &mut Seen,
 ) -> Looked<Option<Vec<&'v str>>>
-    ensures { RefusedFor (IsRefusedFor rules (value_of root.now)) result }
+    ensures { RefusedFor (IsOfReference rules (value_of root.now)) result }
 {
     let Some(reference) = seen.references.get(index) else {
         return Ok(None);
@@ -133,24 +135,34 @@ fn link_at<'v>(
                 look_at_target(alloc, rules, root, schema, text.as_str(), seen)?;
             }
         }
-        None => check_target(alloc, rules, root, reference)?,
+        None => check_target(alloc, root, reference)?,
     }
     Ok(Some(nexts))
 }
 
-/// Looks at a schema that a reference means, by strict rules at its keywords' names too.
-fn look_strictly(
+/// Refuses a strict schema in which a keyword isn't known.
+fn check_keywords_of(alloc: Global, rules: Rules, schema: &Value, pointer: &str) -> Looked<()>
+    ensures known { OnOk result (rules.is_strict ≡ true → HasOnlyKeywords (value_of schema.now)) }
+    ensures unknown { RefusedFor (λ p. (rules.is_strict ≡ true) × IsUnknownIn (value_of schema.now) p) result }
+{
+    if !rules.is_strict {
+        return Ok(());
+    }
+    check_schema(alloc, schema, pointer)
+}
+
+/// Looks at a schema, by strict rules at its keywords' names too.
+pub fn look_strictly(
     alloc: Global,
     rules: Rules,
     schema: &Value,
     pointer: &str,
     seen: &mut Seen,
 ) -> Looked<()>
-    ensures { RefusedFor (IsUntaken rules (value_of schema.now)) result }
+    ensures taken { OnOk result (IsTakenBy rules (value_of schema.now)) }
+    ensures refused { RefusedFor (IsUntaken rules (value_of schema.now)) result }
 {
-    if rules.is_strict {
-        check_schema(alloc, schema, pointer)?;
-    }
+    check_keywords_of(alloc, rules, schema, pointer)?;
     look(alloc, rules, schema, pointer, seen)
 }
 
@@ -163,7 +175,7 @@ fn look_at_target(
     text: &str,
     seen: &mut Seen,
 ) -> Looked<()>
-    ensures { RefusedFor (IsRefusedFor rules (value_of root.now)) result }
+    ensures { RefusedFor (IsOfTarget rules (value_of root.now)) result }
 {
     if look_strictly(alloc, rules.inner(), schema, text, seen).is_ok() {
         return Ok(());
@@ -177,8 +189,8 @@ fn look_at_target(
 }
 
 /// Refuses a reference that leads nowhere.
-fn check_target(alloc: Global, rules: Rules, root: &Value, reference: &Reference) -> Looked<()>
-    ensures { RefusedFor (IsRefusedFor rules (value_of root.now)) result }
+fn check_target(alloc: Global, root: &Value, reference: &Reference) -> Looked<()>
+    ensures { RefusedFor (λ p. (p ≡ problem.NoTarget) × LeadsNowhere (value_of root.now)) result }
 {
     let text = reference.text.as_str();
     match target_by(root, text) {
@@ -192,8 +204,8 @@ fn check_target(alloc: Global, rules: Rules, root: &Value, reference: &Reference
 }
 
 /// Refuses a name that two schemas have.
-fn check_names(alloc: Global, rules: Rules, root: &Value, seen: &Seen) -> Looked<()>
-    ensures { RefusedFor (IsRefusedFor rules (value_of root.now)) result }
+fn check_names(alloc: Global, root: &Value, seen: &Seen) -> Looked<()>
+    ensures { RefusedFor (λ p. (p ≡ problem.SameAnchor) × HasTwice (value_of root.now)) result }
 {
     let Some(twice) = &seen.twice else {
         return Ok(());
@@ -343,14 +355,8 @@ fn gather_named<'v>(
 }
 
 /// Refuses a reference that never comes to an end: one ends once all those have that its target applies to the same value.
-fn check_ends(
-    alloc: Global,
-    rules: Rules,
-    root: &Value,
-    seen: &Seen,
-    links: &[Vec<&str>],
-) -> Looked<()>
-    ensures { RefusedFor (IsRefusedFor rules (value_of root.now)) result }
+fn check_ends(alloc: Global, root: &Value, seen: &Seen, links: &[Vec<&str>]) -> Looked<()>
+    ensures { RefusedFor (λ p. (p ≡ problem.Endless) × LeadsBack (value_of root.now)) result }
 {
     let left = left_of(alloc, seen, links)?;
     for (place, reference) in seen.references.iter().enumerate() {
@@ -497,24 +503,21 @@ fn named_leads(schemas: &[(String, Value)], text: &str) -> bool
 fn is_alone(name: &str) -> bool
     ensures { result ≡ is_alone name.now }
 {
-    let names: [&str; 4] = ["not", "if", "then", "else"];
-    is_any(names.as_slice(), name)
+    is_any(&["not", "if", "then", "else"], name)
 }
 
 /// Whether it is an array of such schemas.
 fn is_each(name: &str) -> bool
     ensures { result ≡ is_each name.now }
 {
-    let names: [&str; 3] = ["allOf", "anyOf", "oneOf"];
-    is_any(names.as_slice(), name)
+    is_any(&["allOf", "anyOf", "oneOf"], name)
 }
 
 /// Whether it is an object of such schemas.
 fn is_by_name(name: &str) -> bool
     ensures { result ≡ is_by_name name.now }
 {
-    let names: [&str; 2] = ["dependentSchemas", "dependencies"];
-    is_any(names.as_slice(), name)
+    is_any(&["dependentSchemas", "dependencies"], name)
 }
 
 /// For how many others each reference waits that don't come to an end.

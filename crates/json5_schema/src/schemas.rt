@@ -17,10 +17,9 @@ use crate::explain::explain;
 use crate::faults::{Problem, SchemaFault};
 use crate::formats::{asserts_formats, with_formats};
 use crate::found::Found;
-use crate::known::check_schema;
-use crate::looking::{Anchor, Rules, Seen, fault, look};
+use crate::looking::{Anchor, Rules, Seen, fault};
 use crate::patterns::Pattern;
-use crate::references::follow;
+use crate::references::{follow, look_strictly};
 use crate::words::shown;
 use json5_types::error::Error;
 use json5_types::value::Value;
@@ -129,8 +128,8 @@ impl Schema {
         ensures known { is_strict ≡ true → IfOk result (λ schema. HasOnlyKeywords (schema_of schema)) }
         ensures refused { RefusedFor (IsRefusedBy is_strict (value_of root)) result }
     {
-        let rules = rules_of(alloc, &root, is_strict)?;
-        check_keywords_of(alloc, rules, &root)?;
+        let counts = counts_siblings(alloc, &root)?;
+        let rules = rules_of(&root, is_strict, counts);
         let (patterns, anchors) = look_at_all(alloc, rules, &root)?;
         Ok(Schema {
             root,
@@ -298,28 +297,17 @@ fn counts_siblings(alloc: Global, root: &Value) -> Result<bool, SchemaFault>
     }
 }
 
-/// How a schema is looked at.
-fn rules_of(alloc: Global, root: &Value, is_strict: bool) -> Result<Rules, SchemaFault>
-    ensures ruled { IfOk result (IsRuled is_strict (value_of root.now)) }
-    ensures refused { RefusedFor (IsOfOldDraft (value_of root.now)) result }
+/// How a schema is looked at, by whether keywords beside `$ref` count.
+fn rules_of(root: &Value, is_strict: bool, counts_siblings: bool) -> Rules
+    requires { CountsBeside (NamesDraft IsLaterName (value_of root.now)) counts_siblings }
+    ensures { IsRuled is_strict (value_of root.now) result }
 {
-    Ok(Rules {
-        counts_siblings: counts_siblings(alloc, root)?,
+    Rules {
+        counts_siblings,
         is_strict,
         asserts_formats: asserts_formats(root),
         is_whole: true,
-    })
-}
-
-/// Refuses a strict schema in which a keyword isn't known.
-fn check_keywords_of(alloc: Global, rules: Rules, root: &Value) -> Result<(), SchemaFault>
-    ensures known { OnOk result (rules.is_strict ≡ true → HasOnlyKeywords (value_of root.now)) }
-    ensures refused { RefusedFor (IsRefusedFor rules (value_of root.now)) result }
-{
-    if !rules.is_strict {
-        return Ok(());
     }
-    check_schema(alloc, root, "")
 }
 
 /// What is known of a schema before it is looked at.
@@ -341,9 +329,10 @@ fn look_at_all(
     root: &Value,
 ) -> Result<(Vec<Pattern>, Vec<Anchor>), SchemaFault>
     ensures taken { OnOk result (IsShaped (value_of root.now)) }
+    ensures known { OnOk result (rules.is_strict ≡ true → HasOnlyKeywords (value_of root.now)) }
     ensures refused { RefusedFor (IsRefusedFor rules (value_of root.now)) result }
 {
     let mut seen = nothing_seen(alloc);
-    look(alloc, rules, root, "", &mut seen)?;
+    look_strictly(alloc, rules, root, "", &mut seen)?;
     follow(alloc, rules, root, seen)
 }
