@@ -1,40 +1,71 @@
--- Elements of which no two are equal, from the last one on, and the texts that were seen.
-use Rattle.std.proofs.Common.{◌≡◌, ◌∙◌, ◌<◌, ◌≤◌, ◌+◌, ◌-◌, get_or, drop, take, length, zero, suc, arith, ℕ, Bool, true, false, nat_eq, not, ◌&&◌, ◌||◌, List, [], ◌∷◌, refl, sym, ap}
-use Rattle.std.specs.Prelude.{cond}
-use Rattle.std.specs.Borrow.{Bor}
-use Rattle.std.specs.BTreeSet.{BTreeSet, contains_by}
-use Rattle.std.specs.Ordering.{is_eq, nat_cmp}
-use Rattle.std.specs.Str.{chars, IsUtf8}
-use Rattle.std.specs.Cmp.Lexicographic.{pointwise, slice_cmp, texts_ties}
-use Rattle.std.proofs.lemmas.Bool.Decides.{nat_tests}
+-- Elements of which no two are equal, from the last one on, and the forms that were seen.
+use Rattle.std.proofs.Common.{◌≡◌, ◌∙◌, ◌<◌, ◌≤◌, ◌+◌, ◌-◌, get_or, drop, take, length, zero, suc, arith, ℕ, Bool, true, false, not, ◌&&◌, ◌||◌, List, [], ◌∷◌, refl, sym, ap, true≢false, Vec}
+use Rattle.std.specs.declared.alloc.Global.{Global}
+use Rattle.std.specs.declared.cmp.Ordering.{Ordering}
+use Rattle.std.specs.declared.cmp.Ordering.TheVariants.{Less, Equal, Greater}
+use Rattle.std.specs.BTreeSet.{BTreeSet, insert_key}
+use Rattle.std.specs.Cmp.Lexicographic.{slice_cmp}
+use Rattle.std.specs.List.{list_any}
+use Rattle.std.specs.Ordering.{is_eq, match_ordering, nat_cmp}
 use Rattle.std.proofs.lemmas.List.{drop_more, length-drop, take_all}
 use Rattle.json5_types.specs.declared.value.Value.{Value}
-use Rattle.json5_types.specs.ValueMeanings.{Datum, text, Items, item, value_of, items_view}
-use Rattle.json5_types.proofs.ValuesCompared.{bytes_or_characters}
-use Rattle.json5_schema.specs.Conformance.{are_distinct, is_among}
+use Rattle.json5_types.specs.ValueMeanings.{Datum, Items, no_item, item, value_of, items_view}
 use Rattle.json5_numbers.specs.Sameness.{same_datum}
-use Rattle.json5_schema.specs.SeenTexts.{SeesTexts}
+use Rattle.json5_schema.specs.CanonicalForms.{form, IsSound, AddsForm, SeesForms, has_form}
+use Rattle.json5_schema.specs.Conformance.{are_distinct, is_among}
+use Rattle.json5_schema.proofs.ValueForms.{one_form}
 
-either_way : (a b : ℕ) → nat_eq a b ≡ nat_eq b a
-either_way a b = grind (arith, nat_tests)
+abbrev Bytes : Type 0
+Bytes = Vec ℕ Global
 
-swapped : (u v : List ℕ) → pointwise nat_eq u v ≡ pointwise nat_eq v u
-swapped [] [] = refl
-swapped [] (d ∷ v) = refl
-swapped (c ∷ u) [] = refl
-swapped (c ∷ u) (d ∷ v) = rw (either_way c d, swapped u v) refl
+abbrev bytes_cmp : Bytes → Bytes → Ordering
+bytes_cmp x y = slice_cmp nat_cmp x.items y.items
 
-or_cond : (a b : Bool) → cond a true b ≡ (a || b)
-or_cond true b = refl
-or_cond false b = refl
+or_true : (a : Bool) {b : Bool} → b ≡ true → (a || b) ≡ true
+or_true true h = refl
+or_true false h = h
 
--- the set that got this text sees it, too
-pub text_seen : (s n : BTreeSet (Bor (List ℕ))) (x : Datum) (xs : Items) (k : List ℕ) → x ≡ text (chars k) → IsUtf8 k → SeesTexts s xs
-    → ((q : Bor (List ℕ)) → contains_by (λ y. slice_cmp nat_cmp q.now y.now) n ≡ cond (is_eq (slice_cmp nat_cmp k q.now)) true (contains_by (λ y. slice_cmp nat_cmp q.now y.now) s)) → SeesTexts n (item x xs)
-text_seen s n x xs k here utf8 were added = λ q valid.
-    let same : is_eq (slice_cmp nat_cmp k q.now) ≡ pointwise nat_eq (chars q.now) (chars k) = sym (texts_ties k q.now) ∙ bytes_or_characters k q.now utf8 valid ∙ swapped (chars k) (chars q.now) in
-    added q ∙ ap (λ b. cond b true (contains_by (λ y. slice_cmp nat_cmp q.now y.now) s)) same ∙ ap (cond (pointwise nat_eq (chars q.now) (chars k)) true) (were q valid)
-    ∙ or_cond (pointwise nat_eq (chars q.now) (chars k)) (is_among (text (chars q.now)) xs) ∙ ap (λ (y : Datum). same_datum (text (chars q.now)) y || is_among (text (chars q.now)) xs) (sym here)
+-- a key that was there stays
+key_stays : (test : Bytes → Bool) (ks : List Bytes) (k : Bytes) → list_any test ks ≡ true → list_any test (insert_key bytes_cmp ks k) ≡ true
+key_stays test [] k h = absurd (true≢false (sym h))
+key_stays test (x ∷ xs) k h = go (key_stays test xs k) (bytes_cmp k x)
+  where
+    rest : (list_any test xs ≡ true → list_any test (insert_key bytes_cmp xs k) ≡ true) → (a : Bool) → test x ≡ a → (test x || list_any test (insert_key bytes_cmp xs k)) ≡ true
+    rest stays true e = ap (λ b. b || list_any test (insert_key bytes_cmp xs k)) e
+    rest stays false e = or_true (test x) (stays (sym (ap (λ b. b || list_any test xs) e) ∙ h))
+
+    go : (list_any test xs ≡ true → list_any test (insert_key bytes_cmp xs k) ≡ true) → (r : Ordering) → list_any test (match_ordering r (k ∷ x ∷ xs) (x ∷ xs) (x ∷ insert_key bytes_cmp xs k)) ≡ true
+    go stays Less = or_true (test k) h
+    go stays Equal = h
+    go stays Greater = rest stays (test x) refl
+
+seen_still : (s n : BTreeSet Bytes) (k : Bytes) (xs : Items) → n.keys ≡ insert_key bytes_cmp s.keys k → SeesForms s xs → SeesForms n xs
+seen_still s n k no_item put h = tt
+seen_still s n k (item x xs) put h =
+    let test = λ (y : Bytes). is_eq (slice_cmp nat_cmp (form x) y.items) in
+    (h.0, ap (list_any test) put ∙ key_stays test s.keys k h.1, seen_still s n k xs put h.2)
+
+-- the set that got this form sees it, too
+pub form_seen : (s n : BTreeSet Bytes) (k : Bytes) (x : Datum) (xs : Items) → AddsForm [] k.items x → n.keys ≡ insert_key bytes_cmp s.keys k → has_form k.items n ≡ true → SeesForms s xs → SeesForms n (item x xs)
+form_seen s n k x xs made put has h = (made.sound, ap (λ f. has_form f n) (sym made.bytes) ∙ has, seen_still s n k xs put h)
+
+-- no element has a form that wasn't seen
+none_equal : (s : BTreeSet Bytes) (x : Datum) (xs : Items) → IsSound x → has_form (form x) s ≡ false → SeesForms s xs → is_among x xs ≡ false
+none_equal s x no_item sound new h = refl
+none_equal s x (item y ys) sound new h = go (none_equal s x ys sound new h.2) (same_datum x y) refl
+  where
+    go : is_among x ys ≡ false → (b : Bool) → same_datum x y ≡ b → (same_datum x y || is_among x ys) ≡ false
+    go none true e = absurd (true≢false (sym h.1 ∙ ap (λ f. has_form f s) (sym (one_form x y sound h.0 e)) ∙ new))
+    go none false e = ap (λ b. b || is_among x ys) e ∙ none
+
+pub form_new : (s : BTreeSet Bytes) (k : Bytes) (x : Datum) (xs : Items) (b : Bool) → AddsForm [] k.items x → b ≡ not (has_form k.items s) → b ≡ true → SeesForms s xs → true ≡ not (is_among x xs)
+form_new s k x xs b made is new h =
+    let none : has_form k.items s ≡ false = negated (has_form k.items s) (sym is ∙ new) in
+    ap not (sym (none_equal s x xs made.sound (ap (λ f. has_form f s) (sym made.bytes) ∙ none) h))
+  where
+    negated : (a : Bool) → not a ≡ true → a ≡ false
+    negated true e = sym e
+    negated false e = refl
 
 -- ---- a turn
 

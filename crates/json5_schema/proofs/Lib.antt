@@ -18,3 +18,6 @@ mod KeywordGroups
 mod WholeOrders
 mod FoundLast
 mod Additional
+mod NumberForms
+mod ValueForms
+mod FormSteps

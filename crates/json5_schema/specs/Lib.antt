@@ -6,7 +6,7 @@ pub mod Subschemas
 pub mod Conformance
 pub mod Views
 pub mod Anchors
-pub mod SeenTexts
+pub mod CanonicalForms
 pub mod Divisors
 pub mod Shapes
 pub mod Refusals

@@ -3,9 +3,10 @@
 ghost use Rattle.std.specs.Prelude.{◌≡◌, not, MatchResult, OnOk};
 ghost use Rattle.json5_types.specs.Errors.{LacksMemory};
 ghost use Rattle.json5_types.specs.ValueMeanings.{item, value_of, items_view};
-ghost use Rattle.json5_schema.specs.SeenTexts.{SeesTexts};
+ghost use Rattle.json5_schema.specs.CanonicalForms.{SeesForms};
 ghost use Rattle.json5_schema.specs.Conformance.{is_among, is_in_enum, are_distinct, has_distinct};
 
+use crate::canonical::canonical_form;
 use json5_numbers::same;
 use json5_types::error::Result;
 use json5_types::value::Value;
@@ -34,7 +35,7 @@ pub fn is_in_enum(alloc: Global, values: &Value, value: &Value) -> Result<bool>
     }
 }
 
-/// Whether no two of the elements are equal. Texts are looked up among those behind them, and others are compared with each.
+/// Whether no two of the elements are equal. Each is looked up by its canonical form among those behind it.
 fn are_distinct(alloc: Global, items: &[Value]) -> Result<bool>
     ensures { MatchResult result (λ b. b ≡ are_distinct (items_view items.now)) LacksMemory }
 {
@@ -49,21 +50,24 @@ fn are_distinct(alloc: Global, items: &[Value]) -> Result<bool>
     Ok(true)
 }
 
-/// Whether none of the elements behind it is equal, of which the texts were seen. It is seen from then on.
-fn is_new<'a>(
+/// Whether none of the elements behind it is equal, of which the forms were seen. Its own is seen from then on.
+///
+/// Where its form was seen, the elements are compared one by one: that ends the search, unless values that aren't equal have one
+/// form. So its speed rests on the forms telling values apart, and its answer doesn't.
+fn is_new(
     alloc: Global,
-    value: &'a Value,
+    value: &Value,
     after: &[Value],
-    seen: &mut BTreeSet<&'a str>,
+    seen: &mut BTreeSet<Vec<u8>>,
 ) -> Result<bool>
-    requires { SeesTexts seen.old (items_view after.now) }
+    requires { SeesForms seen.old (items_view after.now) }
     ensures value { MatchResult result (λ b. b ≡ not (is_among (value_of value.now) (items_view after.now))) LacksMemory }
-    ensures seen { OnOk result (SeesTexts seen.new (item (value_of value.now) (items_view after.now))) }
+    ensures seen { OnOk result (SeesForms seen.new (item (value_of value.now) (items_view after.now))) }
 {
-    match value {
-        Value::String(text) => Ok(seen.insert(text.as_str())?),
-        _ => Ok(!is_among(alloc, value, after)?),
+    if seen.insert(canonical_form(alloc, value)?)? {
+        return Ok(true);
     }
+    Ok(!is_among(alloc, value, after)?)
 }
 
 /// What `uniqueItems` asserts.

@@ -3,6 +3,7 @@
 
 mod anchors;
 mod asked;
+mod canonical;
 mod conforms;
 pub mod document_faults;
 mod equal;

@@ -2,6 +2,7 @@
 //!
 //! Plain code, of which no promise is made but that it is safe and ends: change it by the rows of schemas, which judge it.
 
+use crate::canonical::canonical_form;
 use crate::document_faults::{Fault, Mismatch, Place, Way};
 use crate::equal::is_among;
 use crate::found::{Found, MAX_FAULTS, MAX_STRANGENESS};
@@ -12,6 +13,7 @@ use json5_numbers::members::{find, is_named};
 use json5_types::error::Result;
 use json5_types::value::Value;
 use std::alloc::Global;
+use std::collections::BTreeSet;
 
 /// A fault in so many words.
 fn fault(alloc: Global, place: Place, expected: &str, found: String) -> Result<Fault> {
@@ -170,8 +172,10 @@ pub fn add_dependents(
 
 /// Adds the first element that is equal to one before it.
 fn add_repeated(alloc: Global, items: &[Value], place: &Place, found: &mut Found) -> Result<()> {
+    let mut forms = BTreeSet::new(alloc);
     for (index, item) in items.iter().enumerate() {
-        if is_among(alloc, item, &items[..index])? {
+        let is_new = forms.insert(canonical_form(alloc, item)?)?;
+        if !is_new && is_among(alloc, item, &items[..index])? {
             let there = place.copy(alloc)?.entered(alloc, Way::Index(index))?;
             let seen = shown(alloc, item)?;
             let again = format!(in alloc; "{seen} again")?;

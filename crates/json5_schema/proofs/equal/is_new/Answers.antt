@@ -1,11 +1,18 @@
-use Rattle.std.proofs.Common.{◌≡◌, ◌∙◌, List, ℕ, sym, ap}
-use Rattle.std.specs.Str.{chars}
-use Rattle.json5_types.specs.ValueMeanings.{text, value_of, items_view}
-use Rattle.json5_types.proofs.ValuesCompared.{view-String}
-use Rattle.json5_schema.proofs.Distinct.{text_seen}
+use Rattle.json5_types.specs.ValueMeanings.{value_of, items_view}
+use Rattle.json5_schema.proofs.Distinct.{form_new, form_seen}
 use Rattle.json5_schema.proofs.equal.is_new.Goals as goal
 
-pub returns-in_ok-insert-in-String-clause-seen : goal.returns-in_ok-insert-in-String-clause-seen
-returns-in_ok-insert-in-String-clause-seen c =
-    let here : value_of c.args.value.now ≡ text (chars c.as_str.result.now) = ap value_of c.in-String.is ∙ view-String c.in-String.text ∙ ap (λ (t : List ℕ). text (chars t)) (sym c.as_str.ensures.value) in
-    text_seen c.args.seen.now c.insert.new.self (value_of c.args.value.now) (items_view c.args.after.now) c.as_str.result.now here c.as_str.utf8 c.requires (λ q. c.in_ok-insert-in-String.ensures.updates.0 q)
+pub returns-then-branch-clause-value : goal.returns-then-branch-clause-value
+returns-then-branch-clause-value c =
+    let made = c.in_ok-canonical_form in
+    form_new c.args.seen.now made.field-0 (value_of c.args.value.now) (items_view c.args.after.now) c.in_ok-insert.field-0 made.ensures c.in_ok-insert.ensures.added c.if-branch.true c.requires
+
+pub returns-then-branch-clause-seen : goal.returns-then-branch-clause-seen
+returns-then-branch-clause-seen c =
+    let made = c.in_ok-canonical_form in
+    form_seen c.args.seen.now c.insert.new.self made.field-0 (value_of c.args.value.now) (items_view c.args.after.now) made.ensures c.in_ok-insert.ensures.keys c.in_ok-insert.ensures.updates.1 c.requires
+
+pub returns-clause-seen : goal.returns-clause-seen
+returns-clause-seen c =
+    let made = c.in_ok-canonical_form in
+    form_seen c.args.seen.now c.insert.new.self made.field-0 (value_of c.args.value.now) (items_view c.args.after.now) made.ensures c.in_ok-insert.ensures.keys c.in_ok-insert.ensures.updates.1 c.requires
