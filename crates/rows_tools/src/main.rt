@@ -9,6 +9,7 @@ mod described_schemas;
 mod edits;
 mod example;
 mod faults;
+mod gates;
 mod kinds;
 mod known;
 mod outcomes;
