@@ -1,26 +1,25 @@
 -- Schemas of fields, and of structs of them, say what the fields take.
-use Rattle.std.proofs.Common.{◌≡◌, ◌∙◌, ◌≤◌, ◌+◌, ℕ, zero, suc, Bool, true, false, ◌&&◌, ◌||◌, not, if◌then◌else◌, List, [], ◌∷◌, ◌++◌, length, nat_eq, refl, ap, sym, subst, arith, Option, Some, None, length-append}
-use Rattle.std.specs.Prelude.{codes, is_some}
+use Rattle.std.proofs.Common.{◌≡◌, ◌∙◌, ◌≤◌, ◌+◌, ℕ, zero, suc, Bool, true, false, ◌&&◌, not, if◌then◌else◌, List, [], ◌∷◌, ◌++◌, length, nat_eq, refl, ap, sym, subst, arith, Option, Some, None, length-append}
+use Rattle.std.specs.Prelude.{is_some}
 use Rattle.std.specs.Char.{encode_utf8}
 use Rattle.std.specs.Cmp.Lexicographic.{pointwise, bytes_decides}
 use Rattle.std.specs.Str.{IsUtf8, all_scalars, bytes_eq, chars, encode_utf8_all}
 use Rattle.std.proofs.lemmas.Bool.{and_parts}
 use Rattle.std.proofs.lemmas.Str.{chars-encodes, encodes-chars, scalars-chars}
-use Rattle.json5_grammar.specs.Language.Numbers.{Number}
-use Rattle.json5_grammar.specs.Language.Trees.{Tree, Trees, Members, null, boolean, number, text, array, object, no_more, more, no_member, member}
+use Rattle.json5_grammar.specs.Language.Trees.{Tree, Members, null, boolean, number, text, array, object, no_more, more, no_member, member}
 use Rattle.json5_grammar.specs.Model.Collections.{joint, object_of}
 use Rattle.json5_types.specs.ValueLookups.{last_named, or_else}
-use Rattle.json5_types.specs.ValueMeanings.{Datum, Fields, field, no_field, Items, item, no_item}
+use Rattle.json5_types.specs.ValueMeanings.{Datum, Fields, field, Items, item}
 use Rattle.json5_types.specs.ValueMeanings as datum
 use Rattle.json5_numbers.specs.Sameness.{is_named}
-use Rattle.json5_read.specs.TreeMeanings.{datum_of, items_of, fields_of}
+use Rattle.json5_read.specs.TreeMeanings.{datum_of, fields_of}
 use Rattle.json5_de.specs.ConvertLists.{if_some}
-use Rattle.json5_de.specs.Fields.{values_named, at_most_one, optional, required, or_value, with_default, and_field}
+use Rattle.json5_de.specs.Fields.{values_named, optional, required, or_value, with_default, and_field}
 use Rattle.json5_de.specs.Refinement.{if_more}
 use Rattle.json5_fields.specs.Layouts.{Layout, has_name, all_differ, and_layout, field_or, optional_field, required_field}
 use Rattle.json5_fields.specs.Only.{all_named, only_these}
 use Rattle.json5_schema.specs.Conformance.{Answers, conforming, unfolded, keywords_hold, is_within, by_name, with_value, has_names, latest, each_additional, is_additional}
-use Rattle.json5_settings.specs.DescribedSchemas.{Describes, Says, SaysFields, SaysStruct, FieldKind, Sound, Plain, SoundMembers, PlainMembers, AreTexts, properties_of, required_of, struct_schema, is_given, are_given}
+use Rattle.json5_settings.specs.DescribedSchemas.{Describes, Says, SaysFields, SaysOpenStruct, SaysStruct, FieldKind, Sound, Plain, SoundMembers, PlainMembers, AreTexts, properties_of, required_of, open_struct_schema, struct_schema, is_given, are_given}
 use Rattle.json5_settings.specs.AsciiNames.{are_ascii, ascii_names, fit_together}
 use Rattle.json5_settings.proofs.ListsSaid.{after_more, all_hold, all_within, and_true, made}
 
@@ -212,7 +211,7 @@ given_all test (n ∷ ns) (k ∷ ks) fs long texts differ =
 
 -- ---- no others
 
-all_latest : (ps : Members) → PlainMembers ps → latest (fields_of ps) ≡ fields_of ps
+pub all_latest : (ps : Members) → PlainMembers ps → latest (fields_of ps) ≡ fields_of ps
 all_latest no_member p = refl
 all_latest (member u escape_free t ps) p = rw (p.0, all_latest ps p.2) refl
 
@@ -241,6 +240,11 @@ struct_object : (w : Answers) (root : Datum) (ns : List (List ℕ)) (ks : List F
     && (is_within (w conforming) (length (each_additional (datum.boolean false) (struct_schema ns ks) (latest fs))) (length (each_additional (datum.boolean false) (struct_schema ns ks) (latest fs))) (each_additional (datum.boolean false) (struct_schema ns ks) (latest fs)) && true)))
 unfolding encode_utf8 chars
 struct_object w root ns ks fs = refl
+
+open_object : (w : Answers) (root : Datum) (ns : List (List ℕ)) (ks : List FieldKind) (fs : Fields) → keywords_hold w root (open_struct_schema ns ks) (open_struct_schema ns ks) (datum.object fs)
+    ≡ (is_within (w conforming) (length (by_name (properties_of ns ks) fs)) (length (by_name (properties_of ns ks) fs)) (by_name (properties_of ns ks) fs) && (has_names (required_of ns ks) fs && true))
+unfolding encode_utf8 chars
+open_object w root ns ks fs = refl
 
 none_false : (n : ℕ) (v : Answers) (root x : Datum) → unfolded (suc n) v root conforming (datum.boolean false) x ≡ false
 unfolding unfolded
@@ -279,6 +283,21 @@ module _ {S D : Type 0} (l : Layout S D) (ks : List FieldKind) (texts : AreTexts
   pub struct_says : Says (struct_schema l.names ks) (object_of (only_these l))
   struct_says = after_more (struct_schema l.names ks) (object_of (only_these l)) (suc says.steps) struct_holds
 
+  open_holds : (n : ℕ) → says.steps ≤ n → (root : Datum) (v : Answers) (t : Tree) → Sound t → Plain t
+      → keywords_hold (unfolded n v root) root (open_struct_schema l.names ks) (open_struct_schema l.names ks) (datum_of t) ≡ is_some (object_of l.convert t)
+  unfolding encode_utf8 chars
+  open_holds n h root v (object ps) s p =
+      open_object (unfolded n v root) root l.names ks (fields_of ps)
+      ∙ (rw (all_within (unfolded n v root conforming) (by_name (properties_of l.names ks) (fields_of ps)), and_true (has_names (required_of l.names ks) (fields_of ps))) (members_given n h root v ps s p))
+  open_holds n h root v null s p = refl
+  open_holds n h root v (boolean b) s p = refl
+  open_holds n h root v (number m) s p = refl
+  open_holds n h root v (text u e) s p = refl
+  open_holds n h root v (array ts) s p = refl
+
+  pub open_says : Says (open_struct_schema l.names ks) (object_of l.convert)
+  open_says = after_more (open_struct_schema l.names ks) (object_of l.convert) says.steps open_holds
+
 -- ---- structs whose names fit
 
 pub fitting_struct : {S D : Type 0} (l : Layout S D) (ks : List FieldKind) → fit_together l.names ≡ true → Describes l ks → SaysStruct l ks
@@ -286,3 +305,9 @@ fitting_struct l ks fit describes =
     let parts = and_parts (are_ascii l.names) (all_differ l.names) fit in
     let texts = ascii_names l.names parts.0 in
     struct_says l ks texts parts.1 (describes.says texts)
+
+pub fitting_open : {S D : Type 0} (l : Layout S D) (ks : List FieldKind) → fit_together l.names ≡ true → Describes l ks → SaysOpenStruct l ks
+fitting_open l ks fit describes =
+    let parts = and_parts (are_ascii l.names) (all_differ l.names) fit in
+    let texts = ascii_names l.names parts.0 in
+    open_says l ks texts parts.1 (describes.says texts)

@@ -14,6 +14,7 @@ pub mod SchemasMade
 pub mod FieldsPassed
 pub mod ValuesSaid
 pub mod ListsSaid
+pub mod MapsSaid
 pub mod WholesSaid
 pub mod FieldsSaid
 pub mod NotesPassed

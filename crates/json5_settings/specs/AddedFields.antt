@@ -1,9 +1,9 @@
 -- What a description adds to the schemas of fields.
 -- A promise rests on this.
-use Rattle.std.specs.Prelude.{◌≡◌, codes, ℕ, Bool, false, List, [], ◌∷◌}
-use Rattle.json5_types.specs.ValueMeanings.{boolean, Items, no_item, item, Fields, no_field, field, fields_view, items_view}
+use Rattle.std.specs.Prelude.{◌≡◌, ℕ, Bool, List, [], ◌∷◌}
+use Rattle.json5_types.specs.ValueMeanings.{Items, no_item, item, Fields, no_field, field, fields_view, items_view}
 use Rattle.json5_settings.specs.declared.described_fields.FieldSchemas.{FieldSchemas}
-use Rattle.json5_settings.specs.DescribedSchemas.{FieldKind, keyword, members_keywords, named, properties_of, required_of}
+use Rattle.json5_settings.specs.DescribedSchemas.{FieldKind, named, properties_of, required_of}
 
 -- the members, and others after them
 abbrev pub members_then : Fields → Fields → Fields
@@ -27,7 +27,3 @@ AddsField name keywords is_required = AddsFields (name ∷ []) (record { keyword
 pub record AddsName (name : List ℕ) (old new : FieldSchemas) : Type 0 where
   pub properties : new.properties ≡ old.properties
   pub required : items_view new.required.items ≡ elements_then (items_view old.required.items) (item (named name) no_item)
-
--- the keywords of an object of them alone
-abbrev pub these_alone : FieldSchemas → Fields
-these_alone schemas = members_keywords (fields_view schemas.properties.items) (items_view schemas.required.items) (keyword (codes "additionalProperties") (boolean false) no_field)

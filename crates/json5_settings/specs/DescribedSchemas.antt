@@ -49,6 +49,10 @@ whole_schema low high = of_kind (codes "integer") (keyword (codes "minimum") (nu
 abbrev pub list_schema : Fields → Fields
 list_schema element = of_kind (codes "array") (keyword (codes "items") (object element) no_field)
 
+-- a map from any names to what this schema says
+abbrev pub map_schema : Fields → Fields
+map_schema value = of_kind (codes "object") (keyword (codes "additionalProperties") (object value) no_field)
+
 -- null, or what this schema says
 abbrev pub option_schema : Fields → Fields
 option_schema some = keyword (codes "anyOf") (array (item (object null_schema) (item (object some) no_item))) no_field
@@ -92,9 +96,16 @@ required_of _ _ = no_item
 abbrev pub members_keywords : (properties : Fields) → (required : Items) → Fields → Fields
 members_keywords properties required rest = of_kind (codes "object") (keyword (codes "properties") (object properties) (keyword (codes "required") (array required) rest))
 
+abbrev pub fields_keywords : List (List ℕ) → List FieldKind → Fields → Fields
+fields_keywords names kinds rest = members_keywords (properties_of names kinds) (required_of names kinds) rest
+
 -- an object of these fields alone
 abbrev pub struct_schema : List (List ℕ) → List FieldKind → Fields
-struct_schema names kinds = members_keywords (properties_of names kinds) (required_of names kinds) (keyword (codes "additionalProperties") (boolean false) no_field)
+struct_schema names kinds = fields_keywords names kinds (keyword (codes "additionalProperties") (boolean false) no_field)
+
+-- an object of these fields and of any others
+abbrev pub open_struct_schema : List (List ℕ) → List FieldKind → Fields
+open_struct_schema names kinds = fields_keywords names kinds no_field
 
 -- ---- trees
 
@@ -179,6 +190,10 @@ pub record Describes {S D : Type 0} (fields : Layout S D) (kinds : List FieldKin
 -- the schema of a struct of these fields alone says which objects are read
 abbrev pub SaysStruct : {S D : Type 0} → Layout S D → List FieldKind → Type 0
 SaysStruct fields kinds = Says (struct_schema fields.names kinds) (object_of (only_these fields))
+
+-- that of one that may have other fields
+abbrev pub SaysOpenStruct : {S D : Type 0} → Layout S D → List FieldKind → Type 0
+SaysOpenStruct fields kinds = Says (open_struct_schema fields.names kinds) (object_of fields.convert)
 
 -- ---- the whole schema
 

@@ -6,11 +6,13 @@ ghost use Rattle.json5_de.specs.Convert.{bool_of, decimal_of, every_datum, signe
 ghost use Rattle.json5_fields.specs.Layouts.{and_layout, field_or, optional_field, required_field};
 ghost use Rattle.json5_fields.specs.Named.{one_named};
 ghost use Rattle.json5_settings.specs.AsciiNames.{fit_together};
-ghost use Rattle.json5_settings.specs.DescribedSchemas.{AreTexts, Describes, FieldKind, Says, SaysStruct, SaysOfTexts, any_schema, boolean_schema, list_schema, may_be_missing, must_be_there, names_schema, null_schema, number_schema, option_schema, text_schema, whole_schema};
+ghost use Rattle.json5_settings.specs.DescribedSchemas.{AreTexts, Describes, FieldKind, Says, SaysOfTexts, SaysOpenStruct, SaysStruct, any_schema, boolean_schema, list_schema, map_schema, may_be_missing, must_be_there, names_schema, null_schema, number_schema, option_schema, text_schema, whole_schema};
 
+use indexmap::IndexMap;
 use json5_de::Deserialize;
 use json5_fields::StructFields;
 use json5_tokens::input::Input;
+use std::collections::{BTreeMap, HashMap};
 
 /// The schemas of single values say which trees their types take. The call does nothing.
 pub fn values_say()
@@ -34,6 +36,13 @@ pub fn lists_say<I: Input, T: Deserialize<I>>()
     ensures option { (kw : Fields) → Says kw T.convert → Says (option_schema kw) ⟦<Option<T> as Deserialize<I>>⟧.convert }
 {}
 
+/// Those of maps from strings do, if that of their values does.
+pub fn maps_say<I: Input, T: Deserialize<I>>()
+    ensures ordered { (kw : Fields) → Says kw T.convert → Says (map_schema kw) ⟦<BTreeMap<String, T> as Deserialize<I>>⟧.convert }
+    ensures indexed { (kw : Fields) → Says kw T.convert → Says (map_schema kw) ⟦<IndexMap<String, T> as Deserialize<I>>⟧.convert }
+    ensures hashed { (kw : Fields) → Says kw T.convert → Says (map_schema kw) ⟦<HashMap<String, T> as Deserialize<I>>⟧.convert }
+{}
+
 /// Those of fields do, if that of the type does.
 pub fn fields_say<I: Input, T: Deserialize<I>>()
     ensures required { (name : List ℕ) (kw : Fields) → Says kw T.convert → Describes (required_field name T.convert) (must_be_there kw) }
@@ -46,9 +55,11 @@ pub fn pairs_say<I: Input, S: Drop, T: Drop, A: StructFields<I, S>, B: StructFie
     ensures { (a : A.Shape) (b : B.Shape) (ks ls : _) → Describes (A.layout a) ks → Describes (B.layout b) ls → Describes (and_layout (A.layout a) (B.layout b)) (ks ++ ls) }
 {}
 
-/// That of a struct of these fields alone does, if those of the fields do, and their names are ASCII and differ.
+/// Those of a struct of these fields alone, and of one that may have others, do, if those of the fields do, and their names
+/// are ASCII and differ.
 pub fn structs_say<I: Input, V: Drop, F: StructFields<I, V>>()
-    ensures { (s : F.Shape) (ks : List FieldKind) → fit_together (F.layout s).names ≡ true → Describes (F.layout s) ks → SaysStruct (F.layout s) ks }
+    ensures alone { (s : F.Shape) (ks : List FieldKind) → fit_together (F.layout s).names ≡ true → Describes (F.layout s) ks → SaysStruct (F.layout s) ks }
+    ensures others { (s : F.Shape) (ks : List FieldKind) → fit_together (F.layout s).names ≡ true → Describes (F.layout s) ks → SaysOpenStruct (F.layout s) ks }
 {}
 
 /// What a schema says of trees, the whole schema says of documents, which then conform exactly when the type takes them.

@@ -4,9 +4,8 @@ ghost use Rattle.std.specs.Prelude.{IfOk, codes, length, string_bytes, true, ◌
 ghost use Rattle.json5_types.specs.ValueMeanings.{Fields, Items, array, fields_view, items_view, no_field};
 ghost use Rattle.json5_de.specs.Convert.{names_bytes};
 ghost use Rattle.json5_fields.specs.Named.{one_named};
-ghost use Rattle.json5_settings.specs.AddedFields.{these_alone};
 ghost use Rattle.json5_settings.specs.AsciiNames.{are_ascii, fit_together};
-ghost use Rattle.json5_settings.specs.DescribedSchemas.{IsSchemaOf, Says, SaysOfTexts, SaysStruct, keyword, names_schema, struct_schema, texts_of};
+ghost use Rattle.json5_settings.specs.DescribedSchemas.{Describes, IsSchemaOf, Says, SaysOfTexts, SaysOpenStruct, SaysStruct, fields_keywords, keyword, members_keywords, names_schema, open_struct_schema, struct_schema, texts_of};
 
 use crate::described::{Described, Keywords, keyword_alone, put_keyword, with_kind};
 use crate::described_fields::{DescribedFields, FieldSchemas};
@@ -60,6 +59,28 @@ fn written(alloc: Global, keywords: Result<Keywords>) -> Result<String>
     to_json(alloc, &Value::Object(keywords))
 }
 
+/// The keywords of a struct of these fields, as it is read by `read_struct`: other members may have any value.
+///
+/// ```text
+/// fn keywords(alloc: Global) -> Result<Keywords> {
+///     struct_keywords::<I, Values, Parts>(alloc, (Required("host"), WithDefault("port", 80)))
+/// }
+/// ```
+///
+/// # Errors
+///
+/// `OutOfMemory` where a request for memory was refused.
+pub fn struct_keywords<I: Input, V: Drop, F: DescribedFields<I, V>>(
+    alloc: Global,
+    fields: F,
+) -> Result<Keywords>
+    requires { fit_together (F.layout (F.shape fields)).names ≡ true }
+    ensures made { IfOk result (λ made. fields_view made.items ≡ open_struct_schema (F.layout (F.shape fields)).names F.kinds) }
+    ensures says { SaysOpenStruct (F.layout (F.shape fields)) F.kinds }
+{
+    with_members::<I, V, F>(alloc, fields, Ok(Vec::new(alloc)))
+}
+
 /// The keywords of a struct that has these fields alone, as it is read by `read_struct_only`.
 ///
 /// ```text
@@ -79,25 +100,38 @@ pub fn struct_only_keywords<I: Input, V: Drop, F: DescribedFields<I, V>>(
     ensures made { IfOk result (λ made. fields_view made.items ≡ struct_schema (F.layout (F.shape fields)).names F.kinds) }
     ensures says { SaysStruct (F.layout (F.shape fields)) F.kinds }
 {
+    let no_others = keyword_alone(alloc, "additionalProperties", Value::Bool(false));
+    with_members::<I, V, F>(alloc, fields, no_others)
+}
+
+/// The keywords of an object of these fields, before others.
+fn with_members<I: Input, V: Drop, F: DescribedFields<I, V>>(
+    alloc: Global,
+    fields: F,
+    others: Result<Keywords>,
+) -> Result<Keywords>
+    ensures made { (kw : Fields) → IfOk others (λ made. fields_view made.items ≡ kw) → IfOk result (λ made. fields_view made.items ≡ fields_keywords (F.layout (F.shape fields)).names F.kinds kw) }
+    ensures describes { Describes (F.layout (F.shape fields)) F.kinds }
+{
     let mut schemas = FieldSchemas {
         properties: Vec::new(alloc),
         required: Vec::new(alloc),
     };
     match fields.describe(alloc, &mut schemas) {
-        Ok(()) => these_alone(alloc, schemas),
+        Ok(()) => put_members(alloc, schemas, others),
         Err(e) => Err(e),
     }
 }
 
-/// The keywords of an object of these fields alone.
-fn these_alone(alloc: Global, schemas: FieldSchemas) -> Result<Keywords>
-    ensures { IfOk result (λ made. fields_view made.items ≡ these_alone schemas) }
+/// The keywords of an object of fields with these schemas, before others.
+fn put_members(alloc: Global, schemas: FieldSchemas, others: Result<Keywords>) -> Result<Keywords>
+    ensures { (kw : Fields) → IfOk others (λ made. fields_view made.items ≡ kw) → IfOk result (λ made. fields_view made.items ≡ members_keywords (fields_view schemas.properties.items) (items_view schemas.required.items) kw) }
 {
+    let mut keywords = others?;
     let FieldSchemas {
         properties,
         required,
     } = schemas;
-    let mut keywords = keyword_alone(alloc, "additionalProperties", Value::Bool(false))?;
     put_keyword(alloc, &mut keywords, "required", Value::Array(required))?;
     put_keyword(
         alloc,

@@ -20,6 +20,7 @@ mod blanks;
 mod described;
 mod described_fields;
 pub mod described_laws;
+mod described_maps;
 mod described_schemas;
 mod described_tuples;
 mod described_values;
@@ -47,7 +48,9 @@ mod warned;
 pub use all_faults::faults_of;
 pub use described::{Described, Keywords};
 pub use described_fields::{DescribedFields, FieldSchemas};
-pub use described_schemas::{described_schema, names_keywords, struct_only_keywords};
+pub use described_schemas::{
+    described_schema, names_keywords, struct_keywords, struct_only_keywords,
+};
 pub use faults::{Result, SettingError};
 pub use known::read_known;
 pub use layers::Layers;

@@ -1,12 +1,15 @@
-//! Answers rows of edits, of patches, of tidying, of reports, of schemas, of settings, of conversions and of types. Standard input has all rows in one document,
-//! and what is said of each is whether what came is what the row says.
+//! Answers rows of edits, of patches, of tidying, of reports, of schemas, of settings, of conversions, of types, and of schemas
+//! of described structs. Standard input has all rows in one document, and what is said of each is whether what came is what
+//! the row says.
 #![tactic(auto)]
 
 mod converts;
 mod described;
+mod described_schemas;
 mod edits;
 mod example;
 mod faults;
+mod gates;
 mod kinds;
 mod known;
 mod outcomes;
@@ -52,7 +55,8 @@ fn each_tool(rt: &HostRuntime, document: &Value) -> io::Result<()> {
     each_row(rt, document, "schema")?;
     each_row(rt, document, "update")?;
     each_row(rt, document, "convert")?;
-    each_row(rt, document, "typed")
+    each_row(rt, document, "typed")?;
+    each_row(rt, document, "described")
 }
 
 fn each_row(rt: &HostRuntime, document: &Value, tool: &str) -> io::Result<()> {
@@ -82,6 +86,7 @@ fn outcome_of(alloc: Global, document: &Value, tool: &str, row: &Value) -> Outco
         "update" => updates::outcome_of(alloc, row),
         "convert" => converts::outcome_of(alloc, row),
         "typed" => typed::outcome_of(alloc, row),
+        "described" => described_schemas::outcome_of(alloc, row),
         _ => reports::outcome_of(alloc, text_of(document, "base"), row),
     }
 }

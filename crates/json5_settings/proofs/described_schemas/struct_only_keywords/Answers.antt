@@ -1,8 +1,11 @@
+use Rattle.std.proofs.Common.{◌∙◌, false, refl}
 use Rattle.json5_settings.proofs.FieldsSaid.{fitting_struct}
+use Rattle.json5_settings.proofs.KeywordsPut.{view-Bool}
+use Rattle.json5_settings.proofs.SlipsSeen.{if_ok_then}
 use Rattle.json5_settings.proofs.described_schemas.struct_only_keywords.Goals as goal
 
-pub returns-in-Ok-clause-says : goal.returns-in-Ok-clause-says
-returns-in-Ok-clause-says g c = fitting_struct (g.F.StructFields.layout (g.F.StructFields.shape c.args.fields)) g.F.DescribedFields.kinds c.requires c.in-Ok.ensures.says
+pub returns-clause-made : goal.returns-clause-made
+returns-clause-made g c = c.with_members.ensures.made _ (if_ok_then c.keyword_alone-no_others.result c.keyword_alone-no_others.ensures (λ made is. is ∙ rw (view-Bool false) refl))
 
-pub returns-in-Err-clause-says : goal.returns-in-Err-clause-says
-returns-in-Err-clause-says g c = fitting_struct (g.F.StructFields.layout (g.F.StructFields.shape c.args.fields)) g.F.DescribedFields.kinds c.requires c.in-Err.ensures.says
+pub returns-clause-says : goal.returns-clause-says
+returns-clause-says g c = fitting_struct (g.F.StructFields.layout (g.F.StructFields.shape c.args.fields)) g.F.DescribedFields.kinds c.requires c.with_members.ensures.describes

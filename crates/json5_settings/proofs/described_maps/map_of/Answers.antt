@@ -1,0 +1,11 @@
+use Rattle.json5_types.specs.ValueMeanings.{fields_view}
+use Rattle.std.proofs.Common.{◌≡◌, ◌∙◌, refl}
+use Rattle.json5_types.proofs.ValuesCompared.{view-Object}
+use Rattle.json5_settings.proofs.KeywordsPut.{of_ok}
+use Rattle.json5_settings.proofs.SlipsSeen.{if_ok_then}
+use Rattle.json5_settings.proofs.described_maps.map_of.Goals as goal
+
+pub returns : goal.returns
+returns c = λ kw is.
+    let given = of_ok (λ made. fields_view made.items ≡ kw) _ _ c.in_ok-value.was is in
+    if_ok_then c.with_kind.result c.with_kind.ensures (λ made made_is. made_is ∙ rw (c.in_ok-keywords.ensures, view-Object c.in_ok-value.value, given) refl)
