@@ -4,52 +4,29 @@ use Rattle.std.specs.declared.alloc.Global.{Global}
 use Rattle.std.specs.declared.cmp.Ordering.{Ordering}
 use Rattle.std.specs.declared.cmp.Ordering.TheVariants.{Less, Equal, Greater}
 use Rattle.std.specs.Borrow.{Bor}
-use Rattle.std.specs.BTreeMap.{BTreeMap, insert_entry}
+use Rattle.std.specs.BTreeMap.{insert_entry}
 use Rattle.std.specs.Cmp.Lexicographic.{slice_cmp}
 use Rattle.std.specs.FinMap.Entries.{by_order}
 use Rattle.std.specs.FinMap.{insert, entries, put, entries-insert, len-empty, len-entries}
 use Rattle.std.specs.Ordering.{match_ordering, nat_cmp}
 use Rattle.std.specs.Str.{chars, encode_utf8_all, IsUtf8}
 use Rattle.std.proofs.lemmas.Cmp.{nat_list_cmp_total}
-use Rattle.std.proofs.lemmas.List.{drop_more}
 use Rattle.std.proofs.lemmas.Str.{encodes-chars}
-use Rattle.json5_grammar.specs.Language.Characters.{left_bracket, right_bracket}
+use Rattle.json5_grammar.specs.Language.Characters.{right_bracket}
 use Rattle.json5_types.specs.declared.value.Value.{Value}
-use Rattle.json5_types.specs.ValueMeanings.{text, array, Items, item, Fields, no_field, value_of, items_view, fields_view}
+use Rattle.json5_types.specs.ValueMeanings.{text, array, Items, Fields, value_of, items_view, fields_view}
 use Rattle.json5_types.specs.declared.value.Value as value
 use Rattle.json5_types.proofs.LookedUp.{from_here}
 use Rattle.json5_types.proofs.ValuesCompared.{view-String}
-use Rattle.json5_schema.specs.CanonicalForms.{Forms, no_forms, form, items_form, forms_with, AreSound, HasSound, AddsForm, HoldsForms, read, members_form, text_form}
+use Rattle.json5_schema.specs.CanonicalForms.{Forms, no_forms, form, items_form, forms_with, AreSound, HasSound, AddsForm, read, members_form, text_form}
 
--- ---- bytes
-
-pub added_on : (o a : List ℕ) {n : List ℕ} (rest : List ℕ) → n ≡ o ++ a → n ++ rest ≡ o ++ (a ++ rest)
+added_on : (o a : List ℕ) {n : List ℕ} (rest : List ℕ) → n ≡ o ++ a → n ++ rest ≡ o ++ (a ++ rest)
 added_on o a rest h = ap (λ l. l ++ rest) h ∙ append_assoc o a rest
 
--- ---- elements
-
+-- the forms of the elements that are left end the whole
 pub record ItemsLeft (start now : List ℕ) (left all : Items) : Type 0 where
   pub bytes : now ++ (items_form left ++ right_bracket ∷ []) ≡ start ++ form (array all)
   pub sound : AreSound left → AreSound all
-
-pub first_item : (old start : List ℕ) (xs : Items) → start ≡ old ++ left_bracket ∷ [] → ItemsLeft old start xs xs
-first_item old start xs h = record { bytes = added_on _ _ (items_form xs ++ right_bracket ∷ []) h; sound = λ s. s }
-
-pub next_item : (old now next : List ℕ) (vs : List Value) (i : ℕ) (x : Value) → i < length vs → x ≡ get_or vs i x → AddsForm now next (value_of x) → ItemsLeft old now (items_view (drop i vs)) (items_view vs)
-    → ItemsLeft old next (items_view (drop (i + 1) vs)) (items_view vs)
-next_item old now next vs i x h is made left =
-    let rest = items_view (drop (i + 1) vs) in
-    let here : items_view (drop i vs) ≡ item (value_of x) rest = ap items_view (drop_more vs i x h ∙ ap (λ (z : Value). z ∷ drop (i + 1) vs) (sym is)) in
-    let was = subst (λ xs. ItemsLeft old now xs (items_view vs)) here left in
-    record {
-      bytes = added_on _ _ (items_form rest ++ right_bracket ∷ []) made.bytes ∙ ap (λ l. now ++ l) (sym (append_assoc (form (value_of x)) (items_form rest) (right_bracket ∷ []))) ∙ was.bytes;
-      sound = λ s. was.sound (made.sound, s);
-    }
-
-pub last_item : (old now next : List ℕ) (left all : Items) → left ≡ items_view [] → next ≡ now ++ right_bracket ∷ [] → ItemsLeft old now left all → AddsForm old next (array all)
-last_item old now next left all none h l =
-    let was = subst (λ xs. ItemsLeft old now xs all) none l in
-    record { bytes = h ∙ was.bytes; sound = was.sound tt }
 
 -- ---- members
 
@@ -105,11 +82,6 @@ next_member es next fs i f k v h is put_in named utf8 made left =
       sound = λ s. was.sound (ap chars (sym bytes) ∙ ap chars named, made.sound, s);
     }
 
-pub last_member : (m : BTreeMap (Bor (List ℕ)) (Vec ℕ Global)) (left all : Fields) → left ≡ no_field → MembersLeft m.entries left all → HoldsForms m all
-last_member m left all none l =
-    let was = subst (λ fs. MembersLeft m.entries fs all) none l in
-    record { forms = was.here ∙ ap entries was.whole; sound = was.sound tt }
-
 -- ---- entries of a map
 
 pub next_entry : (start now named next : List ℕ) (es rest : List Entry) (e : Entry) → es ≡ e ∷ rest → named ≡ now ++ text_form e.0.now → next ≡ named ++ e.1.items → now ++ members_form (read es) ≡ start → next ++ members_form (read rest) ≡ start
@@ -119,11 +91,6 @@ next_entry start now named next es rest e here h k was =
 
 pub last_entry : (start now : List ℕ) (es : List Entry) → es ≡ [] → now ++ members_form (read es) ≡ start → now ≡ start
 last_entry start now es none was = sym (append-nil now) ∙ ap (λ xs. now ++ members_form (read xs)) (sym none) ∙ was
-
--- ---- numbers
-
-pub four_added : (old a b c new : List ℕ) (k s : ℕ) (e ds : List ℕ) → a ≡ old ++ k ∷ [] → b ≡ a ++ s ∷ [] → c ≡ b ++ e → new ≡ c ++ ds → new ≡ old ++ (k ∷ s ∷ (e ++ ds))
-four_added old a b c new k s e ds h i j l = l ∙ added_on _ _ ds j ∙ added_on _ _ (e ++ ds) i ∙ added_on _ _ (s ∷ (e ++ ds)) h
 
 -- ---- texts
 

@@ -35,6 +35,21 @@ pub fn is_in_enum(alloc: Global, values: &Value, value: &Value) -> Result<bool>
     }
 }
 
+/// So many elements are compared with each other, which takes less time than their canonical forms.
+const FEW: usize = 16;
+
+/// Whether no two of a few values are equal.
+fn few_are_distinct(alloc: Global, values: &[Value]) -> Result<bool>
+    ensures { MatchResult result (λ b. b ≡ are_distinct (items_view values.now)) LacksMemory }
+{
+    for (index, value) in values.iter().enumerate() {
+        if is_among(alloc, value, &values[index + 1..])? {
+            return Ok(false);
+        }
+    }
+    Ok(true)
+}
+
 /// Whether no two of the elements are equal. Each is looked up by its canonical form among those behind it.
 fn are_distinct(alloc: Global, items: &[Value]) -> Result<bool>
     ensures { MatchResult result (λ b. b ≡ are_distinct (items_view items.now)) LacksMemory }
@@ -75,6 +90,9 @@ pub fn has_distinct(alloc: Global, wanted: &Value, value: &Value) -> Result<bool
     ensures { MatchResult result (λ b. b ≡ has_distinct (value_of wanted.now) (value_of value.now)) LacksMemory }
 {
     match (wanted, value) {
+        (Value::Bool(true), Value::Array(items)) if items.len() <= FEW => {
+            few_are_distinct(alloc, items)
+        }
         (Value::Bool(true), Value::Array(items)) => are_distinct(alloc, items),
         _ => Ok(true),
     }
