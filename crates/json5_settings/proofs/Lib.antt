@@ -16,6 +16,7 @@ pub mod ValuesSaid
 pub mod ListsSaid
 pub mod MapsSaid
 pub mod WholesSaid
+pub mod WithinSaid
 pub mod FieldsSaid
 pub mod NotesPassed
 pub mod DocumentsSound

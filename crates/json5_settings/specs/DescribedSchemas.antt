@@ -1,6 +1,6 @@
 -- The schema of each kind of field, and what it is that a schema says of a type that is read.
 -- A promise rests on this.
-use Rattle.std.specs.Prelude.{◌≡◌, ◌≤◌, ⊤, codes, ℕ, Bool, true, false, not, ◌&&◌, if◌then◌else◌, List, [], ◌∷◌, length, ℤ, Option, Some, None, is_some}
+use Rattle.std.specs.Prelude.{◌≡◌, ◌≤◌, ◌^◌, ⊤, codes, ℕ, Bool, true, false, not, ◌&&◌, if◌then◌else◌, List, [], ◌∷◌, length, ℤ, Option, Some, None, is_some}
 use Rattle.std.specs.Str.{IsUtf8, all_scalars, chars}
 use Rattle.json5_grammar.specs.Language.Documents.{Doc, max_depth}
 use Rattle.json5_grammar.specs.Language.Numbers.{InWhole, Number, whole, decimal}
@@ -13,8 +13,11 @@ use Rattle.json5_types.specs.ValueLookups.{last_named}
 use Rattle.json5_types.specs.ValueMeanings.{Datum, boolean, number, text, array, object, Items, no_item, item, Fields, no_field, field}
 use Rattle.json5_numbers.specs.Sameness.{is_named}
 use Rattle.json5_read.specs.TreeMeanings.{datum_of, fields_of}
+use Rattle.json5_de.specs.Convert.{signed_below}
+use Rattle.json5_de.specs.Refinement.{refined}
 use Rattle.json5_fields.specs.Layouts.{Layout}
 use Rattle.json5_fields.specs.Only.{only_these}
+use Rattle.json5_settings_types.specs.Bounds.{if_within}
 use Rattle.json5_schema.specs.Conformance.{Answers, Conforms, conforming, is_integral, unfolded}
 
 -- ---- the schema of each kind, by the members of its object; each name by its bytes
@@ -186,6 +189,10 @@ AreTexts (n ∷ ns) = IsUtf8 n × AreTexts ns
 pub record Describes {S D : Type 0} (fields : Layout S D) (kinds : List FieldKind) : Type 0 where
   pub one_each : length kinds ≡ length fields.names
   pub says : AreTexts fields.names → SaysFields fields.names kinds fields.convert
+
+-- a whole number of 64 bits that is within these bounds
+abbrev pub within_of : (low high : ℤ) → Tree → Option ℤ
+within_of low high = refined (signed_below (2 ^ 63)) (if_within low high)
 
 -- the schema of a struct of these fields alone says which objects are read
 abbrev pub SaysStruct : {S D : Type 0} → Layout S D → List FieldKind → Type 0

@@ -99,7 +99,7 @@ pub(crate) fn integers(alloc: Global, most: u128) -> Result<Keywords>
 
 /// A whole number within these bounds.
 #[tactic(auto, using(crate::proofs::KeywordsPut::keyword_views))]
-fn whole_within(alloc: Global, low: Whole, high: Whole) -> Result<Keywords>
+pub(crate) fn whole_within(alloc: Global, low: Whole, high: Whole) -> Result<Keywords>
     ensures { IfOk result (λ made. fields_view made.items ≡ whole_schema low high) }
 {
     let mut keywords = keyword_alone(alloc, "maximum", Value::Whole(high))?;

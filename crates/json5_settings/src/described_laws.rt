@@ -1,12 +1,12 @@
 //! What the schema of each kind of field says, as it is proved.
 
-ghost use Rattle.std.specs.Prelude.{List, length, negsuc, pos, true, ℕ, ◌++◌, ◌-◌, ◌<◌, ◌≡◌, ◌≤◌, ◌^◌};
+ghost use Rattle.std.specs.Prelude.{List, length, neg_ℤ, negsuc, pos, true, ℕ, ℤ, ◌++◌, ◌-◌, ◌<◌, ◌<ℤ◌, ◌≡◌, ◌≤◌, ◌≤ℤ◌, ◌^◌};
 ghost use Rattle.json5_types.specs.ValueMeanings.{Fields};
 ghost use Rattle.json5_de.specs.Convert.{bool_of, decimal_of, every_datum, signed_below, text_of, unit_of, unsigned_below};
 ghost use Rattle.json5_fields.specs.Layouts.{and_layout, field_or, optional_field, required_field};
 ghost use Rattle.json5_fields.specs.Named.{one_named};
 ghost use Rattle.json5_settings.specs.AsciiNames.{fit_together};
-ghost use Rattle.json5_settings.specs.DescribedSchemas.{AreTexts, Describes, FieldKind, Says, SaysOfTexts, SaysOpenStruct, SaysStruct, any_schema, boolean_schema, list_schema, map_schema, may_be_missing, must_be_there, names_schema, null_schema, number_schema, option_schema, text_schema, whole_schema};
+ghost use Rattle.json5_settings.specs.DescribedSchemas.{AreTexts, Describes, FieldKind, Says, SaysOfTexts, SaysOpenStruct, SaysStruct, any_schema, boolean_schema, list_schema, map_schema, may_be_missing, must_be_there, names_schema, null_schema, number_schema, option_schema, text_schema, whole_schema, within_of};
 
 use indexmap::IndexMap;
 use json5_de::Deserialize;
@@ -23,6 +23,7 @@ pub fn values_say()
     ensures any { Says any_schema every_datum }
     ensures natural { (bound : ℕ) → 0 < bound → bound ≤ 2 ^ 128 → Says (whole_schema (pos 0) (pos (bound - 1))) (unsigned_below bound) }
     ensures integer { (bound : ℕ) → 0 < bound → bound ≤ 2 ^ 127 → Says (whole_schema (negsuc (bound - 1)) (pos (bound - 1))) (signed_below bound) }
+    ensures within { (low high : ℤ) → neg_ℤ (pos (2 ^ 63)) ≤ℤ low → low ≤ℤ high → high <ℤ pos (2 ^ 63) → Says (whole_schema low high) (within_of low high) }
 {}
 
 /// That of names says which strings are read as one of the values.

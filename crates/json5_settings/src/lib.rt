@@ -23,6 +23,7 @@ pub mod described_laws;
 mod described_maps;
 mod described_schemas;
 mod described_tuples;
+mod described_types;
 mod described_values;
 mod edits;
 mod faults;

@@ -1,5 +1,6 @@
 use Rattle.json5_settings.proofs.ValuesSaid.{null_says, boolean_says, text_says, number_says, any_says}
 use Rattle.json5_settings.proofs.WholesSaid.{natural_says, integer_says}
+use Rattle.json5_settings.proofs.WithinSaid.{ordered_say}
 use Rattle.json5_settings.proofs.described_laws.values_say.Goals as goal
 
 pub returns-clause-null : goal.returns-clause-null
@@ -22,3 +23,6 @@ returns-clause-natural c = natural_says
 
 pub returns-clause-integer : goal.returns-clause-integer
 returns-clause-integer c = integer_says
+
+pub returns-clause-within : goal.returns-clause-within
+returns-clause-within c = ordered_say
