@@ -48,3 +48,18 @@ TakesFile ignores name found new_found = (names_of new_found ≡ names_of found 
 abbrev pub TakesFolder : Known → Ignores → (folder : List ℕ) (left found new_left new_found : List (String Global)) → Type 0
 TakesFolder known ignores folder left found new_left new_found =
     OpensFolder known folder left found new_left new_found ⊎ ((ignores.has_rules ≡ true) × (new_left ≡ left) × (new_found ≡ found))
+
+-- ---- the same with the rules that were read meanwhile
+
+-- the files below the folder were appended
+abbrev pub GathersBelow : Known → (endings : List (String Global)) → (folder : List ℕ) → (before after : Ignores) → (found new_found : List (String Global)) → Type 0
+GathersBelow known endings folder before after found new_found = IsBacked known before after (λ excluded. Gathers known endings excluded folder found new_found)
+
+-- the name was taken, and what stands for it goes on so
+abbrev pub TakesEntry : Known → (endings : List (String Global)) → (name : List ℕ) → (before after : Ignores) → (left found new_left new_found : List (String Global)) → Type 0
+TakesEntry known endings name before after left found new_left new_found =
+    IsBacked known before after (λ excluded. Leads known endings excluded (name ∷ left_of left) found new_left new_found)
+
+-- the folder was opened and its rules were read, or it is left alone
+abbrev pub EntersFolder : Known → (folder : List ℕ) → (before after : Ignores) → (left found new_left new_found : List (String Global)) → Type 0
+EntersFolder known folder before after left found new_left new_found = IsBacked known before after (λ _. TakesFolder known after folder left found new_left new_found)

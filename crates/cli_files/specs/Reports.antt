@@ -1,6 +1,6 @@
 -- The lines on standard error, and the statuses.
 -- A promise rests on this.
-use Rattle.std.specs.Prelude.{ℕ, List, [], ◌∷◌, ◌++◌, string_bytes}
+use Rattle.std.specs.Prelude.{◌≡◌, ◌≤◌, ℕ, List, [], ◌∷◌, ◌++◌, string_bytes}
 use lib.Chars.{codes}
 use Rattle.json5_grammar.specs.Language.Characters.{line_feed}
 use Rattle.json5_types.specs.declared.error.Error.{Error}
@@ -33,6 +33,10 @@ status_of (failure.Text e) = 1
 status_of failure.NoMemory = 2
 status_of failure.Read = 2
 status_of failure.Write = 2
+
+-- a program ends with a status of at most so much, and with 2 where it is asked for nothing
+abbrev pub EndsWithin : (most : ℕ) → (asked_nothing : Type 0) → (status : ℕ) → Type 0
+EndsWithin most asked_nothing status = (status ≤ most) × (asked_nothing → status ≡ 2)
 
 -- why the system refuses a file, behind what can't be done
 abbrev pub reason_words : Reason → List ℕ

@@ -1,9 +1,9 @@
 //! The files below a folder.
 
-ghost use Rattle.std.specs.Prelude.{◌≡◌, ◌∷◌, IfOk, OnOk};
+ghost use Rattle.std.specs.Prelude.{IfOk, OnOk};
 ghost use Rattle.cli_files.specs.Folders.{StandsFor};
 ghost use Rattle.cli_files.specs.NameLists.{names_of};
-ghost use Rattle.cli_files.specs.FolderSteps.{Gathers, IsBacked, Leads, OpensFolder, TakesFile, TakesFolder, left_of};
+ghost use Rattle.cli_files.specs.FolderSteps.{EntersFolder, GathersBelow, OpensFolder, TakesEntry, TakesFile};
 
 use crate::endings::{is_passed_over, is_sought};
 use crate::ignores::Ignores;
@@ -52,8 +52,7 @@ fn gather_below<S: Store>(
     ignores: &mut Ignores,
     found: &mut Vec<String>,
 ) -> Result<(), AllocError>
-    ensures { OnOk result (IsBacked (S.known store.now) ignores.old ignores.new
-        (λ excluded. Gathers (S.known store.now) endings.now excluded folder.now found.old.items found.new.items)) }
+    ensures { OnOk result (GathersBelow (S.known store.now) endings.now folder.now ignores.old ignores.new found.old.items found.new.items) }
 {
     let mut left = Vec::new(alloc);
     push_entries(store, alloc, folder, &mut left, found)?;
@@ -85,8 +84,8 @@ fn take_entry<S: Store>(
     left: &mut Vec<String>,
     found: &mut Vec<String>,
 ) -> Result<(), AllocError>
-    ensures { OnOk result (IsBacked (S.known store.now) ignores.old ignores.new
-        (λ excluded. Leads (S.known store.now) endings.now excluded (name.now ∷ left_of left.old.items) found.old.items left.new.items found.new.items)) }
+    ensures { OnOk result (TakesEntry (S.known store.now) endings.now name.now ignores.old ignores.new left.old.items found.old.items
+        left.new.items found.new.items) }
 {
     match store.entry(name) {
         Entry::Folder if !is_passed_over(name) => take_folder(
@@ -122,13 +121,14 @@ fn take_folder<S: Store>(
     left: &mut Vec<String>,
     found: &mut Vec<String>,
 ) -> Result<(), AllocError>
-    ensures { OnOk result (IsBacked (S.known store.now) ignores.old ignores.new
-        (λ _. TakesFolder (S.known store.now) ignores.new name.now left.old.items found.old.items left.new.items found.new.items)) }
+    ensures { OnOk result (EntersFolder (S.known store.now) name.now ignores.old ignores.new left.old.items found.old.items
+        left.new.items found.new.items) }
 {
     if ignores.leaves(alloc, name, true)? {
         return Ok(());
     }
-    ignores.enter(store, alloc, name)?;
+    let path = ignores.folder_path(alloc, name)?;
+    ignores.enter(store, alloc, path.as_str())?;
     push_entries(store, alloc, name, left, found)
 }
 

@@ -62,35 +62,39 @@ impl Ignores {
     ) -> Result<Ignores, AllocError>
         ensures { IfOk result (Backs (S.known store.now) excluded.now) }
     {
-        let words = rules_of_words(alloc, excluded)?;
-        let mut ignores = Ignores {
-            has_rules: is_given(excluded),
-            root: path_of(store, alloc, folder)?,
-            named: folder.len(),
-            working: path_of(store, alloc, ".")?,
-            words,
-            levels: Vec::new(alloc),
-        };
-        ignores.enter_root(store, alloc)?;
+        let root = path_of(store, alloc, folder)?;
+        let mut ignores = Ignores::of_words(store, alloc, excluded, root.as_str(), folder.len())?;
+        for (at, byte) in root.as_str().bytes().enumerate() {
+            if byte == b'/' {
+                let above = root.as_str().get(..=at).unwrap_or("/");
+                ignores.enter(store, alloc, above)?;
+            }
+        }
         Ok(ignores)
     }
 
-    /// Enters the folder, and those above it before.
-    fn enter_root<S: Store>(&mut self, store: &S, alloc: Global) -> Result<(), AllocError>
-        ensures { OnOk result (FindsRules (S.known store.now) self.old self.new) }
+    /// What the words alone leave alone below the folder with this path, whose name is so long.
+    fn of_words<S: Store>(
+        store: &S,
+        alloc: Global,
+        excluded: &[String],
+        root: &str,
+        named: usize,
+    ) -> Result<Ignores, AllocError>
+        ensures { IfOk result (λ ignores. ignores.has_rules ≡ true → excluded.now ≢ []) }
     {
-        let root = String::from_str(alloc, self.root.as_str())?;
-        for (at, byte) in root.as_str().bytes().enumerate() {
-            if byte == b'/' {
-                let folder = root.as_str().get(..=at).unwrap_or("/");
-                self.push_level(store, alloc, folder)?;
-            }
-        }
-        Ok(())
+        Ok(Ignores {
+            has_rules: !excluded.is_empty(),
+            root: String::from_str(alloc, root)?,
+            named,
+            working: path_of(store, alloc, ".")?,
+            words: rules_of_words(alloc, excluded)?,
+            levels: Vec::new(alloc),
+        })
     }
 
-    /// Reads the files of the folder with this name, which is below the one that was named first: what they say counts from now on, and
-    /// what those of folders say that it isn't below doesn't.
+    /// Reads the files of the folder with this path, which has a slash behind it: what they say counts from now on, and what those
+    /// of folders say that it isn't below doesn't.
     ///
     /// # Errors
     ///
@@ -99,15 +103,23 @@ impl Ignores {
         &mut self,
         store: &S,
         alloc: Global,
-        name: &str,
+        path: &str,
     ) -> Result<(), AllocError>
         ensures { OnOk result (FindsRules (S.known store.now) self.old self.new) }
     {
-        let mut path = self.path_below(alloc, name)?;
-        path.push('/')?;
-        let above = self.count_above(path.as_str());
+        let above = self.count_above(path);
         self.levels.truncate(above);
-        self.push_level(store, alloc, path.as_str())
+        let is_checkout = begins_checkout(store, alloc, path)?;
+        let by_git = is_checkout || self.is_in_checkout();
+        let ignored = self.read_rules(store, alloc, path, ".ignore", true)?;
+        let ignored_by_git = self.read_rules(store, alloc, path, ".gitignore", by_git)?;
+        self.levels.push(Level {
+            folder: String::from_str(alloc, path)?,
+            ignored,
+            ignored_by_git,
+            is_checkout,
+        })?;
+        Ok(())
     }
 
     /// How many of the folders the path is below.
@@ -118,59 +130,24 @@ impl Ignores {
             .count()
     }
 
-    /// Reads the files of the folder with this path.
-    fn push_level<S: Store>(
-        &mut self,
-        store: &S,
-        alloc: Global,
-        folder: &str,
-    ) -> Result<(), AllocError>
-        ensures { OnOk result (FindsRules (S.known store.now) self.old self.new) }
-    {
-        let git = path_in(alloc, folder, ".git")?;
-        let is_checkout = matches!(store.entry(git.as_str()), Entry::Folder | Entry::File);
-        let ignored = self.read_rules(store, alloc, folder, ".ignore")?;
-        let ignored_by_git = self.read_git_rules(store, alloc, folder, is_checkout)?;
-        self.levels.push(Level {
-            folder: String::from_str(alloc, folder)?,
-            ignored,
-            ignored_by_git,
-            is_checkout,
-        })?;
-        Ok(())
-    }
-
     fn is_in_checkout(&self) -> bool {
         self.levels.iter().any(|level| level.is_checkout)
     }
 
-    /// Reads the folder's `.gitignore`, if it is in a checkout.
-    fn read_git_rules<S: Store>(
-        &mut self,
-        store: &S,
-        alloc: Global,
-        folder: &str,
-        is_checkout: bool,
-    ) -> Result<Vec<Rule>, AllocError>
-        ensures { OnOk result (FindsRules (S.known store.now) self.old self.new) }
-    {
-        if !is_checkout && !self.is_in_checkout() {
-            return Ok(Vec::new(alloc));
-        }
-        let rules = self.read_rules(store, alloc, folder, ".gitignore")?;
-        Ok(rules)
-    }
-
-    /// Reads what this file of the folder says, if there is one.
+    /// Reads what this file of the folder says, if it counts and there is one.
     fn read_rules<S: Store>(
         &mut self,
         store: &S,
         alloc: Global,
         folder: &str,
         file: &str,
+        counts: bool,
     ) -> Result<Vec<Rule>, AllocError>
         ensures { OnOk result (IsIgnoreName file.now → FindsRules (S.known store.now) self.old self.new) }
     {
+        if !counts {
+            return Ok(Vec::new(alloc));
+        }
         let path = path_in(alloc, folder, file)?;
         let Ok(mut found) = store.open(path.as_str()) else {
             return Ok(Vec::new(alloc));
@@ -238,6 +215,13 @@ impl Ignores {
         Ok(false)
     }
 
+    /// The path of the folder with this name, with a slash behind it.
+    pub fn folder_path(&self, alloc: Global, name: &str) -> Result<String, AllocError> {
+        let mut path = self.path_below(alloc, name)?;
+        path.push('/')?;
+        Ok(path)
+    }
+
     /// The path of what has this name.
     fn path_below(&self, alloc: Global, name: &str) -> Result<String, AllocError> {
         let below = name.get(self.named..).unwrap_or(name);
@@ -245,11 +229,10 @@ impl Ignores {
     }
 }
 
-/// Whether there is a word.
-fn is_given(words: &[String]) -> bool
-    ensures { result ≡ true → words.now ≢ [] }
-{
-    !words.is_empty()
+/// Whether a checkout of git begins in the folder with this path, which has a slash behind it.
+fn begins_checkout<S: Store>(store: &S, alloc: Global, folder: &str) -> Result<bool, AllocError> {
+    let git = path_in(alloc, folder, ".git")?;
+    Ok(matches!(store.entry(git.as_str()), Entry::Folder | Entry::File))
 }
 
 /// The rules of these words, each as that of a line.

@@ -1,10 +1,11 @@
--- The exit status is at most 2.
-use Rattle.std.proofs.Common.{ℕ, ◌≤◌, max, List, Option, arith}
+-- The exit status is at most 2, and 2 where the words ask for nothing.
+use Rattle.std.proofs.Common.{ℕ, ◌≡◌, ◌≤◌, max, List, Option, arith, refl}
 use Rattle.std.specs.declared.alloc.Global.{Global}
 use Rattle.std.specs.Prelude.{String}
 use Rattle.cli_fmt.specs.declared.work.Work.{Work}
 use Rattle.cli_fmt.specs.ProgramRuns.{AnswersStream, formats, fails, Answers, of_stream, of_files, says_usage}
 use Rattle.cli_files.specs.Stores.{Opening}
+use Rattle.cli_fmt.specs.CommandWords.{IsRequest}
 use Rattle.cli_fmt.specs.Files.{GoesThrough, none, good, bad, WorksThrough, through, stopped}
 use Rattle.cli_files.specs.Reports.{status_of}
 use Rattle.cli_files.proofs.Statuses.{failure_low}
@@ -31,3 +32,10 @@ pub answers_low : {opens : List ℕ → Opening} {input output errors written sa
 answers_low (of_stream k) = stream_low k
 answers_low (of_files w word name names is k) = works_low k
 answers_low (says_usage other a) = omega arith
+
+-- ---- it is 2
+
+pub answers_two : {opens : List ℕ → Opening} {input output errors written said : Option (List ℕ)} {list : List (String Global)} {n : ℕ} → Answers opens input output errors list written said n → ¬ (IsRequest list) → n ≡ 2
+answers_two (of_stream k) unasked = absurd (unasked tt)
+answers_two (of_files w word name names is k) unasked = absurd (unasked (w, is))
+answers_two (says_usage other a) unasked = refl

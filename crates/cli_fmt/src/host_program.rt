@@ -1,6 +1,6 @@
 //! The program over the system that it runs on.
 
-ghost use Rattle.std.specs.Prelude.{◌≡◌, ◌≤◌};
+ghost use Rattle.cli_files.specs.Reports.{EndsWithin};
 ghost use Rattle.cli_fmt.specs.CommandWords.{IsRequest};
 
 use crate::lines::usage;
@@ -17,7 +17,10 @@ const PIECE: usize = 64 * 1024;
 pub fn program(rt: &HostRuntime) -> ExitCode {
     let status = match given_words(rt) {
         Ok(list) => words(rt, rt.alloc(), list.as_slice()),
-        Err(_) => usage(&mut rt.stderr()),
+        Err(_) => {
+            usage(&mut rt.stderr());
+            2
+        }
     };
     ExitCode::from(status)
 }
@@ -25,8 +28,7 @@ pub fn program(rt: &HostRuntime) -> ExitCode {
 /// Does what the words ask for, on the files that they name or, where there are none, on standard input. Returns the status
 /// that the program ends with. Where there is no memory for a buffer it writes without one.
 pub fn words(rt: &HostRuntime, alloc: Global, list: &[String]) -> u8
-    ensures status { result ≤ 2 }
-    ensures usage { ¬ (IsRequest list.now) → result ≡ 2 }
+    ensures { EndsWithin 2 (¬ (IsRequest list.now)) result }
 {
     let (mut input, mut errors) = (rt.stdin(), rt.stderr());
     match BufWriter::with_capacity(alloc, PIECE, rt.stdout()) {

@@ -27,7 +27,10 @@ pub fn answer<D: Disk, R: Read, W: Write, E: Write>(
     };
     match Work::named(word.as_str()) {
         Some(work) if !names.is_empty() => work_through(disk, alloc, work, names, w, e),
-        _ => usage(e),
+        _ => {
+            usage(e);
+            2
+        }
     }
 }
 

@@ -7,7 +7,7 @@ use std::alloc::Global;
 use std::io::{self, ErrorKind, Read, Write};
 use std::test::Fail;
 
-/// The line of each cause and of the usage, and then the status that it ends with, on its own line.
+/// The line of each cause, and then the status that it ends with, on its own line; and the line of the usage.
 fn lines(alloc: Global) -> Result<String, Fail> {
     let place = Position { line: 0, column: 3 };
     let failures = [
@@ -23,8 +23,7 @@ fn lines(alloc: Global) -> Result<String, Fail> {
         let status = report("a.json5", failure, &mut lines);
         writeln!(lines, "{status}")?;
     }
-    let status = usage(&mut lines);
-    writeln!(lines, "{status}")?;
+    usage(&mut lines);
     Ok(String::from_utf8(lines)?)
 }
 
@@ -44,8 +43,7 @@ fn each_cause_has_its_line_and_status(rt: HostRuntime) -> Result<(), Fail> {
         2\n\
         output: cannot be written\n\
         2\n\
-        usage: json5_fmt [check FILE... or print FILE...]\n\
-        2\n"
+        usage: json5_fmt [check FILE... or print FILE...]\n"
     );
     Ok(())
 }

@@ -11,7 +11,7 @@ use Rattle.cli_tidy.specs.declared.trouble.FileTrouble.{FileTrouble}
 use Rattle.cli_tidy.specs.declared.trouble.FileTrouble.TheVariants as trouble
 use Rattle.cli_tidy.specs.Files.{WorksOnFile, GoesThrough, tidy, untidy, bad, WorksThrough, through, stopped}
 use Rattle.cli_files.specs.Stores.{Known}
-use Rattle.cli_tidy.specs.Troubles.{trouble_line, trouble_status}
+use Rattle.cli_tidy.specs.Troubles.{trouble_line, file_trouble_status}
 
 -- the files so far, and this one
 pub one_more : (names : List (String Global)) (i : ℕ) (name : String Global) → i < length names → name ≡ get_or names i name → take (i + 1) names ≡ take i names ++ name ∷ []
@@ -30,13 +30,13 @@ module _ (known : Known) (request : FileRequest) (output errors before after sai
   more_untidy k = subst (λ l. GoesThrough known request output errors l after said (max status 1)) (sym (one_more names i name h is)) (untidy name g k)
 
   pub more_bad : (more : Option (List ℕ)) (e : FileTrouble) → WorksOnFile known request (string_bytes name) before after (Err e) → e ≢ trouble.Failed failure.Write → AppendsFront said more (trouble_line (string_bytes name) e)
-      → GoesThrough known request output errors (take (i + 1) names) after more (max status (trouble_status e))
-  more_bad more e k other a = subst (λ l. GoesThrough known request output errors l after more (max status (trouble_status e))) (sym (one_more names i name h is)) (bad name e g k other a)
+      → GoesThrough known request output errors (take (i + 1) names) after more (max status (file_trouble_status e))
+  more_bad more e k other a = subst (λ l. GoesThrough known request output errors l after more (max status (file_trouble_status e))) (sym (one_more names i name h is)) (bad name e g k other a)
 
   pub stops : (more : Option (List ℕ)) (e : FileTrouble) → WorksOnFile known request (string_bytes name) before after (Err e) → e ≡ trouble.Failed failure.Write → AppendsFront said more (trouble_line (string_bytes name) e)
-      → WorksThrough known request output errors names after more (max status (trouble_status e)) false
+      → WorksThrough known request output errors names after more (max status (file_trouble_status e)) false
   stops more e k write a =
-      subst (λ n. WorksThrough known request output errors names after more n false) (ap (λ x. max status (trouble_status x)) (sym write))
+      subst (λ n. WorksThrough known request output errors names after more n false) (ap (λ x. max status (file_trouble_status x)) (sym write))
       (stopped name (drop (i + 1) names) (split_at names i name h is) g (subst (λ x. WorksOnFile known request (string_bytes name) before after (Err x)) write k) (subst (λ x. AppendsFront said more (trouble_line (string_bytes name) x)) write a))
 
 pub ends : (known : Known) (request : FileRequest) (output errors after said : Option (List ℕ)) (names : List (String Global)) (i status : ℕ) → length names ≤ i

@@ -2,22 +2,18 @@
 use Rattle.std.proofs.Common.{◌≡◌, ◌∙◌, ℕ, List, Option, Some, None, subst}
 use Rattle.std.specs.declared.alloc.Global.{Global}
 use Rattle.std.specs.Prelude.{IfErr, IfOk, IfSome, MatchResult, Ok, Err, Result, String, string_bytes}
-use Rattle.std.specs.Str.{IsUtf8}
-use Rattle.json5_tokens.specs.Cursor.{IsOutOfMemory}
 use Rattle.json5_types.specs.declared.error.Error.{Error}
 use Rattle.json5_types.specs.Errors.{LacksMemory}
 use Rattle.json5_report.specs.declared.report.Report.{Report}
-use Rattle.json5_report.specs.Reports.{IsReportOf, IsReportOfWrong, report_text}
+use Rattle.json5_report.specs.Reports.{report_text}
 use Rattle.cli_files.specs.declared.failure.Failure.{Failure}
 use Rattle.cli_files.specs.declared.failure.Failure.TheVariants as failure
-use Rattle.cli_files.specs.Inputs.{RefusesInput}
-use Rattle.cli_files.specs.ShownNames.{shown_name}
 use Rattle.json5_tidy.specs.declared.style.LastCommas.{LastCommas}
 use Rattle.json5_tidy.specs.declared.style.Stars.{Stars}
 use Rattle.cli_tidy.specs.declared.tidied.Tidied.{Tidied}
 use Rattle.cli_tidy.specs.declared.trouble.FileTrouble.{FileTrouble}
 use Rattle.cli_tidy.specs.declared.trouble.FileTrouble.TheVariants as trouble
-use Rattle.cli_tidy.specs.Refusals.{IsCauseOf, IsFaultOf, IsTroubleOf, ShowsReport, refused, reported, wrong}
+use Rattle.cli_tidy.specs.Refusals.{IsCauseOf, IsFaultOf, IsTroubleOf, ShowsReport}
 use Rattle.cli_tidy.specs.Tidies.{HoldsText, HoldsTidied}
 
 -- what such a report prints shows it
@@ -25,17 +21,6 @@ pub printed_report : (Those : Report → Type 0) (report : Report) (r : Result (
     → MatchResult r (λ s. ShowsReport Those (string_bytes s)) LacksMemory
 printed_report Those report (Ok s) those e = (report, those, e)
 printed_report Those report (Err memory) those k = k
-
-module _ (name bytes : List ℕ) where
-  pub wrong_trouble : (shown : Result (String Global) Error) → ¬ (IsUtf8 bytes) → MatchResult shown (λ s. ShowsReport (IsReportOfWrong (shown_name name) bytes) (string_bytes s)) LacksMemory
-      → IsFaultOf name bytes (reported failure.NotUtf8 shown)
-  wrong_trouble (Ok s) none k = wrong k
-  wrong_trouble (Err memory) none k = (none, k)
-
-  pub text_trouble : (e : Error) (shown : Result (String Global) Error) → ¬ (IsOutOfMemory e) → RefusesInput e bytes → MatchResult shown (λ s. ShowsReport (IsReportOf (shown_name name) bytes e) (string_bytes s)) LacksMemory
-      → IsFaultOf name bytes (reported (failure.Text e) shown)
-  text_trouble e (Ok s) other refuses k = refused e other refuses k
-  text_trouble e (Err memory) other refuses k = ((other, refuses), k)
 
 -- of an unknown text no more is said of the cause
 unknown_cause : (text : List ℕ) (s : Failure) → IsCauseOf (Some text) s → IsCauseOf None s

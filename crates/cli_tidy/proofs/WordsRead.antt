@@ -1,5 +1,6 @@
 -- The words of the command line, one part after the other.
-use Rattle.std.proofs.Common.{◌≡◌, ◌≢◌, ◌↔◌, ℕ, List, [], ◌∷◌, refl, sym, ap, ◌∙◌, subst, append-nil}
+use Rattle.std.proofs.Common.{◌≡◌, ◌≢◌, ◌≤◌, ◌↔◌, ℕ, List, [], ◌∷◌, length, refl, sym, ap, ◌∙◌, subst, append-nil, arith}
+use Rattle.std.proofs.lemmas.List.{length-map}
 use Rattle.std.specs.declared.alloc.Global.{Global}
 use Rattle.std.specs.Prelude.{String, string_bytes, Result, Ok, Err, IfOk, IfErr}
 use Rattle.std.specs.Borrow.{Bor}
@@ -78,6 +79,15 @@ pub pair_starts : (word : List ℕ) (rest : List (String Global)) (old new : Wor
     → IfOk r (λ left. Gains (λ p. IsPair word (names_of rest) p (names_of left.now)) old new) → IfOk r (λ left. Gains (λ p. Starts (word ∷ names_of rest) p (names_of left.now)) old new)
 pair_starts word rest old new (Ok left) (p, (s, value, w, r, sets), e) = (p, apart s value (cc) sets, e)
 pair_starts word rest old new (Err fault) k = tt
+
+-- fewer words are left
+pub pair_shorter : (word : List ℕ) (rest : List (String Global)) (old new : Words) (r : Result (Bor (List (String Global))) Fault)
+    → IfOk r (λ left. Gains (λ p. IsPair word (names_of rest) p (names_of left.now)) old new) → IfOk r (λ left. length left.now ≤ length rest)
+pair_shorter word rest old new (Ok left) (p, (s, value, w, r, sets), e) =
+    let n : length rest ≡ length (value ∷ names_of left.now) = sym (length-map rest string_bytes) ∙ ap length r in
+    let m = length-map left.now string_bytes in
+    omega (arith, n, m)
+pair_shorter word rest old new (Err fault) k = tt
 
 pub pair_refused : (word : List ℕ) (rest : List (List ℕ)) (r : Result (Bor (List (String Global))) Fault) → IsDashed word → ((f : Flag) → ¬ (IsFlag word f))
     → ((s : Setting) (value : List ℕ) → ¬ (IsJoined word s value)) → IfErr r (Refuses (BeginsPair word rest)) → IfErr r (Refuses (IsStart (word ∷ rest)))

@@ -16,7 +16,7 @@ use Rattle.cli_tidy.specs.Names.{WorksThroughNames}
 use Rattle.cli_files.specs.Says.{SaysText}
 use Rattle.cli_files.specs.Stores.{Known}
 use Rattle.cli_tidy.specs.Tidies.{TidyTrouble, WritesTidied}
-use Rattle.cli_tidy.specs.Troubles.{SaysUsage, memory_line, trouble_line, trouble_status}
+use Rattle.cli_tidy.specs.Troubles.{SaysUsage, memory_line, trouble_line, file_trouble_status}
 
 -- what was read, what output and errors held before and after, and the status
 pub data AnswersStream (options : Options) (input output written errors : Option (List ℕ)) : Option (List ℕ) → ℕ → Type 0 where
@@ -24,7 +24,7 @@ pub data AnswersStream (options : Options) (input output written errors : Option
   tidies : IfSome input (WritesTidied options.style.stars options.style.last_commas (input_name options) output written) → AnswersStream options input output written errors errors 0
   -- it said why it stopped
   fails : {said : Option (List ℕ)} (e : FileTrouble) → TidyTrouble options.style.stars options.style.last_commas (input_name options) input output written e
-      → AppendsFront errors said (trouble_line (input_name options) e) → AnswersStream options input output written errors said (trouble_status e)
+      → AppendsFront errors said (trouble_line (input_name options) e) → AnswersStream options input output written errors said (file_trouble_status e)
 
 abbrev pub version_text : List ℕ
 version_text = codes "json5_tidy " ++ (VERSION.now ++ line_feed ∷ [])
@@ -37,11 +37,11 @@ AnswersRequest known (requests.Stream options) input output errors written said 
 AnswersRequest known (requests.Files f) input output errors written said status = WorksThroughNames known f output errors written said status
 
 -- the words, what was read, what output and errors held before and after, and the status
-pub data Answers (known : Known) (list : List (String Global)) (input output errors : Option (List ℕ)) : Option (List ℕ) → Option (List ℕ) → ℕ → Type 0 where
+pub data TidyAnswers (known : Known) (list : List (String Global)) (input output errors : Option (List ℕ)) : Option (List ℕ) → Option (List ℕ) → ℕ → Type 0 where
   -- it did what they ask for
   answers : {written said : Option (List ℕ)} {status : ℕ} (request : TidyRequest) → Asks list request
-      → AnswersRequest known request input output errors written said status → Answers known list input output errors written said status
+      → AnswersRequest known request input output errors written said status → TidyAnswers known list input output errors written said status
   -- they ask for nothing, and it said how it is called
-  says_usage : {said : Option (List ℕ)} → AsksNothing list → SaysUsage errors said → Answers known list input output errors output said 2
+  says_usage : {said : Option (List ℕ)} → AsksNothing list → SaysUsage errors said → TidyAnswers known list input output errors output said 2
   -- memory ran out before any work began
-  no_memory : {said : Option (List ℕ)} → AppendsFront errors said memory_line → Answers known list input output errors output said 2
+  no_memory : {said : Option (List ℕ)} → AppendsFront errors said memory_line → TidyAnswers known list input output errors output said 2

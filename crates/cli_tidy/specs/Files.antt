@@ -22,7 +22,7 @@ use Rattle.cli_tidy.specs.declared.work.FileWork.TheVariants as work
 use Rattle.cli_tidy.specs.Refusals.{IsTroubleOf}
 use Rattle.cli_files.specs.Stores.{Known, Replacing}
 use Rattle.cli_tidy.specs.Tidies.{Tidies}
-use Rattle.cli_tidy.specs.Troubles.{trouble_line, trouble_status}
+use Rattle.cli_tidy.specs.Troubles.{trouble_line, file_trouble_status}
 
 abbrev pub name_line : List ℕ → List ℕ
 name_line name = shown_name name ++ codes "\n"
@@ -96,7 +96,7 @@ pub data GoesThrough (known : Known) (request : FileRequest) (output errors : Op
       → WorksOnFile known request (string_bytes name) before after (Ok outcome.Untidy) → GoesThrough known request output errors (names ++ name ∷ []) after said (max status 1)
   bad : {names : List (String Global)} {before after said more : Option (List ℕ)} {status : ℕ} (name : String Global) (e : FileTrouble) → GoesThrough known request output errors names before said status
       → WorksOnFile known request (string_bytes name) before after (Err e) → e ≢ trouble.Failed failure.Write → AppendsFront said more (trouble_line (string_bytes name) e)
-      → GoesThrough known request output errors (names ++ name ∷ []) after more (max status (trouble_status e))
+      → GoesThrough known request output errors (names ++ name ∷ []) after more (max status (file_trouble_status e))
 
 -- it goes through all files, or to a failed write; and whether it went through all
 pub data WorksThrough (known : Known) (request : FileRequest) (output errors : Option (List ℕ)) : List (String Global) → Option (List ℕ) → Option (List ℕ) → ℕ → Bool → Type 0 where

@@ -1,7 +1,7 @@
 -- What is shown of what was read and isn't tidied.
 -- A promise rests on this.
 use Rattle.std.specs.declared.alloc.Global.{Global}
-use Rattle.std.specs.Prelude.{◌≡◌, ℕ, List, Option, Some, IfSome, Result, Ok, Err, String, string_bytes}
+use Rattle.std.specs.Prelude.{◌≡◌, ℕ, List, Option, Some, None, IfSome, String, string_bytes}
 use Rattle.std.specs.Str.{IsUtf8}
 use Rattle.json5_types.specs.declared.error.Error.{Error}
 use Rattle.json5_types.specs.Errors.{LacksMemory}
@@ -18,6 +18,11 @@ use Rattle.cli_tidy.specs.declared.trouble.FileTrouble.TheVariants as trouble
 -- the text is that of one of these reports
 abbrev pub ShowsReport : (Report → Type 0) → List ℕ → Type 0
 ShowsReport Those shown = (report : Report) × Those report × (shown ≡ report_text report)
+
+-- a report of bytes with this name is shown, unless they are a text
+abbrev pub ShowsBytes : (name bytes : List ℕ) → Option (String Global) → Type 0
+ShowsBytes name bytes None = IsUtf8 bytes
+ShowsBytes name bytes (Some shown) = ShowsReport (IsReportOfWrong (shown_name name) bytes) (string_bytes shown)
 
 -- why bytes with this name are no document is shown, with the name as it is shown: a report of the first that is in no character, or of the text's fault
 pub data ShowsFault (name bytes shown : List ℕ) : Type 0 where
@@ -42,8 +47,3 @@ abbrev pub IsFaultOf : (name bytes : List ℕ) → FileTrouble → Type 0
 IsFaultOf name bytes (trouble.Failed failure.NoMemory) = IsUtf8 bytes
 IsFaultOf name bytes (trouble.Failed s) = ⊥
 IsFaultOf name bytes e = IsTroubleOf name (Some bytes) e
-
--- the trouble of a cause, of which this is shown if there is memory for it
-abbrev pub reported : Failure → Result (String Global) Error → FileTrouble
-reported s (Ok shown) = trouble.Refused shown
-reported s (Err memory) = trouble.Unreported s memory

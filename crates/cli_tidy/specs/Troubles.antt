@@ -17,13 +17,13 @@ trouble_line name (trouble.Unopened why) = named_report name (codes "cannot be r
 trouble_line name (trouble.Unwritten u) = unwritten_line name u
 trouble_line name trouble.NoFile = named_report name (codes "no file to tidy is in it")
 
-abbrev pub trouble_status : FileTrouble → ℕ
-trouble_status (trouble.Failed failure) = status_of failure
-trouble_status (trouble.Refused shown) = 1
-trouble_status (trouble.Unreported failure memory) = status_of failure
-trouble_status (trouble.Unopened why) = 2
-trouble_status (trouble.Unwritten u) = 2
-trouble_status trouble.NoFile = 2
+abbrev pub file_trouble_status : FileTrouble → ℕ
+file_trouble_status (trouble.Failed failure) = status_of failure
+file_trouble_status (trouble.Refused shown) = 1
+file_trouble_status (trouble.Unreported failure memory) = status_of failure
+file_trouble_status (trouble.Unopened why) = 2
+file_trouble_status (trouble.Unwritten u) = 2
+file_trouble_status trouble.NoFile = 2
 
 -- how the program is called
 abbrev pub usage_line : List ℕ

@@ -1,6 +1,6 @@
 //! The program over its words and its three streams.
 
-ghost use Rattle.cli_tidy.specs.Answers.{Answers, AnswersRequest, AnswersStream};
+ghost use Rattle.cli_tidy.specs.Answers.{TidyAnswers, AnswersRequest, AnswersStream};
 
 use crate::configs::Configs;
 use crate::files::work_through;
@@ -28,12 +28,18 @@ pub fn answer<S: Store, R: Read, W: Write, E: Write>(
     w: &mut W,
     e: &mut E,
 ) -> u8
-    ensures { Answers (S.known store.now) list.now (R.remaining r.old) (W.contents w.old) (E.contents e.old) (W.contents w.new) (E.contents e.new) result }
+    ensures { TidyAnswers (S.known store.now) list.now (R.remaining r.old) (W.contents w.old) (E.contents e.old) (W.contents w.new) (E.contents e.new) result }
 {
     match TidyRequest::of(alloc, list) {
         Ok(request) => answer_request(store, alloc, &request, r, w, e),
-        Err(Fault::Unknown) => usage(alloc, list, e),
-        Err(Fault::NoMemory) => no_memory(e),
+        Err(Fault::Unknown) => {
+            usage(alloc, list, e);
+            2
+        }
+        Err(Fault::NoMemory) => {
+            no_memory(e);
+            2
+        }
     }
 }
 

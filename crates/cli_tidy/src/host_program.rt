@@ -1,6 +1,6 @@
 //! The program over the system that it runs on.
 
-ghost use Rattle.std.specs.Prelude.{◌≡◌, ◌≤◌};
+ghost use Rattle.cli_files.specs.Reports.{EndsWithin};
 ghost use Rattle.cli_tidy.specs.CommandWords.{AsksNothing};
 
 use crate::answers::answer;
@@ -23,8 +23,14 @@ const PIECE: usize = 64 * 1024;
 pub fn program(rt: &HostRuntime) -> ExitCode {
     let status = match given_names(rt) {
         Ok(list) => words(rt, rt.alloc(), list.as_slice()),
-        Err(e) if e.kind() == ErrorKind::OutOfMemory => no_memory(&mut rt.stderr()),
-        Err(_) => usage(rt.alloc(), &[], &mut rt.stderr()),
+        Err(e) if e.kind() == ErrorKind::OutOfMemory => {
+            no_memory(&mut rt.stderr());
+            2
+        }
+        Err(_) => {
+            usage(rt.alloc(), &[], &mut rt.stderr());
+            2
+        }
     };
     ExitCode::from(status)
 }
@@ -36,8 +42,7 @@ pub fn program(rt: &HostRuntime) -> ExitCode {
 /// words(&rt, rt.alloc(), list.as_slice())    // list: `check` and `app.json5`
 /// ```
 pub fn words(rt: &HostRuntime, alloc: Global, list: &[String]) -> u8
-    ensures status { result ≤ 2 }
-    ensures usage { AsksNothing list.now → result ≡ 2 }
+    ensures { EndsWithin 2 (AsksNothing list.now) result }
 {
     let (mut input, mut errors) = (rt.stdin(), rt.stderr());
     match BufWriter::with_capacity(alloc, PIECE, rt.stdout()) {

@@ -2,11 +2,11 @@
 
 ghost use Rattle.std.specs.Prelude.{◌≡◌, MatchResult, string_bytes};
 ghost use Rattle.std.specs.Str.{IsUtf8};
-ghost use Rattle.json5_report.specs.Reports.{IsReportOf, IsReportOfWrong, report_text};
+ghost use Rattle.json5_report.specs.Reports.{IsReportOf, report_text};
 ghost use Rattle.json5_types.specs.Errors.{LacksMemory};
 ghost use Rattle.cli_files.specs.Inputs.{RefusesInput};
 ghost use Rattle.cli_files.specs.ShownNames.{shown_name};
-ghost use Rattle.cli_tidy.specs.Refusals.{IsFaultOf, ShowsReport, reported};
+ghost use Rattle.cli_tidy.specs.Refusals.{IsFaultOf, ShowsBytes, ShowsReport};
 
 use crate::trouble::FileTrouble;
 use cli_files::{Failure, shown};
@@ -19,7 +19,11 @@ pub(crate) fn wrong_bytes(alloc: Global, name: &str, bytes: &[u8]) -> FileTroubl
     requires { ¬ (IsUtf8 bytes.now) }
     ensures { IsFaultOf name.now bytes.now result }
 {
-    reported(Failure::NotUtf8, bytes_shown(alloc, name, bytes))
+    match bytes_shown(alloc, name, bytes) {
+        Ok(Some(shown)) => FileTrouble::Refused(shown),
+        Ok(None) => unreachable!(),
+        Err(memory) => FileTrouble::Unreported(Failure::NotUtf8, memory),
+    }
 }
 
 /// The trouble with a text that is refused so: it is no document, or memory ran out.
@@ -28,33 +32,25 @@ pub(crate) fn refused_text(alloc: Global, name: &str, text: &str, error: Error) 
     ensures { IsFaultOf name.now text.now result }
 {
     match Failure::at(error) {
-        Failure::Text(error) => {
-            let shown = text_shown(alloc, name, text, &error);
-            reported(Failure::Text(error), shown)
-        }
+        Failure::Text(error) => match text_shown(alloc, name, text, &error) {
+            Ok(shown) => FileTrouble::Refused(shown),
+            Err(memory) => FileTrouble::Unreported(Failure::Text(error), memory),
+        },
         _ => FileTrouble::Failed(Failure::NoMemory),
     }
 }
 
-/// The trouble of which this is shown, or which only this cause is told of where there is no memory.
-fn reported(failure: Failure, shown: Result<String>) -> FileTrouble
-    ensures { result ≡ reported failure shown }
-{
-    match shown {
-        Ok(shown) => FileTrouble::Refused(shown),
-        Err(memory) => FileTrouble::Unreported(failure, memory),
-    }
-}
-
-/// The report of bytes that are no text.
-fn bytes_shown(alloc: Global, name: &str, bytes: &[u8]) -> Result<String>
-    requires { ¬ (IsUtf8 bytes.now) }
-    ensures { MatchResult result (λ shown. ShowsReport (IsReportOfWrong (shown_name name.now) bytes.now) (string_bytes shown)) LacksMemory }
+/// The report of bytes; there is none of a text.
+fn bytes_shown(alloc: Global, name: &str, bytes: &[u8]) -> Result<Option<String>>
+    ensures { MatchResult result (ShowsBytes name.now bytes.now) LacksMemory }
 {
     let name = shown(alloc, name)?;
     match Report::of_bytes(alloc, name.as_str(), bytes)? {
-        Some(report) => printed(alloc, &report),
-        None => unreachable!(),
+        Some(report) => {
+            let text = printed(alloc, &report)?;
+            Ok(Some(text))
+        }
+        None => Ok(None),
     }
 }
 

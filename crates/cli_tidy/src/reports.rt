@@ -2,7 +2,7 @@
 
 ghost use Rattle.std.specs.Prelude.{◌≡◌};
 ghost use Rattle.json5_write.specs.Pieces.{AppendsFront};
-ghost use Rattle.cli_tidy.specs.Troubles.{SaysUsage, memory_line, trouble_line, trouble_status};
+ghost use Rattle.cli_tidy.specs.Troubles.{SaysUsage, memory_line, trouble_line, file_trouble_status};
 
 use crate::hints::hint;
 use crate::trouble::FileTrouble;
@@ -49,10 +49,9 @@ a file isn't tidy; 2 if a file can't be read or written, memory runs out, or the
 words are wrong.
 ";
 
-/// Writes a hint to the wrong word of these, and how the program is called, as one line, and returns the status 2.
-pub(crate) fn usage<E: Write>(alloc: Global, list: &[String], e: &mut E) -> u8
-    ensures status { result ≡ 2 }
-    ensures line { SaysUsage (E.contents e.old) (E.contents e.new) }
+/// Writes a hint to the wrong word of these, and how the program is called, as one line.
+pub(crate) fn usage<E: Write>(alloc: Global, list: &[String], e: &mut E)
+    ensures { SaysUsage (E.contents e.old) (E.contents e.new) }
 {
     let hint = hint(alloc, list);
     say(
@@ -62,21 +61,18 @@ pub(crate) fn usage<E: Write>(alloc: Global, list: &[String], e: &mut E) -> u8
             "usage: json5_tidy [OPTION...] [check FILE... or diff FILE... or print FILE... or write FILE... or style FILE...]\n",
         ],
     );
-    2
 }
 
-/// Writes that memory ran out before any work began, and returns the status 2.
-pub(crate) fn no_memory<E: Write>(e: &mut E) -> u8
-    ensures status { result ≡ 2 }
-    ensures line { AppendsFront (E.contents e.old) (E.contents e.new) memory_line }
+/// Writes that memory ran out before any work began.
+pub(crate) fn no_memory<E: Write>(e: &mut E)
+    ensures { AppendsFront (E.contents e.old) (E.contents e.new) memory_line }
 {
     say_of(e, "json5_tidy", &[": out of memory\n"]);
-    2
 }
 
 /// Writes why the work on this file ended, as a report or as one line, and returns the status that the program ends with.
 pub(crate) fn report_trouble<E: Write>(name: &str, trouble: &FileTrouble, e: &mut E) -> u8
-    ensures status { result ≡ trouble_status trouble.now }
+    ensures status { result ≡ file_trouble_status trouble.now }
     ensures line { AppendsFront (E.contents e.old) (E.contents e.new) (trouble_line name.now trouble.now) }
 {
     match trouble {

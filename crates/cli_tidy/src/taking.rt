@@ -109,7 +109,6 @@ impl Words {
     ) -> Result<&'w [String], Fault>
         ensures taken { IfOk result (λ left. Gains (λ p. IsPair word.now (names_of rest.now) p (names_of left.now)) self.old self.new) }
         ensures refused { IfErr result (Refuses (BeginsPair word.now (names_of rest.now))) }
-        ensures shorter { IfOk result (λ left. length left.now ≤ length rest.now) }
     {
         let Some(setting) = Setting::named(word) else {
             return Err(Fault::Unknown);

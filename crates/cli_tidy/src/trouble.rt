@@ -3,7 +3,7 @@
 ghost use Rattle.std.specs.Prelude.{◌≡◌, ◌≢◌, true, false};
 ghost use Rattle.cli_files.specs.declared.failure.Failure.TheVariants as failures;
 ghost use Rattle.cli_tidy.specs.declared.trouble.FileTrouble.TheVariants as troubles;
-ghost use Rattle.cli_tidy.specs.Troubles.{trouble_status};
+ghost use Rattle.cli_tidy.specs.Troubles.{file_trouble_status};
 
 use cli_files::{Failure, Reason, Unwritten};
 use json5_types::error::Error;
@@ -29,7 +29,7 @@ pub enum FileTrouble {
 impl FileTrouble {
     /// Returns the status that the program ends with: 1 if the fault is one of the text, else 2.
     pub fn status(&self) -> u8
-        ensures { result ≡ trouble_status self.now }
+        ensures { result ≡ file_trouble_status self.now }
     {
         match self {
             FileTrouble::Failed(failure) => failure.status(),

@@ -22,4 +22,4 @@ returns-in_default-named g c =
       | in_default-named-via-in-Some-named+else-not-is_empty w ↦ no_files list names word split w.if-not-is_empty.ensures
       | in_default-named-via-in_default-named w ↦ no_work list names word c.as_str.result.now split c.as_str.ensures.value w.in_default-named.ensures
     ] in
-    rw c.usage.ensures.status (says_usage unasked c.usage.ensures.line)
+    says_usage unasked c.usage.ensures

@@ -5,7 +5,7 @@ pub returns-in-Ok : goal.returns-in-Ok
 returns-in-Ok g c = answers c.in-Ok.request c.in-Ok.ensures c.answer_request.ensures
 
 pub returns-in-Err-Unknown : goal.returns-in-Err-Unknown
-returns-in-Err-Unknown g c = rw c.usage.ensures.status (says_usage (c.in-Err-Unknown.ensures c.in-Err-Unknown.field-0-is) c.usage.ensures.line)
+returns-in-Err-Unknown g c = says_usage (c.in-Err-Unknown.ensures c.in-Err-Unknown.field-0-is) c.usage.ensures
 
 pub returns-in-Err-NoMemory : goal.returns-in-Err-NoMemory
-returns-in-Err-NoMemory g c = rw c.no_memory.ensures.status (no_memory c.no_memory.ensures.line)
+returns-in-Err-NoMemory g c = no_memory c.no_memory.ensures

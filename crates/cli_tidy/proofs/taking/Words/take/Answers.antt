@@ -2,7 +2,7 @@ use Rattle.std.proofs.Common.{◌∷◌, refl, ap, sym, true≢false}
 use Rattle.cli_tidy.specs.CommandWords.{name, flag, plain, alone, joined}
 use Rattle.cli_files.specs.NameLists.{names_of}
 use Rattle.cli_tidy.specs.WordSteps.{choices_of}
-use Rattle.cli_tidy.proofs.WordsRead.{pair_starts, pair_refused}
+use Rattle.cli_tidy.proofs.WordsRead.{pair_starts, pair_refused, pair_shorter}
 use Rattle.cli_tidy.proofs.taking.Words.take.Goals as goal
 
 pub returns-then-not-is_dashed-clause-taken : goal.returns-then-not-is_dashed-clause-taken
@@ -22,6 +22,9 @@ returns-in_ok-set-in-Some-joined-clause-taken c =
 
 pub returns-in-None-clause-taken : goal.returns-in-None-clause-taken
 returns-in-None-clause-taken c = pair_starts c.args.word.now c.args.rest.now c.args.self.now c.take_pair.new.self c.take_pair.result c.take_pair.ensures.taken
+
+pub returns-in-None-clause-shorter : goal.returns-in-None-clause-shorter
+returns-in-None-clause-shorter c = pair_shorter c.args.word.now c.args.rest.now c.args.self.now c.take_pair.new.self c.take_pair.result c.take_pair.ensures.taken
 
 pub returns-in-None-clause-refused : goal.returns-in-None-clause-refused
 returns-in-None-clause-refused c =

@@ -1,5 +1,0 @@
-use Rattle.std.proofs.Common.{inl, refl}
-use Rattle.cli_files.proofs.ignores.Ignores.push_level.Goals as goal
-
-pub returns : goal.returns
-returns g c = λ excluded before. c.in_ok-ignored_by_git.ensures excluded (c.in_ok-ignored.ensures (inl refl) excluded before)
