@@ -14,6 +14,7 @@ use json5::{
 use json5_settings::{
     Described, DescribedFields, Keywords, names_keywords, struct_keywords, struct_only_keywords,
 };
+use json5_settings_types::Within;
 use std::alloc::Global;
 use std::collections::{BTreeMap, HashMap};
 
@@ -114,36 +115,49 @@ impl<I: Input> Described<I> for Gate {
     }
 }
 
-/// `{ hosts: { a: 'low' }, racks: { b: [1, 2] } }`, and any other members.
+const LOWEST: i64 = -2;
+
+/// `{ hosts: { a: 'low' }, racks: { b: [1, 2] }, floor: -1 }`, and any other members.
 #[derive(Drop)]
 pub(crate) struct Site {
     pub(crate) hosts: HashMap<String, Level>,
     pub(crate) racks: Option<IndexMap<String, Vec<i8>>>,
+    pub(crate) floor: Option<Within<{ LOWEST }, 40>>,
 }
 
-type SiteParts = (Required, Optional);
+type SiteParts = (Required, Optional, Optional);
 
-type SiteValues = (HashMap<String, Level>, Option<IndexMap<String, Vec<i8>>>);
+type SiteValues = (
+    HashMap<String, Level>,
+    Option<IndexMap<String, Vec<i8>>>,
+    Option<Within<{ LOWEST }, 40>>,
+);
 
 impl<I: Input> Deserialize<I> for Site {
     ghost Content = { ⟦<SiteParts as StructFields<I, SiteValues>>⟧.Content };
 
-    ghost content = { λ s. ⟦<SiteParts as StructFields<I, SiteValues>>⟧.content (s.hosts, s.racks) };
+    ghost content = { λ s. ⟦<SiteParts as StructFields<I, SiteValues>>⟧.content (s.hosts, s.racks, s.floor) };
 
-    ghost convert = { struct_of (⟦<SiteParts as StructFields<I, SiteValues>>⟧.layout (codes "hosts", codes "racks")) };
+    ghost convert = { struct_of (⟦<SiteParts as StructFields<I, SiteValues>>⟧.layout (codes "hosts", (codes "racks", codes "floor"))) };
 
     fn deserialize(de: &mut Deserializer<I>) -> Result<Site> {
-        match read_struct(de, (Required("hosts"), Optional("racks"))) {
-            Ok((hosts, racks)) => Ok(Site { hosts, racks }),
+        let fields = (Required("hosts"), Optional("racks"), Optional("floor"));
+        match read_struct(de, fields) {
+            Ok((hosts, racks, floor)) => Ok(Site {
+                hosts,
+                racks,
+                floor,
+            }),
             Err(e) => Err(e),
         }
     }
 }
 
 impl<I: Input> Described<I> for Site {
-    ghost keywords = { open_struct_schema (codes "hosts" ∷ codes "racks" ∷ []) ⟦<SiteParts as DescribedFields<I, SiteValues>>⟧.kinds };
+    ghost keywords = { open_struct_schema (codes "hosts" ∷ codes "racks" ∷ codes "floor" ∷ []) ⟦<SiteParts as DescribedFields<I, SiteValues>>⟧.kinds };
 
     fn keywords(alloc: Global) -> Result<Keywords> {
-        struct_keywords::<I, SiteValues, SiteParts>(alloc, (Required("hosts"), Optional("racks")))
+        let fields = (Required("hosts"), Optional("racks"), Optional("floor"));
+        struct_keywords::<I, SiteValues, SiteParts>(alloc, fields)
     }
 }
