@@ -4,7 +4,7 @@ use crate::converted::{Converted, convert};
 use crate::formats::Format;
 use crate::options::Options;
 use crate::refusals::refused;
-use crate::reports::{HELP, no_memory, report_faults, report_trouble, usage};
+use crate::reports::{HELP, report_fault, report_faults, report_trouble};
 use crate::trouble::Trouble;
 use crate::whole_files::put_whole;
 use crate::words::{Fault, Request, Words};
@@ -34,8 +34,8 @@ pub fn program(rt: &HostRuntime) -> ExitCode {
             &mut rt.stdout(),
             &mut errors,
         ),
-        Err(e) if e.kind() == ErrorKind::OutOfMemory => no_memory(&mut errors),
-        Err(_) => usage(&mut errors),
+        Err(e) if e.kind() == ErrorKind::OutOfMemory => report_fault(Fault::NoMemory, &mut errors),
+        Err(_) => report_fault(Fault::Unknown, &mut errors),
     };
     ExitCode::from(status)
 }
@@ -68,8 +68,7 @@ where
             )
         }
         Ok(Request::Work(words)) => work_through(files, alloc, &words, w, e),
-        Err(Fault::Unknown) => usage(e),
-        Err(Fault::NoMemory) => no_memory(e),
+        Err(fault) => report_fault(fault, e),
     }
 }
 

@@ -3,6 +3,7 @@
 ghost use Rattle.std.specs.Prelude.{◌≡◌};
 
 use crate::trouble::Trouble;
+use crate::words::Fault;
 use cli_files::{Failure, report, report_unwritten, say, say_of};
 use json5_types::error::Error;
 use std::io::Write;
@@ -39,19 +40,15 @@ what is in it; 2 if a file can't be read or written, memory runs out, or the wor
 wrong.
 ";
 
-/// Writes how the program is called, as one line, and returns the status 2.
-pub(crate) fn usage<E: Write>(e: &mut E) -> u8
-    ensures status { result ≡ 2 }
+/// Writes how the program is called where the words are wrong, or that memory ran out before any work began, as one line, and
+/// returns the status 2.
+pub(crate) fn report_fault<E: Write>(fault: Fault, e: &mut E) -> u8
+    ensures { result ≡ 2 }
 {
-    say(e, &["usage: json5_convert [OPTION...] [FILE...]\n"]);
-    2
-}
-
-/// Writes that memory ran out before any work began, and returns the status 2.
-pub(crate) fn no_memory<E: Write>(e: &mut E) -> u8
-    ensures status { result ≡ 2 }
-{
-    say_of(e, "json5_convert", &[": out of memory\n"]);
+    match fault {
+        Fault::Unknown => say(e, &["usage: json5_convert [OPTION...] [FILE...]\n"]),
+        Fault::NoMemory => say_of(e, "json5_convert", &[": out of memory\n"]),
+    }
     2
 }
 

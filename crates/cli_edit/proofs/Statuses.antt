@@ -15,9 +15,9 @@ use Rattle.cli_edit.specs.declared.trouble.TextTrouble.{TextTrouble}
 use Rattle.cli_edit.specs.declared.trouble.TextTrouble.TheVariants as trouble
 use Rattle.cli_edit.specs.declared.requests.Task.{Task}
 use Rattle.cli_edit.specs.declared.requests.EditRequest.TheVariants as requests
-use Rattle.cli_edit.specs.Answers.{Answers, helps, tells_version, does, says_usage}
+use Rattle.cli_edit.specs.Answers.{EditAnswers, helps, tells_version, does, says_usage}
 use Rattle.cli_edit.specs.Requests.{AsksNothing}
-use Rattle.cli_edit.specs.Troubles.{edit_status, operation_status, read_status, trouble_status}
+use Rattle.cli_edit.specs.Troubles.{edit_status, operation_status, read_status, text_trouble_status}
 use Rattle.json5_edit.specs.declared.path_texts.parsed.Path.{Path}
 use Rattle.cli_edit.specs.Works.{Does, DoesAt, DoesWith, does_with, not_begun, reads, reads_none, worked, stopped, no_steps}
 
@@ -37,7 +37,7 @@ operation_small (patch.Edit e) = edit_small e
 operation_small patch.Differs = omega arith
 operation_small patch.IntoItself = omega arith
 
-trouble_small : (x : TextTrouble) → trouble_status x ≤ 3
+trouble_small : (x : TextTrouble) → text_trouble_status x ≤ 3
 trouble_small (trouble.Edit e) = edit_small e
 trouble_small (trouble.NoPatch f) = omega arith
 trouble_small (trouble.Operation x) = operation_small x.trouble
@@ -70,14 +70,14 @@ does_small : {known : Known} {t : Task} {input output errors written said : Opti
 does_small (does_with path given l g d) = with_small d
 does_small (not_begun k) = omega arith
 
-pub small : {known : Known} {words : List (String Global)} {input output errors written said : Option (List ℕ)} {status : ℕ} → Answers known words input output errors written said status → status ≤ 3
+pub small : {known : Known} {words : List (String Global)} {input output errors written said : Option (List ℕ)} {status : ℕ} → EditAnswers known words input output errors written said status → status ≤ 3
 small (helps a s) = wider (text_low s)
 small (tells_version a s) = wider (text_low s)
 small (does t a d) = does_small d
 small (says_usage n) = omega arith
 
 -- words that ask for nothing
-pub usage_status : {known : Known} {words : List (String Global)} {input output errors written said : Option (List ℕ)} {status : ℕ} → Answers known words input output errors written said status → AsksNothing (names_of words) → status ≡ 2
+pub usage_status : {known : Known} {words : List (String Global)} {input output errors written said : Option (List ℕ)} {status : ℕ} → EditAnswers known words input output errors written said status → AsksNothing (names_of words) → status ≡ 2
 usage_status (helps a s) n = absurd (n requests.Help a)
 usage_status (tells_version a s) n = absurd (n requests.Version a)
 usage_status (does t a d) n = absurd (n (requests.Task t) a)

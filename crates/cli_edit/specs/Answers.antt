@@ -18,12 +18,12 @@ abbrev pub version_text : List ℕ
 version_text = codes "json5_edit " ++ (VERSION.now ++ line_feed ∷ [])
 
 -- the words, what was read, what output and errors held before and after, and the status
-pub data Answers (known : Known) (words : List (String Global)) (input output errors : Option (List ℕ)) : Option (List ℕ) → Option (List ℕ) → ℕ → Type 0 where
+pub data EditAnswers (known : Known) (words : List (String Global)) (input output errors : Option (List ℕ)) : Option (List ℕ) → Option (List ℕ) → ℕ → Type 0 where
   helps : {written said : Option (List ℕ)} {status : ℕ} → Asks (names_of words) requests.Help → SaysText HELP.now output written errors said status
-      → Answers known words input output errors written said status
+      → EditAnswers known words input output errors written said status
   tells_version : {written said : Option (List ℕ)} {status : ℕ} → Asks (names_of words) requests.Version → SaysText version_text output written errors said status
-      → Answers known words input output errors written said status
+      → EditAnswers known words input output errors written said status
   does : {written said : Option (List ℕ)} {status : ℕ} (t : Task) → Asks (names_of words) (requests.Task t) → Does known t input output errors written said status
-      → Answers known words input output errors written said status
+      → EditAnswers known words input output errors written said status
   -- it said how it is called
-  says_usage : {said : Option (List ℕ)} → AsksNothing (names_of words) → Answers known words input output errors output said 2
+  says_usage : {said : Option (List ℕ)} → AsksNothing (names_of words) → EditAnswers known words input output errors output said 2

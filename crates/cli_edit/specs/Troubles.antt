@@ -20,10 +20,10 @@ operation_status (patch.Edit e) = edit_status e
 operation_status patch.Differs = 1
 operation_status patch.IntoItself = 2
 
-abbrev pub trouble_status : TextTrouble → ℕ
-trouble_status (trouble.Edit e) = edit_status e
-trouble_status (trouble.Operation x) = operation_status x.trouble
-trouble_status _ = 2
+abbrev pub text_trouble_status : TextTrouble → ℕ
+text_trouble_status (trouble.Edit e) = edit_status e
+text_trouble_status (trouble.Operation x) = operation_status x.trouble
+text_trouble_status _ = 2
 
 -- where it isn't read
 abbrev pub read_status : Failure → ℕ

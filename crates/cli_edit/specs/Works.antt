@@ -21,7 +21,7 @@ use Rattle.cli_edit.specs.declared.trouble.TextTrouble.{TextTrouble}
 use Rattle.cli_edit.specs.declared.trouble.TextTrouble.TheVariants as trouble
 use Rattle.cli_edit.specs.Makes.{MakesLaid, RefusesWork}
 use Rattle.cli_edit.specs.Requests.{IsSourceOf, is_shown, route_of}
-use Rattle.cli_edit.specs.Troubles.{edit_status, read_status, trouble_status}
+use Rattle.cli_edit.specs.Troubles.{edit_status, read_status, text_trouble_status}
 use Rattle.cli_edit.specs.Values.{Means}
 
 -- ---- reading
@@ -118,7 +118,7 @@ pub data DoesAt (known : Known) (path : Path) (t : Task) (given text : List ℕ)
   -- nothing was said
   worked : (steps : List Step) (value : List ℕ) → AreStepsOf text path.written.items steps → Means t given value → Works known t text steps value output written → DoesAt known path t given text output errors written errors 0
   stopped : {said : Option (List ℕ)} (steps : List Step) (value : List ℕ) (x : TextTrouble) → AreStepsOf text path.written.items steps → Means t given value
-      → WorksNot known t text steps value output written x → DoesAt known path t given text output errors written said (trouble_status x)
+      → WorksNot known t text steps value output written x → DoesAt known path t given text output errors written said (text_trouble_status x)
   -- the steps of the path aren't known, since the text is no document; or memory ran out
   no_steps : {said : Option (List ℕ)} (e : EditError) → RefusesPath text [] e → Keeps output written → DoesAt known path t given text output errors written said (edit_status e)
 

@@ -1,6 +1,6 @@
 //! The program over its words and its three streams.
 
-ghost use Rattle.cli_edit.specs.Answers.{Answers};
+ghost use Rattle.cli_edit.specs.Answers.{EditAnswers};
 
 use crate::lines::{HELP, wrong_words};
 use crate::requests::EditRequest;
@@ -23,7 +23,7 @@ pub fn answer<S: Store, R: Read, W: Write, E: Write>(
     w: &mut W,
     e: &mut E,
 ) -> u8
-    ensures { Answers (S.known store.now) list.now (R.remaining r.old) (W.contents w.old) (E.contents e.old) (W.contents w.new) (E.contents e.new) result }
+    ensures { EditAnswers (S.known store.now) list.now (R.remaining r.old) (W.contents w.old) (E.contents e.old) (W.contents w.new) (E.contents e.new) result }
 {
     match EditRequest::of(list) {
         Some(EditRequest::Help) => answer_with(&[HELP], w, e),

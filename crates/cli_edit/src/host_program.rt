@@ -1,8 +1,8 @@
 //! The program over the system that it runs on.
 
-ghost use Rattle.std.specs.Prelude.{◌≡◌, ◌≤◌};
 ghost use Rattle.cli_edit.specs.Requests.{AsksNothing};
 ghost use Rattle.cli_files.specs.NameLists.{names_of};
+ghost use Rattle.cli_files.specs.Reports.{EndsWithin};
 
 use crate::answers::answer;
 use crate::lines::{no_memory, wrong_words};
@@ -40,8 +40,7 @@ pub fn program(rt: &HostRuntime) -> ExitCode {
 /// words(&rt, rt.alloc(), list.as_slice())    // list: `get`, `app.json5` and `server.port`
 /// ```
 pub fn words(rt: &HostRuntime, alloc: Global, list: &[String]) -> u8
-    ensures status { result ≤ 3 }
-    ensures usage { AsksNothing (names_of list.now) → result ≡ 2 }
+    ensures { EndsWithin 3 (AsksNothing (names_of list.now)) result }
 {
     let (mut input, mut output, mut errors) = (rt.stdin(), rt.stdout(), rt.stderr());
     answer(rt, alloc, list, &mut input, &mut output, &mut errors)

@@ -1,7 +1,7 @@
 //! What is said on standard error, and of the program itself.
 
 ghost use Rattle.std.specs.Prelude.{◌≡◌};
-ghost use Rattle.cli_edit.specs.Troubles.{read_status, trouble_status};
+ghost use Rattle.cli_edit.specs.Troubles.{read_status, text_trouble_status};
 
 use crate::advice::{value_advice, word_fault, work_advice};
 use crate::requests::{Command, Source, Task, View};
@@ -159,7 +159,7 @@ pub(crate) fn tell<E: Write>(
     trouble: &TextTrouble,
     e: &mut E,
 ) -> u8
-    ensures { result ≡ trouble_status trouble.now }
+    ensures { result ≡ text_trouble_status trouble.now }
 {
     let name = name_of(task.file);
     match trouble {

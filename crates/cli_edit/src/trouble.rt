@@ -1,7 +1,7 @@
 //! Why the program ends before its work is done.
 
 ghost use Rattle.std.specs.Prelude.{◌≡◌};
-ghost use Rattle.cli_edit.specs.Troubles.{edit_status, trouble_status};
+ghost use Rattle.cli_edit.specs.Troubles.{edit_status, text_trouble_status};
 
 use cli_files::{Failure, Unwritten};
 use json5_edit::{EditError, PathError};
@@ -38,7 +38,7 @@ impl TextTrouble {
     /// TextTrouble::Edit(EditError::Nowhere).status()    // 1
     /// ```
     pub fn status(&self) -> u8
-        ensures { result ≡ trouble_status self.now }
+        ensures { result ≡ text_trouble_status self.now }
     {
         match self {
             TextTrouble::Edit(error) => edit_status(error),
