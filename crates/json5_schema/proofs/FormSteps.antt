@@ -14,7 +14,7 @@ use Rattle.std.proofs.lemmas.Cmp.{nat_list_cmp_total}
 use Rattle.std.proofs.lemmas.Str.{encodes-chars}
 use Rattle.json5_grammar.specs.Language.Characters.{right_bracket}
 use Rattle.json5_types.specs.declared.value.Value.{Value}
-use Rattle.json5_types.specs.ValueMeanings.{text, array, Items, Fields, value_of, items_view, fields_view}
+use Rattle.json5_types.specs.ValueMeanings.{text, array, Items, Fields, value_of, fields_view}
 use Rattle.json5_types.specs.declared.value.Value as value
 use Rattle.json5_types.proofs.LookedUp.{from_here}
 use Rattle.json5_types.proofs.ValuesCompared.{view-String}
