@@ -18,8 +18,8 @@ const END: u8 = 0xFF;
 
 /// Returns the canonical form of a value: the same bytes for each value that is equal to it.
 ///
-/// Each kind of value begins with a byte of its own, and each form shows where it ends, so values that aren't equal have other
-/// forms. No promise is made of that: where forms are the same, the values have still to be compared.
+/// Each kind of value begins with a byte of its own, and each form shows where it ends, so values that aren't equal have
+/// other forms. No promise is made of that: where forms are the same, the values have still to be compared.
 pub fn canonical_form(alloc: Global, value: &Value) -> Result<Vec<u8>>
     ensures { MatchResult result (λ form. AddsForm [] form.items (value_of value.now)) LacksMemory }
 {

@@ -67,8 +67,8 @@ fn are_distinct(alloc: Global, items: &[Value]) -> Result<bool>
 
 /// Whether none of the elements behind it is equal, of which the forms were seen. Its own is seen from then on.
 ///
-/// Where its form was seen, the elements are compared one by one: that ends the search, unless values that aren't equal have one
-/// form. So its speed rests on the forms telling values apart, and its answer doesn't.
+/// Where its form was seen, the elements are compared one by one: that ends the search, unless values that aren't equal
+/// have one form. So its speed rests on the forms telling values apart, and its answer doesn't.
 fn is_new(
     alloc: Global,
     value: &Value,
