@@ -30,7 +30,7 @@ use Rattle.json5_schema.specs.declared.shape.Shape.TheVariants as shape
 use Rattle.json5_schema.specs.Conformance.{asserts_formats, behind_sign}
 use Rattle.json5_schema.specs.Patterns.{in_rust}
 use Rattle.json5_schema.specs.Refusals.{asks_beside, begins_with_sign, gives, is_by_name, is_each, has_few_digits, inner, is_signed, times, times_among, times_at, times_named, IsLaterName, NamesDraft, is_followed, is_format, names_schema, shape_in, IsFaulty, beside, wrong, further, IsFaultySchema, IsFor, IsOfMemory, IsOfWhole, IsRefused, IsRefusedBy, IsRefusedFor, IsTextNot, IsWrong, LeadsOn, here, inside, LeadsTo, step, steps, Refers, RefusedFor, StandsInPlace}
-use Rattle.json5_schema.specs.RefusalSteps.{members_by, CountsBeside, HasTwice, IsDraft, IsFaultyArgument, IsFaultyBy, IsFaultyKeyword, IsFaultyMember, IsFormatFault, IsKeyFault, IsNoFormat, IsNoName, IsNoReference, IsOfOldDraft, IsOfReference, IsOutOfShape, IsPatternFault, IsProblemOf, IsUnknownAmong, IsUnknownIn, IsUnknownNamed, IsUnknownThrough, LeadsAmong, LeadsBack, LeadsBy, LeadsNamed}
+use Rattle.json5_schema.specs.RefusalSteps.{members_by, CountsBeside, IsDraft, IsFaultyArgument, IsFaultyBy, IsFaultyKeyword, IsFaultyMember, IsFormatFault, IsKeyFault, IsNoFormat, IsNoName, IsNoReference, IsOfOldDraft, IsOfReference, IsOutOfShape, IsPatternFault, IsProblemOf, IsUnknownAmong, IsUnknownIn, IsUnknownNamed, IsUnknownThrough, LeadsAmong, LeadsBack, LeadsBy, LeadsNamed}
 use Rattle.json5_schema.specs.Shapes.{are_named_schemas, are_schemas, are_schemas_or_names, holding_of, is_names, is_schema, IsElementOf, IsMemberOf}
 use Rattle.json5_schema.specs.Subschemas.{alone, element, member, itself, takes_named, takes_schema, takes_schemas, within, IsElement, IsMember}
 use Rattle.json5_schema.proofs.Knowing.{value_from}
@@ -367,9 +367,3 @@ led_back root first last (inr before) h = (first, steps first last first before 
 pub of_reference : (rules : Rules) (root : Datum) (p : Problem) → IsOfReference rules root p → IsRefusedFor rules root p
 of_reference rules root p (inl k) = inr (inl k)
 of_reference rules root p (inr (q, k)) = inr (inr (subst (IsOfWhole root) (sym q) k))
-
-pub of_names : (rules : Rules) (root : Datum) (p : Problem) → (p ≡ problem.SameAnchor) × HasTwice root → IsRefusedFor rules root p
-of_names rules root p (q, k) = inr (inr (subst (IsOfWhole root) (sym q) k))
-
-pub of_ends : (rules : Rules) (root : Datum) (p : Problem) → (p ≡ problem.Endless) × LeadsBack root → IsRefusedFor rules root p
-of_ends rules root p (q, k) = inr (inr (subst (IsOfWhole root) (sym q) k))

@@ -7,7 +7,7 @@ use Rattle.std.specs.Str.{chars, encode_utf8_all}
 use lib.Chars.{codes}
 use Rattle.std.specs.declared.cmp.Ordering.{Ordering}
 use Rattle.std.specs.declared.cmp.Ordering.TheVariants.{Less, Equal}
-use Rattle.json5_grammar.specs.Language.Numbers.{Number, whole, decimal, Decimal, infinite, nan, finite}
+use Rattle.json5_grammar.specs.Language.Numbers.{whole, decimal, Decimal, infinite, nan, finite}
 use Rattle.json5_types.specs.ValueMeanings.{Datum, null, boolean, number, text, array, object, Items, no_item, item, Fields, no_field, field}
 use Rattle.json5_types.specs.ValueKinds.{items_len, fields_len}
 use Rattle.json5_types.specs.ValueChanges.{put_named}
