@@ -215,7 +215,11 @@ impl Ignores {
         Ok(false)
     }
 
-    /// The path of the folder with this name, with a slash behind it.
+    /// The path of the folder with this name, with a slash behind it, as [`enter`](Ignores::enter) takes it.
+    ///
+    /// # Errors
+    ///
+    /// Where a request for memory was refused.
     pub fn folder_path(&self, alloc: Global, name: &str) -> Result<String, AllocError> {
         let mut path = self.path_below(alloc, name)?;
         path.push('/')?;
