@@ -4,6 +4,7 @@ ghost use Rattle.std.specs.Prelude.{IfOk, codes, length, string_bytes, true, ◌
 ghost use Rattle.json5_types.specs.ValueMeanings.{Fields, Items, array, fields_view, items_view, no_field};
 ghost use Rattle.json5_de.specs.Convert.{names_bytes};
 ghost use Rattle.json5_fields.specs.Named.{one_named};
+ghost use Rattle.json5_settings.specs.AddedFields.{MakesBy};
 ghost use Rattle.json5_settings.specs.AsciiNames.{are_ascii, fit_together};
 ghost use Rattle.json5_settings.specs.DescribedSchemas.{Describes, IsSchemaOf, Says, SaysOfTexts, SaysOpenStruct, SaysStruct, fields_keywords, keyword, members_keywords, names_schema, open_struct_schema, struct_schema, texts_of};
 
@@ -110,7 +111,7 @@ fn with_members<I: Input, V: Drop, F: DescribedFields<I, V>>(
     fields: F,
     others: Result<Keywords>,
 ) -> Result<Keywords>
-    ensures made { (kw : Fields) → IfOk others (λ made. fields_view made.items ≡ kw) → IfOk result (λ made. fields_view made.items ≡ fields_keywords (F.layout (F.shape fields)).names F.kinds kw) }
+    ensures made { MakesBy (fields_keywords (F.layout (F.shape fields)).names F.kinds) others result }
     ensures describes { Describes (F.layout (F.shape fields)) F.kinds }
 {
     let mut schemas = FieldSchemas {
@@ -125,7 +126,7 @@ fn with_members<I: Input, V: Drop, F: DescribedFields<I, V>>(
 
 /// The keywords of an object of fields with these schemas, before others.
 fn put_members(alloc: Global, schemas: FieldSchemas, others: Result<Keywords>) -> Result<Keywords>
-    ensures { (kw : Fields) → IfOk others (λ made. fields_view made.items ≡ kw) → IfOk result (λ made. fields_view made.items ≡ members_keywords (fields_view schemas.properties.items) (items_view schemas.required.items) kw) }
+    ensures { MakesBy (members_keywords (fields_view schemas.properties.items) (items_view schemas.required.items)) others result }
 {
     let mut keywords = others?;
     let FieldSchemas {
