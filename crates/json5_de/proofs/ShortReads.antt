@@ -15,21 +15,25 @@ use Rattle.json5_tokens.specs.ShortTexts.{ReadsEscapeFreeString, TookEscapeFree,
 use Rattle.json5_tokens.specs.ShortTexts as texts
 use Rattle.json5_tokens.specs.TextTokens.{IsSliceAt}
 use Rattle.json5_tokens.specs.declared.short_texts.Span.{Span}
-use Rattle.json5_tokens.specs.declared.short_ways.ShortStep.{ShortStep}
-use Rattle.json5_tokens.specs.declared.short_ways.ShortStep.TheVariants as short
+use Rattle.json5_tokens.specs.declared.scanner.ShortStep.{ShortStep}
+use Rattle.json5_tokens.specs.declared.scanner.ShortStep.TheVariants as short
 use Rattle.json5_read.specs.declared.brackets.BracketPair.{BracketPair}
+use Rattle.json5_de.specs.AccessCalls.{AdvancesToEntry, Advances}
 use Rattle.json5_de.specs.Convert.{natural_below, integer_below, every_text}
 use Rattle.json5_de.specs.KeyKinds.{ReadsKeyAs, string_key}
 use Rattle.json5_de.specs.Keys.{TookKey}
 use Rattle.json5_de.specs.DeserializeLaw.{TookValue}
+use Rattle.json5_de.specs.ObjectFaults.{PassesColon}
+use Rattle.json5_de.specs.Objects.{AfterColon}
 use Rattle.json5_de.specs.TokenKinds.{ReadsAs, whole_kind, natural_kind, integer_kind, decimal_kind, string_kind}
-use Rattle.json5_de.specs.ShortWays.{ReadsShort, StepsShort, ReadsShortText, ReadsShortKey, PassesShortColon, OwnsTextAt, RunsOut}
-use Rattle.json5_de.specs.State.{State}
+use Rattle.json5_de.specs.ShortWays.{ReadsShort, ReadsShortText, ReadsShortKey, RunsOut}
+use Rattle.json5_de.specs.State.{State, GivesUp}
 use Rattle.json5_de.proofs.TokenKinds.{reads_ok}
 use Rattle.json5_de.proofs.ReadSteps.{value_gap, input_of}
 use Rattle.json5_de.proofs.FoundKeys.{key_ok}
 use Rattle.json5_grammar.proofs.CommonLemmas.{true_false}
 use Rattle.json5_read.proofs.NoFailedCode.{memory_other}
+use Rattle.json5_types.specs.Errors.{LacksMemory}
 use Rattle.json5_types.specs.declared.error.Error.{Error}
 
 -- a reader whose scanner is there
@@ -78,7 +82,7 @@ short_natural before after level failed old max most z e room live m is k =
     let converts : natural_below (max + 1) z ≡ Some (nat_abs (to_z w128 (of_z w128 z))) = natural_in max z low high ∙ ap (λ y. Some (nat_abs y)) (sym stored) in
     reads_whole (natural_below (max + 1)) (λ n. n) before after level failed old z (nat_abs (to_z w128 (of_z w128 z))) e room live k.took converts
 
-same_reader : (before after : Cursor) (level : ℕ) (failed : Bool) (old : State) → reader_at before level failed ≡ old → after ≡ before → reader_at after level failed ≡ old
+pub same_reader : (before after : Cursor) (level : ℕ) (failed : Bool) (old : State) → reader_at before level failed ≡ old → after ≡ before → reader_at after level failed ≡ old
 same_reader before after level failed old e same = ap (λ s. reader_at s level failed) same ∙ e
 
 -- the least number of a range
@@ -109,6 +113,12 @@ begun_by : (comma_due : Bool) (x y : List ℕ) → StepsTo comma_due x y → Ste
 begun_by false x y k = record { gap = k.gap; split = k.split; is_gap = k.is_gap; solid = k.solid }
 begun_by true x y (z, comma, k) = (z, comma, record { gap = k.gap; split = k.split; is_gap = k.is_gap; solid = k.solid })
 
+-- a step to the next element or member, or to the closing bracket, is taken, or nothing
+abbrev pub StepsShort : BracketPair → Bool → State → State → ShortStep → Type 0
+StepsShort b comma_due old new short.Entry = AdvancesToEntry b comma_due old new true
+StepsShort b comma_due old new short.Closing = AdvancesToEntry b comma_due old new false
+StepsShort b comma_due old new short.Other = new ≡ old
+
 pub short_step : (b : BracketPair) (comma_due : Bool) (before after : Cursor) (level : ℕ) (failed : Bool) (old : State) (step : ShortStep) → reader_at before level failed ≡ old → failed ≡ false → TakesShortStep b.closing comma_due before after step
     → StepsShort b comma_due old (reader_at after level failed) step
 short_step b comma_due before after level failed old short.Other e live k = same_reader before after level failed old e k
@@ -118,6 +128,13 @@ short_step b comma_due before after level failed old short.Entry e live k =
 short_step b comma_due before after level failed old short.Closing e live k =
     subst (λ s. StepsShort b comma_due s (reader_at after level failed) short.Closing) e
     (record { live = live; close = k.step; rest = ap (λ i. record { input = i; unread = after.unread; level = level; failed = failed }) k.same })
+
+-- the step that was taken is what the call answers
+pub advances_at_once : (b : BracketPair) (comma_due : Bool) (old new : State) (more : Bool) → AdvancesToEntry b comma_due old new more → Advances b comma_due old new (Ok more)
+advances_at_once b comma_due old new true k =
+    record { sound = k; refused = tt; nowhere = tt; steady = record { same_text = input_of k.rest; unprompted = tt; before = λ h. absurd (true_false h k.live) } }
+advances_at_once b comma_due old new false k =
+    record { sound = k; refused = tt; nowhere = tt; steady = record { same_text = input_of k.rest; unprompted = tt; before = λ h. absurd (true_false h k.live) } }
 
 -- ---- strings without an escape
 
@@ -170,6 +187,11 @@ short_key before after level failed old (Some span) e live k = subst (λ s. Read
 pub slice_at : {level : ℕ} {failed : Bool} {old : State} {u : List ℕ} {span : Span} (s : Cursor) → reader_at s level failed ≡ old → IsSliceAt old.input u span.start span.end → IsSliceAt s.input u span.start span.end
 slice_at {u = u} {span = span} s e k = subst (λ x. IsSliceAt x u span.start span.end) (sym (ap (λ (r : State). r.input) e)) k
 
+-- an owned copy of the text at the span; or memory ran out
+abbrev pub OwnsTextAt : {A : Type 0} → Span → State → State → Result (String A) Error → Type 0
+OwnsTextAt span old new (Ok t) = (new ≡ old) × IsTextAt old.input span (string_bytes t)
+OwnsTextAt span old new (Err e) = LacksMemory e × GivesUp old new
+
 -- a refusal since memory ran out, in place of a copy of a text
 pub own_lost : {A : Type 0} (span : Span) (old new : State) (r : Result (String A) Error) → RunsOut old new r → OwnsTextAt span old new r
 own_lost span old new (Ok t) lost = absurd lost
@@ -177,11 +199,26 @@ own_lost span old new (Err e) lost = lost
 
 -- ---- a colon
 
+-- the colon after a key is passed, or nothing
+abbrev pub PassesShortColon : State → State → Bool → Type 0
+PassesShortColon old new true = AfterColon old new
+PassesShortColon old new false = new ≡ old
+
 pub short_colon : (before after : Cursor) (level : ℕ) (failed : Bool) (old : State) (b : Bool) → reader_at before level failed ≡ old → failed ≡ false → TakesShortSign 58 before after b → PassesShortColon old (reader_at after level failed) b
 short_colon before after level failed old false e live k = same_reader before after level failed old e k
 short_colon before after level failed old true e live k =
     subst (λ s. PassesShortColon s (reader_at after level failed) true) e
     (record { live = live; colon = k.0; rest = ap (λ i. record { input = i; unread = after.unread; level = level; failed = failed }) k.1 })
+
+-- the colon that was taken is what the call answers
+pub colon_at_once : (old new : State) → AfterColon old new → PassesColon old new (Ok tt)
+colon_at_once old new k = record {
+  passed = k;
+  refused = tt;
+  complete = λ t r live value. refl;
+  failed = tt;
+  steady = record { same_text = input_of k.rest; unprompted = tt; before = λ h. absurd (true_false h k.live) };
+}
 
 -- ---- an owned copy of a key
 

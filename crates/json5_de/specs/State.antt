@@ -1,6 +1,6 @@
 -- What contracts see of a reader.
 -- A promise rests on this.
-use Rattle.std.specs.Prelude.{◌≡◌, ℕ, ◌-◌, List, Bool, true, false, Option, Result, slice_get, OnOk, OnErr, IsErrAnd}
+use Rattle.std.specs.Prelude.{◌≡◌, ℕ, ◌-◌, List, Bool, true, false, Result, OnOk, OnErr, IsErrAnd}
 use Rattle.json5_grammar.specs.Language.Documents.{max_depth}
 use Rattle.json5_types.specs.declared.error.Error.{Error}
 use Rattle.json5_tokens.specs.Cursor.{Cursor}
@@ -19,10 +19,6 @@ at_start limit x = record { input = x; unread = x; level = max_depth - limit; fa
 
 abbrev pub cursor_of : State → Cursor
 cursor_of s = record { input = s.input; unread = s.unread }
-
--- the next character
-abbrev pub next : State → Option ℕ
-next s = slice_get s.unread 0
 
 -- nothing changed but what is unread
 abbrev pub OnlyRead : State → State → Type 0

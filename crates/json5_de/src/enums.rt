@@ -212,7 +212,7 @@ impl<I: Input> Deserializer<I> {
         ensures found { result ≡ true → FirstCharIs is_quote self.now.unread }
         ensures other { result ≡ false → NotBegun is_quote self.now.unread }
     {
-        match self.peek() {
+        match self.scanner.peek() {
             Some(c) => is_quote(c),
             None => false,
         }
@@ -223,7 +223,7 @@ impl<I: Input> Deserializer<I> {
         ensures found { result ≡ true → FirstCharIs is_left_brace self.now.unread }
         ensures other { result ≡ false → NotBegun is_left_brace self.now.unread }
     {
-        match self.peek() {
+        match self.scanner.peek() {
             Some(c) => c == '{',
             None => false,
         }

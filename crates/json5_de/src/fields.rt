@@ -2,8 +2,6 @@
 
 ghost use Rattle.std.specs.Prelude.{◌≡◌, true, false, Some, None, IfOk, OnOk, string_bytes};
 ghost use Rattle.std.specs.Str.{chars};
-ghost use Rattle.json5_grammar.specs.declared.error_code.ErrorCode.TheVariants as codes;
-ghost use Rattle.json5_types.specs.Errors.{code};
 ghost use Rattle.json5_de.specs.Convert.{every_text};
 ghost use Rattle.json5_de.specs.AnyTree.{every_value};
 ghost use Rattle.json5_de.specs.KeyKinds.{RefusedAsKey, string_key};
@@ -24,8 +22,8 @@ use crate::de::{Deserialize, Deserializer};
 use crate::map::MapAccess;
 use json5_read::brackets::BracketKind;
 use json5_tokens::input::Input;
+use json5_tokens::scanner::ShortStep;
 use json5_tokens::short_texts::Span;
-use json5_tokens::short_ways::ShortStep;
 use json5_tokens::text_token::TextToken;
 use json5_types::ErrorCode;
 use json5_types::error::{Error, Result};
@@ -95,7 +93,10 @@ impl<I: Input> Deserializer<I> {
     ) -> Result<bool>
         ensures { ReadsFieldKey comma_due self.old self.new field_key.new start.new result }
     {
-        match self.short_step(BracketKind::Object, comma_due) {
+        if self.failed {
+            return self.read_field_key_slowly(comma_due, field_key, start);
+        }
+        match self.scanner.short_step(b'}', comma_due) {
             ShortStep::Entry => {}
             ShortStep::Closing => return Ok(false),
             ShortStep::Other => return self.read_field_key_slowly(comma_due, field_key, start),

@@ -1,28 +1,18 @@
 //! Keys of objects: the law of a type that is read from one, what its reading is lent, and how a key is reached (JSON5 section 3).
 
-ghost use Rattle.std.specs.Prelude.{◌≡◌, IfOk, IfErr, true, false};
+ghost use Rattle.std.specs.Prelude.{◌≡◌, IfOk, IfErr};
 ghost use Rattle.json5_de.specs.State.{State, SameText};
 ghost use Rattle.json5_de.specs.ConvertLists.{if_some};
-ghost use Rattle.json5_de.specs.DeserializeLaw.{Unprompted, answered};
+ghost use Rattle.json5_de.specs.DeserializeLaw.{Unprompted};
 ghost use Rattle.json5_de.specs.OptionFaults.{RefusesLive};
-ghost use Rattle.json5_de.specs.Keys.{GivesKey, CompletesKey, ReadsKeyOf};
-ghost use Rattle.json5_de.specs.KeyPlaces.{ReadKeyBegins};
+ghost use Rattle.json5_de.specs.Keys.{GivesKey, CompletesKey};
 ghost use Rattle.json5_de.specs.KeyKinds.{some_of};
-ghost use Rattle.json5_grammar.specs.Language.Blanks.{Solid};
-ghost use Rattle.json5_grammar.specs.Language.Characters.{NotBegun};
-ghost use Rattle.json5_types.specs.Errors.{kind_of};
-ghost use Rattle.json5_read.specs.Offsets.{StartsAfter};
-ghost use Rattle.json5_de.specs.ObjectFaults as faults;
-ghost use Rattle.json5_de.specs.ObjectFaults.{BeginsKey, PositionsKey, ReadsKeyAtEntry, ReadsKeyOfMember, is_positionless};
 
 mod documents;
 mod texts;
 
 use crate::de::Deserializer;
-use json5_read::brackets::BracketKind;
-use json5_tokens::char::is_json5_identifier_start;
 use json5_tokens::input::Input;
-use json5_types::ErrorCode;
 use json5_types::error::{Error, Result};
 use std::alloc::Global;
 
@@ -163,116 +153,4 @@ impl<I: Input> MapKey<'_, I> {
     }
 }
 
-impl<I: Input> Deserializer<I> {
-    /// Reads a K from the key that is next.
-    #[inline(always)]
-    pub(crate) fn read_key<K: DeserializeKey<I>>(&mut self) -> Result<K>
-        ensures { ReadsKeyOf K.content K.convert K.refuses self.old self.new result }
-    {
-        K::deserialize_key(&mut MapKey { de: &mut *self })
-    }
-
-    /// Whether a key may begin with what is next.
-    #[inline(always)]
-    pub(crate) fn at_key(&self) -> bool
-        ensures found { result ≡ true → BeginsKey self.now.unread }
-        ensures other { result ≡ false → NotBegun faults.begins_key self.now.unread }
-    {
-        match self.peek() {
-            Some(c) => begins_key(c),
-            None => false,
-        }
-    }
-
-    /// A key that was read at this offset. A fault gets the key's position if it has none and may have one.
-    #[inline(always)]
-    pub(crate) fn positioned_key<K>(&self, read: Result<K>, start: usize) -> Result<Option<K>>
-        ensures { PositionsKey (StartsAfter self.now.input start) read result }
-    {
-        match read {
-            Ok(key) => Ok(Some(key)),
-            Err(e) if is_positionless(&e) => Err(e),
-            Err(e) => Err(self.with_position_at(start, e)),
-        }
-    }
-
-    /// The key of the member that begins here. Puts into `start` how many bytes come before it.
-    #[inline(always)]
-    fn read_entry_key<K: DeserializeKey<I>>(&mut self, start: &mut usize) -> Result<Option<K>>
-        ensures reads { ReadsKeyAtEntry K.content K.convert K.refuses self.old self.new result }
-        ensures begins { Solid self.old.unread → ReadKeyBegins K.content K.convert start.new self.new.input self.new.unread result }
-    {
-        let offset = self.offset();
-        *start = offset;
-        if !self.at_key() {
-            return Err(self.fail_unexpected(
-                ErrorCode::EofParsingObject,
-                ErrorCode::ExpectedIdentifier,
-            ));
-        }
-        let read = self.read_key::<K>();
-        self.positioned_key(read, offset)
-    }
-
-    /// Reads the next key of an object, or gives None if the closing brace is next. Puts into `start` how many bytes come before
-    /// the key. The error of a refusal is left in `fault`.
-    #[inline(always)]
-    pub(crate) fn take_member_key<K: DeserializeKey<I>>(
-        &mut self,
-        comma_due: bool,
-        start: &mut usize,
-        fault: &mut Error,
-    ) -> Option<Option<K>>
-        ensures reads { ReadsKeyOfMember K.content K.convert K.refuses comma_due self.old self.new (answered result fault.new) }
-        ensures begins { ReadKeyBegins K.content K.convert start.new self.new.input self.new.unread (answered result fault.new) }
-    {
-        match self.take_step(BracketKind::Object, comma_due, fault) {
-            Some(true) => match self.read_entry_key::<K>(start) {
-                Ok(key) => Some(key),
-                Err(error) => {
-                    *fault = error;
-                    None
-                }
-            },
-            Some(false) => Some(None),
-            None => None,
-        }
-    }
-}
-
-/// Whether a key may begin with this character: a quote, a backslash or an identifier start.
-#[inline(always)]
-fn begins_key(c: char) -> bool
-    ensures { result ≡ faults.begins_key c }
-{
-    if matches!(c, 'a'..='z' | 'A'..='Z') {
-        return true;
-    }
-    matches!(c, '"' | '\'' | '\\') || is_json5_identifier_start(c)
-}
-
-/// Whether the fault doesn't get a key's position: the input ended, memory ran out or the reader had failed.
-#[cold]
-#[inline(never)]
-fn is_positionless(error: &Error) -> bool
-    ensures { result ≡ is_positionless (kind_of error.now) }
-{
-    match error.code() {
-        Some(code) => matches!(
-            code,
-            ErrorCode::EofParsingArray
-                | ErrorCode::EofParsingBool
-                | ErrorCode::EofParsingComment
-                | ErrorCode::EofParsingEscapeSequence
-                | ErrorCode::EofParsingIdentifier
-                | ErrorCode::EofParsingNull
-                | ErrorCode::EofParsingNumber
-                | ErrorCode::EofParsingObject
-                | ErrorCode::EofParsingString
-                | ErrorCode::EofParsingValue
-                | ErrorCode::OutOfMemory
-                | ErrorCode::Failed
-        ),
-        None => false,
-    }
-}
+impl<I: Input> Deserializer<I> {}

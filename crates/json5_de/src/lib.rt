@@ -12,10 +12,9 @@ mod mismatch;
 mod seq;
 mod spans;
 mod stage;
-mod whole_input;
 
 pub use de::any::IgnoredAny;
-pub use de::{Deserialize, Deserializer, read};
+pub use de::{Deserialize, Deserializer, from_str, from_str_within, read};
 pub use enums::EnumAccess;
 #[doc(hidden)]
 pub use enums::Named;
@@ -25,4 +24,3 @@ pub use laws::{document_keys, map_contents, one_answer, one_key_answer, value_co
 pub use map::MapAccess;
 pub use seq::SeqAccess;
 pub use spans::Spanned;
-pub use whole_input::{from_str, from_str_within};

@@ -1,13 +1,11 @@
 //! Reading of objects, one member after another (JSON5 section 3).
 
-ghost use Rattle.std.specs.Prelude.{◌≡◌, false, true};
+ghost use Rattle.std.specs.Prelude.{◌≡◌, true};
 ghost use Rattle.std.specs.Borrow.{sem};
 ghost use Rattle.json5_tokens.specs.Cursor.{Locates};
 ghost use Rattle.json5_de.specs.Arrays.{PositionedAtBracket};
-ghost use Rattle.json5_de.specs.DeserializeLaw.{answered};
 ghost use Rattle.json5_de.specs.Enums.{EndsObject};
-ghost use Rattle.json5_de.specs.ObjectFaults.{ReadsValueOfMember};
-ghost use Rattle.json5_de.specs.Objects.{CompletesFreeMemberValue, ReadsValueFree, bare_map};
+ghost use Rattle.json5_de.specs.Objects.{ReadsValueFree};
 
 use crate::de::{Deserialize, Deserializer};
 use crate::key::DeserializeKey;
@@ -115,24 +113,6 @@ impl<I: Input> Deserializer<I> {
         ensures opens { OpensMapAccess self.entry self.old result }
     {
         self.deserialize_map()
-    }
-
-    /// Reads a colon and the value after a key. The error of a refusal is left in `fault`.
-    #[inline(always)]
-    pub(crate) fn take_member_value<V: Deserialize<I>>(&mut self, fault: &mut Error) -> Option<V>
-        ensures reads { ReadsValueOfMember V.content V.convert V.refuses self.old self.new (answered result fault.new) }
-        ensures no_memory { CompletesFreeMemberValue V.convert V.allocation_free (bare_map self.old false true) (answered result fault.new) }
-    {
-        match self.take_colon(fault) {
-            Some(()) => match V::deserialize(self) {
-                Ok(value) => Some(value),
-                Err(error) => {
-                    *fault = error;
-                    None
-                }
-            },
-            None => None,
-        }
     }
 }
 

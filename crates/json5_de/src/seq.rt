@@ -1,16 +1,13 @@
 //! Reading of arrays, one element after another (JSON5 section 4).
 
-ghost use Rattle.std.specs.Prelude.{◌≡◌, ◌||◌, false, ℕ, List, None, Some, is_some, IfOk, IfErr};
+ghost use Rattle.std.specs.Prelude.{◌≡◌, false, ℕ, List, None, Some, IfOk, IfErr};
 ghost use Rattle.std.specs.Borrow.{sem};
-ghost use Rattle.json5_grammar.specs.declared.error_code.ErrorCode.TheVariants as codes;
 ghost use Rattle.json5_grammar.specs.Language.Trees.{Trees};
 ghost use Rattle.json5_tokens.specs.Cursor.{Locates};
-ghost use Rattle.json5_read.specs.Brackets.{square};
-ghost use Rattle.json5_de.specs.DeserializeLaw.{Steady, Unprompted, answered};
-ghost use Rattle.json5_de.specs.Arrays.{bare, GivesElement, CompletesElement, CompletesClose, PositionedAtBracket, ElementsLeft, ReadsMore};
+ghost use Rattle.json5_de.specs.DeserializeLaw.{Unprompted};
+ghost use Rattle.json5_de.specs.Arrays.{PositionedAtBracket, ElementsLeft, ReadsMore};
 ghost use Rattle.json5_de.specs.Enums.{EndsArray};
 ghost use Rattle.json5_de.specs.ListFaults.{IsTooShort, LeavesRequired, RefusesRequired};
-ghost use Rattle.json5_de.specs.AccessCalls.{RefusesElement, TakesElement};
 
 use crate::de::{Deserialize, Deserializer};
 use crate::stage::Progress;
@@ -56,29 +53,6 @@ impl<I: Input> Drop for SeqAccess<'_, I> {
 
 impl<I: Input> Deserializer<I> {
     ghost use Rattle.json5_de.specs.Lending.{OpensSeqAccess, lends_reader};
-
-    /// Reads the next element of an array, or gives None if the closing bracket is next. The error of a refusal is left in
-    /// `fault`.
-    #[inline(always)]
-    pub(crate) fn take_element<T: Deserialize<I>>(
-        &mut self,
-        comma_due: bool,
-        fault: &mut Error,
-    ) -> Option<Option<T>>
-        ensures { TakesElement T.content T.convert T.refuses comma_due self.old self.new (answered result fault.new) }
-    {
-        match self.take_step(BracketKind::Array, comma_due, fault) {
-            Some(true) => match T::deserialize(self) {
-                Ok(value) => Some(Some(value)),
-                Err(error) => {
-                    *fault = error;
-                    None
-                }
-            },
-            Some(false) => Some(None),
-            None => None,
-        }
-    }
 
     /// Opens an array (JSON5 section 4), and lends the reader to the access that reads its elements.
     ///

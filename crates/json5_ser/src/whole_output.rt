@@ -13,7 +13,7 @@ use json5_types::error::Result;
 use json5_types::nesting::Limit;
 use json5_write::lent::Lent;
 use json5_write::string_writer::StringWriter;
-use json5_write::text_of;
+use json5_write::{Printer, text_of};
 use std::alloc::Global;
 use std::io::Write;
 
@@ -92,7 +92,8 @@ pub fn to_string_within<T: Serialize>(alloc: Global, limit: Limit, value: &T) ->
     ensures reads_back { IfOk result (λ s. Doc limit (chars (string_bytes s)) (marks (T.tree value.now))) }
     ensures refused { IfErr result (RefusesToString (text_within limit (T.tree value.now))) }
 {
-    let mut ser = Serializer::within(StringWriter::new(alloc), limit);
+    let printer = Printer::within(StringWriter::new(alloc), limit);
+    let mut ser = Serializer { printer };
     let printed = value.put(&mut ser);
-    text_of(printed, ser.into_inner().into_bytes())
+    text_of(printed, ser.printer.into_inner().into_bytes())
 }

@@ -3,7 +3,7 @@ use Rattle.std.proofs.Common.{◌≡◌, ℕ, ◌<◌, ◌≤◌, Bool, true, fa
 use Rattle.std.specs.List.{prefix_len, take_while}
 use Rattle.std.specs.Prelude.{◌==◌, slice_index}
 use Rattle.std.specs.Str.{chars, IsUtf8}
-use Rattle.std.proofs.lemmas.Str.{chars_past_char, encode_ascii}
+use Rattle.std.proofs.lemmas.Str.{chars-nil, chars_past_char, encode_ascii}
 use Rattle.json5_grammar.specs.Language.Blanks.{Solid}
 use Rattle.json5_grammar.specs.Model.Reading.{got}
 use Rattle.json5_grammar.proofs.BlanksRead.{skip_rest, begins_solid, printable_solid}
@@ -37,7 +37,21 @@ blanks_passed s r n e d =
 pub blanks_shorter : (s r : List ℕ) (n : ℕ) → n ≡ length (take_while is_ascii_blank s) → r ≡ drop n s → length r ≤ length s
 blanks_shorter s r n e d = let k = rest_shorter is_ascii_blank s in let l = ap length (d ∙ rest_cut is_ascii_blank s n e) in omega (arith, k, l)
 
+-- one space, and behind it none
+pub one_blank : (s bytes : List ℕ) → bytes ≡ s → 1 < length bytes → slice_index bytes 0 ≡ 32 → 32 < slice_index bytes 1 → 1 ≡ prefix_len is_ascii_blank s
+one_blank s [] e l f h = absurd (omega arith)
+one_blank s (c ∷ []) e l f h = absurd (omega arith)
+one_blank s (c ∷ d ∷ x) e l f h =
+    let blank : is_ascii_blank c ≡ true = grind (arith, nat_tests) in
+    let solid : is_ascii_blank d ≡ false = grind (arith, nat_tests) in
+    rw (← e) (rw blank (rw solid refl))
+
 -- ---- a solid character in front
+
+-- at the end of a text nothing is passed over
+pub at_end : (r : List ℕ) → length r ≡ 0 → skip between (chars r) ≡ got tt (chars r)
+at_end [] e = skip_rest (chars []) (subst Solid (sym chars-nil) tt)
+at_end (c ∷ r) e = absurd (omega (arith, e))
 
 ascii_front : (r : List ℕ) → IsUtf8 r → 0 < length r → slice_index r 0 < 128 → (y : List ℕ) × (chars r ≡ slice_index r 0 ∷ y)
 ascii_front [] u l h = absurd (omega arith)

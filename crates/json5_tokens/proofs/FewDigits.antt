@@ -2,13 +2,13 @@
 use Rattle.std.proofs.Common.{◌≡◌, ℕ, zero, suc, ◌+◌, ◌-◌, ◌*◌, ◌<◌, ◌≤◌, Bool, true, false, not, cond, ◌||◌, List, [], ◌∷◌, length, drop, refl, ap, sym, ◌∙◌, arith}
 use Rattle.std.specs.Prelude.{◌==◌, slice_index}
 use Rattle.std.specs.List.{prefix_len}
-use Rattle.std.specs.Char.{digit_value}
+use Rattle.std.specs.Char.{digit_value, is_ascii_digit}
 use Rattle.std.proofs.lemmas.Bool.Decides.{nat_tests}
 use Rattle.json5_grammar.specs.Language.Characters.{is_digit, NotBegun}
 use Rattle.json5_grammar.specs.Language.Numbers.{spelled, is_empty}
 use Rattle.json5_grammar.specs.Model.ReadNumbers.{front_of, is_integer}
 use Rattle.json5_grammar.proofs.CharacterTests.{by_test}
-use Rattle.json5_tokens.specs.declared.byte_runs.FewDigits.{FewDigits}
+use Rattle.json5_tokens.specs.declared.numbers.short.FewDigits.{FewDigits}
 use Rattle.json5_tokens.specs.ByteRuns.{lengthens_digits, SpellsFront, IsUnpadded, IsFewDigits}
 
 or-true : (b : Bool) → (b || true) ≡ true
@@ -21,6 +21,10 @@ unfolding front_of
 digit_here [] i l h = absurd (omega arith)
 digit_here (c ∷ d) zero l h = (rw h refl, rw h refl)
 digit_here (c ∷ d) (suc i) l h = let e : suc i + 1 ≡ suc (i + 1) = omega arith in rw e (digit_here d i (omega arith) h)
+
+-- what std calls a digit is one
+pub std_digit : (c : ℕ) → is_ascii_digit c ≡ true → is_digit c ≡ true
+std_digit c h = h
 
 pub digit_high : (c : ℕ) → is_digit c ≡ true → c ≤ 57
 digit_high c h = grind (arith, nat_tests)

@@ -15,8 +15,8 @@ use Rattle.json5_grammar.proofs.BlanksSound.{gap_blanks}
 use Rattle.json5_tokens.specs.TokenResults.{GivesValue}
 use Rattle.json5_tokens.specs.Cursor.{Cursor}
 use Rattle.json5_tokens.specs.Scan.{Leaves, LeavesAt}
-use Rattle.json5_tokens.specs.ShortWays.{IsStep, FindsStep, IsInFront, Stepped, FindsSign, TakesShortSign}
-use Rattle.json5_tokens.specs.declared.short_ways.EntryStep.{EntryStep}
+use Rattle.json5_tokens.specs.Outcome.{bytes_in}
+use Rattle.json5_tokens.specs.ShortWays.{IsStep, FindsStep, IsInFront, Stepped, TakesShortSign}
 use Rattle.json5_types.proofs.AsciiRuns.{PassesAscii}
 use Rattle.json5_tokens.proofs.ScanTokens.{left_counted, blanks_passed}
 use Rattle.json5_tokens.proofs.WholesOfFewDigits.{ends_chars}
@@ -41,49 +41,51 @@ sign_after sign x rest g f =
     let k = blanks_passed x x (chars rest) refl g.read in
     record { front = k.gap; split = k.split ∙ ap (λ z. k.gap ++ z) f; blank = gap_blanks sign (chars (drop 1 rest)) (subst (Gap k.gap) f k.blank) }
 
-pub member_found : (text rest : List ℕ) (closing left : ℕ) (b : Bool) → GivesValue (skip between (chars text)) tt rest → IsInFront closing rest b → left ≡ length rest → FindsStep closing false text (record { at_closing = b; left = left })
-member_found text rest closing left true g f l =
+pub entry_found : (text rest : List ℕ) (closing : ℕ) (b : Bool) → GivesValue (skip between (chars text)) tt rest → IsInFront closing rest b → FindsStep closing false b text rest
+entry_found text rest closing true g f =
     let k = blanks_passed (chars text) (chars text) (chars rest) refl g.read in
-    record { passed = k.gap; rest = rest; split = k.split; step = (chars (drop 1 rest), sign_after closing (chars text) rest g f.1, f.1); counted = l; text_rest = g.text }
-member_found text rest closing left false g f l =
+    record { passed = k.gap; split = k.split; step = (chars (drop 1 rest), sign_after closing (chars text) rest g f.1, f.1); text_rest = g.text }
+entry_found text rest closing false g f =
     let k = blanks_passed (chars text) (chars text) (chars rest) refl g.read in
-    record { passed = k.gap; rest = rest; split = k.split; step = (record { gap = k.gap; split = k.split; is_gap = k.blank; solid = k.solid }, f); counted = l; text_rest = g.text }
+    record { passed = k.gap; split = k.split; step = (record { gap = k.gap; split = k.split; is_gap = k.blank; solid = k.solid }, f); text_rest = g.text }
 
-pub closing_found : (text rest : List ℕ) (closing left : ℕ) → GivesValue (skip between (chars text)) tt rest → IsInFront closing rest true → left ≡ length rest → FindsStep closing true text (record { at_closing = true; left = left })
-closing_found text rest closing left g f l =
+pub closing_found : (text rest : List ℕ) (closing : ℕ) (comma_due : Bool) → GivesValue (skip between (chars text)) tt rest → IsInFront closing rest true → FindsStep closing comma_due true text rest
+closing_found text rest closing false g f = entry_found text rest closing true g f
+closing_found text rest closing true g f =
     let k = blanks_passed (chars text) (chars text) (chars rest) refl g.read in
-    record { passed = k.gap; rest = rest; split = k.split; step = (chars (drop 1 rest), inl (sign_after closing (chars text) rest g f.1), f.1); counted = l; text_rest = g.text }
+    record { passed = k.gap; split = k.split; step = (chars (drop 1 rest), inl (sign_after closing (chars text) rest g f.1), f.1); text_rest = g.text }
 
 after_comma : (closing : ℕ) (at_closing : Bool) (x y z : List ℕ) → IsSign comma_sign x z → IsStep closing false at_closing z y → IsStep closing true at_closing x y
 after_comma closing true x y z c (r, e, f) = (r, inr (z, c, e), f)
 after_comma closing false x y z c (s, f) = ((z, c, s), f)
 
-comma_found : (text rest next : List ℕ) (closing : ℕ) (found : EntryStep) → GivesValue (skip between (chars text)) tt rest → IsInFront comma_sign rest true → next ≡ drop 1 rest → FindsStep closing false next found → FindsStep closing true text found
-comma_found text rest next closing found g f n k =
+pub comma_found : (text rest next last : List ℕ) (closing : ℕ) (at_closing : Bool) → GivesValue (skip between (chars text)) tt rest → IsInFront comma_sign rest true → next ≡ drop 1 rest → FindsStep closing false at_closing next last
+    → FindsStep closing true at_closing text last
+comma_found text rest next last closing at_closing g f n k =
     let b = blanks_passed (chars text) (chars text) (chars rest) refl g.read in
     let front : chars rest ≡ comma_sign ∷ chars next = f.1 ∙ ap (λ z. comma_sign ∷ chars z) (sym n) in
     let comma : IsSign comma_sign (chars text) (chars next) = subst (λ z. IsSign comma_sign (chars text) (chars z)) (sym n) (sign_after comma_sign (chars text) rest g f.1) in
     record {
       passed = b.gap ++ (comma_sign ∷ k.passed);
-      rest = k.rest;
-      split = b.split ∙ ap (λ z. b.gap ++ z) (front ∙ ap (λ z. comma_sign ∷ z) k.split) ∙ sym (append_assoc b.gap (comma_sign ∷ k.passed) (chars k.rest));
-      step = after_comma closing found.at_closing (chars text) (chars k.rest) (chars next) comma k.step;
-      counted = k.counted;
+      split = b.split ∙ ap (λ z. b.gap ++ z) (front ∙ ap (λ z. comma_sign ∷ z) k.split) ∙ sym (append_assoc b.gap (comma_sign ∷ k.passed) (chars last));
+      step = after_comma closing at_closing (chars text) (chars last) (chars next) comma k.step;
       text_rest = k.text_rest;
     }
 
-pub if_comma : (text rest next : List ℕ) (closing : ℕ) (o : Option EntryStep) → GivesValue (skip between (chars text)) tt rest → IsInFront comma_sign rest true → next ≡ drop 1 rest → IfSome o (FindsStep closing false next) → IfSome o (FindsStep closing true text)
-if_comma text rest next closing None g f n k = tt
-if_comma text rest next closing (Some found) g f n k = comma_found text rest next closing found g f n k
-
 -- what was found in front was taken
-pub stepped : {closing : ℕ} {comma_due : Bool} {text : List ℕ} {found : EntryStep} (old new : Cursor) (b : Bool) → FindsStep closing comma_due text found → chars text ≡ old.unread → LeavesAt old found.left new → found.at_closing ≡ b → Stepped closing comma_due b old new
-stepped {closing = closing} {comma_due = comma_due} old new b k e left is =
-    let l = left k.passed (chars k.rest) (sym e ∙ k.split) (k.counted ∙ left_counted k.rest k.text_rest) in
+pub stepped : {closing : ℕ} {comma_due at_closing : Bool} {text rest : List ℕ} (old new : Cursor) (b : Bool) → FindsStep closing comma_due at_closing text rest → chars text ≡ old.unread → LeavesAt old (length rest) new → at_closing ≡ b → Stepped closing comma_due b old new
+stepped {closing = closing} {comma_due = comma_due} {rest = rest} old new b k e left is =
+    let l = left k.passed (chars rest) (sym e ∙ k.split) (left_counted rest k.text_rest) in
     let step : IsStep closing comma_due b old.unread new.unread = rw (e, is, sym l.1) at k.step in
     record { step = step; same = l.0.same }
 
 -- ---- a sign alone
+
+-- blanks and the sign are in front of the text, and so many bytes are left after it
+pub record FindsSign (sign : ℕ) (text : List ℕ) (left : ℕ) : Type 0 where
+  pub rest : List ℕ
+  pub found : IsSign sign (chars text) rest
+  pub counted : left ≡ bytes_in rest
 
 pub sign_found : (sign : ℕ) (text solid : List ℕ) → GivesValue (skip between (chars text)) tt solid → IsInFront sign solid true → FindsSign sign text (length solid - 1)
 sign_found sign text solid g f = record {

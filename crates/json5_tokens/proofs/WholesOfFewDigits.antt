@@ -19,7 +19,7 @@ use Rattle.json5_tokens.specs.TokenResults.{GivesValue}
 use Rattle.json5_grammar.specs.Model.ReadNumbers.{front_of, rest_of}
 use Rattle.json5_grammar.proofs.CharacterTests.{front_each, digit_nonzero, nonzero_not_48, nonzero_digit, digit_no_sign}
 use Rattle.json5_grammar.proofs.CommonLemmas.{eq_from}
-use Rattle.json5_tokens.specs.declared.byte_runs.FewDigits.{FewDigits}
+use Rattle.json5_tokens.specs.declared.numbers.short.FewDigits.{FewDigits}
 use Rattle.json5_tokens.specs.ByteRuns.{lengthens_digits, IsFewDigits, SpellsFewDigits}
 use Rattle.json5_types.proofs.AsciiRuns.{PassesAscii, digit_is_ascii, not_begun, rest_utf8, rest_cut, chars_split}
 
@@ -94,14 +94,3 @@ few_minus s t r n z m k e =
       read = ap model.number (m ∙ ap (λ x. 45 ∷ x) k.split) ∙ complete num (chars r) stops ∙ ap (λ v. got (whole v) (chars r)) (sym (e ∙ ap (λ v. neg_ℤ (pos v)) k.value_is));
       text = k.text_rest;
     }
-
--- ---- after a minus
-
-pub minus_cut : (s : List ℕ) → IsUtf8 s → 0 < length s → slice_index s 0 ≡ 45 → IsCharBoundary s 1
-minus_cut s u l e = IsCharBoundary-after_ascii s 0 u l (omega arith)
-
-pub minus_front : (s t : List ℕ) → IsUtf8 s → 0 < length s → slice_index s 0 ≡ 45 → t ≡ drop 1 s → chars s ≡ 45 ∷ chars t
-minus_front [] t u l e d = absurd (omega arith)
-minus_front (b ∷ s) t u l e d =
-    let front : (b ∷ s) ≡ encode_utf8 45 ++ s = ap (λ z. z ∷ s) e ∙ ap (λ z. z ++ s) (sym (encode_ascii 45 (omega arith))) in
-    chars_past_char (b ∷ s) s 45 u front ∙ ap (λ z. 45 ∷ chars z) (sym d)

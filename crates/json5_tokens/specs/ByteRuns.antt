@@ -7,7 +7,7 @@ use Rattle.std.specs.Str.{IsUtf8, chars}
 use Rattle.json5_grammar.specs.Language.Characters.{is_in, is_digit, NotBegun}
 use Rattle.json5_grammar.specs.Language.Numbers.{spelled, hex_start, Integer, in_run}
 use Rattle.json5_grammar.specs.Model.ReadNumbers.{is_integer, front_of}
-use Rattle.json5_tokens.specs.declared.byte_runs.FewDigits.{FewDigits}
+use Rattle.json5_tokens.specs.declared.numbers.short.FewDigits.{FewDigits}
 
 -- a byte at which a run of a string in the quotes q ends
 abbrev pub ends_raw : ℕ → ℕ → Bool

@@ -1,7 +1,7 @@
 -- What the short ways promise: a token is taken with the ASCII blanks before it, or nothing is.
 -- A promise rests on this.
 use denote.Ref.{Bor}
-use Rattle.std.specs.Prelude.{◌≡◌, ℕ, ◌^◌, Bool, true, false, ◌==◌, List, ◌∷◌, ◌++◌, length, drop, ℤ, pos, neg_ℤ, ◌≤ℤ◌, Option, MatchOption}
+use Rattle.std.specs.Prelude.{◌≡◌, ℕ, ◌^◌, Bool, true, false, ◌==◌, List, ◌∷◌, ◌++◌, drop, ℤ, pos, neg_ℤ, ◌≤ℤ◌, Option, MatchOption}
 use Rattle.std.specs.Str.{IsUtf8, IsCharBoundary, chars}
 use Rattle.json5_grammar.specs.Language.Characters.{NotBegun, comma_sign}
 use Rattle.json5_grammar.specs.Language.Blanks.{Gap, Solid}
@@ -9,13 +9,10 @@ use Rattle.json5_grammar.specs.Model.Collections.{IsSign, IsEnd}
 use Rattle.json5_grammar.specs.Language.Numbers.{Number, Decimal, Num, whole, decimal, lengthens}
 use Rattle.json5_grammar.specs.Model.ReadBlanks.{skip, between}
 use Rattle.json5_grammar.specs.Model.ReadNumbers as model
-use Rattle.json5_tokens.specs.declared.short_ways.ShortStep.{ShortStep}
-use Rattle.json5_tokens.specs.declared.short_ways.ShortStep.TheVariants as short
-use Rattle.json5_tokens.specs.declared.numbers.short.SpacedWhole.{SpacedWhole}
-use Rattle.json5_tokens.specs.declared.short_ways.EntryStep.{EntryStep}
+use Rattle.json5_tokens.specs.declared.scanner.ShortStep.{ShortStep}
+use Rattle.json5_tokens.specs.declared.scanner.ShortStep.TheVariants as short
 use Rattle.json5_tokens.specs.TokenResults.{GivesValue}
 use Rattle.json5_tokens.specs.Cursor.{Cursor}
-use Rattle.json5_tokens.specs.Outcome.{bytes_in}
 
 -- blanks and then the number were taken
 pub record TookNumber (old new : Cursor) (number : Number) : Type 0 where
@@ -50,14 +47,6 @@ pub record IsWholeOfFewDigits (text : List ℕ) (number : ℤ) (rest : List ℕ)
   pub low : neg_ℤ (pos (10 ^ 19)) ≤ℤ number
   pub high : number ≤ℤ pos (10 ^ 19)
 
--- the number is read after blanks, and so many bytes follow it
-pub record GivesSpaced (text : List ℕ) (found : SpacedWhole) : Type 0 where
-  pub spaced : List ℕ
-  pub rest : List ℕ
-  pub passed : skip between (chars text) ≡ skip between (chars spaced)
-  pub short : IsWholeOfFewDigits spaced found.number rest
-  pub counted : found.left ≡ length rest
-
 -- ---- a step to the next element or member
 
 -- blanks are in front of the text, and this follows them
@@ -91,13 +80,11 @@ TakesShortStep closing comma_due old new short.Entry = Stepped closing comma_due
 TakesShortStep closing comma_due old new short.Closing = Stepped closing comma_due true old new
 TakesShortStep closing comma_due old new short.Other = new ≡ old
 
--- a step is found in front, and so many bytes are left after it
-pub record FindsStep (closing : ℕ) (comma_due : Bool) (text : List ℕ) (found : EntryStep) : Type 0 where
+-- a step is found in front, and this follows it
+pub record FindsStep (closing : ℕ) (comma_due at_closing : Bool) (text rest : List ℕ) : Type 0 where
   pub passed : List ℕ
-  pub rest : List ℕ
   pub split : chars text ≡ passed ++ chars rest
-  pub step : IsStep closing comma_due found.at_closing (chars text) (chars rest)
-  pub counted : found.left ≡ length rest
+  pub step : IsStep closing comma_due at_closing (chars text) (chars rest)
   pub text_rest : IsUtf8 rest
 
 -- whether the ASCII character is in front
@@ -106,12 +93,6 @@ IsInFront sign text true = IsCharBoundary text 1 × (chars text ≡ sign ∷ cha
 IsInFront sign text false = NotBegun (λ c. c == sign) (chars text)
 
 -- ---- a sign
-
--- blanks and the sign are in front, and so many bytes are left after it
-pub record FindsSign (sign : ℕ) (text : List ℕ) (left : ℕ) : Type 0 where
-  pub rest : List ℕ
-  pub found : IsSign sign (chars text) rest
-  pub counted : left ≡ bytes_in rest
 
 -- blanks and the sign are taken, or nothing
 abbrev pub TakesShortSign : ℕ → Cursor → Cursor → Bool → Type 0

@@ -15,7 +15,6 @@ pub mod positions;
 mod refusal;
 pub mod scanner;
 pub mod short_texts;
-pub mod short_ways;
 pub mod strings;
 mod strings_and_names;
 pub mod text_token;

@@ -1,18 +1,17 @@
 //! The scanner: the tokens of an input, one after another.
 
-ghost use Rattle.std.specs.Prelude.{◌≡◌, ℕ, List, [], ◌∷◌, ◌++◌, true, false, ◌==◌, drop, slice_get, IsTrue, ◌⊎◌, Some};
-ghost use Rattle.std.specs.Str.{all_scalars, chars, encode_utf8_all};
+ghost use Rattle.std.specs.Prelude.{◌≡◌, ℕ, List, [], ◌∷◌, ◌++◌, true, false, ◌==◌, drop, slice_get, IsTrue, ◌⊎◌, Some, IfSome};
+ghost use Rattle.std.specs.Str.{all_scalars, chars};
 ghost use Rattle.json5_grammar.specs.Language.Characters.{NotBegun};
 ghost use Rattle.json5_tokens.specs.Cursor.{Cursor, offset_of, IsInput, Took, Locates};
 ghost use Rattle.json5_tokens.specs.Scan.{InText, Leaves, LeavesAt, InUnread, IsWhere, MadeOf};
 ghost use Rattle.json5_tokens.specs.TokenCalls.{PassesBlanks, TakesWord, TakesNumber, TakesOwned, TakesStringToken, TakesKey, PassesString, PassesName, PassesNumber, TakesString, TakesName};
-ghost use Rattle.json5_tokens.specs.TextTokens.{IsSliceAt, IsTextOf, IsCowOf};
+ghost use Rattle.json5_tokens.specs.TextTokens.{IsTextOf, IsCowOf};
 ghost use Rattle.json5_tokens.specs.ShortTexts.{IsTextAt};
 ghost use Rattle.json5_types.specs.Errors.{IsCustomAt, LacksMemory};
+ghost use Rattle.json5_tokens.specs.ShortWays.{FindsStep, TakesShortStep, TakesShortSign};
 
-use crate::blanks::skip_blank;
-use crate::byte_runs::begins_solid;
-use crate::char::front;
+use crate::blanks::{begins_solid, is_in_front, skip_blank, skip_to_comma, skip_to_solid};
 use crate::input::{Borrows, Input};
 use crate::names::{read_key, read_name, skip_name};
 use crate::numbers::{read_number, skip_number};
@@ -53,6 +52,17 @@ macro_rules! pass {
         $scanner.set_remaining(left);
         Ok(())
     }};
+}
+
+/// What a step to the next entry, an element or a member, came to.
+#[derive(Clone, Copy)]
+pub enum ShortStep {
+    /// An element or a member may begin here.
+    Entry,
+    /// The closing bracket is next.
+    Closing,
+    /// Anything else is in front, and nothing was taken.
+    Other,
 }
 
 /// Takes tokens from the front of a text. A call that succeeds takes its token; a call that is refused takes nothing, and may
@@ -132,8 +142,7 @@ impl<I: Input> Scanner<I> {
         if self.offset < bytes.len() && bytes[self.offset] < 128 {
             return Some(char::from(bytes[self.offset]));
         }
-        let (c, _) = front(self.rest(self.input.as_text()))?;
-        Some(c)
+        self.rest(self.input.as_text()).chars().next()
     }
 
     /// Takes the character if it is next, and says whether it was.
@@ -158,10 +167,11 @@ impl<I: Input> Scanner<I> {
     pub fn skip_blank(&mut self) -> Result<()>
         ensures { PassesBlanks self.old self.new result }
     {
-        if begins_solid(self.rest(self.input.as_text()).as_bytes()) {
+        let rest = self.rest(self.input.as_text());
+        if rest.is_empty() || begins_solid(rest) {
             return Ok(());
         }
-        pass!(self, skip_blank(self.rest(self.input.as_text())))
+        pass!(self, skip_blank(rest))
     }
 
     /// Takes the word, such as `null`. What follows the word isn't looked at.
@@ -319,7 +329,45 @@ impl<I: Input> Scanner<I> {
     pub fn text_of_span(&self, span: Span) -> &str
         ensures { IsTextAt self.now.input span result.now }
     {
-        between(self.input.as_text(), span.start, span.end)
+        self.input.as_text().get(span.start..span.end).unwrap_or("")
+    }
+
+    /// Takes ASCII blanks up to the next element or member, and before it the comma where one is due. The closing
+    /// bracket stays unread. Returns `Other` where anything else is in front, and takes nothing then.
+    #[inline(always)]
+    pub fn short_step(&mut self, closing: u8, comma_due: bool) -> ShortStep
+        ensures { TakesShortStep closing comma_due self.old self.new result }
+    {
+        let Some((at_closing, rest)) = find_step(
+            closing,
+            comma_due,
+            self.rest(self.input.as_text()),
+        ) else {
+            return ShortStep::Other;
+        };
+        let left = rest.len();
+        self.set_remaining(left);
+        if at_closing {
+            ShortStep::Closing
+        } else {
+            ShortStep::Entry
+        }
+    }
+
+    /// Takes ASCII blanks and the sign, an ASCII character, and says whether they were in front. Else takes nothing.
+    #[inline(always)]
+    pub fn short_sign(&mut self, sign: u8) -> bool
+        ensures { TakesShortSign sign self.old self.new result }
+    {
+        let Some(rest) = skip_to_solid(self.rest(self.input.as_text())) else {
+            return false;
+        };
+        if sign >= 128 || !is_in_front(sign, rest) {
+            return false;
+        }
+        let left = rest.len() - 1;
+        self.set_remaining(left);
+        true
     }
 
     /// Returns the position of an offset in bytes, or that of the text's end where no character begins at the offset. Line and
@@ -447,13 +495,30 @@ impl<'de, I: Borrows<'de>> Scanner<I> {
     pub fn borrowed_text_of_span(&self, span: Span) -> &'de str
         ensures { IsTextAt self.now.input span result.now }
     {
-        between(self.input.as_borrowed(), span.start, span.end)
+        self.input
+            .as_borrowed()
+            .get(span.start..span.end)
+            .unwrap_or("")
     }
 }
 
-/// The part of the input between two offsets in bytes; empty if they are out of order, past the end or within a character.
-fn between(text: &str, start: usize, end: usize) -> &str
-    ensures { (u : List ℕ) → IsSliceAt (chars text.now) u start end → result.now ≡ encode_utf8_all u }
+/// Whether the closing sign is next, before or after the comma that is due, or an entry may begin; and the text from there on.
+/// None if neither is, and if the sign is no ASCII character.
+#[inline(always)]
+fn find_step(closing: u8, comma_due: bool, text: &str) -> Option<(bool, &str)>
+    ensures { IfSome result (λ found. FindsStep closing comma_due found.0 text.now found.1.now) }
 {
-    text.get(start..end).unwrap_or("")
+    if closing >= 128 {
+        return None;
+    }
+    let solid = skip_to_comma(text)?;
+    let closes = is_in_front(closing, solid);
+    if closes || !comma_due {
+        return Some((closes, solid));
+    }
+    if !is_in_front(b',', solid) {
+        return None;
+    }
+    let rest = skip_to_solid(solid.split_at(1).1)?;
+    Some((is_in_front(closing, rest), rest))
 }

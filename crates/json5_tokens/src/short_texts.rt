@@ -2,7 +2,7 @@
 //! returns no `Error`, so the caller's frame holds none. When it returns None it takes nothing, and the scanner's other calls say
 //! what is there.
 
-ghost use Rattle.std.specs.Prelude.{◌≡◌, ◌∷◌, true, IfSome, string_bytes};
+ghost use Rattle.std.specs.Prelude.{◌∷◌, true, IfSome, string_bytes};
 ghost use Rattle.std.specs.Str.{chars};
 ghost use Rattle.json5_tokens.specs.ScanTexts.{quote_of, string_at, text_at};
 ghost use Rattle.json5_tokens.specs.ShortWays.{IsInFront};
@@ -10,12 +10,11 @@ ghost use Rattle.json5_tokens.specs.ShortTexts.{IsEscapeFreeString, IsEscapeFree
 ghost use Rattle.json5_tokens.specs.declared.strings_and_names.Kind.TheVariants as kind;
 ghost use Rattle.json5_tokens.specs.TokenResults.{GivesMore, GivesText, IsOwned, IsOwnedBehind};
 
-use crate::blanks::skip_ascii;
+use crate::blanks::{is_in_front, skip_ascii};
 use crate::byte_runs::ascii_name_len;
 use crate::char::front;
-use crate::input::{Borrows, Input};
+use crate::input::Input;
 use crate::scanner::Scanner;
-use crate::short_ways::is_in_front;
 use crate::strings::skip_raw;
 use crate::strings_and_names::{Kind, Quote, push_escapes, push_rest, with_room};
 use std::alloc::Global;

@@ -1,5 +1,5 @@
 -- Elements and members without the comma after them, and what remains to be written of their collection.
-use Rattle.std.proofs.Common.{◌≡◌, ℕ, ◌+◌, ◌-◌, [], ◌∷◌, Bool, true, false, Result, Ok, Err, refl, sym, ap, ◌∙◌, subst, arith}
+use Rattle.std.proofs.Common.{◌≡◌, ℕ, ◌+◌, ◌-◌, List, [], ◌∷◌, Option, Bool, true, false, Result, Ok, Err, refl, sym, ap, ◌∙◌, subst, arith}
 use Rattle.std.specs.Prelude.{⊤}
 use Rattle.std.specs.Result.{IsErrAnd}
 use Rattle.json5_grammar.specs.Language.Characters.{comma_sign, colon_sign, space}
@@ -10,7 +10,7 @@ use Rattle.json5_write.specs.ShortWrites.{Puts, refusal_by}
 use Rattle.json5_write.specs.declared.refusal.Refused.{Refused}
 use Rattle.json5_write.specs.Commas.{comma_before, element_line, member_line}
 use Rattle.json5_write.proofs.OutputsJoined.{Reaches, Reaches-first, Reaches-next, Wrote-at, RefusesBy-at, then_assoc}
-use Rattle.json5_write.proofs.ShortWritesJoined.{Puts-stop, Reaches-stop, Reaches-end}
+use Rattle.json5_write.proofs.ShortWritesJoined.{Puts-as, Puts-stop, Reaches-stop, Reaches-end}
 
 pub comma_before_then : (due : Bool) (a b : Out) → comma_before due (a then b) ≡ comma_before due a then b
 comma_before_then true a b = sym (then_assoc (piece (comma_sign ∷ [])) a b)
@@ -123,3 +123,20 @@ tree_wrote s n t w p = tree_put s n (Ok tt) t w p
 
 pub tree_refused : {a : Out} {o m : SerializerState} (s n : SerializerState) (r : Refused) (t : Written) → Wrote a o m → RefusesBy (out m.limit t m.depth) s (refusal_by r) n → RefusesBy (out o.limit t o.depth) s (refusal_by r) n
 tree_refused s n r t w p = tree_put s n (Err r) t w p
+
+-- an element on its line, after the comma that is due
+pub element_put : {o m : SerializerState} (n : SerializerState) (due : Bool) (t : Written) (x : Result ⊤ Refused) → Wrote (comma_before due (piece (line o.depth))) o m → Puts (out m.limit t m.depth) m x n
+    → Puts (comma_before due (element_line o.limit o.depth t)) o x n
+element_put {o} {m} n due t x w p =
+    let value = out o.limit t o.depth in
+    Puts-as _ _ o n x (comma_before_then due (piece (line o.depth)) value) (Reaches-end _ value o m n x (Reaches-first (comma_before due (piece (line o.depth))) value o m w) (tree_put m n x t w p))
+
+pub element_unbegun : (o n : SerializerState) (r : Refused) (due : Bool) (t : Written) → RefusesBy (comma_before due (piece (line o.depth))) o (refusal_by r) n → RefusesBy (comma_before due (element_line o.limit o.depth t)) o (refusal_by r) n
+element_unbegun o n r due t p =
+    let value = out o.limit t o.depth in
+    Puts-as _ _ o n (Err r) (comma_before_then due (piece (line o.depth)) value) (Puts-stop (comma_before due (piece (line o.depth))) value o n r (Err r) refl p)
+
+-- one open bracket less
+pub lowered : (known : Option (List ℕ)) (depth n limit : ℕ) (failed : Bool) (old : SerializerState) → record { known = known; depth = depth; limit = limit; failed = failed } ≡ old → n ≡ depth - 1
+    → record { known = known; depth = n; limit = limit; failed = failed } ≡ after_closing old
+lowered known depth n limit failed old is less = rw less (ap after_closing is)

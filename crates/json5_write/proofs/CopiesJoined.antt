@@ -1,6 +1,14 @@
 -- Copies to places of one row, one after another.
 use Rattle.std.proofs.Common.{◌≡◌, ℕ, ◌+◌, ◌-◌, ◌≤◌, List, ◌++◌, length, take, drop, refl, ap, sym, ◌∙◌, subst, arith, append_assoc, length-append, length-take-le, length-drop, take-add, take-take, take_at, drop_at, take_all, take-append-drop}
+use lib.Lanes.{put_chunk}
+use Rattle.std.proofs.lemmas.Simd.{take_more_put_chunk, length-put_chunk}
 use Rattle.json5_write.specs.Copies.{Copied}
+
+-- a chunk that is put into the row
+pub chunk_copied : (n at : ℕ) (row text : List ℕ) → n ≤ length text → at + n ≤ length row → Copied row (put_chunk at row (take n text)) at (take n text) (at + n)
+chunk_copied n at row text few fits =
+    let long : length (take n text) ≡ n = length-take-le n text few in
+    record { front = take_more_put_chunk at row (take n text) _ (omega arith) fits; moved = omega arith; len = length-put_chunk at row (take n text) }
 
 -- a second copy begins where the first ended
 pub Copied-then : {a b c xs ys : List ℕ} {i j k : ℕ} → Copied a b i xs j → Copied b c j ys k → Copied a c i (xs ++ ys) k

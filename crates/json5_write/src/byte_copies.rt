@@ -1,21 +1,12 @@
 //! Copies into a row of bytes.
 
-ghost use Rattle.std.specs.Prelude.{◌≡◌, ◌+◌, ◌<◌, ◌≤◌, [], ◌∷◌, length, take};
+ghost use Rattle.std.specs.Prelude.{◌≡◌, ◌+◌, ◌<◌, ◌≤◌, [], ◌∷◌, length};
 ghost use Rattle.std.specs.Fmt.{decimal};
 ghost use Rattle.json5_write.specs.Copies.{Copied};
 ghost use Rattle.json5_write.specs.Pieces.{between_quotes};
 
 use itoa::{Buffer, write_digits};
 use std::simd::Simd;
-
-/// Copies the first N bytes, with one load and one store.
-#[inline(always)]
-fn copy_front<const N: usize>(row: &mut [u8], at: usize, text: &[u8])
-    requires { (N ≤ length text.now) × (at + N ≤ length row.old) }
-    ensures { Copied row.old row.new at (take N text.now) (at + N) }
-{
-    Simd::<u8, N>::from_slice(text).copy_to_slice(&mut row[at..]);
-}
 
 /// Copies the first N bytes and the last N, which overlap.
 #[inline(always)]
@@ -25,23 +16,8 @@ fn copy_ends<const N: usize>(row: &mut [u8], at: usize, text: &[u8])
     ensures { Copied row.old row.new at text.now (at + length text.now) }
 {
     let last = text.len() - N;
-    copy_front::<N>(row, at, text);
-    copy_front::<N>(row, at + last, &text[last..]);
-}
-
-/// Copies fewer than 8 bytes to this place.
-#[inline(always)]
-fn copy_few(row: &mut [u8], at: usize, text: &[u8])
-    requires fits { at + length text.now ≤ length row.old }
-    requires few { length text.now < 8 }
-    ensures { Copied row.old row.new at text.now (at + length text.now) }
-{
-    match text.len() {
-        4..=7 => copy_ends::<4>(row, at, text),
-        2..=3 => copy_ends::<2>(row, at, text),
-        1 => row[at] = text[0],
-        _ => {}
-    }
+    Simd::<u8, N>::from_slice(text).copy_to_slice(&mut row[at..]);
+    Simd::<u8, N>::from_slice(&text[last..]).copy_to_slice(&mut row[at + last..]);
 }
 
 /// Copies the bytes to this place.
@@ -51,7 +27,10 @@ pub(crate) fn copy_to(row: &mut [u8], at: usize, text: &[u8])
     ensures { Copied row.old row.new at text.now (at + length text.now) }
 {
     match text.len() {
-        0..=7 => copy_few(row, at, text),
+        0 => {}
+        1 => row[at] = text[0],
+        2..=3 => copy_ends::<2>(row, at, text),
+        4..=7 => copy_ends::<4>(row, at, text),
         8..=15 => copy_ends::<8>(row, at, text),
         16..=32 => copy_ends::<16>(row, at, text),
         len => row[at..at + len].copy_from_slice(text),

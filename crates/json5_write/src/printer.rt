@@ -143,18 +143,11 @@ impl<W: Write + Drop> Printer<W> {
         Ok(())
     }
 
-    /// Counts one open bracket less.
-    fn exit_bracket(&mut self)
-        ensures { self.new ≡ after_closing self.old }
-    {
-        self.depth = self.depth.saturating_sub(1);
-    }
-
     /// Closes a collection whose last member has its comma. The bracket is on its own line if there is a member.
     pub fn close(&mut self, has_member: bool, brackets: Brackets) -> Put
         ensures { Puts (closed_by (self.old.depth - 1) has_member (closing (bracket_of brackets))) (after_closing self.old) result self.new }
     {
-        self.exit_bracket();
+        self.depth = self.depth.saturating_sub(1);
         if !has_member {
             return self.put_piece(brackets.closing());
         }
@@ -166,7 +159,7 @@ impl<W: Write + Drop> Printer<W> {
     pub fn close_brackets(&mut self, comma_due: bool, brackets: Brackets) -> Put
         ensures { Puts (closed_after comma_due (self.old.depth - 1) (closing (bracket_of brackets))) (after_closing self.old) result self.new }
     {
-        self.exit_bracket();
+        self.depth = self.depth.saturating_sub(1);
         if !comma_due {
             return self.put_piece(brackets.closing());
         }

@@ -4,7 +4,7 @@ ghost use Rattle.std.specs.Str.{chars};
 ghost use Rattle.std.specs.Prelude.{string_bytes};
 ghost use Rattle.json5_write.specs.WrittenTrees.{integer, named, array, object, elements_of, fields_of};
 ghost use Rattle.json5_write.specs.ValueTrees.{value_tree, key_of_string};
-ghost use Rattle.json5_write.specs.Commas.{comma_before, element_line, member_line};
+ghost use Rattle.json5_write.specs.Commas.{comma_before, member_line};
 ghost use Rattle.json5_write.specs.ShortWrites.{Puts, PutsTree};
 
 use crate::Printer;
@@ -39,19 +39,11 @@ fn put_elements<W: Write + Drop>(items: &[Value], printer: &mut Printer<W>) -> P
     printer.open_brackets(Brackets::Square)?;
     let mut comma_due = false;
     for item in items {
-        put_element(comma_due, item, printer)?;
+        printer.start_line(comma_due)?;
+        put_value(item, printer)?;
         comma_due = true;
     }
     printer.close_brackets(comma_due, Brackets::Square)
-}
-
-/// Writes the line of an element, without the comma after it.
-#[cycle(tree)]
-fn put_element<W: Write + Drop>(comma_due: bool, value: &Value, printer: &mut Printer<W>) -> Put
-    ensures { Puts (comma_before comma_due (element_line printer.old.limit printer.old.depth (value_tree value.now))) printer.old result printer.new }
-{
-    printer.start_line(comma_due)?;
-    put_value(value, printer)
 }
 
 /// Writes an object of the members, in their order.

@@ -41,7 +41,7 @@ impl<I: Input> Deserializer<I> {
         ensures { ReadsAs bool_kind (λ b. b) self.old self.new result }
     {
         self.skip_blank()?;
-        if self.peek() == Some('f') {
+        if self.scanner.peek() == Some('f') {
             self.literal(Literal::False)?;
             return Ok(false);
         }

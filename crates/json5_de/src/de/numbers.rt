@@ -1,11 +1,12 @@
 //! Reading of numbers. Their faults are listed once, in the comment of `Deserializer`.
 
-ghost use Rattle.std.specs.Prelude.{◌+◌, ◌^◌, ◌≤ℤ◌, pos, nat_abs, Some, IfOk, ◌≡◌, IfErr};
+ghost use Rattle.std.specs.Prelude.{◌+◌, ◌^◌, ◌≤ℤ◌, pos, nat_abs, Some, IfOk, ◌≡◌, IfErr, IfSome};
 ghost use Rattle.json5_de.specs.Convert.{IsUpTo, IsWithin, natural_below, integer_below, same_decimal};
-ghost use Rattle.json5_de.specs.TokenKinds.{ReadsAs, ReadsDecimal, whole_kind, natural_kind, integer_kind};
+ghost use Rattle.json5_de.specs.TokenKinds.{ReadsAs, ReadsDecimal, whole_kind, natural_kind, integer_kind, decimal_kind};
 ghost use Rattle.json5_de.specs.ReaderSteps.{WholeAt};
 ghost use Rattle.json5_grammar.specs.Language.Numbers as numbers;
 ghost use Rattle.json5_types.specs.Errors.{LacksMemory};
+ghost use Rattle.json5_de.specs.ShortWays.{ReadsShort};
 
 use crate::de::Deserializer;
 use crate::mismatch::Mismatch;
@@ -18,6 +19,42 @@ use json5_types::whole::Whole;
 use std::alloc::Global;
 
 impl<I: Input> Deserializer<I> {
+    /// Reads a whole number of few digits from 0 to `max`, or nothing.
+    #[inline(always)]
+    pub(crate) fn short_natural(&mut self, max: u64) -> Option<u64>
+        ensures reads { ReadsShort (natural_kind (max + 1)) (λ n. n) self.old self.new result }
+        ensures fits { IfSome result (IsUpTo max) }
+    {
+        if self.failed {
+            return None;
+        }
+        let number = self.scanner.short_whole(0, i128::from(max))?;
+        Some(number as u64)
+    }
+
+    /// Reads a whole number of few digits from `-max - 1` to `max`, or nothing.
+    #[inline(always)]
+    pub(crate) fn short_integer(&mut self, max: i128) -> Option<i128>
+        ensures reads { ReadsShort (integer_kind (nat_abs max + 1)) (λ n. n) self.old self.new result }
+        ensures fits { IfSome result (IsWithin max) }
+    {
+        if self.failed {
+            return None;
+        }
+        self.scanner.short_whole(-1 - max, max)
+    }
+
+    /// Reads a decimal with a point or an exponent whose digits take no memory, or returns None.
+    #[inline(always)]
+    pub(crate) fn short_decimal(&mut self) -> Option<Decimal>
+        ensures { ReadsShort decimal_kind (λ d. d) self.old self.new result }
+    {
+        if self.failed {
+            return None;
+        }
+        self.scanner.short_decimal()
+    }
+
     /// Reads a number of any kind as a decimal (JSON5 section 6). A whole number gives the decimal of the same number, and zero
     /// has no sign then.
     ///

@@ -32,7 +32,7 @@ impl<I: Input> Deserializer<I> {
         ensures ends { EndsWith codes.EofParsingValue self.old result }
     {
         self.skip_blank()?;
-        let Some(next) = self.peek() else {
+        let Some(next) = self.scanner.peek() else {
             return self.refuse(Error::new(ErrorCode::EofParsingValue));
         };
         if next == 'n' {

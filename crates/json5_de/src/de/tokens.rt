@@ -3,20 +3,19 @@
 //! A short way returns a small value, so that the caller's frame holds no fault. Where it returns None, nothing has changed, and
 //! the other calls say what is there.
 
-ghost use Rattle.std.specs.Prelude.{◌≡◌, ◌-◌, ◌+◌, nat_abs, string_bytes, IfSome};
+ghost use Rattle.std.specs.Prelude.{◌-◌, string_bytes};
 ghost use Rattle.json5_tokens.specs.Cursor.{IsInput};
 ghost use Rattle.json5_grammar.specs.Language.Documents.{max_depth};
 ghost use Rattle.json5_read.specs.OwnedReads.{OwnsKey, ReadsDatum};
 ghost use Rattle.json5_read.specs.Kinds.{word_of, ends_of, differs_of};
 ghost use Rattle.json5_read.specs.SkipSteps.{SkipsValue};
-ghost use Rattle.json5_de.specs.State.{Calls, next};
+ghost use Rattle.json5_de.specs.State.{Calls};
 ghost use Rattle.json5_de.specs.ReaderSteps.{Eats, IsCount};
 ghost use Rattle.json5_de.specs.FoundTexts.{SpellsText, SpellsCow, FindsKey, FindsString};
 ghost use Rattle.json5_de.specs.TokenCalls as tokens;
-ghost use Rattle.json5_de.specs.TokenCalls.{PassesGap, Takes, TakesOwnString, PassesWord};
-ghost use Rattle.json5_de.specs.Convert.{IsUpTo, IsWithin};
-ghost use Rattle.json5_de.specs.TokenKinds.{natural_kind, integer_kind, decimal_kind, string_kind};
-ghost use Rattle.json5_de.specs.ShortWays.{ReadsShort, ReadsShortText, ReadsShortKey, ReadsEscapeFreeText, TakesEscapeFreeKey, OwnsTextAt, RunsOut};
+ghost use Rattle.json5_de.specs.TokenCalls.{Takes, TakesOwnString, PassesWord};
+ghost use Rattle.json5_de.specs.TokenKinds.{string_kind};
+ghost use Rattle.json5_de.specs.ShortWays.{ReadsShort, ReadsShortText, ReadsEscapeFreeText, RunsOut};
 
 use crate::de::Deserializer;
 use json5_read::kinds::{Literal, skip_literal};
@@ -28,7 +27,6 @@ use json5_tokens::short_texts::Span;
 use json5_tokens::text_token::TextToken;
 use json5_types::ErrorCode;
 use json5_types::cow_str::CowStr;
-use json5_types::decimal::Decimal;
 use json5_types::error::{Error, Result};
 use json5_types::number::Number;
 use json5_types::value::Value;
@@ -48,26 +46,6 @@ impl<I: Input> Deserializer<I> {
         ensures { IsInput self.now.input (I.text result) }
     {
         self.scanner.input()
-    }
-
-    /// The next character.
-    #[inline(always)]
-    pub(crate) fn peek(&self) -> Option<char>
-        ensures { result ≡ next self.now }
-    {
-        self.scanner.peek()
-    }
-
-    /// Passes over blanks if no call was refused so far.
-    #[inline(always)]
-    pub(crate) fn skip_blank(&mut self) -> Result<()>
-        ensures { PassesGap self.old self.new result }
-    {
-        self.check_not_failed()?;
-        match self.scanner.skip_blank() {
-            Ok(()) => Ok(()),
-            Err(e) => self.refuse(e),
-        }
     }
 
     /// Takes the literal in front.
@@ -190,42 +168,6 @@ impl<I: Input> Deserializer<I> {
         Ok(FoundText { start, token })
     }
 
-    /// Reads a whole number of few digits from 0 to `max`, or nothing.
-    #[inline(always)]
-    pub(crate) fn short_natural(&mut self, max: u64) -> Option<u64>
-        ensures reads { ReadsShort (natural_kind (max + 1)) (λ n. n) self.old self.new result }
-        ensures fits { IfSome result (IsUpTo max) }
-    {
-        if self.failed {
-            return None;
-        }
-        let number = self.scanner.short_whole(0, i128::from(max))?;
-        Some(number as u64)
-    }
-
-    /// Reads a whole number of few digits from `-max - 1` to `max`, or nothing.
-    #[inline(always)]
-    pub(crate) fn short_integer(&mut self, max: i128) -> Option<i128>
-        ensures reads { ReadsShort (integer_kind (nat_abs max + 1)) (λ n. n) self.old self.new result }
-        ensures fits { IfSome result (IsWithin max) }
-    {
-        if self.failed {
-            return None;
-        }
-        self.scanner.short_whole(-1 - max, max)
-    }
-
-    /// Reads a decimal with a point or an exponent whose digits take no memory, or returns None.
-    #[inline(always)]
-    pub(crate) fn short_decimal(&mut self) -> Option<Decimal>
-        ensures { ReadsShort decimal_kind (λ d. d) self.old self.new result }
-    {
-        if self.failed {
-            return None;
-        }
-        self.scanner.short_decimal()
-    }
-
     /// Reads a string without an escape and returns the span of its text, or returns None.
     #[inline(always)]
     pub(crate) fn short_string(&mut self) -> Option<Span>
@@ -246,27 +188,6 @@ impl<I: Input> Deserializer<I> {
             return None;
         }
         self.scanner.short_string_owned()
-    }
-
-    /// Takes a key without an escape and returns the span of its text, or returns None.
-    #[inline(always)]
-    pub(crate) fn short_key(&mut self) -> Option<Span>
-        ensures { ReadsShortKey self.old self.new result }
-    {
-        if self.failed {
-            return None;
-        }
-        self.scanner.short_key()
-    }
-
-    /// An owned copy of the text of the span. If memory runs out, the reader has failed.
-    pub(crate) fn own_text(&mut self, span: Span) -> Result<String>
-        ensures { OwnsTextAt span self.old self.new result }
-    {
-        match String::from_str(self.allocator(), self.scanner.text_of_span(span)) {
-            Ok(text) => Ok(text),
-            Err(_) => self.without_memory(),
-        }
     }
 
     /// Refuses since memory ran out, now and from now on.
@@ -304,15 +225,6 @@ impl<'de, I: Borrows<'de>> Deserializer<I> {
         ensures { ReadsEscapeFreeText self.old self.new result }
     {
         let span = self.short_string()?;
-        Some(self.scanner.borrowed_text_of_span(span))
-    }
-
-    /// Takes a key without an escape, or nothing.
-    #[inline(always)]
-    pub(crate) fn short_key_str(&mut self) -> Option<&'de str>
-        ensures { TakesEscapeFreeKey self.old self.new result }
-    {
-        let span = self.short_key()?;
         Some(self.scanner.borrowed_text_of_span(span))
     }
 }

@@ -36,7 +36,7 @@ impl<I: Input, K: DeserializeKey<I> + Ord, V: Deserialize<I>> Deserialize<I> for
     ghost refuses = { RefusesMap (sides K.convert V.convert K.refuses V.refuses) };
 
     fn deserialize(de: &mut Deserializer<I>) -> Result<BTreeMap<K, V>> {
-        let empty = BTreeMap::new(de.allocator());
+        let empty = BTreeMap::new(de.scanner.allocator());
         gather(de, empty)
     }
 }

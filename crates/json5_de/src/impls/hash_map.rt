@@ -43,7 +43,7 @@ impl<I: Input, K: DeserializeKey<I> + Eq + Hash, V: Deserialize<I>> Deserialize<
     ghost refuses = { RefusesMap (sides K.convert V.convert K.refuses V.refuses) };
 
     fn deserialize(de: &mut Deserializer<I>) -> Result<HashMap<K, V>> {
-        let empty = HashMap::new(de.allocator());
+        let empty = HashMap::new(de.scanner.allocator());
         gather(de, empty)
     }
 }

@@ -40,7 +40,7 @@ impl<I: Input, K: DeserializeKey<I> + Eq + Hash, V: Deserialize<I>> Deserialize<
     ghost refuses = { RefusesMap (sides K.convert V.convert K.refuses V.refuses) };
 
     fn deserialize(de: &mut Deserializer<I>) -> Result<IndexMap<K, V>> {
-        let empty = IndexMap::new(de.allocator());
+        let empty = IndexMap::new(de.scanner.allocator());
         gather(de, empty)
     }
 }

@@ -9,7 +9,7 @@ ghost use Rattle.json5_de.specs.TokenKinds.{natural_kind, integer_kind};
 
 use crate::de::any::IgnoredAny;
 use crate::key::{DeserializeKey, MapKey};
-use crate::whole_input::from_str;
+use crate::de::from_str;
 use json5_tokens::input::{Borrows, Input};
 use json5_types::byte_buf::ByteBuf;
 use json5_types::cow_str::CowStr;

@@ -23,7 +23,7 @@ impl<I: Input, T: Deserialize<I>> Deserialize<I> for Vec<T> {
 
     fn deserialize(de: &mut Deserializer<I>) -> Result<Vec<T>> {
         let mut fault = Error::new(ErrorCode::Failed);
-        let mut items = Vec::new(de.allocator());
+        let mut items = Vec::new(de.scanner.allocator());
         let start = de.open(BracketKind::Array)?;
         let mut comma_due = false;
         loop {

@@ -1,14 +1,16 @@
 //! Keys that are read as their text, or as what it spells (JSON5 section 3).
 
-ghost use Rattle.std.specs.Prelude.{◌≡◌, string_bytes};
+ghost use Rattle.std.specs.Prelude.{string_bytes};
 ghost use Rattle.json5_types.specs.Cows.{cow_bytes, is_borrowed};
 ghost use Rattle.json5_de.specs.Convert.{names_bytes};
 ghost use Rattle.json5_de.specs.KeyKinds.{ReadsKeyAs, string_key, char_key, escape_free_key, cow_key, variant_key, ignored_key};
+ghost use Rattle.json5_de.specs.ShortWays.{ReadsShortKey, TakesEscapeFreeKey};
 
 use crate::de::Deserializer;
 use crate::key::MapKey;
 use crate::mismatch::Mismatch;
 use json5_tokens::input::{Borrows, Input};
+use json5_tokens::short_texts::Span;
 use json5_types::byte_buf::ByteBuf;
 use json5_types::cow_str::CowStr;
 use json5_types::error::Result;
@@ -29,9 +31,13 @@ impl<I: Input> MapKey<'_, I> {
     pub fn deserialize_string(&mut self) -> Result<String>
         ensures { KeyReads string_key string_bytes self.old self.new result }
     {
-        match self.de.short_key() {
-            Some(span) => self.de.own_text(span),
-            None => self.de.key_string_slowly(),
+        let Some(span) = self.de.short_key() else {
+            return self.de.key_string_slowly();
+        };
+        let de = &*self.de;
+        match String::from_str(de.scanner.allocator(), de.scanner.text_of_span(span)) {
+            Ok(text) => Ok(text),
+            Err(_) => self.de.without_memory(),
         }
     }
 
@@ -216,5 +222,29 @@ impl<'de, I: Borrows<'de>> Deserializer<I> {
                 &Mismatch::Escaped(text.as_str()),
             ),
         }
+    }
+}
+
+impl<I: Input> Deserializer<I> {
+    /// Takes a key without an escape and returns the span of its text, or returns None.
+    #[inline(always)]
+    pub(crate) fn short_key(&mut self) -> Option<Span>
+        ensures { ReadsShortKey self.old self.new result }
+    {
+        if self.failed {
+            return None;
+        }
+        self.scanner.short_key()
+    }
+}
+
+impl<'de, I: Borrows<'de>> Deserializer<I> {
+    /// Takes a key without an escape, or nothing.
+    #[inline(always)]
+    pub(crate) fn short_key_str(&mut self) -> Option<&'de str>
+        ensures { TakesEscapeFreeKey self.old self.new result }
+    {
+        let span = self.short_key()?;
+        Some(self.scanner.borrowed_text_of_span(span))
     }
 }

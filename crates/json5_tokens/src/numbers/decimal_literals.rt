@@ -8,8 +8,8 @@ ghost use Rattle.json5_grammar.specs.Model.ReadNumbers as model;
 ghost use Rattle.json5_tokens.specs.NumberParts.{begun, run_of, split_sign, digits_of, ReadsTail, IsDecimalLiteral, ReadsDecimalLiteral};
 ghost use Rattle.json5_types.specs.DigitRuns.{Gathers};
 
+use crate::blanks::is_in_front;
 use crate::char::front;
-use crate::short_ways::is_in_front;
 use json5_types::digit_runs::split_digits;
 use json5_types::inline_digits::InlineDigits;
 

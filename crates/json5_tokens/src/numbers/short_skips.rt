@@ -7,11 +7,11 @@ ghost use Rattle.json5_grammar.specs.Model.ReadNumbers as model;
 ghost use Rattle.json5_tokens.specs.ShortNumberSkips.{FollowsSign, FollowsMantissa, FollowsPower, FollowsExponent, TakesShortNumber};
 ghost use Rattle.json5_tokens.specs.TokenResults.{GivesRest};
 
-use crate::byte_runs::number_goes_on;
+use crate::blanks::is_in_front;
 use crate::input::Input;
 use crate::numbers::decimal_literals::is_integer;
+use crate::numbers::short::number_goes_on;
 use crate::scanner::Scanner;
-use crate::short_ways::is_in_front;
 use json5_types::digit_runs::split_digits;
 
 /// How many digits there may be before the point, and how many after it: so few keep the exponent in range.

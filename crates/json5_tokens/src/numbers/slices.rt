@@ -13,8 +13,8 @@ ghost use Rattle.json5_types.specs.Exponents.{IsSmallExponent};
 ghost use Rattle.json5_grammar.specs.Language.Numbers.{spelled};
 ghost use Rattle.json5_grammar.specs.Model.FixedWidthNumbers.{checked};
 
-use crate::byte_runs::front_digits;
 use crate::numbers::decimal_literals::{DecimalLiteral, Exponent};
+use crate::numbers::short::front_digits;
 use crate::refusal::Refusal;
 use json5_grammar::error_code::ErrorCode;
 use json5_types::decimal::{Decimal, DecimalRef};

@@ -1,35 +1,25 @@
 //! Numbers (JSON5 section 6).
 
 ghost use Rattle.json5_grammar.specs.Language.Numbers as numbers;
-ghost use Rattle.json5_write.specs.Out.{piece};
-ghost use Rattle.json5_write.specs.ShortWrites.{Puts, PutsTree};
+ghost use Rattle.json5_write.specs.ShortWrites.{PutsTree};
 ghost use Rattle.json5_write.specs.WrittenTrees.{integer, natural, number};
 
 use crate::Printer;
 use crate::refusal::Put;
-use itoa::{Buffer, Integer};
+use itoa::Buffer;
 use json5_types::decimal::Decimal;
 use std::io::Write;
 
 impl<W: Write + Drop> Printer<W> {
-    /// Writes the decimal digits, after a minus if the number is below zero.
-    #[inline(always)]
-    fn put_integer<I: Integer>(&mut self, value: I) -> Put
-        ensures { Puts (piece (I.text value)) self.old result self.new }
-    {
-        let mut buffer = Buffer::new();
-        let digits = buffer.format(value);
-        self.put_piece(digits)
-    }
-
     /// Writes the decimal digits of a number that isn't negative, by 64 bits where it has no more.
     #[inline(always)]
     pub fn put_unsigned(&mut self, value: u128) -> Put
         ensures { PutsTree (natural value) self.old result self.new }
     {
+        let mut buffer = Buffer::new();
         match u64::try_from(value) {
-            Ok(narrow) => self.put_integer(narrow),
-            Err(_) => self.put_integer(value),
+            Ok(narrow) => self.put_piece(buffer.format(narrow)),
+            Err(_) => self.put_piece(buffer.format(value)),
         }
     }
 
@@ -38,9 +28,10 @@ impl<W: Write + Drop> Printer<W> {
     pub fn put_signed(&mut self, value: i128) -> Put
         ensures { PutsTree (integer value) self.old result self.new }
     {
+        let mut buffer = Buffer::new();
         match i64::try_from(value) {
-            Ok(narrow) => self.put_integer(narrow),
-            Err(_) => self.put_integer(value),
+            Ok(narrow) => self.put_piece(buffer.format(narrow)),
+            Err(_) => self.put_piece(buffer.format(value)),
         }
     }
 

@@ -1,12 +1,12 @@
-use Rattle.std.proofs.Common.{◌∙◌, subst}
-use Rattle.json5_tokens.specs.ByteRuns.{BeginsSolid}
-use Rattle.json5_tokens.proofs.AsciiBlanks.{at_solid_text}
+use Rattle.std.proofs.Common.{◌∙◌, sym}
+use Rattle.std.specs.Str.{chars}
+use Rattle.json5_tokens.proofs.BlankSteps.{at_solid}
 use Rattle.json5_tokens.proofs.blanks.skip_blank.Goals as goal
 
-pub returns-then-begins_solid : goal.returns-then-begins_solid
-returns-then-begins_solid c =
-    let k = subst BeginsSolid c.as_bytes.ensures.value (c.begins_solid.ensures c.if-begins_solid.true) in
-    record { read = c.skip_ascii-rest.ensures.passed ∙ at_solid_text c.skip_ascii-rest.result.now c.skip_ascii-rest.utf8 k; text = c.skip_ascii-rest.utf8 }
-
-pub returns : goal.returns
-returns c = rw c.skip_ascii-rest.ensures.passed c.skip_blank_slowly.ensures
+pub returns-else-c-eq47 : goal.returns-else-c-eq47
+returns-else-c-eq47 c =
+    record {
+      read = sym c.loop-c.invariant.1
+          ∙ at_solid c.in-Some.c (chars c.loop-c.rest.now) (chars c.in-Some.next.now) c.in-Some.ensures.chars (sym c.if-is_json5_whitespace.ensures) c.if-c-eq47.false;
+      text = c.loop-c.invariant.0;
+    }

@@ -1,4 +1,5 @@
 use Rattle.std.proofs.Common.{rules, false, ◌+◌, sym, ap, subst, ◌∙◌, ◌≡◌, ◌<◌, ◌≤◌, length, drop, [], ◌∷◌, drop_of_length-le}
+use Rattle.std.specs.Prelude.{Ok, Err}
 use Rattle.std.specs.Str.{chars}
 use Rattle.json5_types.proofs.LookedUp.{from_here}
 use Rattle.json5_types.proofs.ValuesCompared.{view-Null}
@@ -12,7 +13,7 @@ use Rattle.json5_write.specs.Out.{out, line, piece, ◌then◌, key_out, element
 use Rattle.json5_write.proofs.OutputsJoined.{Reaches-first, Reaches-next}
 use Rattle.json5_write.proofs.ShortWritesJoined.{Puts-as, Puts-stop, Reaches-stop, Reaches-end}
 use Rattle.json5_write.proofs.PiecesWritten.{chars_null, chars_colon_space}
-use Rattle.json5_write.proofs.Commas.{comma_before_then, member_parts, left_first, elements_as, fields_as, element_line_on, member_line_on, open_stop, element_stop, member_stop, left_closed, tree_put}
+use Rattle.json5_write.proofs.Commas.{member_parts, left_first, elements_as, fields_as, element_line_on, member_line_on, element_put, element_unbegun, open_stop, element_stop, member_stop, left_closed, tree_put}
 use Rattle.json5_write.proofs.ValuesInside.{item_first, tree-String, tree-Array, tree-Object}
 use Rattle.json5_write.proofs.value.+tree.Goals as goal
 
@@ -40,37 +41,29 @@ put_elements-returns-in_err-open_brackets g t c =
 pub put_elements-loop-item-init : goal.put_elements-loop-item-init
 put_elements-loop-item-init g t c = record { left = left_first left_bracket _ _ _ c.in_ok-open_brackets.ensures.opens c.in_ok-open_brackets.ensures.deeper }
 
-pub put_elements-returns-in_err-put_element : goal.put_elements-returns-in_err-put_element
-put_elements-returns-in_err-put_element g t c =
+pub put_elements-returns-in_err-start_line : goal.put_elements-returns-in_err-start_line
+put_elements-returns-in_err-start_line g t c =
     let left : c.loop-item.item-index < length c.args.items.now = search rules in
     let next = elements_as c.loop-item.comma_due (ap (elements_of value_tree) (item_first c.args.items.now c.loop-item.item-index c.item-item.result left c.item-item.is)) c.loop-item.invariant.left in
-    element_stop _ _ _ _ _ c.loop-item.comma_due next c.in_err-put_element.ensures c.from_residual-in_err-put_element.ensures.1
+    element_stop _ _ _ _ _ c.loop-item.comma_due next (element_unbegun c.loop-item.printer _ _ c.loop-item.comma_due _ c.in_err-start_line.ensures) c.from_residual-in_err-start_line.ensures.1
+
+pub put_elements-returns-in_err-put_value : goal.put_elements-returns-in_err-put_value
+put_elements-returns-in_err-put_value g t c =
+    let left : c.loop-item.item-index < length c.args.items.now = search rules in
+    let next = elements_as c.loop-item.comma_due (ap (elements_of value_tree) (item_first c.args.items.now c.loop-item.item-index c.item-item.result left c.item-item.is)) c.loop-item.invariant.left in
+    element_stop _ _ _ _ _ c.loop-item.comma_due next (element_put _ c.loop-item.comma_due _ (Err c.in_err-put_value.field-0.0) c.in_ok-start_line.ensures c.in_err-put_value.ensures) c.from_residual-in_err-put_value.ensures.1
 
 pub put_elements-loop-item-preserved : goal.put_elements-loop-item-preserved
 put_elements-loop-item-preserved g t c =
     let left : c.loop-item.item-index < length c.args.items.now = search rules in
     let next = elements_as c.loop-item.comma_due (ap (elements_of value_tree) (item_first c.args.items.now c.loop-item.item-index c.item-item.result left c.item-item.is)) c.loop-item.invariant.left in
-    record { left = element_line_on _ _ c.loop-item.comma_due next c.in_ok-put_element.ensures }
+    record { left = element_line_on _ _ c.loop-item.comma_due next (element_put _ c.loop-item.comma_due _ (Ok tt) c.in_ok-start_line.ensures c.in_ok-put_value.ensures) }
 
 pub put_elements-returns : goal.put_elements-returns
 put_elements-returns g t c =
     let none : length c.args.items.now ≤ c.loop-item.item-index = search rules in
     let last = elements_as c.loop-item.comma_due (ap (elements_of value_tree) (drop_of_length-le c.args.items.now none)) c.loop-item.invariant.left in
     left_closed right_bracket _ _ c.loop-item.comma_due last c.close_brackets.ensures
-
-pub put_element-returns-in_err-start_line : goal.put_element-returns-in_err-start_line
-put_element-returns-in_err-start_line g t c =
-    let d = c.args.printer.now.depth in
-    let o = out c.args.printer.now.limit (value_tree c.args.value.now) d in
-    Puts-as _ _ _ _ _ (comma_before_then c.args.comma_due (piece (line d)) o) (Puts-stop (comma_before c.args.comma_due (piece (line d))) o _ _ _ _ c.from_residual.ensures.1 c.in_err-start_line.ensures)
-
-pub put_element-returns : goal.put_element-returns
-put_element-returns g t c =
-    let d = c.args.printer.now.depth in
-    let u = value_tree c.args.value.now in
-    let o = out c.args.printer.now.limit u d in
-    let first = Reaches-first (comma_before c.args.comma_due (piece (line d))) o _ _ c.in_ok-start_line.ensures in
-    Puts-as _ _ _ _ _ (comma_before_then c.args.comma_due (piece (line d)) o) (Reaches-end _ o _ _ _ _ first (tree_put _ _ _ u c.in_ok-start_line.ensures c.put_value.ensures))
 
 -- ---- objects
 

@@ -1,26 +1,23 @@
-use Rattle.std.proofs.Common.{subst, ◌∙◌}
+use Rattle.std.proofs.Common.{true, ap, subst}
+use Rattle.json5_tokens.specs.ShortWays.{TakesShortSign}
 use Rattle.json5_read.specs.Brackets.{brackets_of}
-use Rattle.json5_de.specs.ShortWays.{ClosesShort}
-use Rattle.json5_de.proofs.OpenClose.{closes_at_once, closes, refuses_closing}
+use Rattle.json5_read.specs.declared.brackets.BracketPair.{BracketPair}
+use Rattle.json5_de.specs.Enums.{ClosesLast}
+use Rattle.json5_de.specs.State.{State}
+use Rattle.json5_de.proofs.ShortReads.{same_reader}
+use Rattle.json5_de.proofs.ShortBrackets.{short_close}
+use Rattle.json5_de.proofs.OpenClose.{closes_at_once}
 use Rattle.json5_de.proofs.ObjectMembers.{signs_of}
-use Rattle.json5_de.proofs.BracketSteps.{failed_of}
-use Rattle.json5_de.proofs.ReadSteps.{input_of}
 use Rattle.json5_de.proofs.de.Deserializer.close_or_fail.Goals as goal
 
-pub returns-then-short_close : goal.returns-then-short_close
-returns-then-short_close g c =
-    closes_at_once (brackets_of c.args.kind) (signs_of c.args.kind) c.args.comma_due c.args.self.now c.short_close.new.self
-    (subst (ClosesShort (brackets_of c.args.kind) c.args.self.now c.short_close.new.self) c.if-short_close.true c.short_close.ensures)
+pub returns : goal.returns
+returns g c =
+    let b = brackets_of c.args.kind in
+    let sign = subst (λ n. TakesShortSign n c.self.inside.scanner c.short_sign.new.self true) (ap (λ (p : BracketPair). p.closing) c.brackets.ensures) c.if-not-short_sign.ensures in
+    rw c.saturating_sub-self-inside.ensures (closes_at_once b (signs_of c.args.kind) c.args.comma_due c.args.self.now _
+    (short_close c.args.kind c.self.inside.scanner c.short_sign.new.self c.self.inside.level c.self.inside.failed c.args.self.now c.self.view_is c.if-self.false sign))
 
-pub returns-in-Ok : goal.returns-in-Ok
-returns-in-Ok g c = rw (← (subst (ClosesShort (brackets_of c.args.kind) c.args.self.now c.short_close.new.self) c.if-short_close.false c.short_close.ensures)) (record { closes = closes (brackets_of c.args.kind) (signs_of c.args.kind) c.args.comma_due c.short_close.new.self c.close.new.self c.in-Ok.ensures.closed; same_text = c.in-Ok.ensures.same_text; failed = tt })
-
-pub returns-in-Err : goal.returns-in-Err
-returns-in-Err g c =
-    rw (← (subst (ClosesShort (brackets_of c.args.kind) c.args.self.now c.short_close.new.self) c.if-short_close.false c.short_close.ensures)) (
-    let k = c.in-Err.ensures in
-    rw c.refuse.ensures.result (record {
-      closes = refuses_closing (brackets_of c.args.kind) (signs_of c.args.kind) c.args.comma_due c.short_close.new.self c.refuse.new.self c.in-Err.e k.refused k.complete k.before;
-      same_text = input_of c.refuse.ensures.state ∙ k.same_text;
-      failed = failed_of c.refuse.ensures.state;
-    }))
+pub returns-then-not-short_sign : goal.returns-then-not-short_sign
+returns-then-not-short_sign g c =
+    let same = same_reader c.self.inside.scanner c.short_sign.new.self c.self.inside.level c.self.inside.failed c.args.self.now c.self.view_is c.if-not-short_sign.ensures in
+    subst (λ (s : State). ClosesLast (brackets_of c.args.kind) c.args.comma_due s c.close_slowly-then-not-short_sign.new.self c.close_slowly-then-not-short_sign.result) same c.close_slowly-then-not-short_sign.ensures

@@ -1,4 +1,5 @@
-use Rattle.std.proofs.Common.{refl, subst, Some, []}
+use Rattle.std.proofs.Common.{refl, ap, ◌∙◌, subst, Some, []}
+use Rattle.std.specs.Prelude.{slice_get}
 use Rattle.std.proofs.lemmas.Result.{err_from_is_err_and}
 use Rattle.json5_grammar.proofs.CommonLemmas.{true_false}
 use Rattle.json5_tokens.specs.Cursor.{IsPositioned}
@@ -22,11 +23,12 @@ returns-in_err-skip_blank g c =
 pub returns-then-is_some : goal.returns-then-is_some
 returns-then-is_some g c =
     let passed = c.in_ok-skip_blank.ensures.passed in
+    let next = c.peek.ensures ∙ ap (λ (s : State). slice_get s.unread 0) c.self.view_is in
     let placed = subst (λ (s : State). IsPositioned (cursor_of s) (Some []) c.fault_here-error.result) c.self.view_is c.fault_here-error.ensures.placed in
     rw c.refuse.ensures.result (record {
       sound = tt;
-      complete = λ end. not_ended c.args.self.now c.skip_blank.new.self c.peek.result c.is_some.result passed c.if-is_some.true c.is_some.ensures c.peek.ensures end;
-      refused = refused_trailing c.args.self.now c.skip_blank.new.self c.fault_here-error.result c.peek.result c.is_some.result passed c.if-is_some.true c.is_some.ensures c.peek.ensures c.fault_here-error.ensures.kind placed;
+      complete = λ end. not_ended c.args.self.now c.skip_blank.new.self c.peek.result c.is_some.result passed c.if-is_some.true c.is_some.ensures next end;
+      refused = refused_trailing c.args.self.now c.skip_blank.new.self c.fault_here-error.result c.peek.result c.is_some.result passed c.if-is_some.true c.is_some.ensures next c.fault_here-error.ensures.kind placed;
       failed = given_up c.args.self.now c.skip_blank.new.self c.refuse.new.self passed (gives_up _ _ c.refuse.ensures.state);
       before = λ h. absurd (true_false h passed.live);
     })
@@ -34,8 +36,9 @@ returns-then-is_some g c =
 pub returns : goal.returns
 returns g c =
     let passed = c.in_ok-skip_blank.ensures.passed in
+    let next = c.peek.ensures ∙ ap (λ (s : State). slice_get s.unread 0) c.self.view_is in
     record {
-      sound = ended c.args.self.now c.skip_blank.new.self c.peek.result c.is_some.result passed c.if-is_some.false c.is_some.ensures c.peek.ensures;
+      sound = ended c.args.self.now c.skip_blank.new.self c.peek.result c.is_some.result passed c.if-is_some.false c.is_some.ensures next;
       complete = λ end. refl;
       refused = tt;
       failed = tt;
