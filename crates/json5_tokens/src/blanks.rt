@@ -199,7 +199,7 @@ pub(crate) fn skip_to_solid(text: &str) -> Option<&str>
     skip_comments(rest)
 }
 
-/// The same: most commas follow a value at once, so one in front is tested for before blanks are.
+/// The same, where a comma is likely: most follow a value at once, so one in front is tested for before blanks are.
 #[inline(always)]
 pub(crate) fn skip_to_comma(text: &str) -> Option<&str>
     ensures { IfSome result (FollowsBlanks text.now) }

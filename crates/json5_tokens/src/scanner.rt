@@ -66,7 +66,11 @@ pub enum ShortStep {
 }
 
 /// Takes tokens from the front of a text. A call that succeeds takes its token; a call that is refused takes nothing, and may
-/// be followed by any other. No call passes over blanks but `skip_blank`.
+/// be followed by any other. No call passes over blanks but `skip_blank` and the short ways.
+///
+/// A short way, `short_step` and its like, takes blanks and what it is named after, where no fault can come. It returns a small
+/// value, so that the caller's frame holds no fault. Where anything else is in front it takes nothing, and the other calls say what
+/// is there.
 ///
 /// Memory is taken for a decimal of more than 19 digits, for a string or a name with an escape, for the text of `string_owned`, and
 /// for a custom fault. `skip_string`, `skip_identifier` and `skip_number` take it for a custom fault alone.
@@ -332,8 +336,8 @@ impl<I: Input> Scanner<I> {
         self.input.as_text().get(span.start..span.end).unwrap_or("")
     }
 
-    /// Takes ASCII blanks up to the next element or member, and before it the comma where one is due. The closing
-    /// bracket stays unread. Returns `Other` where anything else is in front, and takes nothing then.
+    /// Takes blanks up to the next element or member, and before it the comma where one is due. The closing bracket stays unread.
+    /// Returns `Other` where anything else is in front, and takes nothing then.
     #[inline(always)]
     pub fn short_step(&mut self, closing: u8, comma_due: bool) -> ShortStep
         ensures { TakesShortStep closing comma_due self.old self.new result }
@@ -354,7 +358,7 @@ impl<I: Input> Scanner<I> {
         }
     }
 
-    /// Takes ASCII blanks and the sign, an ASCII character, and says whether they were in front. Else takes nothing.
+    /// Takes blanks and the sign, an ASCII character, and says whether they were in front. Else takes nothing.
     #[inline(always)]
     pub fn short_sign(&mut self, sign: u8) -> bool
         ensures { TakesShortSign sign self.old self.new result }
