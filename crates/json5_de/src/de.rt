@@ -31,7 +31,6 @@ use json5_tokens::input::Input;
 use json5_tokens::scanner::Scanner;
 use json5_types::error::{Error, Result};
 use json5_types::nesting::Limit;
-use json5_types::value::Value;
 use json5_types::{ErrorCode, Position};
 use std::alloc::Global;
 use std::marker::Model;

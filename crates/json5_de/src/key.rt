@@ -1,4 +1,4 @@
-//! Keys of objects: the law of a type that is read from one, what its reading is lent, and how a key is reached (JSON5 section 3).
+//! Keys of objects: the law of a type that is read from one, and what its reading is lent (JSON5 section 3).
 
 ghost use Rattle.std.specs.Prelude.{◌≡◌, IfOk, IfErr};
 ghost use Rattle.json5_de.specs.State.{State, SameText};
@@ -13,7 +13,7 @@ mod texts;
 
 use crate::de::Deserializer;
 use json5_tokens::input::Input;
-use json5_types::error::{Error, Result};
+use json5_types::error::Result;
 use std::alloc::Global;
 
 /// A key that is to be read, a string or an identifier (JSON5 section 3). Each of its methods reads it whole, and a type calls
@@ -152,5 +152,3 @@ impl<I: Input> MapKey<'_, I> {
         Ok(Some(key))
     }
 }
-
-impl<I: Input> Deserializer<I> {}

@@ -48,7 +48,7 @@ fn find_colon<I: Input>(scanner: &mut Scanner<I>, fault: &mut Error) -> Option<(
     leave_error(pass_colon(scanner), fault)
 }
 
-/// Takes ASCII blanks and a colon, and says whether they were in front. Else takes nothing. Most colons follow a key at once.
+/// Takes blanks and a colon, and says whether they were in front. Else takes nothing. Most colons follow a key at once.
 #[inline(always)]
 fn short_colon<I: Input>(scanner: &mut Scanner<I>) -> bool
     ensures { TakesShortSign colon_sign scanner.old scanner.new result }

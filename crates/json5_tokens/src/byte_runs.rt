@@ -1,4 +1,4 @@
-//! Runs of bytes in front of a text: how far blanks, names, digits, lines and strings go.
+//! Runs of bytes in front of a text: how far names, lines and strings go, and where a star is.
 
 ghost use Rattle.std.specs.Prelude.{◌≡◌, ◌≤◌, ◌+◌, length, drop, map, IfSome};
 ghost use Rattle.std.specs.List.{prefix_len};

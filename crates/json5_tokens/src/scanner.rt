@@ -72,8 +72,8 @@ pub enum ShortStep {
 /// value, so that the caller's frame holds no fault. Where anything else is in front it takes nothing, and the other calls say what
 /// is there.
 ///
-/// Memory is taken for a decimal of more than 19 digits, for a string or a name with an escape, for the text of `string_owned`, and
-/// for a custom fault. `skip_string`, `skip_identifier` and `skip_number` take it for a custom fault alone.
+/// Memory is taken for a decimal of more than 19 digits, for a string or a name with an escape, for the text of `string_owned` and
+/// `short_string_owned`, and for a custom fault. `skip_string`, `skip_identifier` and `skip_number` take it for a custom fault alone.
 ///
 /// ```text
 /// let mut scanner = Scanner::new(alloc, "/* port */ 8080 // end");

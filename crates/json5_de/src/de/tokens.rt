@@ -1,4 +1,4 @@
-//! Tokens: the calls of the scanner, whose refusal is for good, and the short ways of those that are read most.
+//! Tokens: the calls of the scanner, whose refusal is for good, and the short ways of strings.
 //!
 //! A short way returns a small value, so that the caller's frame holds no fault. Where it returns None, nothing has changed, and
 //! the other calls say what is there.

@@ -8,8 +8,8 @@ ghost use Rattle.json5_de.specs.KeyKinds.{string_key, char_key, escape_free_key,
 ghost use Rattle.json5_de.specs.TokenKinds.{natural_kind, integer_kind};
 
 use crate::de::any::IgnoredAny;
-use crate::key::{DeserializeKey, MapKey};
 use crate::de::from_str;
+use crate::key::{DeserializeKey, MapKey};
 use json5_tokens::input::{Borrows, Input};
 use json5_types::byte_buf::ByteBuf;
 use json5_types::cow_str::CowStr;
