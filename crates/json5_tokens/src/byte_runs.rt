@@ -23,7 +23,7 @@ pub(crate) fn is_ascii_start(byte: u8) -> bool
 pub(crate) fn is_ascii_part(byte: u8) -> bool
     ensures { result ≡ is_ascii_part byte }
 {
-    is_ascii_start(byte) || byte.is_ascii_digit()
+    is_ascii_start(byte) || byte >= b'0' && byte <= b'9'
 }
 
 /// How many ASCII characters in front may continue a name.
