@@ -1,6 +1,6 @@
 -- The schema of each kind of field, and what it is that a schema says of a type that is read.
 -- A promise rests on this.
-use Rattle.std.specs.Prelude.{◌≡◌, ◌≤◌, ◌^◌, ⊤, codes, ℕ, Bool, true, false, not, ◌&&◌, if◌then◌else◌, List, [], ◌∷◌, length, ℤ, Option, Some, None, is_some}
+use Rattle.std.specs.Prelude.{◌≡◌, ◌≤◌, ◌^◌, ◌⊎◌, ⊤, codes, ℕ, Bool, true, false, not, ◌&&◌, if◌then◌else◌, List, [], ◌∷◌, length, ℤ, Option, Some, None, is_some}
 use Rattle.std.specs.Str.{IsUtf8, all_scalars, chars}
 use Rattle.json5_grammar.specs.Language.Documents.{Doc, max_depth}
 use Rattle.json5_grammar.specs.Language.Numbers.{InWhole, Number, whole, decimal}
@@ -8,8 +8,12 @@ use Rattle.json5_grammar.specs.Language.Trees.{Tree, Trees, Members, no_more, mo
 use Rattle.json5_grammar.specs.Language.Trees as tree
 use Rattle.json5_grammar.specs.Model.Collections.{object_of}
 use Rattle.json5_styles.specs.Json.{JsonText}
+use Rattle.json5_styles.specs.JsonTexts.{is_json}
 use Rattle.json5_styles.specs.LaidBack.{ReadsAs}
-use Rattle.json5_types.specs.ValueLookups.{last_named}
+use Rattle.json5_styles.specs.WholeTexts.{RefusesText}
+use Rattle.json5_types.specs.Errors.{LacksMemory}
+use Rattle.json5_types.specs.ValueLookups.{fits, last_named}
+use Rattle.json5_types.specs.declared.error.Error.{Error}
 use Rattle.json5_types.specs.ValueMeanings.{Datum, boolean, number, text, array, object, Items, no_item, item, Fields, no_field, field}
 use Rattle.json5_numbers.specs.Sameness.{is_named}
 use Rattle.json5_read.specs.TreeMeanings.{datum_of, fields_of}
@@ -216,3 +220,7 @@ SaysOfTexts keywords convert = (text : List ℕ) (limit : ℕ) (t : Tree) → al
 pub record IsSchemaOf (keywords : Fields) (made : List ℕ) : Type 0 where
   pub json : JsonText (chars made)
   pub reads : ReadsAs max_depth (chars made) (with_draft keywords)
+
+-- memory was refused, or the whole schema can't be written as JSON: too many brackets are open at once in it
+abbrev pub RefusesSchema : Fields → Error → Type 0
+RefusesSchema keywords e = LacksMemory e ⊎ RefusesText (fits (with_draft keywords)) (is_json (with_draft keywords)) e

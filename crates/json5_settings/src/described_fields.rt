@@ -1,6 +1,7 @@
 //! Fields of a struct by their description, and what a schema says of each.
 
-ghost use Rattle.std.specs.Prelude.{IfOk, OnOk, ◌≡◌};
+ghost use Rattle.std.specs.Prelude.{IfErr, IfOk, OnOk, ◌≡◌};
+ghost use Rattle.json5_types.specs.Errors.{LacksMemory};
 ghost use Rattle.json5_types.specs.ValueMeanings.{Fields, fields_view};
 ghost use Rattle.json5_settings.specs.DescribedSchemas.{Says};
 ghost use Rattle.json5_settings.specs.AddedFields.{AddsField, AddsName};
@@ -33,6 +34,7 @@ impl FieldSchemas {
     ) -> Result<()>
         ensures adds { OnOk result (AddsField name.now T.keywords is_required self.old self.new) }
         ensures says { Says T.keywords T.convert }
+        ensures refused { IfErr result LacksMemory }
     {
         self.put(alloc, name, T::keywords(alloc), is_required)
     }
@@ -45,7 +47,8 @@ impl FieldSchemas {
         keywords: Result<Keywords>,
         is_required: bool,
     ) -> Result<()>
-        ensures { (kw : Fields) → IfOk keywords (λ made. fields_view made.items ≡ kw) → OnOk result (AddsField name.now kw is_required self.old self.new) }
+        ensures adds { (kw : Fields) → IfOk keywords (λ made. fields_view made.items ≡ kw) → OnOk result (AddsField name.now kw is_required self.old self.new) }
+        ensures refused { IfErr keywords LacksMemory → IfErr result LacksMemory }
     {
         let keywords = keywords?;
         let key = String::from_str(alloc, name)?;
@@ -58,7 +61,8 @@ impl FieldSchemas {
 
     /// Adds the name of a field that has to be there.
     fn require(&mut self, alloc: Global, name: &str) -> Result<()>
-        ensures { OnOk result (AddsName name.now self.old self.new) }
+        ensures adds { OnOk result (AddsName name.now self.old self.new) }
+        ensures refused { IfErr result LacksMemory }
     {
         let name = String::from_str(alloc, name)?;
         self.required.push(Value::String(name))?;
@@ -68,7 +72,8 @@ impl FieldSchemas {
 
 /// A description of the fields of a struct whose types have schemas: one field, or a tuple of descriptions.
 pub trait DescribedFields<I: Input, V: Drop>: StructFields<I, V> {
-    ghost use Rattle.std.specs.Prelude.{List, OnOk};
+    ghost use Rattle.std.specs.Prelude.{IfErr, List, OnOk};
+    ghost use Rattle.json5_types.specs.Errors.{LacksMemory};
     ghost use Rattle.json5_settings.specs.DescribedSchemas.{Describes, FieldKind};
     ghost use Rattle.json5_settings.specs.AddedFields.{AddsFields};
 
@@ -82,7 +87,8 @@ pub trait DescribedFields<I: Input, V: Drop>: StructFields<I, V> {
     /// `OutOfMemory` where a request for memory was refused.
     fn describe(self, alloc: Global, schemas: &mut FieldSchemas) -> Result<()>
         ensures adds { OnOk result (AddsFields (Self.layout (Self.shape self)).names kinds schemas.old schemas.new) }
-        ensures says { Describes (Self.layout (Self.shape self)) kinds };
+        ensures says { Describes (Self.layout (Self.shape self)) kinds }
+        ensures refused { IfErr result LacksMemory };
 }
 
 /// A field that has to be there.

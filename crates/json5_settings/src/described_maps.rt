@@ -1,6 +1,7 @@
 //! Schemas of maps from strings.
 
-ghost use Rattle.std.specs.Prelude.{IfOk, ◌≡◌};
+ghost use Rattle.std.specs.Prelude.{IfErr, IfOk, ◌≡◌};
+ghost use Rattle.json5_types.specs.Errors.{LacksMemory};
 ghost use Rattle.json5_types.specs.ValueMeanings.{Fields, fields_view};
 ghost use Rattle.json5_settings.specs.DescribedSchemas.{map_schema};
 
@@ -40,7 +41,8 @@ impl<I: Input, T: Described<I>> Described<I> for IndexMap<String, T> {
 /// The keywords of a map to what these say.
 #[tactic(auto, using(crate::proofs::KeywordsPut::keyword_views))]
 fn map_of(alloc: Global, value: Result<Keywords>) -> Result<Keywords>
-    ensures { (kw : Fields) → IfOk value (λ made. fields_view made.items ≡ kw) → IfOk result (λ made. fields_view made.items ≡ map_schema kw) }
+    ensures made { (kw : Fields) → IfOk value (λ made. fields_view made.items ≡ kw) → IfOk result (λ made. fields_view made.items ≡ map_schema kw) }
+    ensures refused { IfErr value LacksMemory → IfErr result LacksMemory }
 {
     let value = value?;
     let keywords = keyword_alone(alloc, "additionalProperties", Value::Object(value))?;

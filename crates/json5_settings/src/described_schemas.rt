@@ -1,12 +1,13 @@
 //! The schema of a type that is read.
 
-ghost use Rattle.std.specs.Prelude.{IfOk, codes, length, string_bytes, true, ◌≡◌};
+ghost use Rattle.std.specs.Prelude.{IfErr, IfOk, codes, length, string_bytes, true, ◌≡◌};
+ghost use Rattle.json5_types.specs.Errors.{LacksMemory};
 ghost use Rattle.json5_types.specs.ValueMeanings.{Fields, Items, array, fields_view, items_view, no_field};
 ghost use Rattle.json5_de.specs.Convert.{names_bytes};
 ghost use Rattle.json5_fields.specs.Named.{one_named};
 ghost use Rattle.json5_settings.specs.AddedFields.{MakesBy};
 ghost use Rattle.json5_settings.specs.AsciiNames.{are_ascii, fit_together};
-ghost use Rattle.json5_settings.specs.DescribedSchemas.{Describes, IsSchemaOf, Says, SaysOfTexts, SaysOpenStruct, SaysStruct, fields_keywords, keyword, members_keywords, names_schema, open_struct_schema, struct_schema, texts_of};
+ghost use Rattle.json5_settings.specs.DescribedSchemas.{Describes, IsSchemaOf, RefusesSchema, Says, SaysOfTexts, SaysOpenStruct, SaysStruct, fields_keywords, keyword, members_keywords, names_schema, open_struct_schema, struct_schema, texts_of};
 
 use crate::described::{Described, Keywords, keyword_alone, put_keyword, with_kind};
 use crate::described_fields::{DescribedFields, FieldSchemas};
@@ -46,13 +47,15 @@ use std::alloc::Global;
 pub fn described_schema<T: Described<&'static str>>(alloc: Global) -> Result<String>
     ensures made { IfOk result (λ made. IsSchemaOf T.keywords (string_bytes made)) }
     ensures says { SaysOfTexts T.keywords T.convert }
+    ensures refused { IfErr result (RefusesSchema T.keywords) }
 {
     written(alloc, T::keywords(alloc))
 }
 
 /// The schema with these keywords, as a text.
 fn written(alloc: Global, keywords: Result<Keywords>) -> Result<String>
-    ensures { (kw : Fields) → IfOk keywords (λ made. fields_view made.items ≡ kw) → IfOk result (λ made. IsSchemaOf kw (string_bytes made)) }
+    ensures made { (kw : Fields) → IfOk keywords (λ made. fields_view made.items ≡ kw) → IfOk result (λ made. IsSchemaOf kw (string_bytes made)) }
+    ensures refused { (kw : Fields) → IfOk keywords (λ made. fields_view made.items ≡ kw) → IfErr keywords LacksMemory → IfErr result (RefusesSchema kw) }
 {
     let mut keywords = keywords?;
     let draft = String::from_str(alloc, DRAFT)?;
@@ -78,6 +81,7 @@ pub fn struct_keywords<I: Input, V: Drop, F: DescribedFields<I, V>>(
     requires { fit_together (F.layout (F.shape fields)).names ≡ true }
     ensures made { IfOk result (λ made. fields_view made.items ≡ open_struct_schema (F.layout (F.shape fields)).names F.kinds) }
     ensures says { SaysOpenStruct (F.layout (F.shape fields)) F.kinds }
+    ensures refused { IfErr result LacksMemory }
 {
     with_members::<I, V, F>(alloc, fields, Ok(Vec::new(alloc)))
 }
@@ -100,6 +104,7 @@ pub fn struct_only_keywords<I: Input, V: Drop, F: DescribedFields<I, V>>(
     requires { fit_together (F.layout (F.shape fields)).names ≡ true }
     ensures made { IfOk result (λ made. fields_view made.items ≡ struct_schema (F.layout (F.shape fields)).names F.kinds) }
     ensures says { SaysStruct (F.layout (F.shape fields)) F.kinds }
+    ensures refused { IfErr result LacksMemory }
 {
     let no_others = keyword_alone(alloc, "additionalProperties", Value::Bool(false));
     with_members::<I, V, F>(alloc, fields, no_others)
@@ -113,6 +118,7 @@ fn with_members<I: Input, V: Drop, F: DescribedFields<I, V>>(
 ) -> Result<Keywords>
     ensures made { MakesBy (fields_keywords (F.layout (F.shape fields)).names F.kinds) others result }
     ensures describes { Describes (F.layout (F.shape fields)) F.kinds }
+    ensures refused { IfErr others LacksMemory → IfErr result LacksMemory }
 {
     let mut schemas = FieldSchemas {
         properties: Vec::new(alloc),
@@ -126,7 +132,8 @@ fn with_members<I: Input, V: Drop, F: DescribedFields<I, V>>(
 
 /// The keywords of an object of fields with these schemas, before others.
 fn put_members(alloc: Global, schemas: FieldSchemas, others: Result<Keywords>) -> Result<Keywords>
-    ensures { MakesBy (members_keywords (fields_view schemas.properties.items) (items_view schemas.required.items)) others result }
+    ensures made { MakesBy (members_keywords (fields_view schemas.properties.items) (items_view schemas.required.items)) others result }
+    ensures refused { IfErr others LacksMemory → IfErr result LacksMemory }
 {
     let mut keywords = others?;
     let FieldSchemas {
@@ -159,20 +166,23 @@ pub fn names_keywords<T: Copy>(alloc: Global, names: &[&str], values: &[T]) -> R
     requires values { length values.now ≡ length names.now }
     ensures made { IfOk result (λ made. fields_view made.items ≡ names_schema (names_bytes names.now)) }
     ensures says { Says (names_schema (names_bytes names.now)) (one_named (names_bytes names.now) values.now) }
+    ensures refused { IfErr result LacksMemory }
 {
     one_of(alloc, texts_of(alloc, names))
 }
 
 /// The keywords of one of these values.
 fn one_of(alloc: Global, values: Result<Vec<Value>>) -> Result<Keywords>
-    ensures { (xs : Items) → IfOk values (λ made. items_view made.items ≡ xs) → IfOk result (λ made. fields_view made.items ≡ keyword (codes "enum") (array xs) no_field) }
+    ensures made { (xs : Items) → IfOk values (λ made. items_view made.items ≡ xs) → IfOk result (λ made. fields_view made.items ≡ keyword (codes "enum") (array xs) no_field) }
+    ensures refused { IfErr values LacksMemory → IfErr result LacksMemory }
 {
     keyword_alone(alloc, "enum", Value::Array(values?))
 }
 
 /// The names as values.
 fn texts_of(alloc: Global, names: &[&str]) -> Result<Vec<Value>>
-    ensures { IfOk result (λ made. items_view made.items ≡ texts_of (names_bytes names.now)) }
+    ensures made { IfOk result (λ made. items_view made.items ≡ texts_of (names_bytes names.now)) }
+    ensures refused { IfErr result LacksMemory }
 {
     let mut texts = Vec::with_capacity(alloc, names.len())?;
     for name in names {

@@ -1,6 +1,7 @@
 //! Schemas of null, booleans, numbers, strings and values of any kind, and of options and lists.
 
-ghost use Rattle.std.specs.Prelude.{IfOk, negsuc, pos, ◌-◌, ◌^◌, ◌≡◌};
+ghost use Rattle.std.specs.Prelude.{IfErr, IfOk, negsuc, pos, ◌-◌, ◌^◌, ◌≡◌};
+ghost use Rattle.json5_types.specs.Errors.{LacksMemory};
 ghost use Rattle.json5_types.specs.ValueMeanings.{Fields, fields_view, item, items_view, no_item, value_of};
 ghost use Rattle.json5_settings.specs.DescribedSchemas.{any_schema, boolean_schema, list_schema, null_schema, number_schema, option_schema, text_schema, whole_schema};
 
@@ -178,7 +179,8 @@ impl<I: Input> Described<I> for isize {
 
 /// The keywords of null.
 fn null_alone(alloc: Global) -> Result<Keywords>
-    ensures { IfOk result (λ made. fields_view made.items ≡ null_schema) }
+    ensures made { IfOk result (λ made. fields_view made.items ≡ null_schema) }
+    ensures refused { IfErr result LacksMemory }
 {
     with_kind(alloc, "null", Vec::new(alloc))
 }
@@ -186,7 +188,8 @@ fn null_alone(alloc: Global) -> Result<Keywords>
 /// The keywords of null or of what these say.
 #[tactic(auto, using(crate::proofs::KeywordsPut::keyword_views))]
 fn null_or(alloc: Global, some: Result<Keywords>) -> Result<Keywords>
-    ensures { (kw : Fields) → IfOk some (λ made. fields_view made.items ≡ kw) → IfOk result (λ made. fields_view made.items ≡ option_schema kw) }
+    ensures made { (kw : Fields) → IfOk some (λ made. fields_view made.items ≡ kw) → IfOk result (λ made. fields_view made.items ≡ option_schema kw) }
+    ensures refused { IfErr some LacksMemory → IfErr result LacksMemory }
 {
     let some = some?;
     let null = null_alone(alloc)?;
@@ -197,7 +200,8 @@ fn null_or(alloc: Global, some: Result<Keywords>) -> Result<Keywords>
 /// A list of two.
 #[tactic(auto, using(crate::proofs::KeywordsPut::keyword_views))]
 fn two(alloc: Global, first: Value, second: Value) -> Result<Vec<Value>>
-    ensures { IfOk result (λ made. items_view made.items ≡ item (value_of first) (item (value_of second) no_item)) }
+    ensures made { IfOk result (λ made. items_view made.items ≡ item (value_of first) (item (value_of second) no_item)) }
+    ensures refused { IfErr result LacksMemory }
 {
     let mut values = Vec::new(alloc);
     values.push(first)?;
@@ -208,7 +212,8 @@ fn two(alloc: Global, first: Value, second: Value) -> Result<Vec<Value>>
 /// The keywords of a list of what these say.
 #[tactic(auto, using(crate::proofs::KeywordsPut::keyword_views))]
 fn list_of(alloc: Global, element: Result<Keywords>) -> Result<Keywords>
-    ensures { (kw : Fields) → IfOk element (λ made. fields_view made.items ≡ kw) → IfOk result (λ made. fields_view made.items ≡ list_schema kw) }
+    ensures made { (kw : Fields) → IfOk element (λ made. fields_view made.items ≡ kw) → IfOk result (λ made. fields_view made.items ≡ list_schema kw) }
+    ensures refused { IfErr element LacksMemory → IfErr result LacksMemory }
 {
     let element = element?;
     let keywords = keyword_alone(alloc, "items", Value::Object(element))?;

@@ -5,7 +5,7 @@ use Rattle.json5_settings.proofs.KeywordsPut.{of_ok}
 use Rattle.json5_settings.proofs.SlipsSeen.{if_ok_then}
 use Rattle.json5_settings.proofs.described_maps.map_of.Goals as goal
 
-pub returns : goal.returns
-returns c = λ kw is.
+pub returns-clause-made : goal.returns-clause-made
+returns-clause-made c = λ kw is.
     let given = of_ok (λ made. fields_view made.items ≡ kw) _ _ c.in_ok-value.was is in
-    if_ok_then c.with_kind.result c.with_kind.ensures (λ made made_is. made_is ∙ rw (c.in_ok-keywords.ensures, view-Object c.in_ok-value.value, given) refl)
+    if_ok_then c.with_kind.result c.with_kind.ensures.made (λ made made_is. made_is ∙ rw (c.in_ok-keywords.ensures.made, view-Object c.in_ok-value.value, given) refl)

@@ -5,8 +5,8 @@ use Rattle.json5_types.proofs.ValuesCompared.{view-String}
 use Rattle.json5_settings.proofs.FieldsAdded.{element_last}
 use Rattle.json5_settings.proofs.described_fields.FieldSchemas.require.Goals as goal
 
-pub returns : goal.returns
-returns c = record {
+pub returns-clause-adds : goal.returns-clause-adds
+returns-clause-adds c = record {
   properties = refl;
   required = ap items_view c.in_ok-push.ensures.items ∙ (element_last _ (value.String c.in_ok-name.name) ∙ rw (view-String c.in_ok-name.name, c.in_ok-name.ensures.ok) refl);
 }
