@@ -173,7 +173,7 @@ pub fn names_keywords<T: Copy>(alloc: Global, names: &[&str], values: &[T]) -> R
 
 /// The keywords of one of these values.
 fn one_of(alloc: Global, values: Result<Vec<Value>>) -> Result<Keywords>
-    ensures made { (xs : Items) → IfOk values (λ made. items_view made.items ≡ xs) → IfOk result (λ made. fields_view made.items ≡ keyword (codes "enum") (array xs) no_field) }
+    ensures made { (xs : Items) → IfOk values (λ vs. items_view vs.items ≡ xs) → IfOk result (λ ks. fields_view ks.items ≡ keyword (codes "enum") (array xs) no_field) }
     ensures refused { IfErr values LacksMemory → IfErr result LacksMemory }
 {
     keyword_alone(alloc, "enum", Value::Array(values?))
