@@ -1,16 +1,17 @@
 -- Reading a number by its first characters.
-use Rattle.std.proofs.Common.{◌≡◌, ℕ, Bool, true, false, cond, List, [], ◌∷◌, refl, ap, sym, ◌∙◌, ◌≢◌, arith, Some, None}
+use Rattle.std.proofs.Common.{◌≡◌, ◌<◌, ℕ, Bool, true, false, cond, List, [], ◌∷◌, ◌++◌, length, refl, ap, sym, subst, ◌∙◌, ◌≢◌, arith, Some, None}
 use Rattle.std.proofs.lemmas.Bool.Decides.{nat_tests}
-use Rattle.std.specs.Prelude.{◌==◌, ◌||◌}
+use Rattle.std.specs.Prelude.{◌==◌, ◌||◌, slice_index}
 use lib.Chars.{codes}
 use Rattle.json5_grammar.specs.declared.error_code.ErrorCode.TheVariants.{EofParsingNumber, ExpectedNumber, LeadingZero}
 use Rattle.json5_grammar.specs.Language.Characters.{is_digit}
 use Rattle.json5_grammar.specs.Language.Numbers.{decimal, infinite, nan, hex_start, in_run, begins_run}
 use Rattle.json5_grammar.specs.Model.Reading.{bad, here, inner, word_at}
-use Rattle.std.specs.Str.{chars}
+use Rattle.std.specs.Str.{IsUtf8, chars}
+use Rattle.std.proofs.lemmas.Str.{IsUtf8-past_char, chars_past_char, encode_ascii}
 use Rattle.json5_grammar.proofs.CommonLemmas.{not_eq}
 use Rattle.json5_tokens.proofs.NumberSteps.{infinity_rest, nan_rest}
-use Rattle.json5_tokens.specs.NumberParts.{split_sign}
+use Rattle.json5_tokens.specs.NumberParts.{IsAtRun, split_sign}
 use Rattle.json5_grammar.specs.Model.ReadNumbers.{front_of, rest_of, literal_at, if_literal, decimal_run, at_zero, unsigned, number}
 
 -- ---- decimal runs
@@ -63,6 +64,30 @@ at_point q m x y c e h =
 
 pub zero_run : (q : List ℕ) (m : Bool) (x y z : List ℕ) (c d : ℕ) → x ≡ c ∷ y → c ≡ 48 → y ≡ d ∷ z → ((d == 46) || ((d == 101) || (d == 69))) ≡ true → unsigned q m x ≡ decimal_run q m x
 zero_run q m x y z c d e h f k = unsigned_zero q m x y c e h ∙ at_point q m y z d f k ∙ ap (decimal_run q m) (sym (e ∙ ap (λ n. n ∷ y) h))
+
+-- a number told by its first bytes
+
+past_ascii : (s x : List ℕ) (c : ℕ) → IsUtf8 x → x ≡ c ∷ s → c < 128 → IsUtf8 s × (chars x ≡ c ∷ chars s)
+past_ascii s x c u e h =
+    let front = e ∙ ap (λ z. z ++ s) (sym (encode_ascii c h)) in
+    (IsUtf8-past_char x s c u front, chars_past_char x s c u front)
+
+pub begins_at_run : (s bytes : List ℕ) → bytes ≡ s → IsUtf8 s → (length bytes ≡ 0 → ⊥) → (slice_index bytes 0 ≡ 48 → ⊥) → begins_run (slice_index bytes 0) ≡ true → IsAtRun (chars s)
+begins_at_run [] bytes e u some zero begun = absurd (some (ap length e))
+begins_at_run (c ∷ s) bytes e u some zero begun = λ start negative.
+    let begins : begins_run c ≡ true = subst (λ z. begins_run (slice_index z 0) ≡ true) e begun in
+    let ascii : c < 128 = grind (arith, nat_tests) in
+    unsigned_run start negative (chars (c ∷ s)) (chars s) c (past_ascii s (c ∷ s) c u refl ascii).1 (λ h. zero (ap (λ z. slice_index z 0) e ∙ h)) begins
+
+pub zero_at_run : (s bytes : List ℕ) → bytes ≡ s → IsUtf8 s → 1 < length bytes → slice_index bytes 0 ≡ 48 → ((slice_index bytes 1 == 46) || ((slice_index bytes 1 == 101) || (slice_index bytes 1 == 69))) ≡ true → IsAtRun (chars s)
+zero_at_run [] bytes e u l zero mark = let k = ap length e in absurd (omega (arith, k, l))
+zero_at_run (c ∷ []) bytes e u l zero mark = let k = ap length e in absurd (omega (arith, k, l))
+zero_at_run (c ∷ d ∷ s) bytes e u l zero mark = λ start negative.
+    let first : c ≡ 48 = sym (ap (λ z. slice_index z 0) e) ∙ zero in
+    let marks : ((d == 46) || ((d == 101) || (d == 69))) ≡ true = subst (λ z. ((slice_index z 1 == 46) || ((slice_index z 1 == 101) || (slice_index z 1 == 69))) ≡ true) e mark in
+    let ascii : d < 128 = grind (arith, nat_tests) in
+    let front = past_ascii (d ∷ s) (c ∷ (d ∷ s)) c u refl (omega (arith, first)) in
+    zero_run start negative (chars (c ∷ (d ∷ s))) (chars (d ∷ s)) (chars s) c d front.1 first (past_ascii s (d ∷ s) d front.0 refl ascii).1 marks
 
 pub unsigned_other : (q : List ℕ) (m : Bool) (x y : List ℕ) (c : ℕ) → x ≡ c ∷ y → c ≢ 73 → c ≢ 78 → c ≢ 48 → begins_run c ≡ false → unsigned q m x ≡ bad (Some ExpectedNumber) (here x)
 unfolding unsigned

@@ -104,9 +104,9 @@ fn blanks_len_slowly(bytes: &[u8], from: usize) -> usize
     i
 }
 
-/// How many ASCII blanks are in front, seen 16 at a time.
+/// The same as `blanks_len`, for more than 16 blanks too.
 #[inline(never)]
-fn blanks_len(bytes: &[u8]) -> usize
+fn many_blanks_len(bytes: &[u8]) -> usize
     ensures { result ≡ prefix_len is_ascii_blank bytes.now }
 {
     let mut i = 0;
@@ -118,6 +118,20 @@ fn blanks_len(bytes: &[u8]) -> usize
         i += 16;
     }
     blanks_len_slowly(bytes, i)
+}
+
+/// How many ASCII blanks are in front, seen 16 at a time. Mostly there are fewer.
+#[inline(never)]
+fn blanks_len(bytes: &[u8]) -> usize
+    ensures { result ≡ prefix_len is_ascii_blank bytes.now }
+{
+    if bytes.len() >= 16 {
+        let found = no_blanks(u8x16::from_slice(bytes));
+        if found != 0 {
+            return found.trailing_zeros() as usize;
+        }
+    }
+    many_blanks_len(bytes)
 }
 
 /// What follows the ASCII blanks in front (JSON5 section 8). Mostly there is none, or one space.
@@ -175,7 +189,7 @@ pub(crate) fn is_in_front(sign: u8, text: &str) -> bool
 
 /// What follows blanks of any kind, comments among them. None at the end of the text, and at a comment that has a fault.
 #[inline(never)]
-fn skip_comments(text: &str) -> Option<&str>
+fn skip_any_blanks(text: &str) -> Option<&str>
     ensures { IfSome result (FollowsBlanks text.now) }
 {
     let Ok(rest) = skip_blank(text) else {
@@ -196,12 +210,12 @@ pub(crate) fn skip_to_solid(text: &str) -> Option<&str>
     if begins_solid(rest) {
         return Some(rest);
     }
-    skip_comments(rest)
+    skip_any_blanks(rest)
 }
 
 /// The same, where a comma is likely: most follow a value at once, so one in front is tested for before blanks are.
 #[inline(always)]
-pub(crate) fn skip_to_comma(text: &str) -> Option<&str>
+pub(crate) fn skip_to_likely_comma(text: &str) -> Option<&str>
     ensures { IfSome result (FollowsBlanks text.now) }
 {
     if is_in_front(b',', text) {

@@ -1,57 +1,14 @@
-//! Runs of bytes in front of a text: how far names, lines and strings go, and where a star is.
+//! Runs of bytes in front of a text: how far lines and strings go, and where a star is.
 
-ghost use Rattle.std.specs.Prelude.{◌≡◌, ◌≤◌, ◌+◌, length, drop, map, IfSome};
+ghost use Rattle.std.specs.Prelude.{◌≡◌, ◌≤◌, ◌+◌, length, drop, map};
 ghost use Rattle.std.specs.List.{prefix_len};
 ghost use Rattle.std.specs.Simd.Lanes.{mask_l};
 ghost use Rattle.memchr.specs.Find.{is_byte, is_byte3};
 ghost use Rattle.json5_grammar.specs.Language.Strings.{is_raw};
-ghost use Rattle.json5_tokens.specs.ByteRuns.{ends_raw, is_ascii_start, is_ascii_part, IsAsciiName, is_in_line, is_no_star};
+ghost use Rattle.json5_tokens.specs.ByteRuns.{ends_raw, is_in_line, is_no_star};
 
 use memchr::{memchr, memchr3};
 use std::simd::prelude::*;
-
-/// Whether it is an ASCII character that may begin a name.
-#[inline(always)]
-pub(crate) fn is_ascii_start(byte: u8) -> bool
-    ensures { result ≡ is_ascii_start byte }
-{
-    byte >= b'a' && byte <= b'z' || byte >= b'A' && byte <= b'Z' || byte == b'_' || byte == b'$'
-}
-
-/// Whether it is an ASCII character that may continue a name.
-#[inline(always)]
-pub(crate) fn is_ascii_part(byte: u8) -> bool
-    ensures { result ≡ is_ascii_part byte }
-{
-    is_ascii_start(byte) || byte >= b'0' && byte <= b'9'
-}
-
-/// How many ASCII characters in front may continue a name.
-#[inline(always)]
-pub(crate) fn name_len(bytes: &[u8]) -> usize
-    ensures { result ≡ prefix_len is_ascii_part bytes.now }
-{
-    let mut i = 0;
-    while i < bytes.len() && is_ascii_part(bytes[i]) {
-        i += 1;
-    }
-    i
-}
-
-/// How long the name in front is, if it is of ASCII characters alone and an ASCII character that begins no escape follows it.
-#[inline(always)]
-pub(crate) fn ascii_name_len(bytes: &[u8]) -> Option<usize>
-    ensures { IfSome result (IsAsciiName bytes.now) }
-{
-    if bytes.is_empty() || !is_ascii_start(bytes[0]) {
-        return None;
-    }
-    let len = name_len(bytes);
-    if len < bytes.len() && bytes[len] < 128 && bytes[len] != b'\\' {
-        return Some(len);
-    }
-    None
-}
 
 /// Which of the bytes are LF or CR or begin a character from U+2000 to U+2FFF.
 #[inline(always)]

@@ -6,7 +6,7 @@ ghost use Rattle.json5_grammar.specs.Language.Characters.{is_blank, is_terminato
 ghost use Rattle.json5_tokens.specs.Escapes.{escape_of};
 ghost use Rattle.json5_tokens.specs.Scan.{IsFront, StartsWith};
 
-use crate::byte_runs::{is_ascii_part, is_ascii_start};
+use crate::short_texts::{is_ascii_part, is_ascii_start};
 use unicode::properties::GeneralCategory;
 
 /// Says whether the character may be between tokens, as white space or a line terminator: U+0009 to U+000D, a space, U+00A0,

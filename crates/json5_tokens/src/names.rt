@@ -9,10 +9,10 @@ ghost use Rattle.json5_tokens.specs.ScanTexts.{fits_name, is_raw_part, item_of_n
 ghost use Rattle.json5_tokens.specs.ScanKeys.{key_ahead};
 ghost use Rattle.json5_tokens.specs.ScanTextTokens.{AnswersToken};
 
-use crate::byte_runs::name_len;
 use crate::char::{front, is_json5_identifier, is_json5_identifier_start};
 use crate::escapes::unicode_escape;
 use crate::refusal::Refusal;
+use crate::short_texts::name_len;
 use crate::strings::{is_quote, read_string_token};
 use crate::strings_and_names::{Kind, read_text, skip_text};
 use crate::text_token::TextToken;

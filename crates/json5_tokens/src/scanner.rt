@@ -11,7 +11,7 @@ ghost use Rattle.json5_tokens.specs.ShortTexts.{IsTextAt};
 ghost use Rattle.json5_types.specs.Errors.{IsCustomAt, LacksMemory};
 ghost use Rattle.json5_tokens.specs.ShortWays.{FindsStep, TakesShortStep, TakesShortSign};
 
-use crate::blanks::{begins_solid, is_in_front, skip_blank, skip_to_comma, skip_to_solid};
+use crate::blanks::{begins_solid, is_in_front, skip_blank, skip_to_likely_comma, skip_to_solid};
 use crate::input::{Borrows, Input};
 use crate::names::{read_key, read_name, skip_name};
 use crate::numbers::{read_number, skip_number};
@@ -515,7 +515,7 @@ fn find_step(closing: u8, comma_due: bool, text: &str) -> Option<(bool, &str)>
     if closing >= 128 {
         return None;
     }
-    let solid = skip_to_comma(text)?;
+    let solid = skip_to_likely_comma(text)?;
     let closes = is_in_front(closing, solid);
     if closes || !comma_due {
         return Some((closes, solid));

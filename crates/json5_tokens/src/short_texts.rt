@@ -1,17 +1,18 @@
 //! Short ways of strings and keys: one without an escape is taken at once and isn't copied, or any string as a `String`. Each
 //! returns no `Error`, so the caller's frame holds none. When it returns None it takes nothing, and the scanner's other calls say
-//! what is there.
+//! what is there. Which ASCII characters a name may have stands here too.
 
-ghost use Rattle.std.specs.Prelude.{◌∷◌, true, IfSome, string_bytes};
+ghost use Rattle.std.specs.Prelude.{◌≡◌, ◌∷◌, true, IfSome, string_bytes};
+ghost use Rattle.std.specs.List.{prefix_len};
 ghost use Rattle.std.specs.Str.{chars};
 ghost use Rattle.json5_tokens.specs.ScanTexts.{quote_of, string_at, text_at};
+ghost use Rattle.json5_tokens.specs.ByteRuns.{is_ascii_start, is_ascii_part, IsAsciiName};
 ghost use Rattle.json5_tokens.specs.ShortWays.{IsInFront};
 ghost use Rattle.json5_tokens.specs.ShortTexts.{IsEscapeFreeString, IsEscapeFreeKey, FindsEscapeFree, FindsFirst, TakesShortString, TakesShortKey, TakesShortOwned};
 ghost use Rattle.json5_tokens.specs.declared.strings_and_names.Kind.TheVariants as kind;
 ghost use Rattle.json5_tokens.specs.TokenResults.{GivesMore, GivesText, IsOwned, IsOwnedBehind};
 
 use crate::blanks::{is_in_front, skip_ascii};
-use crate::byte_runs::ascii_name_len;
 use crate::char::front;
 use crate::input::Input;
 use crate::scanner::Scanner;
@@ -44,6 +45,49 @@ pub(crate) fn front_quote(text: &str) -> Option<Quote>
     }
     if is_in_front(b'\'', text) {
         return Some(Quote::Single);
+    }
+    None
+}
+
+/// Whether it is an ASCII character that may begin a name.
+#[inline(always)]
+pub(crate) fn is_ascii_start(byte: u8) -> bool
+    ensures { result ≡ is_ascii_start byte }
+{
+    byte >= b'a' && byte <= b'z' || byte >= b'A' && byte <= b'Z' || byte == b'_' || byte == b'$'
+}
+
+/// Whether it is an ASCII character that may continue a name.
+#[inline(always)]
+pub(crate) fn is_ascii_part(byte: u8) -> bool
+    ensures { result ≡ is_ascii_part byte }
+{
+    is_ascii_start(byte) || byte >= b'0' && byte <= b'9'
+}
+
+/// How many ASCII characters in front may continue a name.
+#[inline(always)]
+pub(crate) fn name_len(bytes: &[u8]) -> usize
+    ensures { result ≡ prefix_len is_ascii_part bytes.now }
+{
+    let mut i = 0;
+    while i < bytes.len() && is_ascii_part(bytes[i]) {
+        i += 1;
+    }
+    i
+}
+
+/// How long the name in front is, if it is of ASCII characters alone and an ASCII character that begins no escape follows it.
+#[inline(always)]
+fn ascii_name_len(bytes: &[u8]) -> Option<usize>
+    ensures { IfSome result (IsAsciiName bytes.now) }
+{
+    if bytes.is_empty() || !is_ascii_start(bytes[0]) {
+        return None;
+    }
+    let len = name_len(bytes);
+    if len < bytes.len() && bytes[len] < 128 && bytes[len] != b'\\' {
+        return Some(len);
     }
     None
 }

@@ -13,7 +13,6 @@ ghost use Rattle.json5_tokens.specs.ByteRuns.{lengthens_digits, SpellsFront, Spe
 ghost use Rattle.json5_grammar.specs.Language.Characters.{NotBegun};
 
 use crate::blanks::{is_in_front, skip_ascii};
-use crate::char::front_ascii;
 use crate::input::Input;
 use crate::numbers::decimal_literals::{gather_decimal_literal, split_sign};
 use crate::numbers::slices::few_exponent;
@@ -120,9 +119,13 @@ impl<I: Input> Scanner<I> {
 fn begins_run(text: &str) -> bool
     ensures { result ≡ true → IsAtRun (chars text.now) }
 {
-    match front_ascii(text) {
-        Some(('1'..='9' | '.', _)) => true,
-        Some(('0', rest)) => matches!(front_ascii(rest), Some(('.' | 'e' | 'E', _))),
+    let bytes = text.as_bytes();
+    if bytes.is_empty() {
+        return false;
+    }
+    match bytes[0] {
+        b'1'..=b'9' | b'.' => true,
+        b'0' => bytes.len() > 1 && matches!(bytes[1], b'.' | b'e' | b'E'),
         _ => false,
     }
 }

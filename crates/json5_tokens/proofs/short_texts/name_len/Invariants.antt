@@ -1,7 +1,7 @@
 use Rattle.std.proofs.Common.{◌≡◌, ◌+◌, ◌-◌, ◌≤◌, length, drop}
 use Rattle.std.specs.List.{prefix_len}
 use Rattle.json5_tokens.specs.ByteRuns.{is_ascii_part}
-use Rattle.json5_tokens.proofs.byte_runs.name_len.Given as goal
+use Rattle.json5_tokens.proofs.short_texts.name_len.Given as goal
 
 abbrev pub invariant-loop-i : goal.invariant-loop-i
 invariant-loop-i l =

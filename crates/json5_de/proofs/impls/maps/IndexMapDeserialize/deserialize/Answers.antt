@@ -1,6 +1,6 @@
 use Rattle.json5_de.specs.Maps.{in_insertion_order}
 use Rattle.json5_de.proofs.MapsRead.{gives_map, completes_map, indexed_content}
-use Rattle.json5_de.proofs.impls.index_map.IndexMapDeserialize.deserialize.Goals as goal
+use Rattle.json5_de.proofs.impls.maps.IndexMapDeserialize.deserialize.Goals as goal
 
 pub returns-clause-sound : goal.returns-clause-sound
 returns-clause-sound g c =

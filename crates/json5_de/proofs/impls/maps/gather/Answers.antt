@@ -5,7 +5,7 @@ use Rattle.json5_de.proofs.MemberLoops.{begins, stops, key_completes, value_comp
 use Rattle.json5_de.proofs.ReaderLoops.{object_from, just_opened_map, object_opened, object_not_opened, reads_key, reads_value, member_shortens, gives_none, all_members, no_member_left, key_refused, key_fault, key_unprompted, same_text_after_key, value_refused, value_fault, value_unprompted, same_text_after_value}
 use Rattle.json5_de.proofs.Structs.{unopened_completes}
 use Rattle.json5_de.proofs.VariantBrackets.{object_closed}
-use Rattle.json5_de.proofs.impls.gather.gather.Goals as goal
+use Rattle.json5_de.proofs.impls.maps.gather.Goals as goal
 
 pub loop-next-init : goal.loop-next-init
 loop-next-init g c = record {

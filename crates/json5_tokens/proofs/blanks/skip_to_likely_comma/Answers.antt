@@ -3,7 +3,7 @@ use Rattle.std.specs.Str.{chars}
 use Rattle.json5_grammar.specs.Language.Characters.{comma_sign}
 use Rattle.json5_tokens.specs.ShortWays.{IsInFront}
 use Rattle.json5_tokens.proofs.AsciiBlanks.{at_solid_sign}
-use Rattle.json5_tokens.proofs.blanks.skip_to_comma.Goals as goal
+use Rattle.json5_tokens.proofs.blanks.skip_to_likely_comma.Goals as goal
 
 pub returns-then-is_in_front : goal.returns-then-is_in_front
 returns-then-is_in_front c =

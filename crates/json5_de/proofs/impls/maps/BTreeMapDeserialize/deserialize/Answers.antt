@@ -1,6 +1,6 @@
 use Rattle.json5_de.specs.Maps.{in_key_order}
 use Rattle.json5_de.proofs.MapsRead.{gives_map, completes_map, ordered_content}
-use Rattle.json5_de.proofs.impls.btree_map.BTreeMapDeserialize.deserialize.Goals as goal
+use Rattle.json5_de.proofs.impls.maps.BTreeMapDeserialize.deserialize.Goals as goal
 
 pub returns-clause-sound : goal.returns-clause-sound
 returns-clause-sound g c =

@@ -1,7 +1,7 @@
 use Rattle.std.proofs.Common.{List, length, None, false}
 use Rattle.json5_de.proofs.MemberLoops.{ReadingMembers}
 use Rattle.json5_de.proofs.ReaderLoops.{object_from}
-use Rattle.json5_de.proofs.impls.gather.gather.Given as goal
+use Rattle.json5_de.proofs.impls.maps.gather.Given as goal
 
 abbrev pub invariant-loop-next : goal.invariant-loop-next
 invariant-loop-next g l = record {

@@ -1,6 +1,6 @@
 use Rattle.json5_de.specs.Maps.{found_in}
 use Rattle.json5_de.proofs.MapsRead.{gives_map, completes_map, hashed_content}
-use Rattle.json5_de.proofs.impls.hash_map.HashMapDeserialize.deserialize.Goals as goal
+use Rattle.json5_de.proofs.impls.maps.HashMapDeserialize.deserialize.Goals as goal
 
 pub returns-clause-sound : goal.returns-clause-sound
 returns-clause-sound g c =

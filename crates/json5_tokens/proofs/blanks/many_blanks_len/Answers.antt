@@ -1,0 +1,16 @@
+use Rattle.std.proofs.Common.{sym, ap, ◌∙◌, arith}
+use lib.Count.{count_trailing_zeros}
+use Rattle.json5_tokens.specs.ByteRuns.{is_ascii_blank, is_no_blank}
+use Rattle.json5_tokens.proofs.ByteSearch.{run_through, run_stops, blank_or_none}
+use Rattle.json5_tokens.proofs.blanks.many_blanks_len.Goals as goal
+
+pub returns-then-found-ne0 : goal.returns-then-found-ne0
+returns-then-found-ne0 c =
+    let found = c.no_blanks-found in
+    let run = run_stops is_no_blank is_ascii_blank blank_or_none c.args.bytes.now c.loop-i.i 16 (omega arith) (omega arith) (omega (arith, found.ensures)) ∙ ap (count_trailing_zeros 64) (sym found.ensures) in
+    omega (arith, run, c.loop-i.invariant.0)
+
+pub loop-i-preserved : goal.loop-i-preserved
+loop-i-preserved c =
+    let run = run_through is_no_blank is_ascii_blank blank_or_none c.args.bytes.now c.loop-i.i 16 (omega arith) (omega (arith, c.no_blanks-found.ensures)) in
+    (omega (arith, run, c.loop-i.invariant.0), omega arith)
