@@ -1,16 +1,18 @@
 -- What a description adds to the schemas of fields.
 -- A promise rests on this.
-use Rattle.std.specs.Prelude.{◌≡◌, ℕ, Bool, String, List, [], ◌∷◌, Result, IfOk, Vec}
+use Rattle.std.specs.Prelude.{◌≡◌, ℕ, Bool, String, List, [], ◌∷◌, Result, IfOk, IfErr, Vec}
 use Rattle.std.specs.declared.alloc.Global.{Global}
 use Rattle.json5_types.specs.declared.error.Error.{Error}
+use Rattle.json5_types.specs.Errors.{LacksMemory}
 use Rattle.json5_types.specs.declared.value.Value.{Value}
 use Rattle.json5_types.specs.ValueMeanings.{Items, no_item, item, Fields, no_field, field, fields_view, items_view}
 use Rattle.json5_settings.specs.declared.described_fields.FieldSchemas.{FieldSchemas}
 use Rattle.json5_settings.specs.DescribedSchemas.{FieldKind, named, properties_of, required_of}
 
--- where keywords were given, others are made of them by this rule
+-- where keywords were given, others are made of them by this rule; where memory ran out for those, it does for these
 abbrev pub MakesBy : (Fields → Fields) → Result (Vec (String Global × Value) Global) Error → Result (Vec (String Global × Value) Global) Error → Type 0
-MakesBy rule given result = (kw : Fields) → IfOk given (λ made. fields_view made.items ≡ kw) → IfOk result (λ made. fields_view made.items ≡ rule kw)
+MakesBy rule given result =
+    ((kw : Fields) → IfOk given (λ made. fields_view made.items ≡ kw) → IfOk result (λ made. fields_view made.items ≡ rule kw)) × (IfErr given LacksMemory → IfErr result LacksMemory)
 
 -- the members, and others after them
 abbrev pub members_then : Fields → Fields → Fields

@@ -118,7 +118,6 @@ fn with_members<I: Input, V: Drop, F: DescribedFields<I, V>>(
 ) -> Result<Keywords>
     ensures made { MakesBy (fields_keywords (F.layout (F.shape fields)).names F.kinds) others result }
     ensures describes { Describes (F.layout (F.shape fields)) F.kinds }
-    ensures refused { IfErr others LacksMemory → IfErr result LacksMemory }
 {
     let mut schemas = FieldSchemas {
         properties: Vec::new(alloc),
@@ -133,7 +132,6 @@ fn with_members<I: Input, V: Drop, F: DescribedFields<I, V>>(
 /// The keywords of an object of fields with these schemas, before others.
 fn put_members(alloc: Global, schemas: FieldSchemas, others: Result<Keywords>) -> Result<Keywords>
     ensures made { MakesBy (members_keywords (fields_view schemas.properties.items) (items_view schemas.required.items)) others result }
-    ensures refused { IfErr others LacksMemory → IfErr result LacksMemory }
 {
     let mut keywords = others?;
     let FieldSchemas {
