@@ -16,7 +16,7 @@ use crate::document_faults::{Fault, Mismatch, Place};
 use crate::explain::explain;
 use crate::faults::{Problem, SchemaFault};
 use crate::formats::{asserts_formats, with_formats};
-use crate::found::Found;
+use crate::found::{Found, MAX_EFFORT};
 use crate::looking::{Anchor, Rules, Seen, fault};
 use crate::patterns::Pattern;
 use crate::references::{follow, look_strictly};
@@ -200,7 +200,7 @@ fn found_in(
     root: &Value,
     value: &Value,
 ) -> error::Result<Vec<Fault>> {
-    let mut found = Found::new(alloc);
+    let mut found = Found::new(alloc, MAX_EFFORT);
     let place = Place::top(alloc);
     match explain(
         alloc, patterns, root, root, value, &place, MAX_DEPTH, &mut found,

@@ -16,7 +16,7 @@ const MAX_SHOWN: usize = 60;
 const MAX_LISTED: usize = 12;
 
 /// The text, or what fits of it.
-pub fn cut(alloc: Global, text: &str) -> Result<String> {
+fn cut(alloc: Global, text: &str) -> Result<String> {
     let mut shown = String::new(alloc);
     for (index, character) in text.chars().enumerate() {
         if index == MAX_SHOWN {
@@ -28,27 +28,28 @@ pub fn cut(alloc: Global, text: &str) -> Result<String> {
     Ok(shown)
 }
 
-/// A key, as it is shown.
-pub fn shown_key(alloc: Global, key: &str) -> Result<String> {
+/// A key, as it is shown between these words.
+pub fn shown_key(alloc: Global, before: &str, key: &str, behind: &str) -> Result<String> {
     let key = cut(alloc, key)?;
-    Ok(format!(in alloc; "`{key}`")?)
+    Ok(format!(in alloc; "{before}`{key}`{behind}")?)
 }
 
 /// A value, as it is shown.
 pub fn shown(alloc: Global, value: &Value) -> Result<String> {
-    match value {
-        Value::Null => Ok(String::from_str(alloc, "null")?),
-        Value::Bool(true) => Ok(String::from_str(alloc, "true")?),
-        Value::Bool(false) => Ok(String::from_str(alloc, "false")?),
-        Value::Whole(number) => Ok(format!(in alloc; "{number}")?),
-        Value::Decimal(number) => cut(alloc, format!(in alloc; "{number}")?.as_str()),
+    let words = match value {
+        Value::Null => "null",
+        Value::Bool(true) => "true",
+        Value::Bool(false) => "false",
+        Value::Whole(number) => return Ok(format!(in alloc; "{number}")?),
+        Value::Decimal(number) => return cut(alloc, format!(in alloc; "{number}")?.as_str()),
         Value::String(text) => {
             let text = cut(alloc, text.as_str())?;
-            Ok(format!(in alloc; "{:?}", text.as_str())?)
+            return Ok(format!(in alloc; "{:?}", text.as_str())?);
         }
-        Value::Array(_) => Ok(String::from_str(alloc, "an array")?),
-        Value::Object(_) => Ok(String::from_str(alloc, "an object")?),
-    }
+        Value::Array(_) => "an array",
+        Value::Object(_) => "an object",
+    };
+    Ok(String::from_str(alloc, words)?)
 }
 
 /// A kind, as it is shown.
@@ -65,44 +66,38 @@ fn kind_word(name: &Value) -> &'static str {
     }
 }
 
-/// The words, with this one between the last two and commas between the others.
-pub fn listed(alloc: Global, words: &[String], last: &str) -> Result<String> {
+/// The words, with `or` between the last two and commas between the others.
+pub fn listed(alloc: Global, words: &[String]) -> Result<String> {
     let mut list = String::new(alloc);
     for (index, word) in words.iter().enumerate() {
+        let between = match words.len() - index {
+            _ if index == 0 => "",
+            _ if index == MAX_LISTED => ", ..",
+            1 => " or ",
+            _ => ", ",
+        };
+        list.push_str(between)?;
         if index == MAX_LISTED {
-            list.push_str(", ..")?;
             break;
-        }
-        if index > 0 {
-            list.push_str(if words.len() - index == 1 { last } else { ", " })?;
         }
         list.push_str(word.as_str())?;
     }
     Ok(list)
 }
 
-/// The kinds of `type`, as they are shown.
-fn shown_kinds(alloc: Global, names: &Value) -> Result<String> {
+/// The kinds of `type`, or the values of `enum`, as they are shown.
+fn shown_each(alloc: Global, assertion: Assertion, values: &[Value]) -> Result<String> {
     let mut words = Vec::new(alloc);
-    for name in names.as_array().unwrap_or(&[]) {
-        words.push(String::from_str(alloc, kind_word(name))?)?;
+    for value in values {
+        words.push(match assertion {
+            Assertion::Type => String::from_str(alloc, kind_word(value))?,
+            _ => shown(alloc, value)?,
+        })?;
     }
-    if words.is_empty() {
-        words.push(String::from_str(alloc, kind_word(names))?)?;
-    }
-    listed(alloc, &words, " or ")
+    listed(alloc, &words)
 }
 
-/// The values of `enum`, as they are shown.
-fn shown_values(alloc: Global, values: &Value) -> Result<String> {
-    let mut words = Vec::new(alloc);
-    for value in values.as_array().unwrap_or(&[]) {
-        words.push(shown(alloc, value)?)?;
-    }
-    listed(alloc, &words, " or ")
-}
-
-/// What stands before and behind the argument of a limit.
+/// What stands before and behind the argument of a limit; behind it more where it isn't 1.
 fn limit_words(assertion: Assertion) -> (&'static str, &'static str) {
     match assertion {
         Assertion::MultipleOf => ("a multiple of ", ""),
@@ -110,33 +105,36 @@ fn limit_words(assertion: Assertion) -> (&'static str, &'static str) {
         Assertion::ExclusiveMaximum => ("less than ", ""),
         Assertion::Minimum => ("at least ", ""),
         Assertion::ExclusiveMinimum => ("more than ", ""),
-        Assertion::MaxLength => ("at most ", " characters"),
-        Assertion::MinLength => ("at least ", " characters"),
+        Assertion::MaxLength => ("at most ", " character"),
+        Assertion::MinLength => ("at least ", " character"),
         Assertion::Pattern => ("a text that matches ", ""),
         Assertion::Format => ("a text in the format ", ""),
-        Assertion::MaxItems => ("at most ", " elements"),
-        Assertion::MinItems => ("at least ", " elements"),
-        Assertion::MaxProperties => ("at most ", " keys"),
-        Assertion::MinProperties => ("at least ", " keys"),
+        Assertion::MaxItems => ("at most ", " element"),
+        Assertion::MinItems => ("at least ", " element"),
+        Assertion::MaxProperties => ("at most ", " key"),
+        Assertion::MinProperties => ("at least ", " key"),
         _ => ("", ""),
     }
 }
 
 /// What an assertion expects, in words.
 pub fn expected_by(alloc: Global, assertion: Assertion, argument: &Value) -> Result<String> {
-    match assertion {
-        Assertion::Type => shown_kinds(alloc, argument),
-        Assertion::Enum => shown_values(alloc, argument),
-        _ => {
-            let (before, behind) = limit_words(assertion);
-            let argument = shown(alloc, argument)?;
-            let behind = match argument.as_str() {
-                "1" => behind.strip_suffix('s').unwrap_or(behind),
-                _ => behind,
-            };
-            Ok(format!(in alloc; "{before}{argument}{behind}")?)
+    match (assertion, argument) {
+        (Assertion::Enum, Value::Array(values)) => return shown_each(alloc, assertion, values),
+        (Assertion::Type, Value::Array(kinds)) if !kinds.is_empty() => {
+            return shown_each(alloc, assertion, kinds);
         }
+        (Assertion::Type, _) => return Ok(String::from_str(alloc, kind_word(argument))?),
+        _ => {}
     }
+    let (before, behind) = limit_words(assertion);
+    let argument = shown(alloc, argument)?;
+    let many = if behind.is_empty() || argument.as_str() == "1" {
+        ""
+    } else {
+        "s"
+    };
+    Ok(format!(in alloc; "{before}{argument}{behind}{many}")?)
 }
 
 /// What an assertion finds, in words: a count where it counts, and else the value.
