@@ -1,8 +1,8 @@
 //! What is wrong in a document, place by place.
 
 use crate::looking::behind;
-use json5_types::error::Result;
-use std::alloc::Global;
+use json5_types::error;
+use std::alloc::{AllocError, Global};
 use std::fmt;
 
 /// A step into a document: to a member, of equal keys the last, or to an element, counted from 0.
@@ -16,23 +16,28 @@ impl fmt::Display for Step {
     /// Prints the step as it stands in a JSON pointer.
     fn fmt<W: fmt::Write>(&self, f: &mut fmt::Formatter<W>) -> fmt::Result {
         match self {
-            Step::Key(key) => write_key(f, key.as_str()),
+            Step::Key(key) => write!(f, "/{}", Escaped(key.as_str())),
             Step::Index(index) => write!(f, "/{index}"),
         }
     }
 }
 
-/// Writes a key as it stands in a JSON pointer.
-fn write_key<W: fmt::Write>(f: &mut fmt::Formatter<W>, key: &str) -> fmt::Result {
-    f.write_char('/')?;
-    for character in key.chars() {
-        match character {
-            '~' => f.write_str("~0")?,
-            '/' => f.write_str("~1")?,
-            _ => f.write_char(character)?,
+/// A key as it stands in a JSON pointer.
+#[derive(Clone, Copy)]
+pub(crate) struct Escaped<'a>(pub(crate) &'a str);
+
+impl fmt::Display for Escaped<'_> {
+    fn fmt<W: fmt::Write>(&self, f: &mut fmt::Formatter<W>) -> fmt::Result {
+        for character in self.0.chars() {
+            let written = match character {
+                '~' => f.write_str("~0"),
+                '/' => f.write_str("~1"),
+                _ => f.write_char(character),
+            };
+            written?;
         }
+        Ok(())
     }
-    Ok(())
 }
 
 /// Which part of a member is meant.
@@ -63,7 +68,7 @@ pub(crate) enum Way<'a> {
     /// To the member with this key, and where it stands among the members.
     Key(&'a str, usize),
     Index(usize),
-    /// To the target of this reference.
+    /// To the schema at this pointer, which a reference means.
     Target(&'a str),
 }
 
@@ -83,16 +88,21 @@ impl Place {
     /// # Errors
     ///
     /// - `OutOfMemory` where a request for memory was refused.
-    pub fn pointer(&self, alloc: Global) -> Result<String> {
+    pub fn pointer(&self, alloc: Global) -> error::Result<String> {
         let mut pointer = String::new(alloc);
         for step in &self.path {
-            pointer.push_str(format!(in alloc; "{step}")?.as_str())?;
+            pointer = format!(in alloc; "{pointer}{step}")?;
         }
         Ok(pointer)
     }
 
     /// The place further in the schema, and in the document.
-    pub(crate) fn further(&self, alloc: Global, rule: Way<'_>, at: Way<'_>) -> Result<Place> {
+    pub(crate) fn further(
+        &self,
+        alloc: Global,
+        rule: Way<'_>,
+        at: Way<'_>,
+    ) -> Result<Place, AllocError> {
         let mut place = Place {
             path: Vec::new(alloc),
             part: self.part,
@@ -111,7 +121,7 @@ impl Place {
     }
 
     /// Goes one step further in the document.
-    fn enter(&mut self, alloc: Global, way: Way<'_>) -> Result<()> {
+    fn enter(&mut self, alloc: Global, way: Way<'_>) -> Result<(), AllocError> {
         let (step, index) = match way {
             Way::Key(key, index) => (Step::Key(String::from_str(alloc, key)?), index),
             Way::Index(index) => (Step::Index(index), index),
@@ -124,12 +134,12 @@ impl Place {
 }
 
 /// The pointer to what is further in the schema.
-fn ruled(alloc: Global, rule: &str, way: Way<'_>) -> Result<String> {
+fn ruled(alloc: Global, rule: &str, way: Way<'_>) -> Result<String, AllocError> {
     match way {
-        Way::Key(key, _) => Ok(behind(alloc, rule, key)?),
-        Way::Index(index) => Ok(format!(in alloc; "{rule}/{index}")?),
-        Way::Target(text) => Ok(String::from_str(alloc, text.strip_prefix('#').unwrap_or(text))?),
-        Way::Here => Ok(String::from_str(alloc, rule)?),
+        Way::Key(key, _) => behind(alloc, rule, key),
+        Way::Index(index) => format!(in alloc; "{rule}/{index}"),
+        Way::Target(pointer) => String::from_str(alloc, pointer),
+        Way::Here => String::from_str(alloc, rule),
     }
 }
 
@@ -164,10 +174,14 @@ pub struct Fault {
 impl fmt::Display for Fault {
     fn fmt<W: fmt::Write>(&self, f: &mut fmt::Formatter<W>) -> fmt::Result {
         let (expected, found) = (&self.expected, &self.found);
-        write!(f, "expected {expected}, found {found}")?;
         match &self.likeliest {
-            Some(likeliest) => write!(f, "; did you mean {likeliest}?"),
-            None => Ok(()),
+            Some(likeliest) => {
+                write!(
+                    f,
+                    "expected {expected}, found {found}; did you mean {likeliest}?"
+                )
+            }
+            None => write!(f, "expected {expected}, found {found}"),
         }
     }
 }
@@ -178,8 +192,8 @@ impl Fault {
         self.place.order.as_slice() < other.place.order.as_slice()
     }
 
-    /// How far the document is from what it means at a place so deep: 4 where the value itself is of another kind, 3 where it
-    /// isn't one that is named, and so much where a member of it isn't.
+    /// How far the document is from what it means at a place so deep: 4 where the value itself is of another kind, 3
+    /// where it isn't one that is named, and so much where a member of it isn't.
     pub(crate) fn strangeness(&self, depth: usize, of_member: usize) -> usize {
         let length = self.place.path.len();
         match (self.place.part, self.mismatch) {

@@ -7,6 +7,7 @@ use crate::conforms::{child_left_holds, conforms_within, keyword_holds};
 use crate::document_faults::{Part, Place, Way};
 use crate::found::Found;
 use crate::keyword::{Applicator, Keyword, keyword_named};
+use crate::looking::Anchor;
 use crate::members::latest;
 use crate::own_faults::{add_assertion, add_dependents, add_key, choose_branch};
 use crate::patterns::{Pattern, fits};
@@ -28,6 +29,7 @@ struct Piece<'a> {
 pub fn explain(
     alloc: Global,
     patterns: &[Pattern],
+    anchors: &[Anchor],
     root: &Value,
     schema: &Value,
     value: &Value,
@@ -46,7 +48,7 @@ pub fn explain(
         let after = &keywords[index + 1..];
         if !keyword_holds(alloc, patterns, root, keywords, member, after, value, depth)? {
             explain_keyword(
-                alloc, patterns, root, keywords, member, value, place, depth, found,
+                alloc, patterns, anchors, root, keywords, member, value, place, depth, found,
             )?;
         }
     }
@@ -58,6 +60,7 @@ pub fn explain(
 fn explain_keyword(
     alloc: Global,
     patterns: &[Pattern],
+    anchors: &[Anchor],
     root: &Value,
     keywords: &[(String, Value)],
     member: &(String, Value),
@@ -74,11 +77,13 @@ fn explain_keyword(
         }
         Keyword::Applicator(Applicator::If | Applicator::Ref) => {
             explain_chosen(
-                alloc, patterns, root, keywords, argument, value, place, depth, found,
+                alloc, patterns, anchors, root, keywords, argument, value, place, depth, found,
             )
         }
         Keyword::Applicator(Applicator::AnyOf | Applicator::OneOf) => {
-            explain_branches(alloc, patterns, root, argument, value, &here, depth, found)
+            explain_branches(
+                alloc, patterns, anchors, root, argument, value, &here, depth, found,
+            )
         }
         Keyword::Applicator(Applicator::Not) => {
             found.tell_value(
@@ -97,10 +102,13 @@ fn explain_keyword(
             )
         }
         Keyword::Applicator(Applicator::PropertyNames) => {
-            explain_names(alloc, patterns, root, argument, value, &here, depth, found)
+            explain_names(
+                alloc, patterns, anchors, root, argument, value, &here, depth, found,
+            )
         }
         Keyword::Applicator(applicator) => explain_parts(
-            alloc, patterns, root, keywords, applicator, argument, value, &here, depth, found,
+            alloc, patterns, anchors, root, keywords, applicator, argument, value, &here, depth,
+            found,
         ),
         Keyword::Annotation => Ok(()),
     }
@@ -108,19 +116,23 @@ fn explain_keyword(
 
 /// Goes into what a reference means, or into `then` or `else`, as the value conforms to the schema of `if` or not.
 #[cycle(explain)]
-fn explain_chosen(
+fn explain_chosen<'a>(
     alloc: Global,
     patterns: &[Pattern],
-    root: &Value,
-    keywords: &[(String, Value)],
-    argument: &Value,
+    anchors: &'a [Anchor],
+    root: &'a Value,
+    keywords: &'a [(String, Value)],
+    argument: &'a Value,
     value: &Value,
     place: &Place,
     depth: usize,
     found: &mut Found,
 ) -> Result<()> {
     let (schema, way) = if let Value::String(text) = argument {
-        (target_of(root, argument), Way::Target(text.as_str()))
+        (
+            target_of(root, argument),
+            Way::Target(pointer_to(anchors, text.as_str())),
+        )
     } else if conforms_within(alloc, patterns, root, argument, value, depth)? {
         (find(keywords, "then"), Way::Key("then", 0))
     } else {
@@ -130,7 +142,20 @@ fn explain_chosen(
         return Ok(());
     };
     let here = place.further(alloc, way, Way::Here)?;
-    explain(alloc, patterns, root, schema, value, &here, depth, found)
+    explain(
+        alloc, patterns, anchors, root, schema, value, &here, depth, found,
+    )
+}
+
+/// The pointer to what a reference with this text means.
+fn pointer_to<'a>(anchors: &'a [Anchor], text: &'a str) -> &'a str {
+    let text = text.strip_prefix('#').unwrap_or(text);
+    for anchor in anchors {
+        if anchor.name.as_str() == text {
+            return anchor.pointer.as_str();
+        }
+    }
+    text
 }
 
 /// Goes into the branch that is nearest.
@@ -138,6 +163,7 @@ fn explain_chosen(
 fn explain_branches(
     alloc: Global,
     patterns: &[Pattern],
+    anchors: &[Anchor],
     root: &Value,
     schemas: &Value,
     value: &Value,
@@ -145,14 +171,18 @@ fn explain_branches(
     depth: usize,
     found: &mut Found,
 ) -> Result<()> {
+    let Value::Array(schemas) = schemas else {
+        return Ok(());
+    };
     let mut branches = Vec::new(alloc);
-    for (index, schema) in schemas.as_array().unwrap_or(&[]).iter().enumerate() {
+    for (index, schema) in schemas.iter().enumerate() {
         let here = place.further(alloc, Way::Index(index), Way::Here)?;
         let mut branch = Found::new(alloc, found.effort);
         branch.is_tagged = names_member(alloc, root, schema, value.entries(), depth, &mut branch)?;
         explain(
             alloc,
             patterns,
+            anchors,
             root,
             schema,
             value,
@@ -171,6 +201,7 @@ fn explain_branches(
 fn explain_names(
     alloc: Global,
     patterns: &[Pattern],
+    anchors: &[Anchor],
     root: &Value,
     schema: &Value,
     value: &Value,
@@ -184,7 +215,9 @@ fn explain_names(
         if !conforms_within(alloc, patterns, root, schema, &name, depth)? {
             let mut there = place.further(alloc, Way::Here, Way::Key(key, index))?;
             there.part = Part::Key;
-            explain(alloc, patterns, root, schema, &name, &there, depth, found)?;
+            explain(
+                alloc, patterns, anchors, root, schema, &name, &there, depth, found,
+            )?;
         }
     }
     Ok(())
@@ -195,6 +228,7 @@ fn explain_names(
 fn explain_parts(
     alloc: Global,
     patterns: &[Pattern],
+    anchors: &[Anchor],
     root: &Value,
     keywords: &[(String, Value)],
     applicator: Applicator,
@@ -211,7 +245,8 @@ fn explain_parts(
     for part in &pieces_of(alloc, is_of_whole(applicator), value)? {
         for rule in &rules {
             explain_part(
-                alloc, patterns, root, keywords, applicator, rule, part, value, place, depth, found,
+                alloc, patterns, anchors, root, keywords, applicator, rule, part, value, place,
+                depth, found,
             )?;
         }
     }
@@ -223,6 +258,7 @@ fn explain_parts(
 fn explain_part(
     alloc: Global,
     patterns: &[Pattern],
+    anchors: &[Anchor],
     root: &Value,
     keywords: &[(String, Value)],
     applicator: Applicator,
@@ -245,7 +281,7 @@ fn explain_part(
             add_key(alloc, applicator, keywords, key, &there, found)
         }
         _ => explain(
-            alloc, patterns, root, rule.value, part.value, &there, depth, found,
+            alloc, patterns, anchors, root, rule.value, part.value, &there, depth, found,
         ),
     }
 }

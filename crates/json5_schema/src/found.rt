@@ -57,17 +57,19 @@ impl Found {
         Ok(())
     }
 
-    /// Adds that this was expected there, and that found.
+    /// Adds that this was expected there, further in the schema and the document, and that found.
     pub fn tell(
         &mut self,
         alloc: Global,
         place: &Place,
+        rule: Way<'_>,
+        at: Way<'_>,
         expected: &str,
         found: String,
         likeliest: Option<String>,
         mismatch: Mismatch,
     ) -> Result<()> {
-        let place = place.further(alloc, Way::Here, Way::Here)?;
+        let place = place.further(alloc, rule, at)?;
         let expected = String::from_str(alloc, expected)?;
         self.add(Fault {
             place,
@@ -87,11 +89,21 @@ impl Found {
         value: &Value,
     ) -> Result<()> {
         let found = shown(alloc, value)?;
-        self.tell(alloc, place, expected, found, None, Mismatch::Other)
+        self.tell(
+            alloc,
+            place,
+            Way::Here,
+            Way::Here,
+            expected,
+            found,
+            None,
+            Mismatch::Other,
+        )
     }
 
-    /// How far a branch is from what the document means at a place so deep: 4 where the value itself is of another kind, 3
-    /// where it isn't one that is named. Where a member isn't one that is named it is 1 if another member is, and else 2.
+    /// How far a branch is from what the document means at a place so deep: 4 where the value itself is of another
+    /// kind, 3 where it isn't one that is named. Where a member isn't one that is named it is 1 if another member is,
+    /// and else 2.
     pub fn strangeness(&self, depth: usize) -> usize {
         let of_member = if self.is_tagged { 1 } else { 2 };
         let mut most = 0;

@@ -8,11 +8,11 @@ use crate::equal::is_among;
 use crate::found::{Found, MAX_FAULTS};
 use crate::keyword::{Applicator, Assertion};
 use crate::near::nearest;
-use crate::words::{expected_by, found_by, listed, shown, shown_key};
+use crate::words::{cut, expected_by, found_by, listed, shown, shown_text};
 use json5_numbers::members::{find, is_named};
-use json5_types::error::Result;
+use json5_types::error;
 use json5_types::value::Value;
-use std::alloc::Global;
+use std::alloc::{AllocError, Global};
 use std::collections::BTreeSet;
 
 /// Adds what an assertion finds wrong.
@@ -24,10 +24,11 @@ pub fn add_assertion(
     value: &Value,
     place: &Place,
     found: &mut Found,
-) -> Result<()> {
+) -> error::Result<()> {
     let mismatch = match assertion {
         Assertion::Required => {
-            return add_missing(alloc, keywords, argument, value, "", place, found);
+            let rule = Way::Here;
+            return add_missing(alloc, keywords, argument, value, "`", place, rule, found);
         }
         Assertion::DependentRequired => return add_dependents(alloc, argument, value, place, found),
         Assertion::UniqueItems => return add_repeated(alloc, value, place, found),
@@ -35,19 +36,32 @@ pub fn add_assertion(
         Assertion::Enum | Assertion::Const => Mismatch::Name,
         _ => Mismatch::Other,
     };
+    let near = likeliest_text(alloc, assertion, argument, value.as_str().unwrap_or(""))?;
+    let likeliest = match near {
+        Some(text) if !text.is_empty() => Some(shown_text(alloc, text)?),
+        _ => None,
+    };
     let expected = expected_by(alloc, assertion, argument)?;
-    let likeliest = likeliest_text(alloc, assertion, argument, value)?;
     let seen = found_by(alloc, assertion, value)?;
-    found.tell(alloc, place, expected.as_str(), seen, likeliest, mismatch)
+    found.tell(
+        alloc,
+        place,
+        Way::Here,
+        Way::Here,
+        expected.as_str(),
+        seen,
+        likeliest,
+        mismatch,
+    )
 }
 
 /// The text of `enum` or `const` that is nearest to this one.
-fn likeliest_text(
+fn likeliest_text<'v>(
     alloc: Global,
     assertion: Assertion,
-    argument: &Value,
-    value: &Value,
-) -> Result<Option<String>> {
+    argument: &'v Value,
+    text: &str,
+) -> Result<Option<&'v str>, AllocError> {
     let mut known = Vec::new(alloc);
     match (assertion, argument) {
         (Assertion::Enum, Value::Array(texts)) => {
@@ -58,29 +72,23 @@ fn likeliest_text(
         (Assertion::Const, Value::String(text)) => known.push(text.as_str())?,
         _ => {}
     }
-    match nearest(alloc, value.as_str().unwrap_or(""), &known)? {
-        Some(text) if !text.is_empty() => Ok(Some(shown(alloc, &Value::text(alloc, text)?)?)),
-        _ => Ok(None),
-    }
+    nearest(alloc, text, &known)
 }
 
 /// The key that is nearest to this one, of those that aren't among the others.
-fn likeliest_key(
+fn likeliest_key<'k>(
     alloc: Global,
     key: &str,
-    keys: &[(String, Value)],
+    keys: &'k [(String, Value)],
     others: &[(String, Value)],
-) -> Result<Option<String>> {
+) -> Result<Option<&'k str>, AllocError> {
     let mut known = Vec::new(alloc);
     for (name, _) in keys {
         if !is_named(others, name.as_str()) {
             known.push(name.as_str())?;
         }
     }
-    match nearest(alloc, key, &known)? {
-        Some(name) => Ok(Some(shown_key(alloc, "", name, "")?)),
-        None => Ok(None),
-    }
+    nearest(alloc, key, &known)
 }
 
 /// The members of the keyword's argument.
@@ -91,28 +99,42 @@ fn members_of<'a>(keywords: &'a [(String, Value)], name: &str) -> &'a [(String, 
     }
 }
 
-/// Adds the names that there is no member for, each with a near member that `properties` doesn't speak of; `beside` says what
-/// asks for them.
+/// Adds the names that there is no member for, each with a near member that `properties` doesn't speak of.
+/// What asks for them stands `behind` each.
 fn add_missing(
     alloc: Global,
     keywords: &[(String, Value)],
     names: &Value,
     value: &Value,
-    beside: &str,
+    behind: &str,
     place: &Place,
+    rule: Way<'_>,
     found: &mut Found,
-) -> Result<()> {
+) -> error::Result<()> {
     let members = value.entries();
-    for name in names.as_array().unwrap_or(&[]) {
+    let Value::Array(names) = names else {
+        return Ok(());
+    };
+    for name in names {
         let name = name.as_str().unwrap_or("");
         if !is_named(members, name) {
             let known = members_of(keywords, "properties");
             let seen = match likeliest_key(alloc, name, members, known)? {
-                Some(key) => key,
-                None => String::from_str(alloc, "none")?,
+                Some(key) => cut(alloc, "`", key, "`"),
+                None => String::from_str(alloc, "none"),
             };
-            let expected = shown_key(alloc, "the key ", name, beside)?;
-            found.tell(alloc, place, expected.as_str(), seen, None, Mismatch::Other)?;
+            let expected = cut(alloc, "the key `", name, behind)?;
+            let seen = seen?;
+            found.tell(
+                alloc,
+                place,
+                rule,
+                Way::Here,
+                expected.as_str(),
+                seen,
+                None,
+                Mismatch::Other,
+            )?;
         }
     }
     Ok(())
@@ -125,20 +147,21 @@ pub fn add_dependents(
     value: &Value,
     place: &Place,
     found: &mut Found,
-) -> Result<()> {
+) -> error::Result<()> {
     let (members, dependents) = (value.entries(), dependents.entries());
     for (index, dependent) in dependents.iter().enumerate() {
         let name = dependent.0.as_str();
         if is_named(members, name) && !is_named(&dependents[index + 1..], name) {
-            let beside = shown_key(alloc, " beside ", name, "")?;
-            let here = place.further(alloc, Way::Key(name, 0), Way::Here)?;
+            let behind = cut(alloc, "` beside `", name, "`")?;
+            let rule = Way::Key(name, 0);
             add_missing(
                 alloc,
                 &[],
                 &dependent.1,
                 value,
-                beside.as_str(),
-                &here,
+                behind.as_str(),
+                place,
+                rule,
                 found,
             )?;
         }
@@ -146,27 +169,47 @@ pub fn add_dependents(
     Ok(())
 }
 
-/// Adds the first element that is equal to one before it.
-fn add_repeated(alloc: Global, value: &Value, place: &Place, found: &mut Found) -> Result<()> {
-    let items = value.as_array().unwrap_or(&[]);
+/// The first element that is equal to one before it, and its index.
+fn first_repeated<'v>(
+    alloc: Global,
+    items: &'v [Value],
+) -> error::Result<Option<(usize, &'v Value)>> {
     let mut forms = BTreeSet::new(alloc);
     for (index, item) in items.iter().enumerate() {
         let is_new = forms.insert(canonical_form(alloc, item)?)?;
         if !is_new && is_among(alloc, item, &items[..index])? {
-            let there = place.further(alloc, Way::Here, Way::Index(index))?;
-            let seen = shown(alloc, item)?;
-            let again = format!(in alloc; "{seen} again")?;
-            return found.tell(
-                alloc,
-                &there,
-                "elements that differ",
-                again,
-                None,
-                Mismatch::Other,
-            );
+            return Ok(Some((index, item)));
         }
     }
-    Ok(())
+    Ok(None)
+}
+
+/// Adds the first element that is equal to one before it.
+fn add_repeated(
+    alloc: Global,
+    value: &Value,
+    place: &Place,
+    found: &mut Found,
+) -> error::Result<()> {
+    let Value::Array(items) = value else {
+        return Ok(());
+    };
+    let Some((index, item)) = first_repeated(alloc, items)? else {
+        return Ok(());
+    };
+    let seen = shown(alloc, item)?;
+    let again = format!(in alloc; "{seen} again")?;
+    let at = Way::Index(index);
+    found.tell(
+        alloc,
+        place,
+        Way::Here,
+        at,
+        "elements that differ",
+        again,
+        None,
+        Mismatch::Other,
+    )
 }
 
 /// Adds the keys of the keyword's argument, in words.
@@ -176,26 +219,26 @@ fn push_keys(
     name: &str,
     before: &str,
     words: &mut Vec<String>,
-) -> Result<()> {
+) -> Result<(), AllocError> {
     for (key, _) in members_of(keywords, name) {
-        words.push(shown_key(alloc, before, key.as_str(), "")?)?;
+        words.push(cut(alloc, before, key.as_str(), "`")?)?;
     }
     Ok(())
 }
 
 /// The keys that are known, in words.
-fn known_keys(alloc: Global, keywords: &[(String, Value)]) -> Result<String> {
+fn known_keys(alloc: Global, keywords: &[(String, Value)]) -> Result<String, AllocError> {
     let mut words = Vec::new(alloc);
-    push_keys(alloc, keywords, "properties", "", &mut words)?;
+    push_keys(alloc, keywords, "properties", "`", &mut words)?;
     push_keys(
         alloc,
         keywords,
         "patternProperties",
-        "a key that matches ",
+        "a key that matches `",
         &mut words,
     )?;
     if words.is_empty() {
-        return Ok(String::from_str(alloc, "no such key")?);
+        return String::from_str(alloc, "no such key");
     }
     listed(alloc, &words)
 }
@@ -208,16 +251,23 @@ pub fn add_key(
     key: &str,
     place: &Place,
     found: &mut Found,
-) -> Result<()> {
-    let expected = match applicator {
-        Applicator::AdditionalProperties => known_keys(alloc, keywords)?,
-        _ => String::from_str(alloc, "a key that one of the schemas here speaks of")?,
+) -> error::Result<()> {
+    let near = likeliest_key(alloc, key, members_of(keywords, "properties"), &[])?;
+    let likeliest = match near {
+        Some(key) => Some(cut(alloc, "`", key, "`")?),
+        None => None,
     };
-    let likeliest = likeliest_key(alloc, key, members_of(keywords, "properties"), &[])?;
-    let seen = shown_key(alloc, "", key, "")?;
+    let expected = match applicator {
+        Applicator::AdditionalProperties => known_keys(alloc, keywords),
+        _ => String::from_str(alloc, "a key that one of the schemas here speaks of"),
+    };
+    let expected = expected?;
+    let seen = cut(alloc, "`", key, "`")?;
     found.tell(
         alloc,
         place,
+        Way::Here,
+        Way::Here,
         expected.as_str(),
         seen,
         likeliest,
@@ -240,7 +290,7 @@ pub fn choose_branch(
     value: &Value,
     place: &Place,
     found: &mut Found,
-) -> Result<()> {
+) -> error::Result<()> {
     let depth = place.path.len();
     let mut least = usize::MAX;
     for branch in &branches {
@@ -270,7 +320,7 @@ fn add_strange(
     value: &Value,
     place: &Place,
     found: &mut Found,
-) -> Result<()> {
+) -> error::Result<()> {
     let mut words: Vec<String> = Vec::new(alloc);
     let mut mismatch = Mismatch::Name;
     for branch in branches {
@@ -285,11 +335,15 @@ fn add_strange(
         }
     }
     let expected = listed(alloc, &words)?;
+    let seen = shown(alloc, value)?;
+    let expected = expected.as_str();
     found.tell(
         alloc,
         place,
-        expected.as_str(),
-        shown(alloc, value)?,
+        Way::Here,
+        Way::Here,
+        expected,
+        seen,
         None,
         mismatch,
     )
