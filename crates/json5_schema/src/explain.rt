@@ -103,7 +103,7 @@ fn explain_keyword(
         }
         Keyword::Applicator(Applicator::PropertyNames) => {
             explain_names(
-                alloc, patterns, anchors, root, argument, value, &here, depth, found,
+                alloc, patterns, anchors, root, keywords, argument, value, &here, depth, found,
             )
         }
         Keyword::Applicator(applicator) => explain_parts(
@@ -193,7 +193,7 @@ fn explain_branches(
         found.effort = branch.effort;
         branches.push(branch)?;
     }
-    choose_branch(alloc, branches, value, place, found)
+    choose_branch(alloc, &mut branches, value, place, found)
 }
 
 /// Goes into each name that doesn't conform.
@@ -203,22 +203,29 @@ fn explain_names(
     patterns: &[Pattern],
     anchors: &[Anchor],
     root: &Value,
+    keywords: &[(String, Value)],
     schema: &Value,
     value: &Value,
     place: &Place,
     depth: usize,
     found: &mut Found,
 ) -> Result<()> {
+    let rule = Piece {
+        way: Way::Here,
+        value: schema,
+    };
     for (index, member) in value.entries().iter().enumerate() {
         let key = member.0.as_str();
         let name = Value::text(alloc, key)?;
-        if !conforms_within(alloc, patterns, root, schema, &name, depth)? {
-            let mut there = place.further(alloc, Way::Here, Way::Key(key, index))?;
-            there.part = Part::Key;
-            explain(
-                alloc, patterns, anchors, root, schema, &name, &there, depth, found,
-            )?;
-        }
+        let part = Piece {
+            way: Way::Key(key, index),
+            value: &name,
+        };
+        let applicator = Applicator::PropertyNames;
+        explain_part(
+            alloc, patterns, anchors, root, keywords, applicator, &rule, &part, value, place,
+            depth, found,
+        )?;
     }
     Ok(())
 }
@@ -275,15 +282,21 @@ fn explain_part(
         return Ok(());
     }
     let mut there = place.further(alloc, rule.way, part.way)?;
-    match (rule.value, rule.way, part.way) {
-        (Value::Bool(_), Way::Here, Way::Key(key, _)) => {
+    match (applicator, rule.value, part.way) {
+        (
+            Applicator::AdditionalProperties | Applicator::UnevaluatedProperties,
+            Value::Bool(_),
+            Way::Key(key, _),
+        ) => {
             there.part = Part::Key;
-            add_key(alloc, applicator, keywords, key, &there, found)
+            return add_key(alloc, applicator, keywords, key, &there, found);
         }
-        _ => explain(
-            alloc, patterns, anchors, root, rule.value, part.value, &there, depth, found,
-        ),
+        (Applicator::PropertyNames, _, _) => there.part = Part::Key,
+        _ => {}
     }
+    explain(
+        alloc, patterns, anchors, root, rule.value, part.value, &there, depth, found,
+    )
 }
 
 /// Whether the schema holds of the part of the value, or isn't for it.

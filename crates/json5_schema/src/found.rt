@@ -57,6 +57,14 @@ impl Found {
         Ok(())
     }
 
+    /// Adds these faults, each in its place.
+    pub fn add_all(&mut self, faults: Vec<Fault>) -> Result<()> {
+        for fault in faults {
+            self.add(fault)?;
+        }
+        Ok(())
+    }
+
     /// Adds that this was expected there, further in the schema and the document, and that found.
     pub fn tell(
         &mut self,

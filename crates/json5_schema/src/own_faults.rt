@@ -14,6 +14,7 @@ use json5_types::error;
 use json5_types::value::Value;
 use std::alloc::{AllocError, Global};
 use std::collections::BTreeSet;
+use std::mem;
 
 /// Adds what an assertion finds wrong.
 pub fn add_assertion(
@@ -286,28 +287,25 @@ fn rank(branch: &Found, depth: usize) -> usize {
 /// Adds the faults of the branch that is nearest; where each is for another kind of value, one fault that says so.
 pub fn choose_branch(
     alloc: Global,
-    branches: Vec<Found>,
+    branches: &mut [Found],
     value: &Value,
     place: &Place,
     found: &mut Found,
 ) -> error::Result<()> {
     let depth = place.path.len();
     let mut least = usize::MAX;
-    for branch in &branches {
+    for branch in branches.iter() {
         least = least.min(rank(branch, depth));
     }
     if least >= STRANGE {
-        return add_strange(alloc, &branches, value, place, found);
+        return add_strange(alloc, branches, value, place, found);
     }
     if least == 0 {
         return found.tell_value(alloc, place, "to conform to one schema alone", value);
     }
     for branch in branches {
-        if rank(&branch, depth) == least {
-            for fault in branch.faults {
-                found.add(fault)?;
-            }
-            break;
+        if rank(branch, depth) == least {
+            return found.add_all(mem::replace(&mut branch.faults, Vec::new(alloc)));
         }
     }
     Ok(())

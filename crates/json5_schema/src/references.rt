@@ -66,20 +66,27 @@ impl<'v> Parts<'v> {
         if self.opened.contains(pointer) {
             return Ok(());
         }
-        for (key, part) in value.entries() {
-            let place = behind(alloc, pointer, key.as_str())?;
-            self.found.insert(place, part)?;
-        }
-        for (index, part) in value.as_array().unwrap_or(&[]).iter().enumerate() {
-            let place = format!(in alloc; "{pointer}/{index}")?;
-            self.found.insert(place, part)?;
+        match value {
+            Value::Object(members) => {
+                for (key, part) in members {
+                    let place = behind(alloc, pointer, key.as_str())?;
+                    self.found.insert(place, part)?;
+                }
+            }
+            Value::Array(items) => {
+                for (index, part) in items.iter().enumerate() {
+                    let place = format!(in alloc; "{pointer}/{index}")?;
+                    self.found.insert(place, part)?;
+                }
+            }
+            _ => {}
         }
         self.opened.insert(String::from_str(alloc, pointer)?)?;
         Ok(())
     }
 }
 
-/// Looks at what the references mean, and that they come to an end. Gives the patterns and the names of the schemas.
+/// Looks at what the references mean, and that they come to an end. Gives the patterns that were compiled, and the names.
 pub fn follow(
     alloc: Global,
     rules: Rules,
@@ -89,7 +96,16 @@ pub fn follow(
     ensures { RefusedFor (IsRefusedFor rules (value_of root.now)) result }
 {
     let mut seen = seen;
-    check_references(alloc, rules, root, &mut seen)?;
+    let mut parts = Parts::new(alloc, root);
+    let mut links = Vec::new(alloc);
+    for index in 0..usize::MAX {
+        match link_at(alloc, rules, root, index, &mut parts, &mut seen)? {
+            Some(nexts) => links.push(nexts)?,
+            None => break,
+        }
+    }
+    check_names(alloc, root, &seen)?;
+    check_ends(alloc, root, &seen, &links)?;
     let Seen {
         references: _,
         places: _,
@@ -99,22 +115,6 @@ pub fn follow(
         twice: _,
     } = seen;
     Ok((patterns, anchors))
-}
-
-/// Looks at what the references mean, and that they come to an end.
-fn check_references(alloc: Global, rules: Rules, root: &Value, seen: &mut Seen) -> Looked<()>
-    ensures { RefusedFor (IsRefusedFor rules (value_of root.now)) result }
-{
-    let mut parts = Parts::new(alloc, root);
-    let mut links = Vec::new(alloc);
-    for index in 0..usize::MAX {
-        match link_at(alloc, rules, root, index, &mut parts, seen)? {
-            Some(nexts) => links.push(nexts)?,
-            None => break,
-        }
-    }
-    check_names(alloc, root, seen)?;
-    check_ends(alloc, root, seen, &links)
 }
 
 /// Looks at what the reference with this index means, if there is one. Gives the references that its target applies to the

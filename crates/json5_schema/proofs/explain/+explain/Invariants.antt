@@ -12,7 +12,7 @@ abbrev pub decreases-explain_branches : goal.decreases-explain_branches
 decreases-explain_branches l = 4 * l.depth + 1
 
 abbrev pub decreases-explain_names : goal.decreases-explain_names
-decreases-explain_names l = 4 * l.depth + 1
+decreases-explain_names l = 4 * l.depth + 2
 
 abbrev pub decreases-explain_part : goal.decreases-explain_part
 decreases-explain_part l = 4 * l.depth + 1

@@ -3,7 +3,7 @@ use Rattle.json5_types.specs.ValueMeanings.{value_of}
 use Rattle.json5_schema.specs.Refusals.{IsRefusedFor}
 use Rattle.json5_schema.specs.RefusalSteps.{IsOfReference}
 use Rattle.json5_schema.proofs.Refusing.{of_reference, widened}
-use Rattle.json5_schema.proofs.references.check_references.Goals as goal
+use Rattle.json5_schema.proofs.references.follow.Goals as goal
 
 pub returns-in_err-nexts : goal.returns-in_err-nexts
 returns-in_err-nexts c =
