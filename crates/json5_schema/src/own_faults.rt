@@ -276,12 +276,16 @@ pub fn add_key(
     )
 }
 
+/// How strange a branch counts at the most: it is for another kind of value, or another value.
+const MAX_STRANGENESS: usize = 3;
+
 /// The rank of a branch for another kind of value, and of those behind it.
-const STRANGE: usize = 3 * (MAX_FAULTS + 1);
+const STRANGE: usize = MAX_STRANGENESS * (MAX_FAULTS + 1);
 
 /// How far a branch is: 0 where it conforms.
 fn rank(branch: &Found, depth: usize) -> usize {
-    branch.strangeness(depth).min(3) * (MAX_FAULTS + 1) + branch.faults.len().min(MAX_FAULTS)
+    branch.strangeness(depth).min(MAX_STRANGENESS) * (MAX_FAULTS + 1)
+        + branch.faults.len().min(MAX_FAULTS)
 }
 
 /// Adds the faults of the branch that is nearest; where each is for another kind of value, one fault that says so.

@@ -180,7 +180,7 @@ fn reasons(
     let Ok(faults) = found_in(alloc, patterns, anchors, root, value) else {
         return Err(Error::new(ErrorCode::OutOfMemory));
     };
-    // one fault at least is found, so that no memory is all that can lack
+    // One fault at least is told, unless memory runs out.
     if faults.is_empty() {
         return Err(Error::new(ErrorCode::OutOfMemory));
     }
