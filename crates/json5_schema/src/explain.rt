@@ -250,17 +250,29 @@ fn explain_parts(
     }
     let rules = pieces_of(alloc, is_schema(applicator, argument), argument)?;
     for part in &pieces_of(alloc, is_of_whole(applicator), value)? {
-        for rule in &rules {
-            explain_part(
-                alloc, patterns, anchors, root, keywords, applicator, rule, part, value, place,
-                depth, found,
-            )?;
+        let (from, to) = rules_for(rules.len(), argument, part.way);
+        for rule in rules.get(from..to).unwrap_or(&[]) {
+            if is_for(alloc, patterns, keywords, applicator, rule, part, value)? {
+                explain_part(
+                    alloc, patterns, anchors, root, keywords, applicator, rule, part, value, place,
+                    depth, found,
+                )?;
+            }
         }
     }
     Ok(())
 }
 
-/// Goes into a part of the value, unless the schema holds of it or isn't for it.
+/// Which of so many schemas may be for a part, from and up to: of an array of schemas, for an element, the one in its place, and
+/// else all.
+fn rules_for(count: usize, argument: &Value, way: Way<'_>) -> (usize, usize) {
+    match way {
+        Way::Index(index) if argument.is_array() => (index, index.saturating_add(1)),
+        _ => (0, count),
+    }
+}
+
+/// Goes into a part of the value, unless the schema holds of it.
 #[cycle(explain)]
 fn explain_part(
     alloc: Global,
@@ -299,7 +311,7 @@ fn explain_part(
     )
 }
 
-/// Whether the schema holds of the part of the value, or isn't for it.
+/// Whether the schema holds of the part of the value.
 fn part_holds(
     alloc: Global,
     patterns: &[Pattern],
@@ -315,12 +327,7 @@ fn part_holds(
     let child = match (applicator, part.way) {
         (Applicator::UnevaluatedProperties, Way::Key(key, _)) => Child::Name(key),
         (Applicator::UnevaluatedItems, Way::Index(index)) => Child::Index(index),
-        _ => {
-            return Ok(
-                !is_for(alloc, patterns, keywords, applicator, rule, part, value)?
-                    || conforms_within(alloc, patterns, root, schema, inner, depth)?,
-            );
-        }
+        _ => return conforms_within(alloc, patterns, root, schema, inner, depth),
     };
     child_left_holds(
         alloc, patterns, root, schema, keywords, value, child, inner, depth,
