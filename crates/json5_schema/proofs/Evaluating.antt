@@ -1,6 +1,7 @@
 -- What schemas evaluate, and what is left: steps that answers cite.
-use Rattle.std.proofs.Common.{if◌then◌else◌, ◌≡◌, ◌∙◌, ◌<◌, ◌-◌, ◌+◌, drop, take, get_or, length, ℕ, suc, Bool, true, false, not, ◌&&◌, ◌||◌, List, ◌∷◌, Some, None, Result, Ok, Err, MatchResult, ap, sym, refl, arith, String, string_bytes}
+use Rattle.std.proofs.Common.{if◌then◌else◌, ◌≡◌, ◌∙◌, ◌<◌, ◌-◌, ◌+◌, drop, take, get_or, length, ℕ, suc, Bool, true, false, not, ◌&&◌, ◌||◌, List, ◌∷◌, Option, Some, None, Result, Ok, Err, MatchResult, ap, sym, refl, arith, String, string_bytes}
 use Rattle.std.specs.declared.alloc.Global.{Global}
+use lib.Chars.{codes}
 use Rattle.std.specs.Str.{chars, IsUtf8, encode_utf8_all}
 use Rattle.std.proofs.lemmas.Str.{encodes-chars}
 use Rattle.json5_types.specs.declared.error.Error.{Error}
@@ -11,11 +12,12 @@ use Rattle.json5_schema.specs.declared.asked.Child.{Child}
 use Rattle.json5_schema.specs.declared.asked.Child.TheVariants as child
 use Rattle.json5_schema.specs.declared.asked.Pair.{Pair}
 use Rattle.json5_schema.specs.declared.keyword.Applicator.{Applicator}
+use Rattle.json5_schema.specs.declared.keyword.Applicator.TheVariants as applicator
 use Rattle.json5_schema.specs.declared.keyword.Keyword.{Keyword}
 use Rattle.json5_schema.specs.Keywords.{keyword_named}
-use Rattle.json5_schema.specs.Conformance.{Question, evaluating_index, Answers, answers, schema_evaluates, Asked, is_in_place, is_contains, is_contained, reaches, applies, applicator_evaluates, asked_evaluates, evaluates, keyword_evaluates, keywords_evaluate, child_left_holds, elements_left_hold, left_holds, pair_evaluates, some_evaluate, unfolded}
+use Rattle.json5_schema.specs.Conformance.{Question, conforming, evaluating_index, Answers, answers, schema_evaluates, beside, choice, contains_on, count_conforming, each_item, elements_left_on, is_enough, is_few, is_in_place, members_left_on, part_evaluates, reaches, applies, applicator_evaluates, asked_evaluates, satisfied, evaluates, keyword_evaluates, keywords_evaluate, child_left_holds, elements_left_hold, left_holds, pair_evaluates, some_evaluate, unfolded}
 use Rattle.json5_numbers.specs.Sameness.{is_named}
-use Rattle.json5_schema.specs.Views.{IsRefusal, question_of, pair_view, pairs_view}
+use Rattle.json5_schema.specs.Views.{IsRefusal, question_of, pair_view, pairs_asked, pairs_view}
 use Rattle.std.proofs.lemmas.List.{drop_more}
 use Rattle.json5_types.proofs.LookedUp.{from_here}
 use Rattle.json5_schema.proofs.Conforming.{pair_from, rest_is}
@@ -82,19 +84,45 @@ pub settles_as : (r : Result Bool Error) (n : ℕ) (root : Datum) (f g : Answers
 settles_as (Ok b) n root f g same k = λ v. same v ∙ k v
 settles_as (Err e) n root f g same k = k
 
-pub in_place : (w : Answers) (root a x : Datum) (all : Fields) (k : Applicator) (q : Question) (asked : Asked) → is_in_place k ≡ true → asked ≡ applies root all k a x → applicator_evaluates w root all k a x q ≡ asked_evaluates w q asked
-in_place w root a x all k q asked h e =
-    ap (λ (b : Bool). if b then asked_evaluates w q (applies root all k a x) else (if is_contains k then is_contained w a x q else reaches all k a q)) h ∙ ap (asked_evaluates w q) (sym e)
+-- a keyword that asks for pairs
+pub by_pairs : (k : Applicator) (root a x : Datum) (all : Fields) → (k ≡ applicator.If → ⊥) → (k ≡ applicator.Contains → ⊥) → (k ≡ applicator.PropertyNames → ⊥) → (k ≡ applicator.UnevaluatedProperties → ⊥) → (k ≡ applicator.UnevaluatedItems → ⊥)
+    → applies root all k a x ≡ pairs_asked root all k a x
+by_pairs applicator.If root a x all f g h i j = absurd (f refl)
+by_pairs applicator.Contains root a x all f g h i j = absurd (g refl)
+by_pairs applicator.PropertyNames root a x all f g h i j = absurd (h refl)
+by_pairs applicator.UnevaluatedProperties root a x all f g h i j = absurd (i refl)
+by_pairs applicator.UnevaluatedItems root a x all f g h i j = absurd (j refl)
+by_pairs _ root a x all f g h i j = refl
 
-pub found_by : (w : Answers) (root a x : Datum) (all : Fields) (k : Applicator) (q : Question) → is_in_place k ≡ false → is_contains k ≡ true → applicator_evaluates w root all k a x q ≡ is_contained w a x q
-found_by w root a x all k q h e =
-    ap (λ (b : Bool). if b then asked_evaluates w q (applies root all k a x) else (if is_contains k then is_contained w a x q else reaches all k a q)) h
-    ∙ ap (λ (b : Bool). if b then is_contained w a x q else reaches all k a q) e
+pub evaluates_by_pairs : (k : Applicator) (w : Answers) (root a x : Datum) (all : Fields) (q : Question) → (k ≡ applicator.If → ⊥) → (k ≡ applicator.Contains → ⊥)
+    → applicator_evaluates w root all k a x q ≡ (if is_in_place k then asked_evaluates w q (pairs_asked root all k a x) else reaches all k a q)
+evaluates_by_pairs applicator.If w root a x all q f g = absurd (f refl)
+evaluates_by_pairs applicator.Contains w root a x all q f g = absurd (g refl)
+evaluates_by_pairs _ w root a x all q f g = refl
 
-pub reached_by : (w : Answers) (root a x : Datum) (all : Fields) (k : Applicator) (q : Question) → is_in_place k ≡ false → is_contains k ≡ false → applicator_evaluates w root all k a x q ≡ reaches all k a q
-reached_by w root a x all k q h e =
-    ap (λ (b : Bool). if b then asked_evaluates w q (applies root all k a x) else (if is_contains k then is_contained w a x q else reaches all k a q)) h
-    ∙ ap (λ (b : Bool). if b then is_contained w a x q else reaches all k a q) e
+-- a choice: the value conforms to the schema of `if` or not
+pub chosen_other : (r : Result Bool Error) (n : ℕ) (root s x : Datum) (found t e : Option Datum) (q : Question) (holds : Bool) → found ≡ e → holds ≡ false → ((v : Answers) → unfolded n v root conforming s x ≡ holds)
+    → MatchResult r (λ b. (v : Answers) → part_evaluates (unfolded n v root) q found x ≡ b) IsRefusal → MatchResult r (λ b. (v : Answers) → asked_evaluates (unfolded n v root) q (choice s t e x) ≡ b) IsRefusal
+chosen_other (Ok b) n root s x found t e q holds is h k part = λ v.
+    ap (λ (c : Bool). if c then unfolded n v root q s x || part_evaluates (unfolded n v root) q t x else part_evaluates (unfolded n v root) q e x) (k v ∙ h) ∙ (ap (λ (o : Option Datum). part_evaluates (unfolded n v root) q o x) (sym is) ∙ part v)
+chosen_other (Err f) n root s x found t e q holds is h k part = part
+
+pub chosen_first : (r : Result Bool Error) (n : ℕ) (root s x : Datum) (found t e : Option Datum) (q : Question) (holds here : Bool) → found ≡ t → holds ≡ true → here ≡ false
+    → ((v : Answers) → unfolded n v root conforming s x ≡ holds) → ((v : Answers) → unfolded n v root q s x ≡ here)
+    → MatchResult r (λ b. (v : Answers) → part_evaluates (unfolded n v root) q found x ≡ b) IsRefusal → MatchResult r (λ b. (v : Answers) → asked_evaluates (unfolded n v root) q (choice s t e x) ≡ b) IsRefusal
+chosen_first (Ok b) n root s x found t e q holds here is h i k j part = λ v.
+    ap (λ (c : Bool). if c then unfolded n v root q s x || part_evaluates (unfolded n v root) q t x else part_evaluates (unfolded n v root) q e x) (k v ∙ h)
+    ∙ (ap (λ (c : Bool). c || part_evaluates (unfolded n v root) q t x) (j v ∙ i) ∙ (ap (λ (o : Option Datum). part_evaluates (unfolded n v root) q o x) (sym is) ∙ part v))
+chosen_first (Err f) n root s x found t e q holds here is h i k j part = part
+
+-- ---- `contains`
+
+pub counted_by : (n : ℕ) (v : Answers) (root s : Datum) (all : Fields) (xs : Items) (least most : Option Datum) (ps : List (Datum × Datum)) (count : ℕ) (b : Bool) → least ≡ beside (codes "minContains") all → most ≡ beside (codes "maxContains") all
+    → ps ≡ each_item s xs → count_conforming (unfolded n v root conforming) ps ≡ count → b ≡ (is_enough least count && is_few most count) → satisfied (unfolded n v root) root (contains_on s all (array xs)) ≡ b
+counted_by n v root s all xs least most ps count b low high pairs counts is =
+    let number : count_conforming (unfolded n v root conforming) (each_item s xs) ≡ count = ap (count_conforming (unfolded n v root conforming)) (sym pairs) ∙ counts in
+    ap (λ (m : ℕ). is_enough (beside (codes "minContains") all) m && is_few (beside (codes "maxContains") all) m) number
+    ∙ (ap (λ (o : Option Datum). is_enough o count && is_few (beside (codes "maxContains") all) count) (sym low) ∙ (ap (λ (o : Option Datum). is_enough least count && is_few o count) (sym high) ∙ sym is))
 
 -- ---- one of some, and those after it
 
@@ -118,7 +146,13 @@ pub pair_at : (w : Answers) (q : Question) (ps : List Pair) (i : ℕ) (p : Pair)
     → some_evaluate w q (pairs_view (drop i ps)) ≡ (b || some_evaluate w q (pairs_view (drop (i + 1) ps)))
 pair_at w q ps i p b h is known = rw (pair_from ps i p h is) (ap (λ (c : Bool). c || some_evaluate w q (pairs_view (drop (i + 1) ps))) known)
 
--- ---- what is left of an array
+-- ---- what is left
+
+pub left_of_members : (w : Answers) (root s x : Datum) (all fs : Fields) → x ≡ object fs → satisfied w root (members_left_on s all x) ≡ left_holds w root s all x
+left_of_members w root s x all fs e = rw e refl
+
+pub left_of_elements : (w : Answers) (root s x : Datum) (all : Fields) (xs : Items) → x ≡ array xs → satisfied w root (elements_left_on s all x) ≡ left_holds w root s all x
+left_of_elements w root s x all xs e = rw e refl
 
 pub left_elements : (r : Result Bool Error) (n : ℕ) (root s x : Datum) (all : Fields) (xs : Items) → x ≡ array xs → MatchResult r (λ b. (v : Answers) → elements_left_hold (unfolded n v root) root s all x 0 xs ≡ b) IsRefusal
     → MatchResult r (λ b. (v : Answers) → left_holds (unfolded n v root) root s all x ≡ b) IsRefusal

@@ -127,15 +127,17 @@ passed_keyword n v root a x key bytes all rest k h u same named is = keyword_ask
 
 -- ---- a choice
 
-pub chosen_then : (r : Result Bool Error) (n : ℕ) (root s x : Datum) (t e : Option Datum) (holds : Bool) → holds ≡ true → ((v : Answers) → unfolded n v root conforming s x ≡ holds)
-    → MatchResult r (λ b. (v : Answers) → part_holds (unfolded n v root conforming) t x ≡ b) IsRefusal → MatchResult r (λ b. (v : Answers) → satisfied (unfolded n v root) root (choice s t e x) ≡ b) IsRefusal
-chosen_then (Ok b) n root s x t e holds h k part = λ v. ap (λ (c : Bool). if c then part_holds (unfolded n v root conforming) t x else part_holds (unfolded n v root conforming) e x) (k v ∙ h) ∙ part v
-chosen_then (Err f) n root s x t e holds h k part = part
+pub chosen_then : (r : Result Bool Error) (n : ℕ) (root s x : Datum) (found t e : Option Datum) (holds : Bool) → found ≡ t → holds ≡ true → ((v : Answers) → unfolded n v root conforming s x ≡ holds)
+    → MatchResult r (λ b. (v : Answers) → part_holds (unfolded n v root conforming) found x ≡ b) IsRefusal → MatchResult r (λ b. (v : Answers) → satisfied (unfolded n v root) root (choice s t e x) ≡ b) IsRefusal
+chosen_then (Ok b) n root s x found t e holds is h k part = λ v.
+    ap (λ (c : Bool). if c then part_holds (unfolded n v root conforming) t x else part_holds (unfolded n v root conforming) e x) (k v ∙ h) ∙ (ap (λ (o : Option Datum). part_holds (unfolded n v root conforming) o x) (sym is) ∙ part v)
+chosen_then (Err f) n root s x found t e holds is h k part = part
 
-pub chosen_else : (r : Result Bool Error) (n : ℕ) (root s x : Datum) (t e : Option Datum) (holds : Bool) → holds ≡ false → ((v : Answers) → unfolded n v root conforming s x ≡ holds)
-    → MatchResult r (λ b. (v : Answers) → part_holds (unfolded n v root conforming) e x ≡ b) IsRefusal → MatchResult r (λ b. (v : Answers) → satisfied (unfolded n v root) root (choice s t e x) ≡ b) IsRefusal
-chosen_else (Ok b) n root s x t e holds h k part = λ v. ap (λ (c : Bool). if c then part_holds (unfolded n v root conforming) t x else part_holds (unfolded n v root conforming) e x) (k v ∙ h) ∙ part v
-chosen_else (Err f) n root s x t e holds h k part = part
+pub chosen_else : (r : Result Bool Error) (n : ℕ) (root s x : Datum) (found t e : Option Datum) (holds : Bool) → found ≡ e → holds ≡ false → ((v : Answers) → unfolded n v root conforming s x ≡ holds)
+    → MatchResult r (λ b. (v : Answers) → part_holds (unfolded n v root conforming) found x ≡ b) IsRefusal → MatchResult r (λ b. (v : Answers) → satisfied (unfolded n v root) root (choice s t e x) ≡ b) IsRefusal
+chosen_else (Ok b) n root s x found t e holds is h k part = λ v.
+    ap (λ (c : Bool). if c then part_holds (unfolded n v root conforming) t x else part_holds (unfolded n v root conforming) e x) (k v ∙ h) ∙ (ap (λ (o : Option Datum). part_holds (unfolded n v root conforming) o x) (sym is) ∙ part v)
+chosen_else (Err f) n root s x found t e holds is h k part = part
 
 -- ---- the whole
 

@@ -1,6 +1,6 @@
 -- What the code's pairs and questions mean, and why there is no answer.
 -- A promise rests on this.
-use Rattle.std.specs.Prelude.{◌≡◌, ◌⊎◌, ℕ, Bool, String, string_bytes, List, [], ◌∷◌, map, Option, None, option_map, Result, MatchResult, Vec}
+use Rattle.std.specs.Prelude.{◌≡◌, ◌⊎◌, ℕ, Bool, true, if◌then◌else◌, String, string_bytes, List, [], ◌∷◌, map, Option, None, option_map, Result, MatchResult, Vec}
 use Rattle.std.specs.declared.alloc.Global.{Global}
 use Rattle.std.specs.Str.{chars}
 use Rattle.std.specs.Borrow.{Bor}
@@ -8,11 +8,12 @@ use Rattle.json5_grammar.specs.declared.error_code.ErrorCode.TheVariants.{Overfl
 use Rattle.json5_types.specs.declared.error.Error.{Error}
 use Rattle.json5_types.specs.declared.value.Value.{Value}
 use Rattle.json5_types.specs.Errors.{code, LacksMemory, SaysAt}
-use Rattle.json5_types.specs.ValueMeanings.{Datum, object, Fields, no_field, field, value_of, items_view, fields_view}
-use Rattle.json5_schema.specs.Conformance.{Asked, settled, within, counted, choice, names, left, Question, evaluating_name, evaluating_index, Answers, keyword_holds, left_holds, members_left_hold, elements_left_hold, child_left_holds, reaches, keyword_evaluates, keywords_evaluate, applicator_evaluates, choice_evaluates, schema_evaluates, unfolded}
+use Rattle.json5_types.specs.ValueMeanings.{Datum, array, object, Fields, no_field, field, value_of, items_view, fields_view}
+use Rattle.json5_schema.specs.Conformance.{Asked, settled, within, applies, satisfied, contains_on, if_on, is_in_place, asked_evaluates, Question, evaluating_name, evaluating_index, Answers, keyword_holds, left_holds, members_left_hold, elements_left_hold, child_left_holds, reaches, keyword_evaluates, keywords_evaluate, applicator_evaluates, schema_evaluates, unfolded}
 use Rattle.json5_schema.specs.Shapes.{IsShaped}
 use Rattle.json5_schema.specs.Subschemas.{HasOnlyKeywords}
 use Rattle.json5_schema.specs.declared.keyword.Applicator.{Applicator}
+use Rattle.json5_schema.specs.declared.keyword.Applicator.TheVariants as applicator
 use Rattle.json5_schema.specs.declared.schemas.Schema.{Schema}
 use Rattle.json5_schema.specs.declared.asked.Pair.{Pair}
 use Rattle.json5_schema.specs.declared.members.Member.{Member}
@@ -37,10 +38,15 @@ part_view t = option_map (λ p. value_of p.now) t
 abbrev pub asked_view : declared.Asked → Asked
 asked_view (asked.Settled b) = settled b
 asked_view (asked.Within least most ps) = within least most (pairs_view ps.items)
-asked_view (asked.Counted least most ps) = counted (part_view least) (part_view most) (pairs_view ps.items)
-asked_view (asked.Choice s t e x) = choice (value_of s.now) (part_view t) (part_view e) (value_of x.now)
-asked_view (asked.Names s fs) = names (value_of s.now) (fields_view fs.now)
-asked_view (asked.Left s all x) = left (value_of s.now) (fields_view all.now) (value_of x.now)
+
+-- what a keyword asks of pairs, of those that ask for nothing else
+abbrev pub pairs_asked : Datum → Fields → Applicator → Datum → Datum → Asked
+pairs_asked root all applicator.If a x = settled true
+pairs_asked root all applicator.Contains a x = settled true
+pairs_asked root all applicator.PropertyNames a x = settled true
+pairs_asked root all applicator.UnevaluatedProperties a x = settled true
+pairs_asked root all applicator.UnevaluatedItems a x = settled true
+pairs_asked root all k a x = applies root all k a x
 
 -- whether the schema evaluates the child
 abbrev pub question_of : Child → Question
@@ -73,6 +79,18 @@ abbrev pub member_holds : Answers → Value → Members → String Global × Val
 member_holds v root keywords member after x =
     keyword_holds v (value_of root) (fields_view keywords) (chars (string_bytes member.0)) (value_of member.1) (fields_view after) (value_of x)
 
+-- one with this argument that applies schemas
+abbrev pub argument_holds : Answers → Value → Members → Applicator → Value → Value → Bool
+argument_holds v root keywords k argument x = satisfied v (value_of root) (applies (value_of root) (fields_view keywords) k (value_of argument) (value_of x))
+
+-- that asks for pairs
+abbrev pub pairs_hold : Answers → Value → Members → Applicator → Value → Value → Bool
+pairs_hold v root keywords k argument x = satisfied v (value_of root) (pairs_asked (value_of root) (fields_view keywords) k (value_of argument) (value_of x))
+
+-- as many of the elements conform as `contains` asks for
+abbrev pub items_counted : Answers → Value → Value → Members → List Value → Bool
+items_counted v root schema keywords items = satisfied v (value_of root) (contains_on (value_of schema) (fields_view keywords) (array (items_view items)))
+
 -- the same of whether it evaluates a child
 abbrev pub member_evaluates : Answers → Value → Members → String Global × Value → Members → Value → Child → Bool
 member_evaluates v root keywords member after x child =
@@ -82,6 +100,11 @@ member_evaluates v root keywords member after x child =
 abbrev pub argument_evaluates : Answers → Value → Members → Applicator → Value → Value → Child → Bool
 argument_evaluates v root keywords k argument x child = applicator_evaluates v (value_of root) (fields_view keywords) k (value_of argument) (value_of x) (question_of child)
 
+abbrev pub pairs_evaluate : Answers → Value → Members → Applicator → Value → Value → Child → Bool
+pairs_evaluate v root keywords k argument x child =
+    if is_in_place k then asked_evaluates v (question_of child) (pairs_asked (value_of root) (fields_view keywords) k (value_of argument) (value_of x)) else
+    reaches (fields_view keywords) k (value_of argument) (question_of child)
+
 -- one of all keywords, and of what is left too
 abbrev pub one_evaluates : Answers → Value → Members → Value → Child → Bool
 one_evaluates v root keywords x child = keywords_evaluate v (value_of root) (fields_view keywords) (fields_view keywords) (value_of x) (question_of child)
@@ -89,8 +112,8 @@ one_evaluates v root keywords x child = keywords_evaluate v (value_of root) (fie
 abbrev pub fields_evaluate : Answers → Value → Members → Value → Child → Bool
 fields_evaluate v root keywords x child = schema_evaluates v (value_of root) (object (fields_view keywords)) (value_of x) (question_of child)
 
-abbrev pub either_evaluates : Answers → Child → Value → Option (Bor Value) → Option (Bor Value) → Value → Bool
-either_evaluates v child condition then other x = choice_evaluates v (question_of child) (value_of condition) (part_view then) (part_view other) (value_of x)
+abbrev pub either_evaluates : Answers → Child → Value → Members → Value → Bool
+either_evaluates v child condition keywords x = asked_evaluates v (question_of child) (if_on (value_of condition) (fields_view keywords) (value_of x))
 
 -- by a member's name
 abbrev pub reaches_named : Members → Applicator → Value → List ℕ → Bool

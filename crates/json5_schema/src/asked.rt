@@ -5,8 +5,8 @@ ghost use lib.Chars.{codes};
 ghost use Rattle.std.specs.Str.{chars};
 ghost use Rattle.json5_types.specs.Errors.{LacksMemory};
 ghost use Rattle.json5_types.specs.ValueMeanings.{value_of, items_view, fields_view};
-ghost use Rattle.json5_schema.specs.Conformance.{each_schema, each_item, by_name, value_for, by_index, prefix_on, schemas_in_front, items_after, elements_after, items_on, additional_items_on, contains_on, all_of_on, any_of_on, one_of_on, if_on, members_left_on, elements_left_on, speaks_of, beside, is_matched, is_patterned, is_additional, latest, each_matched, of_pattern, by_pattern, patterns_on, each_additional, has_additional, additional_on, names_on, properties_on, is_dependent, dependent_schemas, dependent_on, dependencies_on, all_on, some_on, target_of, refers_on, asserts, applies};
-ghost use Rattle.json5_schema.specs.Views.{AsksFor, IsRefusal, PairsFor, members_view, pairs_view, part_view, asked_view};
+ghost use Rattle.json5_schema.specs.Conformance.{each_schema, each_item, by_name, value_for, by_index, prefix_on, schemas_in_front, items_after, elements_after, items_on, additional_items_on, all_of_on, any_of_on, one_of_on, speaks_of, beside, is_matched, is_patterned, is_additional, latest, each_matched, of_pattern, by_pattern, patterns_on, each_additional, has_additional, additional_on, properties_on, is_dependent, dependent_schemas, dependent_on, dependencies_on, all_on, some_on, target_of, refers_on, asserts};
+ghost use Rattle.json5_schema.specs.Views.{AsksFor, IsRefusal, PairsFor, members_view, pairs_asked, pairs_view, part_view, asked_view};
 
 use crate::anchors::target_by;
 use crate::equal::{has_distinct, is_in_enum};
@@ -34,21 +34,13 @@ pub struct Pair<'a> {
     pub value: &'a Value,
 }
 
-/// What a keyword asks.
+/// What a keyword asks of pairs.
 #[derive(Drop)]
 pub enum Asked<'a> {
     /// It is decided already.
     Settled(bool),
     /// Of these pairs at least so many, and at most so many, have to conform.
     Within(usize, usize, Vec<Pair<'a>>),
-    /// Of these pairs as many as a number, or one, have to conform at least, and as many as another at most.
-    Counted(Option<&'a Value>, Option<&'a Value>, Vec<Pair<'a>>),
-    /// Where the first schema holds of the value the second has to hold, and elsewhere the third.
-    Choice(&'a Value, Option<&'a Value>, Option<&'a Value>, &'a Value),
-    /// The schema has to hold of each name.
-    Names(&'a Value, &'a [(String, Value)]),
-    /// The schema has to hold of each member of the value, or each element, that these keywords leave.
-    Left(&'a Value, &'a [(String, Value)], &'a Value),
 }
 
 /// A member of an object, by its name, or an element of an array, by its index.
@@ -70,7 +62,7 @@ fn each_schema<'a>(alloc: Global, schemas: &'a [Value], value: &'a Value) -> Res
 }
 
 /// The schema, on each of the elements.
-fn each_item<'a>(alloc: Global, schema: &'a Value, items: &'a [Value]) -> Result<Vec<Pair<'a>>>
+pub fn each_item<'a>(alloc: Global, schema: &'a Value, items: &'a [Value]) -> Result<Vec<Pair<'a>>>
     ensures { PairsFor (each_item (value_of schema.now) (items_view items.now)) result }
 {
     let mut pairs = Vec::with_capacity(alloc, items.len())?;
@@ -374,16 +366,6 @@ fn patterns_on<'a>(
     }
 }
 
-/// What `propertyNames` asks.
-fn names_on<'a>(schema: &'a Value, value: &'a Value) -> Asked<'a>
-    ensures { asked_view result ≡ names_on (value_of schema.now) (value_of value.now) }
-{
-    match value {
-        Value::Object(members) => Asked::Names(schema, members),
-        _ => Asked::Settled(true),
-    }
-}
-
 /// The schemas, on the elements at the same indices.
 fn by_index<'a>(alloc: Global, schemas: &'a [Value], items: &'a [Value]) -> Result<Vec<Pair<'a>>>
     ensures { PairsFor (by_index (items_view schemas.now) (items_view items.now)) result }
@@ -474,24 +456,6 @@ fn additional_items_on<'a>(
     }
 }
 
-/// What `contains` asks.
-fn contains_on<'a>(
-    alloc: Global,
-    schema: &'a Value,
-    keywords: &'a [(String, Value)],
-    value: &'a Value,
-) -> Result<Asked<'a>>
-    ensures { AsksFor (contains_on (value_of schema.now) (fields_view keywords.now) (value_of value.now)) result }
-{
-    match value {
-        Value::Array(items) => {
-            let (least, most) = (find(keywords, "minContains"), find(keywords, "maxContains"));
-            Ok(Asked::Counted(least, most, each_item(alloc, schema, items)?))
-        }
-        _ => Ok(Asked::Settled(true)),
-    }
-}
-
 /// What `allOf` asks.
 fn all_of_on<'a>(alloc: Global, schemas: &'a Value, value: &'a Value) -> Result<Asked<'a>>
     ensures { AsksFor (all_of_on (value_of schemas.now) (value_of value.now)) result }
@@ -519,46 +483,6 @@ fn one_of_on<'a>(alloc: Global, schemas: &'a Value, value: &'a Value) -> Result<
     match schemas {
         Value::Array(schemas) => Ok(Asked::Within(1, 1, each_schema(alloc, schemas, value)?)),
         _ => Ok(Asked::Settled(true)),
-    }
-}
-
-/// What `if` asks.
-fn if_on<'a>(schema: &'a Value, keywords: &'a [(String, Value)], value: &'a Value) -> Asked<'a>
-    ensures { asked_view result ≡ if_on (value_of schema.now) (fields_view keywords.now) (value_of value.now) }
-{
-    Asked::Choice(
-        schema,
-        find(keywords, "then"),
-        find(keywords, "else"),
-        value,
-    )
-}
-
-/// What `unevaluatedProperties` asks.
-fn members_left_on<'a>(
-    schema: &'a Value,
-    keywords: &'a [(String, Value)],
-    value: &'a Value,
-) -> Asked<'a>
-    ensures { asked_view result ≡ members_left_on (value_of schema.now) (fields_view keywords.now) (value_of value.now) }
-{
-    match value {
-        Value::Object(_) => Asked::Left(schema, keywords, value),
-        _ => Asked::Settled(true),
-    }
-}
-
-/// What `unevaluatedItems` asks.
-fn elements_left_on<'a>(
-    schema: &'a Value,
-    keywords: &'a [(String, Value)],
-    value: &'a Value,
-) -> Asked<'a>
-    ensures { asked_view result ≡ elements_left_on (value_of schema.now) (fields_view keywords.now) (value_of value.now) }
-{
-    match value {
-        Value::Array(_) => Asked::Left(schema, keywords, value),
-        _ => Asked::Settled(true),
     }
 }
 
@@ -660,7 +584,7 @@ pub fn asserts(
     }
 }
 
-/// Which schemas a keyword applies.
+/// Which pairs a keyword asks for: none of one that asks otherwise (`applicator_holds`).
 pub fn applies<'a>(
     alloc: Global,
     patterns: &[Pattern],
@@ -670,14 +594,13 @@ pub fn applies<'a>(
     argument: &'a Value,
     value: &'a Value,
 ) -> Result<Asked<'a>>
-    ensures { AsksFor (applies (value_of root.now) (fields_view keywords.now) applicator (value_of argument.now) (value_of value.now)) result }
+    ensures { AsksFor (pairs_asked (value_of root.now) (fields_view keywords.now) applicator (value_of argument.now) (value_of value.now)) result }
 {
     match applicator {
         Applicator::AllOf => all_of_on(alloc, argument, value),
         Applicator::AnyOf => any_of_on(alloc, argument, value),
         Applicator::OneOf => one_of_on(alloc, argument, value),
         Applicator::Not => Ok(Asked::Within(0, 0, one(alloc, argument, value)?)),
-        Applicator::If => Ok(if_on(argument, keywords, value)),
         Applicator::DependentSchemas => dependent_on(alloc, argument, value),
         Applicator::Dependencies => dependencies_on(alloc, argument, value),
         Applicator::PrefixItems => prefix_on(alloc, argument, value),
@@ -685,15 +608,16 @@ pub fn applies<'a>(
         Applicator::AdditionalItems => {
             additional_items_on(alloc, argument, find(keywords, "items"), value)
         }
-        Applicator::Contains => contains_on(alloc, argument, keywords, value),
         Applicator::Properties => properties_on(alloc, argument, value),
         Applicator::PatternProperties => patterns_on(alloc, patterns, argument, value),
         Applicator::AdditionalProperties => additional_on(
             alloc, patterns, argument, keywords, value,
         ),
-        Applicator::PropertyNames => Ok(names_on(argument, value)),
-        Applicator::UnevaluatedProperties => Ok(members_left_on(argument, keywords, value)),
-        Applicator::UnevaluatedItems => Ok(elements_left_on(argument, keywords, value)),
         Applicator::Ref => refers_on(alloc, target_of(root, argument), value),
+        Applicator::If => Ok(Asked::Settled(true)),
+        Applicator::Contains => Ok(Asked::Settled(true)),
+        Applicator::PropertyNames => Ok(Asked::Settled(true)),
+        Applicator::UnevaluatedProperties => Ok(Asked::Settled(true)),
+        Applicator::UnevaluatedItems => Ok(Asked::Settled(true)),
     }
 }

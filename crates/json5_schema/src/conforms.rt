@@ -1,17 +1,18 @@
 //! Whether a value conforms to a schema.
 
-ghost use Rattle.std.specs.Prelude.{◌≡◌, MatchResult, ◌&&◌, nat_eq};
+ghost use Rattle.std.specs.Prelude.{MatchResult};
 ghost use Rattle.std.specs.Str.{chars};
 ghost use Rattle.json5_types.specs.ValueMeanings.{object, text, value_of, fields_view};
-ghost use Rattle.json5_schema.specs.Conformance.{asked_evaluates, conforming, count_conforming, is_contained, is_within, less, names_hold, pair_evaluates, part_evaluates, part_holds, satisfied, schema_holds, some_evaluate, Conforms};
-ghost use Rattle.json5_schema.specs.Views.{IsRefusal, Settles, argument_evaluates, asked_view, child_left, either_evaluates, elements_left, fields_evaluate, member_evaluates, member_holds, members_left, one_evaluates, pair_view, pairs_view, part_view, question_of, value_left};
+ghost use Rattle.json5_schema.specs.Conformance.{asked_evaluates, conforming, count_conforming, is_contained, is_within, names_hold, names_on, pair_evaluates, part_evaluates, part_holds, satisfied, schema_holds, some_evaluate, Conforms};
+ghost use Rattle.json5_schema.specs.declared.keyword.Applicator.TheVariants as kinds;
+ghost use Rattle.json5_schema.specs.Views.{IsRefusal, Settles, argument_evaluates, argument_holds, asked_view, child_left, either_evaluates, elements_left, fields_evaluate, items_counted, member_evaluates, member_holds, members_left, one_evaluates, pair_view, pairs_evaluate, pairs_hold, pairs_view, part_view, question_of, value_left};
 
-use crate::asked::{Asked, Child, Pair, applies, asserts};
+use crate::asked::{Asked, Child, Pair, applies, asserts, each_item};
 use crate::keyword::{Applicator, Keyword, keyword_named};
-use crate::limits::is_counted;
-use crate::members::{Member, is_named, latest};
+use crate::limits::{is_counted, is_full, less};
+use crate::members::{Member, find, is_named, latest};
 use crate::patterns::Pattern;
-use crate::reaching::{element_at, is_contains, is_in_place, reaches, takes_rest};
+use crate::reaching::{element_at, is_in_place, reaches, takes_rest};
 use json5_types::ErrorCode;
 use json5_types::error::{Error, Result};
 use json5_types::value::Value;
@@ -104,12 +105,61 @@ pub fn keyword_holds(
         Keyword::Assertion(assertion) => {
             asserts(alloc, patterns, root, assertion, argument, value)
         }
-        Keyword::Applicator(applicator) => {
-            let asked = applies(alloc, patterns, root, members, applicator, argument, value)?;
-            satisfied(alloc, patterns, root, &asked, depth)
-        }
+        Keyword::Applicator(applicator) => applicator_holds(
+            alloc, patterns, root, members, applicator, argument, value, depth,
+        ),
         Keyword::Annotation => Ok(true),
     }
+}
+
+/// Whether a keyword with this argument holds that applies schemas.
+#[cycle(conforms)]
+fn applicator_holds(
+    alloc: Global,
+    patterns: &[Pattern],
+    root: &Value,
+    members: &[(String, Value)],
+    applicator: Applicator,
+    argument: &Value,
+    value: &Value,
+    depth: usize,
+) -> Result<bool>
+    ensures { Settles depth (value_of root.now) (λ v. argument_holds v root.now members.now applicator argument.now value.now) result }
+{
+    match applicator {
+        Applicator::If => choice_holds(alloc, patterns, root, argument, members, value, depth),
+        Applicator::Contains => contains_holds(
+            alloc, patterns, root, argument, members, value, depth,
+        ),
+        Applicator::PropertyNames => each_name_holds(alloc, patterns, root, argument, value, depth),
+        Applicator::UnevaluatedProperties => rest_of_members_holds(
+            alloc, patterns, root, argument, members, value, depth,
+        ),
+        Applicator::UnevaluatedItems => rest_of_elements_holds(
+            alloc, patterns, root, argument, members, value, depth,
+        ),
+        _ => pairs_hold(
+            alloc, patterns, root, members, applicator, argument, value, depth,
+        ),
+    }
+}
+
+/// Whether the pairs conform that a keyword asks for.
+#[cycle(conforms)]
+fn pairs_hold(
+    alloc: Global,
+    patterns: &[Pattern],
+    root: &Value,
+    members: &[(String, Value)],
+    applicator: Applicator,
+    argument: &Value,
+    value: &Value,
+    depth: usize,
+) -> Result<bool>
+    ensures { Settles depth (value_of root.now) (λ v. pairs_hold v root.now members.now applicator argument.now value.now) result }
+{
+    let asked = applies(alloc, patterns, root, members, applicator, argument, value)?;
+    satisfied(alloc, patterns, root, &asked, depth)
 }
 
 /// Whether it is as it is asked.
@@ -128,21 +178,121 @@ fn satisfied(
         Asked::Within(least, most, pairs) => is_within(
             alloc, patterns, root, *least, *most, pairs, depth,
         ),
-        Asked::Counted(least, most, pairs) => {
-            let count = count_conforming(alloc, patterns, root, pairs, depth)?;
-            Ok(is_counted(alloc, *least, *most, count)?)
-        }
-        Asked::Choice(condition, then, other, value) => {
-            if conforms_within(alloc, patterns, root, condition, value, depth)? {
-                part_holds(alloc, patterns, root, *then, value, depth)
-            } else {
-                part_holds(alloc, patterns, root, *other, value, depth)
-            }
-        }
-        Asked::Names(schema, members) => names_hold(alloc, patterns, root, schema, members, depth),
-        Asked::Left(schema, keywords, value) => left_holds(
-            alloc, patterns, root, schema, keywords, value, depth,
-        ),
+    }
+}
+
+/// Whether `then` holds where the schema of `if` does, and `else` elsewhere.
+#[cycle(conforms)]
+fn choice_holds(
+    alloc: Global,
+    patterns: &[Pattern],
+    root: &Value,
+    condition: &Value,
+    members: &[(String, Value)],
+    value: &Value,
+    depth: usize,
+) -> Result<bool>
+    ensures { Settles depth (value_of root.now) (λ v. argument_holds v root.now members.now kinds.If condition.now value.now) result }
+{
+    if conforms_within(alloc, patterns, root, condition, value, depth)? {
+        part_holds(alloc, patterns, root, find(members, "then"), value, depth)
+    } else {
+        part_holds(alloc, patterns, root, find(members, "else"), value, depth)
+    }
+}
+
+/// Whether as many elements conform to the schema of `contains` as are asked for.
+#[cycle(conforms)]
+fn contains_holds(
+    alloc: Global,
+    patterns: &[Pattern],
+    root: &Value,
+    schema: &Value,
+    members: &[(String, Value)],
+    value: &Value,
+    depth: usize,
+) -> Result<bool>
+    ensures { Settles depth (value_of root.now) (λ v. argument_holds v root.now members.now kinds.Contains schema.now value.now) result }
+{
+    match value {
+        Value::Array(items) => count_holds(alloc, patterns, root, schema, members, items, depth),
+        _ => Ok(true),
+    }
+}
+
+/// The same of these elements.
+#[cycle(conforms)]
+fn count_holds(
+    alloc: Global,
+    patterns: &[Pattern],
+    root: &Value,
+    schema: &Value,
+    members: &[(String, Value)],
+    items: &[Value],
+    depth: usize,
+) -> Result<bool>
+    ensures { Settles depth (value_of root.now) (λ v. items_counted v root.now schema.now members.now items.now) result }
+{
+    let pairs = each_item(alloc, schema, items)?;
+    let count = count_conforming(alloc, patterns, root, &pairs, depth)?;
+    let least = find(members, "minContains");
+    let most = find(members, "maxContains");
+    Ok(is_counted(alloc, least, most, count)?)
+}
+
+/// Whether the schema of `propertyNames` holds of each name.
+#[cycle(conforms)]
+fn each_name_holds(
+    alloc: Global,
+    patterns: &[Pattern],
+    root: &Value,
+    schema: &Value,
+    value: &Value,
+    depth: usize,
+) -> Result<bool>
+    ensures { Settles depth (value_of root.now) (λ v. satisfied v (value_of root.now) (names_on (value_of schema.now) (value_of value.now))) result }
+{
+    match value {
+        Value::Object(members) => names_hold(alloc, patterns, root, schema, members, depth),
+        _ => Ok(true),
+    }
+}
+
+/// Whether the schema of `unevaluatedProperties` holds of the members that the keywords leave.
+#[cycle(conforms)]
+fn rest_of_members_holds(
+    alloc: Global,
+    patterns: &[Pattern],
+    root: &Value,
+    schema: &Value,
+    keywords: &[(String, Value)],
+    value: &Value,
+    depth: usize,
+) -> Result<bool>
+    ensures { Settles depth (value_of root.now) (λ v. argument_holds v root.now keywords.now kinds.UnevaluatedProperties schema.now value.now) result }
+{
+    match value {
+        Value::Object(_) => left_holds(alloc, patterns, root, schema, keywords, value, depth),
+        _ => Ok(true),
+    }
+}
+
+/// The same of `unevaluatedItems` and the elements.
+#[cycle(conforms)]
+fn rest_of_elements_holds(
+    alloc: Global,
+    patterns: &[Pattern],
+    root: &Value,
+    schema: &Value,
+    keywords: &[(String, Value)],
+    value: &Value,
+    depth: usize,
+) -> Result<bool>
+    ensures { Settles depth (value_of root.now) (λ v. argument_holds v root.now keywords.now kinds.UnevaluatedItems schema.now value.now) result }
+{
+    match value {
+        Value::Array(_) => left_holds(alloc, patterns, root, schema, keywords, value, depth),
+        _ => Ok(true),
     }
 }
 
@@ -251,24 +401,6 @@ fn is_within(
         }
     }
     Ok(least == 0)
-}
-
-/// One less, if it holds.
-fn less(holds: bool, count: usize) -> usize
-    ensures { result ≡ less holds count }
-{
-    if holds {
-        count.saturating_sub(1)
-    } else {
-        count
-    }
-}
-
-/// Whether one more is too many.
-fn is_full(holds: bool, most: usize) -> bool
-    ensures { result ≡ (holds && nat_eq most 0) }
-{
-    holds && most == 0
 }
 
 /// Whether the schema holds of each member of the value, or each element, that the keywords leave.
@@ -457,12 +589,35 @@ fn applicator_evaluates(
 ) -> Result<bool>
     ensures { Settles depth (value_of root.now) (λ v. argument_evaluates v root.now keywords.now applicator argument.now value.now child.entry) result }
 {
+    match applicator {
+        Applicator::If => choice_evaluates(
+            alloc, patterns, root, argument, keywords, value, child, depth,
+        ),
+        Applicator::Contains => is_contained(alloc, patterns, root, argument, value, child, depth),
+        _ => pairs_evaluate(
+            alloc, patterns, root, keywords, applicator, argument, value, child, depth,
+        ),
+    }
+}
+
+/// The same of one that asks for pairs.
+#[cycle(conforms)]
+fn pairs_evaluate(
+    alloc: Global,
+    patterns: &[Pattern],
+    root: &Value,
+    keywords: &[(String, Value)],
+    applicator: Applicator,
+    argument: &Value,
+    value: &Value,
+    child: Child<'_>,
+    depth: usize,
+) -> Result<bool>
+    ensures { Settles depth (value_of root.now) (λ v. pairs_evaluate v root.now keywords.now applicator argument.now value.now child.entry) result }
+{
     if is_in_place(applicator) {
         let asked = applies(alloc, patterns, root, keywords, applicator, argument, value)?;
         return asked_evaluates(alloc, patterns, root, &asked, child, depth);
-    }
-    if is_contains(applicator) {
-        return is_contained(alloc, patterns, root, argument, value, child, depth);
     }
     Ok(reaches(alloc, patterns, keywords, applicator, argument, child)?)
 }
@@ -500,13 +655,7 @@ fn asked_evaluates(
 {
     match asked {
         Asked::Within(_, _, pairs) => some_evaluate(alloc, patterns, root, pairs, child, depth),
-        Asked::Choice(condition, then, other, value) => choice_evaluates(
-            alloc, patterns, root, condition, *then, *other, value, child, depth,
-        ),
         Asked::Settled(_) => Ok(false),
-        Asked::Counted(_, _, _) => Ok(false),
-        Asked::Names(_, _) => Ok(false),
-        Asked::Left(_, _, _) => Ok(false),
     }
 }
 
@@ -555,21 +704,36 @@ fn choice_evaluates(
     patterns: &[Pattern],
     root: &Value,
     condition: &Value,
-    then: Option<&Value>,
-    other: Option<&Value>,
+    keywords: &[(String, Value)],
     value: &Value,
     child: Child<'_>,
     depth: usize,
 ) -> Result<bool>
-    ensures { Settles depth (value_of root.now) (λ v. either_evaluates v child.entry condition.now then.entry other.entry value.now) result }
+    ensures { Settles depth (value_of root.now) (λ v. either_evaluates v child.entry condition.now keywords.now value.now) result }
 {
     if !conforms_within(alloc, patterns, root, condition, value, depth)? {
-        return part_evaluates(alloc, patterns, root, other, value, child, depth);
+        return part_evaluates(
+            alloc,
+            patterns,
+            root,
+            find(keywords, "else"),
+            value,
+            child,
+            depth,
+        );
     }
     if evaluates_within(alloc, patterns, root, condition, value, child, depth)? {
         return Ok(true);
     }
-    part_evaluates(alloc, patterns, root, then, value, child, depth)
+    part_evaluates(
+        alloc,
+        patterns,
+        root,
+        find(keywords, "then"),
+        value,
+        child,
+        depth,
+    )
 }
 
 /// Whether the schema evaluates the child, if there is one.

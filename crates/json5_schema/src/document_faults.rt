@@ -1,7 +1,8 @@
 //! What is wrong in a document, place by place.
 
-use json5_types::error::Result;
-use std::alloc::Global;
+use crate::looking::behind;
+use json5_types::error;
+use std::alloc::{AllocError, Global};
 use std::fmt;
 
 /// A step into a document: to a member, of equal keys the last, or to an element, counted from 0.
@@ -15,23 +16,28 @@ impl fmt::Display for Step {
     /// Prints the step as it stands in a JSON pointer.
     fn fmt<W: fmt::Write>(&self, f: &mut fmt::Formatter<W>) -> fmt::Result {
         match self {
-            Step::Key(key) => write_key(f, key.as_str()),
+            Step::Key(key) => write!(f, "/{}", Escaped(key.as_str())),
             Step::Index(index) => write!(f, "/{index}"),
         }
     }
 }
 
-/// Writes a key as it stands in a JSON pointer.
-fn write_key<W: fmt::Write>(f: &mut fmt::Formatter<W>, key: &str) -> fmt::Result {
-    f.write_char('/')?;
-    for character in key.chars() {
-        match character {
-            '~' => f.write_str("~0")?,
-            '/' => f.write_str("~1")?,
-            _ => f.write_char(character)?,
+/// A key as it stands in a JSON pointer.
+#[derive(Clone, Copy)]
+pub(crate) struct Escaped<'a>(pub(crate) &'a str);
+
+impl fmt::Display for Escaped<'_> {
+    fn fmt<W: fmt::Write>(&self, f: &mut fmt::Formatter<W>) -> fmt::Result {
+        for character in self.0.chars() {
+            let written = match character {
+                '~' => f.write_str("~0"),
+                '/' => f.write_str("~1"),
+                _ => f.write_char(character),
+            };
+            written?;
         }
+        Ok(())
     }
-    Ok(())
 }
 
 /// Which part of a member is meant.
@@ -62,7 +68,7 @@ pub(crate) enum Way<'a> {
     /// To the member with this key, and where it stands among the members.
     Key(&'a str, usize),
     Index(usize),
-    /// To the target of this reference.
+    /// To the schema at this pointer, which a reference means.
     Target(&'a str),
 }
 
@@ -82,81 +88,63 @@ impl Place {
     /// # Errors
     ///
     /// - `OutOfMemory` where a request for memory was refused.
-    pub fn pointer(&self, alloc: Global) -> Result<String> {
+    pub fn pointer(&self, alloc: Global) -> error::Result<String> {
         let mut pointer = String::new(alloc);
         for step in &self.path {
-            pointer.push_str(format!(in alloc; "{step}")?.as_str())?;
+            pointer = format!(in alloc; "{pointer}{step}")?;
         }
         Ok(pointer)
     }
 
-    /// The same place once more.
-    pub(crate) fn copy(&self, alloc: Global) -> Result<Place> {
-        let mut path = Vec::new(alloc);
-        for step in &self.path {
-            path.push(match step {
-                Step::Key(key) => Step::Key(String::from_str(alloc, key.as_str())?),
-                Step::Index(index) => Step::Index(*index),
-            })?;
-        }
-        let mut order = Vec::new(alloc);
-        order.extend_from_slice(&self.order)?;
-        Ok(Place {
-            path,
+    /// The place further in the schema, and in the document.
+    pub(crate) fn further(
+        &self,
+        alloc: Global,
+        rule: Way<'_>,
+        at: Way<'_>,
+    ) -> Result<Place, AllocError> {
+        let mut place = Place {
+            path: Vec::new(alloc),
             part: self.part,
-            rule: String::from_str(alloc, self.rule.as_str())?,
-            order,
-        })
-    }
-
-    /// The place one step further in the document.
-    pub(crate) fn entered(self, alloc: Global, way: Way<'_>) -> Result<Place> {
-        let mut place = self;
-        match way {
-            Way::Key(key, index) => {
-                place.path.push(Step::Key(String::from_str(alloc, key)?))?;
-                place.order.push(index)?;
-            }
-            Way::Index(index) => {
-                place.path.push(Step::Index(index))?;
-                place.order.push(index)?;
-            }
-            Way::Here | Way::Target(_) => {}
+            rule: ruled(alloc, self.rule.as_str(), rule)?,
+            order: Vec::new(alloc),
+        };
+        for (step, index) in self.path.iter().zip(self.order.iter()) {
+            let way = match step {
+                Step::Key(key) => Way::Key(key.as_str(), *index),
+                Step::Index(_) => Way::Index(*index),
+            };
+            place.enter(alloc, way)?;
         }
+        place.enter(alloc, at)?;
         Ok(place)
     }
 
-    /// The same place, with a rule further in the schema.
-    pub(crate) fn ruled(self, alloc: Global, way: Way<'_>) -> Result<Place> {
-        let mut place = self;
-        match way {
-            Way::Key(key, _) => {
-                let step = Step::Key(String::from_str(alloc, key)?);
-                place.rule.push_str(format!(in alloc; "{step}")?.as_str())?;
-            }
-            Way::Index(index) => {
-                place
-                    .rule
-                    .push_str(format!(in alloc; "/{index}")?.as_str())?;
-            }
-            Way::Target(text) => {
-                place.rule = String::from_str(alloc, text.strip_prefix('#').unwrap_or(text))?;
-            }
-            Way::Here => {}
-        }
-        Ok(place)
+    /// Goes one step further in the document.
+    fn enter(&mut self, alloc: Global, way: Way<'_>) -> Result<(), AllocError> {
+        let (step, index) = match way {
+            Way::Key(key, index) => (Step::Key(String::from_str(alloc, key)?), index),
+            Way::Index(index) => (Step::Index(index), index),
+            Way::Here | Way::Target(_) => return Ok(()),
+        };
+        self.path.push(step)?;
+        self.order.push(index)?;
+        Ok(())
     }
+}
 
-    /// The place with its key meant.
-    pub(crate) fn of_key(self) -> Place {
-        let mut place = self;
-        place.part = Part::Key;
-        place
+/// The pointer to what is further in the schema.
+fn ruled(alloc: Global, rule: &str, way: Way<'_>) -> Result<String, AllocError> {
+    match way {
+        Way::Key(key, _) => behind(alloc, rule, key),
+        Way::Index(index) => format!(in alloc; "{rule}/{index}"),
+        Way::Target(pointer) => String::from_str(alloc, pointer),
+        Way::Here => String::from_str(alloc, rule),
     }
 }
 
 /// How a value differs from what a keyword expects.
-#[derive(Clone, Copy, Debug, PartialEq, Eq)]
+#[derive(Clone, Copy, Debug)]
 pub(crate) enum Mismatch {
     /// It is of another kind (`type`).
     Kind,
@@ -186,33 +174,33 @@ pub struct Fault {
 impl fmt::Display for Fault {
     fn fmt<W: fmt::Write>(&self, f: &mut fmt::Formatter<W>) -> fmt::Result {
         let (expected, found) = (&self.expected, &self.found);
-        write!(f, "expected {expected}, found {found}")?;
         match &self.likeliest {
-            Some(likeliest) => write!(f, "; did you mean {likeliest}?"),
-            None => Ok(()),
+            Some(likeliest) => {
+                write!(
+                    f,
+                    "expected {expected}, found {found}; did you mean {likeliest}?"
+                )
+            }
+            None => write!(f, "expected {expected}, found {found}"),
         }
     }
 }
 
 impl Fault {
-    /// The same with what is likely to be meant.
-    pub(crate) fn or_likely(self, likeliest: Option<String>) -> Fault {
-        let mut fault = self;
-        fault.likeliest = likeliest;
-        fault
-    }
-
     /// Whether it stands before the other in the document.
     pub(crate) fn is_before(&self, other: &Fault) -> bool {
         self.place.order.as_slice() < other.place.order.as_slice()
     }
 
-    /// How the value so many steps below the top differs, if the fault is of a value there.
-    pub(crate) fn mismatch_at(&self, depth: usize) -> Mismatch {
-        if self.place.part == Part::Value && self.place.path.len() == depth {
-            self.mismatch
-        } else {
-            Mismatch::Other
+    /// How far the document is from what it means at a place so deep: 4 where the value itself is of another kind, 3
+    /// where it isn't one that is named, and so much where a member of it isn't.
+    pub(crate) fn strangeness(&self, depth: usize, of_member: usize) -> usize {
+        let length = self.place.path.len();
+        match (self.place.part, self.mismatch) {
+            (Part::Value, Mismatch::Kind) if length == depth => 4,
+            (Part::Value, Mismatch::Name) if length == depth => 3,
+            (Part::Value, Mismatch::Name) if length == depth.saturating_add(1) => of_member,
+            _ => 0,
         }
     }
 }

@@ -2,39 +2,34 @@
 //!
 //! Plain code, of which no promise is made but that it is safe and ends: change it by the rows of schemas, which judge it.
 
-use crate::asked::{Child, is_additional, is_dependent, schemas_in_front, target_of};
+use crate::asked::{Child, is_additional, schemas_in_front, target_of};
 use crate::conforms::{child_left_holds, conforms_within, keyword_holds};
-use crate::document_faults::{Fault, Mismatch, Place, Way};
+use crate::document_faults::{Part, Place, Way};
 use crate::found::Found;
 use crate::keyword::{Applicator, Keyword, keyword_named};
+use crate::looking::Anchor;
 use crate::members::latest;
-use crate::own_faults::{
-    add_assertion, add_dependents, add_own, choose_branch, other_key, unknown_key,
-};
+use crate::own_faults::{add_assertion, add_dependents, add_key, choose_branch};
 use crate::patterns::{Pattern, fits};
 use crate::tags::names_member;
-use crate::words::shown;
-use json5_numbers::members::find;
+use json5_numbers::members::{find, is_named};
 use json5_types::error::Result;
 use json5_types::value::Value;
 use std::alloc::Global;
 
-/// A schema that a keyword applies to a part of the value.
+/// A part of a value, or of the argument of a keyword, and the way to it.
 #[derive(Clone, Copy)]
-struct Applied<'a> {
-    schema: &'a Value,
+struct Piece<'a> {
+    way: Way<'a>,
     value: &'a Value,
-    /// The way from the keyword to the schema.
-    rule: Way<'a>,
-    /// The way from the value to the part.
-    at: Way<'a>,
 }
 
-/// Goes into a schema that doesn't hold of the value.
+/// Goes into each keyword of a schema that doesn't hold of the value.
 #[cycle(explain)]
 pub fn explain(
     alloc: Global,
     patterns: &[Pattern],
+    anchors: &[Anchor],
     root: &Value,
     schema: &Value,
     value: &Value,
@@ -45,47 +40,15 @@ pub fn explain(
     if depth == 0 || !found.goes_on() {
         return Ok(());
     }
-    match schema {
-        Value::Bool(false) => found.add(Fault {
-            place: place.copy(alloc)?,
-            expected: String::from_str(alloc, "nothing here")?,
-            found: shown(alloc, value)?,
-            likeliest: None,
-            mismatch: Mismatch::Other,
-        }),
-        Value::Object(keywords) => {
-            explain_keywords(
-                alloc,
-                patterns,
-                root,
-                keywords,
-                value,
-                place,
-                depth - 1,
-                found,
-            )
-        }
-        _ => Ok(()),
+    if let Value::Bool(false) = schema {
+        return found.tell_value(alloc, place, "nothing here", value);
     }
-}
-
-/// Goes into each keyword that doesn't hold.
-#[cycle(explain)]
-fn explain_keywords(
-    alloc: Global,
-    patterns: &[Pattern],
-    root: &Value,
-    keywords: &[(String, Value)],
-    value: &Value,
-    place: &Place,
-    depth: usize,
-    found: &mut Found,
-) -> Result<()> {
+    let (keywords, depth) = (schema.entries(), depth - 1);
     for (index, member) in keywords.iter().enumerate() {
         let after = &keywords[index + 1..];
         if !keyword_holds(alloc, patterns, root, keywords, member, after, value, depth)? {
             explain_keyword(
-                alloc, patterns, root, keywords, member, value, place, depth, found,
+                alloc, patterns, anchors, root, keywords, member, value, place, depth, found,
             )?;
         }
     }
@@ -97,6 +60,7 @@ fn explain_keywords(
 fn explain_keyword(
     alloc: Global,
     patterns: &[Pattern],
+    anchors: &[Anchor],
     root: &Value,
     keywords: &[(String, Value)],
     member: &(String, Value),
@@ -106,110 +70,92 @@ fn explain_keyword(
     found: &mut Found,
 ) -> Result<()> {
     let (name, argument) = (member.0.as_str(), &member.1);
-    let here = place.copy(alloc)?.ruled(alloc, Way::Key(name, 0))?;
-    match (keyword_named(name), argument, value) {
-        (Keyword::Assertion(assertion), _, _) => {
+    let here = place.further(alloc, Way::Key(name, 0), Way::Here)?;
+    match keyword_named(name) {
+        Keyword::Assertion(assertion) => {
             add_assertion(alloc, assertion, keywords, argument, value, &here, found)
         }
-        (Keyword::Applicator(Applicator::If), _, _) => {
-            explain_choice(
-                alloc, patterns, root, keywords, argument, value, place, depth, found,
+        Keyword::Applicator(Applicator::If | Applicator::Ref) => {
+            explain_chosen(
+                alloc, patterns, anchors, root, keywords, argument, value, place, depth, found,
             )
         }
-        (Keyword::Applicator(Applicator::AnyOf | Applicator::OneOf), Value::Array(schemas), _) => {
-            explain_branches(alloc, patterns, root, schemas, value, &here, depth, found)
+        Keyword::Applicator(Applicator::AnyOf | Applicator::OneOf) => {
+            explain_branches(
+                alloc, patterns, anchors, root, argument, value, &here, depth, found,
+            )
         }
-        (Keyword::Applicator(Applicator::PropertyNames), _, Value::Object(members)) => {
+        Keyword::Applicator(Applicator::Not) => {
+            found.tell_value(
+                alloc,
+                &here,
+                "a value that the schema of `not` refuses",
+                value,
+            )
+        }
+        Keyword::Applicator(Applicator::Contains) => {
+            found.tell_value(
+                alloc,
+                &here,
+                "as many elements as `contains` asks for",
+                value,
+            )
+        }
+        Keyword::Applicator(Applicator::PropertyNames) => {
             explain_names(
-                alloc, patterns, root, argument, members, &here, depth, found,
+                alloc, patterns, anchors, root, keywords, argument, value, &here, depth, found,
             )
         }
-        (Keyword::Applicator(Applicator::UnevaluatedProperties), _, Value::Object(members)) => {
-            explain_left_members(
-                alloc, patterns, root, keywords, argument, value, members, &here, depth, found,
-            )
-        }
-        (Keyword::Applicator(Applicator::UnevaluatedItems), _, Value::Array(items)) => {
-            explain_left_items(
-                alloc, patterns, root, keywords, argument, value, items, &here, depth, found,
-            )
-        }
-        (Keyword::Applicator(applicator), _, _) => {
-            let parts = parts_of(alloc, patterns, root, keywords, applicator, argument, value)?;
-            if matches!(applicator, Applicator::Dependencies) {
-                add_dependents(alloc, argument, value, &here, found)?;
-            }
-            if parts.is_empty() {
-                add_own(alloc, applicator, value, &here, found)?;
-            }
-            explain_parts(
-                alloc, patterns, root, keywords, applicator, &parts, &here, depth, found,
-            )
-        }
-        _ => Ok(()),
+        Keyword::Applicator(applicator) => explain_parts(
+            alloc, patterns, anchors, root, keywords, applicator, argument, value, &here, depth,
+            found,
+        ),
+        Keyword::Annotation => Ok(()),
     }
 }
 
-/// Goes into each part that doesn't conform.
+/// Goes into what a reference means, or into `then` or `else`, as the value conforms to the schema of `if` or not.
 #[cycle(explain)]
-fn explain_parts(
+fn explain_chosen<'a>(
     alloc: Global,
     patterns: &[Pattern],
-    root: &Value,
-    keywords: &[(String, Value)],
-    applicator: Applicator,
-    parts: &[Applied<'_>],
-    place: &Place,
-    depth: usize,
-    found: &mut Found,
-) -> Result<()> {
-    for part in parts {
-        if !conforms_within(alloc, patterns, root, part.schema, part.value, depth)? {
-            let ruled = place.copy(alloc)?.ruled(alloc, part.rule)?;
-            let there = ruled.entered(alloc, part.at)?;
-            match (applicator, part.schema, part.at) {
-                (Applicator::AdditionalProperties, Value::Bool(_), Way::Key(key, _)) => {
-                    found.add(unknown_key(alloc, keywords, key, there.of_key())?)?;
-                }
-                _ => explain(
-                    alloc,
-                    patterns,
-                    root,
-                    part.schema,
-                    part.value,
-                    &there,
-                    depth,
-                    found,
-                )?,
-            }
-        }
-    }
-    Ok(())
-}
-
-/// Goes into `then` or `else`, as the value conforms to the schema of `if` or not.
-#[cycle(explain)]
-fn explain_choice(
-    alloc: Global,
-    patterns: &[Pattern],
-    root: &Value,
-    keywords: &[(String, Value)],
-    condition: &Value,
+    anchors: &'a [Anchor],
+    root: &'a Value,
+    keywords: &'a [(String, Value)],
+    argument: &'a Value,
     value: &Value,
     place: &Place,
     depth: usize,
     found: &mut Found,
 ) -> Result<()> {
-    let name = if conforms_within(alloc, patterns, root, condition, value, depth)? {
-        "then"
+    let (schema, way) = if let Value::String(text) = argument {
+        (
+            target_of(root, argument),
+            Way::Target(pointer_to(anchors, text.as_str())),
+        )
+    } else if conforms_within(alloc, patterns, root, argument, value, depth)? {
+        (find(keywords, "then"), Way::Key("then", 0))
     } else {
-        "else"
+        (find(keywords, "else"), Way::Key("else", 0))
     };
-    let here = place.copy(alloc)?.ruled(alloc, Way::Key(name, 0))?;
-    match find(keywords, name) {
-        Some(schema) => explain(alloc, patterns, root, schema, value, &here, depth, found),
-        None => Ok(()),
+    let Some(schema) = schema else {
+        return Ok(());
+    };
+    let here = place.further(alloc, way, Way::Here)?;
+    explain(
+        alloc, patterns, anchors, root, schema, value, &here, depth, found,
+    )
+}
+
+/// The pointer to what a reference with this text means.
+fn pointer_to<'a>(anchors: &'a [Anchor], text: &'a str) -> &'a str {
+    let text = text.strip_prefix('#').unwrap_or(text);
+    for anchor in anchors {
+        if anchor.name.as_str() == text {
+            return anchor.pointer.as_str();
+        }
     }
+    text
 }
 
 /// Goes into the branch that is nearest.
@@ -217,21 +163,26 @@ fn explain_choice(
 fn explain_branches(
     alloc: Global,
     patterns: &[Pattern],
+    anchors: &[Anchor],
     root: &Value,
-    schemas: &[Value],
+    schemas: &Value,
     value: &Value,
     place: &Place,
     depth: usize,
     found: &mut Found,
 ) -> Result<()> {
+    let Value::Array(schemas) = schemas else {
+        return Ok(());
+    };
     let mut branches = Vec::new(alloc);
     for (index, schema) in schemas.iter().enumerate() {
-        let here = place.copy(alloc)?.ruled(alloc, Way::Index(index))?;
-        let mut branch = found.branch(alloc);
+        let here = place.further(alloc, Way::Index(index), Way::Here)?;
+        let mut branch = Found::new(alloc, found.effort);
         branch.is_tagged = names_member(alloc, root, schema, value.entries(), depth, &mut branch)?;
         explain(
             alloc,
             patterns,
+            anchors,
             root,
             schema,
             value,
@@ -239,10 +190,10 @@ fn explain_branches(
             depth,
             &mut branch,
         )?;
-        found.spend(&branch);
+        found.effort = branch.effort;
         branches.push(branch)?;
     }
-    choose_branch(alloc, branches, value, place, found)
+    choose_branch(alloc, &mut branches, value, place, found)
 }
 
 /// Goes into each name that doesn't conform.
@@ -250,280 +201,215 @@ fn explain_branches(
 fn explain_names(
     alloc: Global,
     patterns: &[Pattern],
-    root: &Value,
-    schema: &Value,
-    members: &[(String, Value)],
-    place: &Place,
-    depth: usize,
-    found: &mut Found,
-) -> Result<()> {
-    for (index, member) in members.iter().enumerate() {
-        let name = Value::text(alloc, member.0.as_str())?;
-        if !conforms_within(alloc, patterns, root, schema, &name, depth)? {
-            let way = Way::Key(member.0.as_str(), index);
-            let there = place.copy(alloc)?.entered(alloc, way)?.of_key();
-            explain(alloc, patterns, root, schema, &name, &there, depth, found)?;
-        }
-    }
-    Ok(())
-}
-
-/// Goes into each member that the keywords leave and that doesn't conform.
-#[cycle(explain)]
-fn explain_left_members(
-    alloc: Global,
-    patterns: &[Pattern],
+    anchors: &[Anchor],
     root: &Value,
     keywords: &[(String, Value)],
     schema: &Value,
     value: &Value,
-    members: &[(String, Value)],
     place: &Place,
     depth: usize,
     found: &mut Found,
 ) -> Result<()> {
-    for member in &latest(alloc, members)? {
-        let (key, inner) = (member.name, member.value);
-        let child = Child::Name(key);
-        if !child_left_holds(
-            alloc, patterns, root, schema, keywords, value, child, inner, depth,
-        )? {
-            let way = Way::Key(key, member.index);
-            let there = place.copy(alloc)?.entered(alloc, way)?;
-            match schema {
-                Value::Bool(_) => found.add(other_key(alloc, keywords, key, there.of_key())?)?,
-                _ => explain(alloc, patterns, root, schema, inner, &there, depth, found)?,
+    let rule = Piece {
+        way: Way::Here,
+        value: schema,
+    };
+    for (index, member) in value.entries().iter().enumerate() {
+        let key = member.0.as_str();
+        let name = Value::text(alloc, key)?;
+        let part = Piece {
+            way: Way::Key(key, index),
+            value: &name,
+        };
+        let applicator = Applicator::PropertyNames;
+        explain_part(
+            alloc, patterns, anchors, root, keywords, applicator, &rule, &part, value, place,
+            depth, found,
+        )?;
+    }
+    Ok(())
+}
+
+/// Goes into each part of the value that a schema of the keyword doesn't hold of, in the order of the document.
+#[cycle(explain)]
+fn explain_parts(
+    alloc: Global,
+    patterns: &[Pattern],
+    anchors: &[Anchor],
+    root: &Value,
+    keywords: &[(String, Value)],
+    applicator: Applicator,
+    argument: &Value,
+    value: &Value,
+    place: &Place,
+    depth: usize,
+    found: &mut Found,
+) -> Result<()> {
+    if let Applicator::Dependencies = applicator {
+        add_dependents(alloc, argument, value, place, found)?;
+    }
+    let rules = pieces_of(alloc, is_schema(applicator, argument), argument)?;
+    for part in &pieces_of(alloc, is_of_whole(applicator), value)? {
+        let (from, to) = rules_for(rules.len(), argument, part.way);
+        for rule in rules.get(from..to).unwrap_or(&[]) {
+            if is_for(alloc, patterns, keywords, applicator, rule, part, value)? {
+                explain_part(
+                    alloc, patterns, anchors, root, keywords, applicator, rule, part, value, place,
+                    depth, found,
+                )?;
             }
         }
     }
     Ok(())
 }
 
-/// Goes into each element that the keywords leave and that doesn't conform.
+/// Which of so many schemas may be for a part, from and up to: of an array of schemas, for an element, the one in its place, and
+/// else all.
+fn rules_for(count: usize, argument: &Value, way: Way<'_>) -> (usize, usize) {
+    match way {
+        Way::Index(index) if argument.is_array() => (index, index.saturating_add(1)),
+        _ => (0, count),
+    }
+}
+
+/// Goes into a part of the value, unless the schema holds of it.
 #[cycle(explain)]
-fn explain_left_items(
+fn explain_part(
     alloc: Global,
     patterns: &[Pattern],
+    anchors: &[Anchor],
     root: &Value,
     keywords: &[(String, Value)],
-    schema: &Value,
+    applicator: Applicator,
+    rule: &Piece<'_>,
+    part: &Piece<'_>,
     value: &Value,
-    items: &[Value],
     place: &Place,
     depth: usize,
     found: &mut Found,
 ) -> Result<()> {
-    for (index, item) in items.iter().enumerate() {
-        let child = Child::Index(index);
-        if !child_left_holds(
-            alloc, patterns, root, schema, keywords, value, child, item, depth,
-        )? {
-            let there = place.copy(alloc)?.entered(alloc, Way::Index(index))?;
-            explain(alloc, patterns, root, schema, item, &there, depth, found)?;
-        }
+    if part_holds(
+        alloc, patterns, root, keywords, applicator, rule, part, value, depth,
+    )? {
+        return Ok(());
     }
-    Ok(())
-}
-
-/// The schemas that a keyword applies, each with its part of the value, in the order of the document.
-fn parts_of<'a>(
-    alloc: Global,
-    patterns: &[Pattern],
-    root: &'a Value,
-    keywords: &'a [(String, Value)],
-    applicator: Applicator,
-    argument: &'a Value,
-    value: &'a Value,
-) -> Result<Vec<Applied<'a>>> {
-    match (applicator, argument, value) {
-        (Applicator::AllOf, Value::Array(schemas), _) => here_of_each(alloc, schemas, value),
-        (Applicator::Ref, Value::String(text), _) => {
-            target(alloc, target_of(root, argument), text.as_str(), value)
-        }
+    let mut there = place.further(alloc, rule.way, part.way)?;
+    match (applicator, rule.value, part.way) {
         (
-            Applicator::DependentSchemas | Applicator::Dependencies,
-            Value::Object(schemas),
-            Value::Object(members),
-        ) => dependents(alloc, schemas, members, value),
-        (Applicator::Properties | Applicator::AdditionalProperties, _, Value::Object(members)) =>
-            of_members(alloc, patterns, keywords, applicator, argument, members),
-        (Applicator::PatternProperties, Value::Object(schemas), Value::Object(members)) => {
-            of_patterns(alloc, patterns, schemas, members)
+            Applicator::AdditionalProperties | Applicator::UnevaluatedProperties,
+            Value::Bool(_),
+            Way::Key(key, _),
+        ) => {
+            there.part = Part::Key;
+            return add_key(alloc, applicator, keywords, key, &there, found);
         }
-        (
-            Applicator::Items | Applicator::PrefixItems | Applicator::AdditionalItems,
-            _,
-            Value::Array(items),
-        ) => of_items(alloc, keywords, applicator, argument, items),
-        _ => Ok(Vec::new(alloc)),
+        (Applicator::PropertyNames, _, _) => there.part = Part::Key,
+        _ => {}
     }
+    explain(
+        alloc, patterns, anchors, root, rule.value, part.value, &there, depth, found,
+    )
 }
 
-/// Each of the schemas, on the value.
-fn here_of_each<'a>(
-    alloc: Global,
-    schemas: &'a [Value],
-    value: &'a Value,
-) -> Result<Vec<Applied<'a>>> {
-    let mut parts = Vec::new(alloc);
-    for (index, schema) in schemas.iter().enumerate() {
-        let rule = Way::Index(index);
-        parts.push(Applied {
-            schema,
-            value,
-            rule,
-            at: Way::Here,
-        })?;
-    }
-    Ok(parts)
-}
-
-/// What a reference means, on the value.
-fn target<'a>(
-    alloc: Global,
-    schema: Option<&'a Value>,
-    text: &'a str,
-    value: &'a Value,
-) -> Result<Vec<Applied<'a>>> {
-    let mut parts = Vec::new(alloc);
-    if let Some(schema) = schema {
-        parts.push(Applied {
-            schema,
-            value,
-            rule: Way::Target(text),
-            at: Way::Here,
-        })?;
-    }
-    Ok(parts)
-}
-
-/// The schema of each name that there is a member for, on the value.
-fn dependents<'a>(
-    alloc: Global,
-    schemas: &'a [(String, Value)],
-    members: &'a [(String, Value)],
-    value: &'a Value,
-) -> Result<Vec<Applied<'a>>> {
-    let mut parts = Vec::new(alloc);
-    for (index, dependent) in schemas.iter().enumerate() {
-        let (name, schema) = (dependent.0.as_str(), &dependent.1);
-        if is_dependent(name, schema, &schemas[index + 1..], members) {
-            parts.push(Applied {
-                schema,
-                value,
-                rule: Way::Key(name, 0),
-                at: Way::Here,
-            })?;
-        }
-    }
-    Ok(parts)
-}
-
-/// The schema that a keyword has for a member, and the way to it.
-fn member_schema<'a>(
+/// Whether the schema holds of the part of the value.
+fn part_holds(
     alloc: Global,
     patterns: &[Pattern],
-    keywords: &'a [(String, Value)],
+    root: &Value,
+    keywords: &[(String, Value)],
     applicator: Applicator,
-    argument: &'a Value,
-    key: &'a str,
-) -> Result<Option<(&'a Value, Way<'a>)>> {
-    if matches!(applicator, Applicator::AdditionalProperties) {
-        let is_additional = is_additional(alloc, patterns, keywords, key)?;
-        return Ok(is_additional.then_some((argument, Way::Here)));
-    }
-    Ok(find(argument.entries(), key).map(|schema| (schema, Way::Key(key, 0))))
+    rule: &Piece<'_>,
+    part: &Piece<'_>,
+    value: &Value,
+    depth: usize,
+) -> Result<bool> {
+    let (schema, inner) = (rule.value, part.value);
+    let child = match (applicator, part.way) {
+        (Applicator::UnevaluatedProperties, Way::Key(key, _)) => Child::Name(key),
+        (Applicator::UnevaluatedItems, Way::Index(index)) => Child::Index(index),
+        _ => return conforms_within(alloc, patterns, root, schema, inner, depth),
+    };
+    child_left_holds(
+        alloc, patterns, root, schema, keywords, value, child, inner, depth,
+    )
 }
 
-/// The members that a pattern has a schema for.
-fn of_patterns<'a>(
+/// Whether the keyword applies the schema to the part of the value.
+fn is_for(
     alloc: Global,
     patterns: &[Pattern],
-    schemas: &'a [(String, Value)],
-    members: &'a [(String, Value)],
-) -> Result<Vec<Applied<'a>>> {
+    keywords: &[(String, Value)],
+    applicator: Applicator,
+    rule: &Piece<'_>,
+    part: &Piece<'_>,
+    value: &Value,
+) -> Result<bool> {
+    match (applicator, rule.way, part.way) {
+        (Applicator::Properties, Way::Key(name, _), Way::Key(key, _)) => Ok(name == key),
+        (Applicator::PatternProperties, Way::Key(pattern, _), Way::Key(key, _)) => {
+            fits(alloc, patterns, pattern, key)
+        }
+        (Applicator::AdditionalProperties, _, Way::Key(key, _)) => {
+            is_additional(alloc, patterns, keywords, key)
+        }
+        (_, Way::Key(name, _), Way::Here) => {
+            Ok(is_named(value.entries(), name) && !rule.value.is_array())
+        }
+        (_, Way::Index(place), Way::Index(index)) => Ok(place == index),
+        (Applicator::Items, _, Way::Index(index)) => {
+            Ok(index >= schemas_in_front(find(keywords, "prefixItems")))
+        }
+        (Applicator::AdditionalItems, _, Way::Index(index)) => {
+            Ok(index >= schemas_in_front(find(keywords, "items")))
+        }
+        _ => Ok(true),
+    }
+}
+
+/// Whether the keyword applies its schemas to the whole value.
+fn is_of_whole(applicator: Applicator) -> bool {
+    matches!(
+        applicator,
+        Applicator::AllOf | Applicator::DependentSchemas | Applicator::Dependencies
+    )
+}
+
+/// Whether the argument is the schema that the keyword applies, and doesn't hold several.
+fn is_schema(applicator: Applicator, argument: &Value) -> bool {
+    match applicator {
+        Applicator::AdditionalProperties | Applicator::UnevaluatedProperties => true,
+        Applicator::AdditionalItems | Applicator::UnevaluatedItems => true,
+        Applicator::Items => !argument.is_array(),
+        _ => false,
+    }
+}
+
+/// The value as a whole, or its members, of equal keys the last, or its elements.
+fn pieces_of<'a>(alloc: Global, is_whole: bool, value: &'a Value) -> Result<Vec<Piece<'a>>> {
     let mut parts = Vec::new(alloc);
-    for member in &latest(alloc, members)? {
-        for (pattern, schema) in schemas {
-            if fits(alloc, patterns, pattern.as_str(), member.name)? {
-                parts.push(Applied {
-                    schema,
+    match value {
+        _ if is_whole => parts.push(Piece {
+            way: Way::Here,
+            value,
+        })?,
+        Value::Object(members) => {
+            for member in &latest(alloc, members)? {
+                let way = Way::Key(member.name, member.index);
+                parts.push(Piece {
+                    way,
                     value: member.value,
-                    rule: Way::Key(pattern.as_str(), 0),
-                    at: Way::Key(member.name, member.index),
                 })?;
             }
         }
-    }
-    Ok(parts)
-}
-
-/// The members that a keyword has a schema for.
-fn of_members<'a>(
-    alloc: Global,
-    patterns: &[Pattern],
-    keywords: &'a [(String, Value)],
-    applicator: Applicator,
-    argument: &'a Value,
-    members: &'a [(String, Value)],
-) -> Result<Vec<Applied<'a>>> {
-    let mut parts = Vec::new(alloc);
-    for member in &latest(alloc, members)? {
-        let key = member.name;
-        let found = member_schema(alloc, patterns, keywords, applicator, argument, key)?;
-        if let Some((schema, rule)) = found {
-            parts.push(Applied {
-                schema,
-                value: member.value,
-                rule,
-                at: Way::Key(key, member.index),
-            })?;
+        Value::Array(items) => {
+            for (index, value) in items.iter().enumerate() {
+                parts.push(Piece {
+                    way: Way::Index(index),
+                    value,
+                })?;
+            }
         }
-    }
-    Ok(parts)
-}
-
-/// The schema that a keyword has for an element, and the way to it.
-fn item_schema<'a>(
-    keywords: &'a [(String, Value)],
-    applicator: Applicator,
-    argument: &'a Value,
-    index: usize,
-) -> Option<(&'a Value, Way<'a>)> {
-    match (applicator, argument) {
-        (Applicator::Items | Applicator::PrefixItems, Value::Array(schemas)) => Some((
-            schemas.get(index)?,
-            Way::Index(index),
-        )),
-        (Applicator::Items, _) if index >= schemas_in_front(find(keywords, "prefixItems")) => Some((
-            argument,
-            Way::Here,
-        )),
-        (Applicator::AdditionalItems, _) if index >= schemas_in_front(find(keywords, "items")) => {
-            Some((argument, Way::Here))
-        }
-        _ => None,
-    }
-}
-
-/// The elements that a keyword has a schema for.
-fn of_items<'a>(
-    alloc: Global,
-    keywords: &'a [(String, Value)],
-    applicator: Applicator,
-    argument: &'a Value,
-    items: &'a [Value],
-) -> Result<Vec<Applied<'a>>> {
-    let mut parts = Vec::new(alloc);
-    for (index, value) in items.iter().enumerate() {
-        if let Some((schema, rule)) = item_schema(keywords, applicator, argument, index) {
-            parts.push(Applied {
-                schema,
-                value,
-                rule,
-                at: Way::Index(index),
-            })?;
-        }
+        _ => {}
     }
     Ok(parts)
 }

@@ -61,13 +61,13 @@ impl Problem {
 
 impl fmt::Display for Problem {
     fn fmt<W: fmt::Write>(&self, f: &mut fmt::Formatter<W>) -> fmt::Result {
-        f.write_str(self.words())?;
+        let words = self.words();
         match self {
             Problem::NoKeyword(Some(likeliest)) | Problem::NoFormat(Some(likeliest)) => {
-                write!(f, " (did you mean `{likeliest}`?)")
+                write!(f, "{words} (did you mean `{likeliest}`?)")
             }
-            Problem::Expected(shape) => f.write_str(shape.as_str()),
-            _ => Ok(()),
+            Problem::Expected(shape) => write!(f, "{words}{}", shape.as_str()),
+            _ => f.write_str(words),
         }
     }
 }

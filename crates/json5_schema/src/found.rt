@@ -2,18 +2,17 @@
 //!
 //! Plain code, of which no promise is made but that it is safe and ends: change it by the rows of schemas, which judge it.
 
-use crate::document_faults::{Fault, Mismatch};
+use crate::document_faults::{Fault, Mismatch, Place, Way};
+use crate::words::shown;
 use json5_types::error::Result;
+use json5_types::value::Value;
 use std::alloc::Global;
 
 /// How many faults are told. Where so many are told there may be more.
 pub const MAX_FAULTS: usize = 100;
 
 /// How many schemas are gone into.
-const MAX_EFFORT: usize = 20_000;
-
-/// The strangeness of a branch for another kind of value.
-pub const MAX_STRANGENESS: usize = 3;
+pub const MAX_EFFORT: usize = 20_000;
 
 /// The faults that were found so far.
 #[derive(Drop)]
@@ -22,30 +21,17 @@ pub struct Found {
     /// The branch names the value of a member.
     pub is_tagged: bool,
     /// How many schemas may still be gone into.
-    effort: usize,
+    pub effort: usize,
 }
 
 impl Found {
-    pub fn new(alloc: Global) -> Found {
+    /// No fault yet; so many schemas may be gone into.
+    pub fn new(alloc: Global, effort: usize) -> Found {
         Found {
             faults: Vec::new(alloc),
             is_tagged: false,
-            effort: MAX_EFFORT,
+            effort,
         }
-    }
-
-    /// The same without a fault: for a branch, which may not be told.
-    pub fn branch(&self, alloc: Global) -> Found {
-        Found {
-            faults: Vec::new(alloc),
-            is_tagged: false,
-            effort: self.effort,
-        }
-    }
-
-    /// Takes over what a branch has spent.
-    pub fn spend(&mut self, branch: &Found) {
-        self.effort = branch.effort;
     }
 
     /// Whether one more schema may be gone into.
@@ -71,38 +57,67 @@ impl Found {
         Ok(())
     }
 
-    /// Adds the faults of a branch.
-    pub fn add_all(&mut self, branch: Found) -> Result<()> {
-        for fault in branch.faults {
+    /// Adds these faults, each in its place.
+    pub fn add_all(&mut self, faults: Vec<Fault>) -> Result<()> {
+        for fault in faults {
             self.add(fault)?;
         }
         Ok(())
     }
 
-    /// How the value differs that is so many steps below the top: first in its kind.
-    pub fn mismatch_at(&self, depth: usize) -> Mismatch {
-        let mut mismatch = Mismatch::Other;
-        for fault in &self.faults {
-            match fault.mismatch_at(depth) {
-                Mismatch::Kind => return Mismatch::Kind,
-                Mismatch::Name => mismatch = Mismatch::Name,
-                Mismatch::Other => {}
-            }
-        }
-        mismatch
+    /// Adds that this was expected there, further in the schema and the document, and that found.
+    pub fn tell(
+        &mut self,
+        alloc: Global,
+        place: &Place,
+        rule: Way<'_>,
+        at: Way<'_>,
+        expected: &str,
+        found: String,
+        likeliest: Option<String>,
+        mismatch: Mismatch,
+    ) -> Result<()> {
+        let place = place.further(alloc, rule, at)?;
+        let expected = String::from_str(alloc, expected)?;
+        self.add(Fault {
+            place,
+            expected,
+            found,
+            likeliest,
+            mismatch,
+        })
     }
 
-    /// How far a branch is from what the document means at a place so deep: 3 where the value itself is of another kind or
-    /// isn't one that is named. Where a member isn't one that is named it is 1 if another member is, and else 2.
+    /// Adds that this was expected there, and the value found.
+    pub fn tell_value(
+        &mut self,
+        alloc: Global,
+        place: &Place,
+        expected: &str,
+        value: &Value,
+    ) -> Result<()> {
+        let found = shown(alloc, value)?;
+        self.tell(
+            alloc,
+            place,
+            Way::Here,
+            Way::Here,
+            expected,
+            found,
+            None,
+            Mismatch::Other,
+        )
+    }
+
+    /// How far a branch is from what the document means at a place so deep: 4 where the value itself is of another
+    /// kind, 3 where it isn't one that is named. Where a member isn't one that is named it is 1 if another member is,
+    /// and else 2.
     pub fn strangeness(&self, depth: usize) -> usize {
-        if self.mismatch_at(depth) != Mismatch::Other {
-            return MAX_STRANGENESS;
-        }
+        let of_member = if self.is_tagged { 1 } else { 2 };
+        let mut most = 0;
         for fault in &self.faults {
-            if fault.mismatch_at(depth.saturating_add(1)) == Mismatch::Name {
-                return if self.is_tagged { 1 } else { 2 };
-            }
+            most = most.max(fault.strangeness(depth, of_member));
         }
-        0
+        most
     }
 }

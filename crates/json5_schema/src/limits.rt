@@ -1,11 +1,11 @@
 //! Limits of numbers and of counts. No digit is rounded.
 
-ghost use Rattle.std.specs.Prelude.{◌≡◌, ◌&&◌, MatchResult};
+ghost use Rattle.std.specs.Prelude.{◌≡◌, ◌&&◌, nat_eq, MatchResult};
 ghost use Rattle.json5_types.specs.Errors.{LacksMemory};
 ghost use Rattle.json5_grammar.specs.Language.Numbers.{whole};
 ghost use Rattle.json5_types.specs.ValueMeanings.{number, value_of, items_view, fields_view};
 ghost use Rattle.json5_types.specs.ValueKinds.{items_len, fields_len};
-ghost use Rattle.json5_schema.specs.Conformance.{is_not_above, at_most, is_below, characters_in, elements_in, latest, names_in, count_at_most, count_at_least, is_enough, is_few};
+ghost use Rattle.json5_schema.specs.Conformance.{is_not_above, at_most, is_below, characters_in, elements_in, latest, names_in, count_at_most, count_at_least, is_enough, is_few, less};
 ghost use Rattle.json5_schema.specs.Views.{part_view};
 ghost use Rattle.json5_numbers.specs.NumberTexts.{decimal_of_whole};
 ghost use Rattle.json5_numbers.specs.Orders.{decimal_cmp};
@@ -151,7 +151,7 @@ fn is_enough(alloc: Global, least: Option<&Value>, count: usize) -> Result<bool>
     ensures { MatchResult result (λ b. b ≡ is_enough (part_view least.entry) count) LacksMemory }
 {
     match least {
-        Some(least) => is_at_most(alloc, least, &Value::from(count)),
+        Some(least) => count_at_least(alloc, Some(count), least),
         None => Ok(count >= 1),
     }
 }
@@ -161,7 +161,7 @@ fn is_few(alloc: Global, most: Option<&Value>, count: usize) -> Result<bool>
     ensures { MatchResult result (λ b. b ≡ is_few (part_view most.entry) count) LacksMemory }
 {
     match most {
-        Some(most) => is_at_most(alloc, &Value::from(count), most),
+        Some(most) => count_at_most(alloc, Some(count), most),
         None => Ok(true),
     }
 }
@@ -179,4 +179,22 @@ pub fn is_counted(
         return Ok(false);
     }
     is_few(alloc, most, count)
+}
+
+/// One less, if it holds.
+pub fn less(holds: bool, count: usize) -> usize
+    ensures { result ≡ less holds count }
+{
+    if holds {
+        count.saturating_sub(1)
+    } else {
+        count
+    }
+}
+
+/// Whether one more is too many.
+pub fn is_full(holds: bool, most: usize) -> bool
+    ensures { result ≡ (holds && nat_eq most 0) }
+{
+    holds && most == 0
 }

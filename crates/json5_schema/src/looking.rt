@@ -12,6 +12,7 @@ ghost use Rattle.json5_schema.specs.Shapes.{has_outline, holding_of, is_names, A
 ghost use Rattle.json5_schema.specs.Refusals.{are_in_name, asks_beside, begins_with_sign, format_shape, has_few_digits, has_percent, id_shape, is_anchor_name, is_followed, is_in_name, is_letter, is_signed, is_signed_name, names_schema, shape_in, IsFaulty, IsFaultySchema, IsFor, IsWrong, RefusedFor};
 ghost use Rattle.json5_schema.specs.RefusalSteps.{members_by, IsFaultyArgument, IsFaultyBy, IsFaultyKeyword, IsFaultyMember, IsFormatFault, IsKeyFault, IsNoFormat, IsNoName, IsNoReference, IsOutOfShape, IsPatternFault, IsProblemOf};
 
+use crate::document_faults::Escaped;
 use crate::faults::{Problem, SchemaFault};
 use crate::formats::{FORMATS, expression_named};
 use crate::near::nearest;
@@ -111,16 +112,7 @@ pub fn fault(alloc: Global, pointer: &str, problem: Problem) -> SchemaFault
 
 /// A key as it stands in a pointer, after the pointer to its object.
 pub fn behind(alloc: Global, pointer: &str, key: &str) -> Result<String, AllocError> {
-    let mut text = String::from_str(alloc, pointer)?;
-    text.push('/')?;
-    for character in key.chars() {
-        match character {
-            '~' => text.push_str("~0")?,
-            '/' => text.push_str("~1")?,
-            _ => text.push(character)?,
-        }
-    }
-    Ok(text)
+    format!(in alloc; "{pointer}/{}", Escaped(key))
 }
 
 /// Looks at a schema.

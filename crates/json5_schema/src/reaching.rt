@@ -4,7 +4,7 @@ ghost use Rattle.std.specs.Prelude.{◌≡◌, MatchResult, Some};
 ghost use Rattle.std.specs.Str.{chars};
 ghost use Rattle.json5_types.specs.Errors.{LacksMemory};
 ghost use Rattle.json5_types.specs.ValueMeanings.{value_of, fields_view};
-ghost use Rattle.json5_schema.specs.Conformance.{element_asked, evaluating_index, is_behind, is_contains, is_in_place, reaches, reaches_item, speaks_of, takes_rest};
+ghost use Rattle.json5_schema.specs.Conformance.{element_asked, evaluating_index, is_behind, is_in_place, reaches, reaches_item, speaks_of, takes_rest};
 ghost use Rattle.json5_schema.specs.Views.{part_view, question_of, reaches_named};
 
 use crate::asked::{Child, is_additional, is_matched_in, schemas_in_front};
@@ -28,16 +28,6 @@ pub fn is_in_place(applicator: Applicator) -> bool
         Applicator::DependentSchemas => true,
         Applicator::Dependencies => true,
         Applicator::Ref => true,
-        _ => false,
-    }
-}
-
-/// Whether it is `contains`.
-pub fn is_contains(applicator: Applicator) -> bool
-    ensures { result ≡ is_contains applicator }
-{
-    match applicator {
-        Applicator::Contains => true,
         _ => false,
     }
 }

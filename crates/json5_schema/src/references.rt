@@ -52,8 +52,7 @@ impl<'v> Parts<'v> {
         let mut value = self.root;
         for step in pointer.split('/').skip(1) {
             self.open(alloc, path.as_str(), value)?;
-            path.push('/')?;
-            path.push_str(step)?;
+            path = format!(in alloc; "{path}/{step}")?;
             match self.found.get(path.as_str()) {
                 Some(part) => value = *part,
                 None => return Ok(None),
@@ -67,13 +66,20 @@ impl<'v> Parts<'v> {
         if self.opened.contains(pointer) {
             return Ok(());
         }
-        for (key, part) in value.entries() {
-            let place = behind(alloc, pointer, key.as_str())?;
-            self.found.insert(place, part)?;
-        }
-        for (index, part) in value.as_array().unwrap_or(&[]).iter().enumerate() {
-            let place = format!(in alloc; "{pointer}/{index}")?;
-            self.found.insert(place, part)?;
+        match value {
+            Value::Object(members) => {
+                for (key, part) in members {
+                    let place = behind(alloc, pointer, key.as_str())?;
+                    self.found.insert(place, part)?;
+                }
+            }
+            Value::Array(items) => {
+                for (index, part) in items.iter().enumerate() {
+                    let place = format!(in alloc; "{pointer}/{index}")?;
+                    self.found.insert(place, part)?;
+                }
+            }
+            _ => {}
         }
         self.opened.insert(String::from_str(alloc, pointer)?)?;
         Ok(())
@@ -295,21 +301,14 @@ fn gives(key: &str, value: &Value, name: &str, text: &str) -> bool
 #[cycle(gather)]
 fn gather<'v>(schema: &'v Value, nexts: &mut Vec<&'v str>) -> Result<(), AllocError> {
     match schema {
-        Value::Object(keywords) => gather_keywords(keywords, nexts),
+        Value::Object(keywords) => {
+            for (name, argument) in keywords {
+                gather_keyword(name.as_str(), argument, nexts)?;
+            }
+            Ok(())
+        }
         _ => Ok(()),
     }
-}
-
-/// Gathers those of each keyword.
-#[cycle(gather)]
-fn gather_keywords<'v>(
-    keywords: &'v [(String, Value)],
-    nexts: &mut Vec<&'v str>,
-) -> Result<(), AllocError> {
-    for (name, argument) in keywords {
-        gather_keyword(name.as_str(), argument, nexts)?;
-    }
-    Ok(())
 }
 
 /// Gathers those of a keyword.
@@ -319,96 +318,106 @@ fn gather_keyword<'v>(
     argument: &'v Value,
     nexts: &mut Vec<&'v str>,
 ) -> Result<(), AllocError> {
-    match (name, argument) {
-        ("$ref", Value::String(text)) => {
-            nexts.push(text.as_str())?;
-            Ok(())
+    match argument {
+        Value::String(text) if name == "$ref" => nexts.push(text.as_str())?,
+        Value::Array(schemas) if is_each(name) => {
+            for schema in schemas {
+                gather(schema, nexts)?;
+            }
         }
-        ("not" | "if" | "then" | "else", _) => gather(argument, nexts),
-        ("allOf" | "anyOf" | "oneOf", Value::Array(schemas)) => gather_each(schemas, nexts),
-        ("dependentSchemas" | "dependencies", Value::Object(schemas)) => {
-            gather_named(schemas, nexts)
+        Value::Object(_) if is_alone(name) => gather(argument, nexts)?,
+        Value::Object(schemas) if is_by_name(name) => {
+            for (_, schema) in schemas {
+                gather(schema, nexts)?;
+            }
         }
-        _ => Ok(()),
-    }
-}
-
-/// Gathers those of each schema of an array.
-#[cycle(gather)]
-fn gather_each<'v>(schemas: &'v [Value], nexts: &mut Vec<&'v str>) -> Result<(), AllocError> {
-    for schema in schemas {
-        gather(schema, nexts)?;
+        _ => {}
     }
     Ok(())
 }
 
-/// Gathers those of each schema of an object.
-#[cycle(gather)]
-fn gather_named<'v>(
-    schemas: &'v [(String, Value)],
-    nexts: &mut Vec<&'v str>,
-) -> Result<(), AllocError> {
-    for (_, schema) in schemas {
-        gather(schema, nexts)?;
-    }
-    Ok(())
-}
-
-/// Refuses a reference that never comes to an end: one ends once all those have that its target applies to the same value.
+/// Refuses a reference that never comes to an end: one ends if all those do that its target applies to the same value.
 fn check_ends(alloc: Global, root: &Value, seen: &Seen, links: &[Vec<&str>]) -> Looked<()>
     ensures { RefusedFor (λ p. (p ≡ problem.Endless) × LeadsBack (value_of root.now)) result }
 {
-    let left = left_of(alloc, seen, links)?;
+    let mut gone = Vec::new(alloc);
+    gone.resize(links.len(), 0)?;
     for (place, reference) in seen.references.iter().enumerate() {
-        if left.get(place).is_some_and(|left| *left > 0) {
-            let round = round_from(alloc, seen, links, &left, place)?;
-            return match round.as_slice() {
-                [first, rest @ ..] if leads_round(root, first, rest) => {
-                    Err(fault(alloc, reference.pointer.as_str(), Problem::Endless))
-                }
-                _ => Ok(()),
-            };
+        let round = round_from(alloc, seen, links, place, &mut gone)?;
+        if let [first, rest @ ..] = round.as_slice() {
+            if leads_round(root, first, rest) {
+                return Err(fault(alloc, reference.pointer.as_str(), Problem::Endless));
+            }
+            return Ok(());
         }
     }
     Ok(())
 }
 
-/// The first reference that is open still, of those that the one at this place leads on to.
-fn open_after(seen: &Seen, links: &[Vec<&str>], left: &[usize], place: usize) -> Option<usize> {
-    for next in links.get(place)? {
-        let next = *seen.places.get(*next)?;
-        if *left.get(next)? > 0 {
-            return Some(next);
-        }
-    }
-    None
-}
-
-/// A round of references that the open one at this place leads to.
+/// A round of references that the one at this place leads to; none where it comes to an end. `gone` says of each how
+/// many of those that it leads on to were gone into: 0 before it was come to, `usize::MAX` where it comes to an end.
 fn round_from<'s>(
     alloc: Global,
     seen: &'s Seen,
     links: &[Vec<&str>],
-    left: &[usize],
-    place: usize,
+    start: usize,
+    gone: &mut [usize],
 ) -> Result<Vec<&'s str>, AllocError> {
-    let mut start = place;
-    for _ in links {
-        start = open_after(seen, links, left, start).unwrap_or(start);
-    }
-    let mut round = Vec::new(alloc);
+    let mut way = Vec::new(alloc);
     let mut place = start;
-    for _ in links {
-        let Some(reference) = seen.references.get(place) else {
-            break;
-        };
-        round.push(reference.text.as_str())?;
-        place = open_after(seen, links, left, place).unwrap_or(start);
-        if place == start {
-            break;
+    for _ in 0..usize::MAX {
+        match next_of(seen, links, place, gone) {
+            Some((next, 0)) => {
+                way.push(place)?;
+                place = next;
+            }
+            Some((_, usize::MAX)) => {}
+            Some((next, _)) => {
+                way.push(place)?;
+                return texts_from(alloc, seen, &way, next);
+            }
+            None => match way.pop() {
+                Some(last) => place = last,
+                None => break,
+            },
         }
     }
-    Ok(round)
+    Ok(Vec::new(alloc))
+}
+
+/// The next reference that the one at this place leads on to, and how many were gone into that this one does.
+fn next_of(
+    seen: &Seen,
+    links: &[Vec<&str>],
+    place: usize,
+    gone: &mut [usize],
+) -> Option<(usize, usize)> {
+    let count = gone.get_mut(place)?;
+    let Some(next) = links.get(place)?.get(*count) else {
+        *count = usize::MAX;
+        return None;
+    };
+    *count = count.saturating_add(1);
+    let next = *seen.places.get(*next)?;
+    Some((next, *gone.get(next)?))
+}
+
+/// The texts of the references on the way from this one on.
+fn texts_from<'s>(
+    alloc: Global,
+    seen: &'s Seen,
+    way: &[usize],
+    first: usize,
+) -> Result<Vec<&'s str>, AllocError> {
+    let mut texts = Vec::new(alloc);
+    for place in way {
+        if *place == first || !texts.is_empty() {
+            if let Some(reference) = seen.references.get(*place) {
+                texts.push(reference.text.as_str())?;
+            }
+        }
+    }
+    Ok(texts)
 }
 
 /// Whether the first reference and the rest each lead on to the next one, and the last one to the first.
@@ -518,69 +527,4 @@ fn is_by_name(name: &str) -> bool
     ensures { result ≡ is_by_name name.now }
 {
     is_any(&["dependentSchemas", "dependencies"], name)
-}
-
-/// For how many others each reference waits that don't come to an end.
-fn left_of(alloc: Global, seen: &Seen, links: &[Vec<&str>]) -> Result<Vec<usize>, AllocError> {
-    let waiters = waiters_of(alloc, seen, links)?;
-    let (mut left, mut ended) = counts_of(alloc, links)?;
-    for turn in 0..links.len() {
-        let Some(waiters) = ended.get(turn).and_then(|place| waiters.get(*place)) else {
-            break;
-        };
-        for waiter in waiters {
-            if counts_down(&mut left, *waiter) {
-                ended.push(*waiter)?;
-            }
-        }
-    }
-    Ok(left)
-}
-
-/// For how many others each reference waits, and those that wait for none.
-fn counts_of(alloc: Global, links: &[Vec<&str>]) -> Result<(Vec<usize>, Vec<usize>), AllocError> {
-    let mut counts = Vec::new(alloc);
-    let mut ended = Vec::new(alloc);
-    for (place, nexts) in links.iter().enumerate() {
-        counts.push(nexts.len())?;
-        if nexts.is_empty() {
-            ended.push(place)?;
-        }
-    }
-    Ok((counts, ended))
-}
-
-/// Which references wait for each.
-fn waiters_of(
-    alloc: Global,
-    seen: &Seen,
-    links: &[Vec<&str>],
-) -> Result<Vec<Vec<usize>>, AllocError> {
-    let mut waiters: Vec<Vec<usize>> = Vec::new(alloc);
-    for _ in links {
-        waiters.push(Vec::new(alloc))?;
-    }
-    for (place, nexts) in links.iter().enumerate() {
-        for next in nexts {
-            let next = seen
-                .places
-                .get(*next)
-                .and_then(|next| waiters.get_mut(*next));
-            if let Some(waiting) = next {
-                waiting.push(place)?;
-            }
-        }
-    }
-    Ok(waiters)
-}
-
-/// Counts down what is left at this place, and says whether nothing is left now.
-fn counts_down(left: &mut [usize], place: usize) -> bool {
-    match left.get_mut(place) {
-        Some(count) => {
-            *count = count.saturating_sub(1);
-            *count == 0
-        }
-        None => false,
-    }
 }

@@ -12,15 +12,14 @@ ghost use Rattle.json5_schema.specs.Shapes.{IsShaped};
 ghost use Rattle.json5_schema.specs.Views.{IsRefusal, IsSchemaOf, IsStrictOf, schema_of};
 
 use crate::conforms::{MAX_DEPTH, conforms};
-use crate::document_faults::{Fault, Mismatch, Place};
+use crate::document_faults::{Fault, Place};
 use crate::explain::explain;
 use crate::faults::{Problem, SchemaFault};
 use crate::formats::{asserts_formats, with_formats};
-use crate::found::Found;
+use crate::found::{Found, MAX_EFFORT};
 use crate::looking::{Anchor, Rules, Seen, fault};
 use crate::patterns::Pattern;
 use crate::references::{follow, look_strictly};
-use crate::words::shown;
 use json5_types::error::Error;
 use json5_types::value::Value;
 use json5_types::{ErrorCode, error};
@@ -181,18 +180,14 @@ fn reasons(
     let Ok(faults) = found_in(alloc, patterns, anchors, root, value) else {
         return Err(Error::new(ErrorCode::OutOfMemory));
     };
-    if !faults.is_empty() {
-        return Ok(faults);
-    }
-    let Ok(fault) = whole_fault(alloc, value) else {
+    // One fault at least is told, unless memory runs out.
+    if faults.is_empty() {
         return Err(Error::new(ErrorCode::OutOfMemory));
-    };
-    let mut faults = Vec::new(alloc);
-    faults.push(fault)?;
+    }
     Ok(faults)
 }
 
-/// The faults that are found where it is gone into each keyword, as far as it can be.
+/// The faults that are found where it is gone into each keyword, as far as it can be, and else one of the whole.
 fn found_in(
     alloc: Global,
     patterns: &[Pattern],
@@ -200,54 +195,19 @@ fn found_in(
     root: &Value,
     value: &Value,
 ) -> error::Result<Vec<Fault>> {
-    let mut found = Found::new(alloc);
+    let mut found = Found::new(alloc, MAX_EFFORT);
     let place = Place::top(alloc);
     match explain(
-        alloc, patterns, root, root, value, &place, MAX_DEPTH, &mut found,
+        alloc, patterns, anchors, root, root, value, &place, MAX_DEPTH, &mut found,
     ) {
-        Err(error) if error.code() == Some(ErrorCode::OutOfMemory) => Err(error),
-        _ => with_pointers(alloc, found.faults, anchors),
+        Err(error) if error.code() == Some(ErrorCode::OutOfMemory) => return Err(error),
+        _ => {}
     }
-}
-
-/// The same faults, with the pointer to a schema in place of its name.
-fn with_pointers(
-    alloc: Global,
-    faults: Vec<Fault>,
-    anchors: &[Anchor],
-) -> error::Result<Vec<Fault>> {
-    let mut pointed = Vec::new(alloc);
-    for mut fault in faults {
-        if let Some(rule) = pointed_rule(alloc, fault.place.rule.as_str(), anchors)? {
-            fault.place.rule = rule;
-        }
-        pointed.push(fault)?;
+    if found.faults.is_empty() {
+        let expected = "a document that conforms to the schema";
+        found.tell_value(alloc, &place, expected, value)?;
     }
-    Ok(pointed)
-}
-
-/// The rule with a pointer in place of the name that it begins with, if it does.
-fn pointed_rule(alloc: Global, rule: &str, anchors: &[Anchor]) -> error::Result<Option<String>> {
-    for anchor in anchors {
-        if let Some(rest) = rule.strip_prefix(anchor.name.as_str()) {
-            if rest.is_empty() || rest.starts_with('/') {
-                let pointer = anchor.pointer.as_str();
-                return Ok(Some(format!(in alloc; "{pointer}{rest}")?));
-            }
-        }
-    }
-    Ok(None)
-}
-
-/// That the document as a whole doesn't conform.
-fn whole_fault(alloc: Global, value: &Value) -> error::Result<Fault> {
-    Ok(Fault {
-        place: Place::top(alloc),
-        expected: String::from_str(alloc, "a document that conforms to the schema")?,
-        found: shown(alloc, value)?,
-        likeliest: None,
-        mismatch: Mismatch::Other,
-    })
+    Ok(found.faults)
 }
 
 /// Whether the name of a draft is that of one before 6.

@@ -5,9 +5,9 @@
 use crate::keyword::Assertion;
 use crate::kind::{Kind, kind_named};
 use crate::limits::{characters_in, elements_in, names_in};
-use json5_types::error::Result;
+use json5_types::error;
 use json5_types::value::Value;
-use std::alloc::Global;
+use std::alloc::{AllocError, Global};
 
 /// How many characters of a text or number are shown.
 const MAX_SHOWN: usize = 60;
@@ -15,39 +15,34 @@ const MAX_SHOWN: usize = 60;
 /// How many values or names of a list are shown.
 const MAX_LISTED: usize = 12;
 
-/// The text, or what fits of it.
-pub fn cut(alloc: Global, text: &str) -> Result<String> {
-    let mut shown = String::new(alloc);
-    for (index, character) in text.chars().enumerate() {
-        if index == MAX_SHOWN {
-            shown.push_str("..")?;
-            break;
-        }
-        shown.push(character)?;
-    }
-    Ok(shown)
+/// What fits of the text, between these words.
+pub fn cut(alloc: Global, before: &str, text: &str, behind: &str) -> Result<String, AllocError> {
+    let (shown, dots) = match text.char_indices().nth(MAX_SHOWN) {
+        Some((end, _)) => (text.get(..end).unwrap_or(text), ".."),
+        None => (text, ""),
+    };
+    format!(in alloc; "{before}{shown}{dots}{behind}")
 }
 
-/// A key, as it is shown.
-pub fn shown_key(alloc: Global, key: &str) -> Result<String> {
-    let key = cut(alloc, key)?;
-    Ok(format!(in alloc; "`{key}`")?)
+/// A text in quotes, as it is shown.
+pub fn shown_text(alloc: Global, text: &str) -> Result<String, AllocError> {
+    let text = cut(alloc, "", text, "")?;
+    format!(in alloc; "{:?}", text.as_str())
 }
 
 /// A value, as it is shown.
-pub fn shown(alloc: Global, value: &Value) -> Result<String> {
+pub fn shown(alloc: Global, value: &Value) -> Result<String, AllocError> {
     match value {
-        Value::Null => Ok(String::from_str(alloc, "null")?),
-        Value::Bool(true) => Ok(String::from_str(alloc, "true")?),
-        Value::Bool(false) => Ok(String::from_str(alloc, "false")?),
-        Value::Whole(number) => Ok(format!(in alloc; "{number}")?),
-        Value::Decimal(number) => cut(alloc, format!(in alloc; "{number}")?.as_str()),
-        Value::String(text) => {
-            let text = cut(alloc, text.as_str())?;
-            Ok(format!(in alloc; "{:?}", text.as_str())?)
+        Value::Null => String::from_str(alloc, "null"),
+        Value::Bool(truth) => format!(in alloc; "{truth}"),
+        Value::Whole(number) => format!(in alloc; "{number}"),
+        Value::Decimal(number) => {
+            let number = format!(in alloc; "{number}")?;
+            cut(alloc, "", number.as_str(), "")
         }
-        Value::Array(_) => Ok(String::from_str(alloc, "an array")?),
-        Value::Object(_) => Ok(String::from_str(alloc, "an object")?),
+        Value::String(text) => shown_text(alloc, text.as_str()),
+        Value::Array(_) => String::from_str(alloc, "an array"),
+        Value::Object(_) => String::from_str(alloc, "an object"),
     }
 }
 
@@ -65,90 +60,107 @@ fn kind_word(name: &Value) -> &'static str {
     }
 }
 
-/// The words, with this one between the last two and commas between the others.
-pub fn listed(alloc: Global, words: &[String], last: &str) -> Result<String> {
+/// The words, with `or` between the last two and commas between the others.
+pub fn listed(alloc: Global, words: &[String]) -> Result<String, AllocError> {
     let mut list = String::new(alloc);
     for (index, word) in words.iter().enumerate() {
+        let between = match words.len() - index {
+            _ if index == 0 => "",
+            _ if index == MAX_LISTED => ", ..",
+            1 => " or ",
+            _ => ", ",
+        };
+        list.push_str(between)?;
         if index == MAX_LISTED {
-            list.push_str(", ..")?;
             break;
-        }
-        if index > 0 {
-            list.push_str(if words.len() - index == 1 { last } else { ", " })?;
         }
         list.push_str(word.as_str())?;
     }
     Ok(list)
 }
 
-/// The kinds of `type`, as they are shown.
-fn shown_kinds(alloc: Global, names: &Value) -> Result<String> {
+/// The kinds of `type`, or the values of `enum`, as they are shown.
+fn shown_each(alloc: Global, assertion: Assertion, values: &[Value]) -> Result<String, AllocError> {
     let mut words = Vec::new(alloc);
-    for name in names.as_array().unwrap_or(&[]) {
-        words.push(String::from_str(alloc, kind_word(name))?)?;
+    for value in values {
+        let word = match assertion {
+            Assertion::Type => String::from_str(alloc, kind_word(value)),
+            _ => shown(alloc, value),
+        };
+        words.push(word?)?;
     }
-    if words.is_empty() {
-        words.push(String::from_str(alloc, kind_word(names))?)?;
-    }
-    listed(alloc, &words, " or ")
+    listed(alloc, &words)
 }
 
-/// The values of `enum`, as they are shown.
-fn shown_values(alloc: Global, values: &Value) -> Result<String> {
-    let mut words = Vec::new(alloc);
-    for value in values.as_array().unwrap_or(&[]) {
-        words.push(shown(alloc, value)?)?;
-    }
-    listed(alloc, &words, " or ")
-}
-
-/// What stands before and behind the argument of a limit.
-fn limit_words(assertion: Assertion) -> (&'static str, &'static str) {
+/// What stands before the argument of a limit.
+fn limit_word(assertion: Assertion) -> &'static str {
     match assertion {
-        Assertion::MultipleOf => ("a multiple of ", ""),
-        Assertion::Maximum => ("at most ", ""),
-        Assertion::ExclusiveMaximum => ("less than ", ""),
-        Assertion::Minimum => ("at least ", ""),
-        Assertion::ExclusiveMinimum => ("more than ", ""),
-        Assertion::MaxLength => ("at most ", " characters"),
-        Assertion::MinLength => ("at least ", " characters"),
-        Assertion::Pattern => ("a text that matches ", ""),
-        Assertion::Format => ("a text in the format ", ""),
-        Assertion::MaxItems => ("at most ", " elements"),
-        Assertion::MinItems => ("at least ", " elements"),
-        Assertion::MaxProperties => ("at most ", " keys"),
-        Assertion::MinProperties => ("at least ", " keys"),
-        _ => ("", ""),
+        Assertion::MultipleOf => "a multiple of ",
+        Assertion::ExclusiveMaximum => "less than ",
+        Assertion::ExclusiveMinimum => "more than ",
+        Assertion::Maximum | Assertion::MaxLength => "at most ",
+        Assertion::MaxItems | Assertion::MaxProperties => "at most ",
+        Assertion::Minimum | Assertion::MinLength => "at least ",
+        Assertion::MinItems | Assertion::MinProperties => "at least ",
+        Assertion::Pattern => "a text that matches ",
+        Assertion::Format => "a text in the format ",
+        _ => "",
+    }
+}
+
+/// What the argument of a limit counts.
+fn counted_word(assertion: Assertion) -> &'static str {
+    match assertion {
+        Assertion::MaxLength | Assertion::MinLength => " character",
+        Assertion::MaxItems | Assertion::MinItems => " element",
+        Assertion::MaxProperties | Assertion::MinProperties => " key",
+        _ => "",
     }
 }
 
 /// What an assertion expects, in words.
-pub fn expected_by(alloc: Global, assertion: Assertion, argument: &Value) -> Result<String> {
-    match assertion {
-        Assertion::Type => shown_kinds(alloc, argument),
-        Assertion::Enum => shown_values(alloc, argument),
-        _ => {
-            let (before, behind) = limit_words(assertion);
-            let argument = shown(alloc, argument)?;
-            let behind = match argument.as_str() {
-                "1" => behind.strip_suffix('s').unwrap_or(behind),
-                _ => behind,
-            };
-            Ok(format!(in alloc; "{before}{argument}{behind}")?)
+pub fn expected_by(
+    alloc: Global,
+    assertion: Assertion,
+    argument: &Value,
+) -> Result<String, AllocError> {
+    match (assertion, argument) {
+        (Assertion::Enum, Value::Array(values)) => shown_each(alloc, assertion, values),
+        (Assertion::Type, Value::Array(kinds)) if !kinds.is_empty() => {
+            shown_each(alloc, assertion, kinds)
         }
+        (Assertion::Type, _) => String::from_str(alloc, kind_word(argument)),
+        _ => expected_limit(alloc, assertion, argument),
     }
 }
 
+/// What a limit expects, in words.
+fn expected_limit(
+    alloc: Global,
+    assertion: Assertion,
+    argument: &Value,
+) -> Result<String, AllocError> {
+    let (before, behind) = (limit_word(assertion), counted_word(assertion));
+    let argument = shown(alloc, argument)?;
+    let many = if behind.is_empty() || argument.as_str() == "1" {
+        ""
+    } else {
+        "s"
+    };
+    format!(in alloc; "{before}{argument}{behind}{many}")
+}
+
 /// What an assertion finds, in words: a count where it counts, and else the value.
-pub fn found_by(alloc: Global, assertion: Assertion, value: &Value) -> Result<String> {
+pub fn found_by(alloc: Global, assertion: Assertion, value: &Value) -> error::Result<String> {
     let count = match assertion {
         Assertion::MaxLength | Assertion::MinLength => characters_in(value),
         Assertion::MaxItems | Assertion::MinItems => elements_in(value),
         Assertion::MaxProperties | Assertion::MinProperties => names_in(alloc, value)?,
         _ => None,
     };
-    match count {
-        Some(count) => Ok(format!(in alloc; "{count}")?),
+    let words = match count {
+        Some(count) => format!(in alloc; "{count}"),
         None => shown(alloc, value),
-    }
+    };
+    Ok(words?)
 }

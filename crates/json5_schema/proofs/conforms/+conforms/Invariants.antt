@@ -44,37 +44,64 @@ abbrev pub decreases-is_contained : goal.decreases-is_contained
 decreases-is_contained l = 16 * l.depth + 1
 
 abbrev pub decreases-applicator_evaluates : goal.decreases-applicator_evaluates
-decreases-applicator_evaluates l = 16 * l.depth + 4
+decreases-applicator_evaluates l = 16 * l.depth + 5
 
 abbrev pub decreases-keyword_evaluates : goal.decreases-keyword_evaluates
-decreases-keyword_evaluates l = 16 * l.depth + 5
+decreases-keyword_evaluates l = 16 * l.depth + 6
 
 abbrev pub decreases-keywords_evaluate : goal.decreases-keywords_evaluate
-decreases-keywords_evaluate l = 16 * l.depth + 6
+decreases-keywords_evaluate l = 16 * l.depth + 7
 
 abbrev pub decreases-object_evaluates : goal.decreases-object_evaluates
-decreases-object_evaluates l = 16 * l.depth + 7
+decreases-object_evaluates l = 16 * l.depth + 8
 
 abbrev pub decreases-child_left_holds : goal.decreases-child_left_holds
-decreases-child_left_holds l = 16 * l.depth + 7
+decreases-child_left_holds l = 16 * l.depth + 8
 
 abbrev pub decreases-elements_left_hold : goal.decreases-elements_left_hold
-decreases-elements_left_hold l = 16 * l.depth + 8
+decreases-elements_left_hold l = 16 * l.depth + 9
 
 abbrev pub decreases-members_left_hold : goal.decreases-members_left_hold
-decreases-members_left_hold l = 16 * l.depth + 9
+decreases-members_left_hold l = 16 * l.depth + 10
 
 abbrev pub decreases-left_holds : goal.decreases-left_holds
-decreases-left_holds l = 16 * l.depth + 10
+decreases-left_holds l = 16 * l.depth + 11
 
 abbrev pub decreases-satisfied : goal.decreases-satisfied
-decreases-satisfied l = 16 * l.depth + 11
+decreases-satisfied l = 16 * l.depth + 2
 
 abbrev pub decreases-keyword_holds : goal.decreases-keyword_holds
-decreases-keyword_holds l = 16 * l.depth + 12
+decreases-keyword_holds l = 16 * l.depth + 14
 
 abbrev pub decreases-keywords_hold : goal.decreases-keywords_hold
-decreases-keywords_hold l = 16 * l.depth + 13
+decreases-keywords_hold l = 16 * l.depth + 15
+
+abbrev pub decreases-choice_holds : goal.decreases-choice_holds
+decreases-choice_holds l = 16 * l.depth + 2
+
+abbrev pub decreases-count_holds : goal.decreases-count_holds
+decreases-count_holds l = 16 * l.depth + 2
+
+abbrev pub decreases-contains_holds : goal.decreases-contains_holds
+decreases-contains_holds l = 16 * l.depth + 3
+
+abbrev pub decreases-each_name_holds : goal.decreases-each_name_holds
+decreases-each_name_holds l = 16 * l.depth + 3
+
+abbrev pub decreases-pairs_hold : goal.decreases-pairs_hold
+decreases-pairs_hold l = 16 * l.depth + 3
+
+abbrev pub decreases-rest_of_members_holds : goal.decreases-rest_of_members_holds
+decreases-rest_of_members_holds l = 16 * l.depth + 12
+
+abbrev pub decreases-rest_of_elements_holds : goal.decreases-rest_of_elements_holds
+decreases-rest_of_elements_holds l = 16 * l.depth + 12
+
+abbrev pub decreases-applicator_holds : goal.decreases-applicator_holds
+decreases-applicator_holds l = 16 * l.depth + 13
+
+abbrev pub decreases-pairs_evaluate : goal.decreases-pairs_evaluate
+decreases-pairs_evaluate l = 16 * l.depth + 4
 
 -- what is left decides it
 abbrev pub invariant-keywords_hold-loop-index : goal.invariant-keywords_hold-loop-index
