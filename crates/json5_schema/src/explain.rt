@@ -263,8 +263,8 @@ fn explain_parts(
     Ok(())
 }
 
-/// Which of so many schemas may be for a part, from and up to: of an array of schemas, for an element, the one in its place, and
-/// else all.
+/// Which of so many schemas may be for a part, from and up to: for an element, of an array of schemas, the one in its
+/// place, and else all.
 fn rules_for(count: usize, argument: &Value, way: Way<'_>) -> (usize, usize) {
     match way {
         Way::Index(index) if argument.is_array() => (index, index.saturating_add(1)),
@@ -344,25 +344,61 @@ fn is_for(
     part: &Piece<'_>,
     value: &Value,
 ) -> Result<bool> {
-    match (applicator, rule.way, part.way) {
-        (Applicator::Properties, Way::Key(name, _), Way::Key(key, _)) => Ok(name == key),
-        (Applicator::PatternProperties, Way::Key(pattern, _), Way::Key(key, _)) => {
-            fits(alloc, patterns, pattern, key)
-        }
-        (Applicator::AdditionalProperties, _, Way::Key(key, _)) => {
-            is_additional(alloc, patterns, keywords, key)
-        }
-        (_, Way::Key(name, _), Way::Here) => {
-            Ok(is_named(value.entries(), name) && !rule.value.is_array())
-        }
-        (_, Way::Index(place), Way::Index(index)) => Ok(place == index),
-        (Applicator::Items, _, Way::Index(index)) => {
-            Ok(index >= schemas_in_front(find(keywords, "prefixItems")))
-        }
-        (Applicator::AdditionalItems, _, Way::Index(index)) => {
-            Ok(index >= schemas_in_front(find(keywords, "items")))
-        }
+    match part.way {
+        Way::Key(key, _) => is_for_member(alloc, patterns, keywords, applicator, rule.way, key),
+        Way::Index(index) => Ok(is_for_element(keywords, applicator, rule.way, index)),
+        Way::Here => Ok(is_for_whole(rule, value)),
+        Way::Target(_) => Ok(true),
+    }
+}
+
+/// The same, of a member with this key.
+fn is_for_member(
+    alloc: Global,
+    patterns: &[Pattern],
+    keywords: &[(String, Value)],
+    applicator: Applicator,
+    rule: Way<'_>,
+    key: &str,
+) -> Result<bool> {
+    match applicator {
+        Applicator::Properties => Ok(key_of(rule) == key),
+        Applicator::PatternProperties => fits(alloc, patterns, key_of(rule), key),
+        Applicator::AdditionalProperties => is_additional(alloc, patterns, keywords, key),
         _ => Ok(true),
+    }
+}
+
+/// The key that the way goes to, if it does.
+fn key_of<'a>(way: Way<'a>) -> &'a str {
+    match way {
+        Way::Key(key, _) => key,
+        _ => "",
+    }
+}
+
+/// The same, of an element in this place.
+fn is_for_element(
+    keywords: &[(String, Value)],
+    applicator: Applicator,
+    rule: Way<'_>,
+    index: usize,
+) -> bool {
+    if let Way::Index(place) = rule {
+        return place == index;
+    }
+    match applicator {
+        Applicator::Items => index >= schemas_in_front(find(keywords, "prefixItems")),
+        Applicator::AdditionalItems => index >= schemas_in_front(find(keywords, "items")),
+        _ => true,
+    }
+}
+
+/// The same, of the whole value: a schema with a name is for an object that has a member of this name.
+fn is_for_whole(rule: &Piece<'_>, value: &Value) -> bool {
+    match rule.way {
+        Way::Key(name, _) => is_named(value.entries(), name) && !rule.value.is_array(),
+        _ => true,
     }
 }
 
